@@ -1,0 +1,15 @@
+-- What a test has decided, from the value that it chose.
+use Rattle.std.specs.Prelude.{◌≡◌, ◌⊎◌, Bool, true, false, Option, Some, None, refl}
+use Rattle.std.proofs.Common.{cond, inl, inr}
+
+pub tested : {A : Type 0} (b : Bool) (x : Option A) (y : A) → cond b x None ≡ Some y → (b ≡ true) × (x ≡ Some y)
+tested true x y e = (refl, e)
+tested false x y e = absurd cc
+
+pub untested : {A : Type 0} (b : Bool) (x : Option A) (y : A) → cond b None x ≡ Some y → (b ≡ false) × (x ≡ Some y)
+untested true x y e = absurd cc
+untested false x y e = (refl, e)
+
+pub chosen : {A : Type 0} (b : Bool) (x y z : A) → cond b x y ≡ z → ((b ≡ true) × (x ≡ z)) ⊎ ((b ≡ false) × (y ≡ z))
+chosen true x y z e = inl (refl, e)
+chosen false x y z e = inr (refl, e)

@@ -1,0 +1,22 @@
+-- The limits of this printer: at most 50,000 locals in a function, parameters not counted, and at most 1,000,000 functions.
+use Rattle.std.specs.Prelude.{ℕ, ◌+◌, ◌≤◌, List, [], ◌∷◌, length}
+use Rattle.std.specs.List.{AllByRecursion}
+use Rattle.wasmprinter_spec.specs.Grammar.{Placed}
+use Rattle.wasmprinter_spec.specs.Placed.{LocalEntry, PlacedFunction, PlacedModule}
+
+abbrev pub most_locals : ℕ
+most_locals = 50000
+
+abbrev pub most_functions : ℕ
+most_functions = 1000000
+
+abbrev pub local_count : List (Placed LocalEntry) → ℕ
+local_count [] = 0
+local_count (e ∷ es) = e.value.count + local_count es
+
+abbrev pub HasFewLocals : PlacedFunction → Type 0
+HasFewLocals f = local_count f.body.value.locals ≤ most_locals
+
+pub record IsWithinLimits (m : PlacedModule) : Type 0 where
+  pub locals : AllByRecursion HasFewLocals m.functions
+  pub functions : length m.functions ≤ most_functions

@@ -1,0 +1,20 @@
+-- Names in the binary format (section 5.2.4 of the standard): a length, and so many bytes of UTF-8.
+use Rattle.std.specs.Prelude.{ℕ, List, Option, Some, None, if◌then◌else◌}
+use Rattle.std.specs.Str.{is_utf8}
+use Rattle.wasmprinter_spec.specs.Grammar.{Grammar, seq, mapped, as_value}
+use Rattle.wasmprinter_spec.specs.Repeated.{vec_of}
+use Rattle.wasmprinter_spec.specs.Sized.{front}
+use Rattle.wasmprinter_spec.specs.Leb.{unsigned}
+
+abbrev pub u32 : Grammar ℕ
+u32 = unsigned 32
+
+-- a vector: a count and so many items (section 5.1.3)
+abbrev pub vec : {A : Type 0} → Grammar A → Grammar (List A)
+vec g = vec_of u32 g
+
+abbrev pub checked_text : List ℕ → Option (List ℕ)
+checked_text bytes = if is_utf8 bytes then Some bytes else None
+
+abbrev pub name : Grammar (List ℕ)
+name = mapped checked_text (as_value (λ x. x.1) (seq u32 (λ n. front n)))
