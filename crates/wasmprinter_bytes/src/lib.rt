@@ -3,5 +3,9 @@
 
 pub mod bytes;
 mod error;
+pub mod lists;
 
 pub use error::{Error, Malformed};
+
+#[cfg(test)]
+mod tests;
