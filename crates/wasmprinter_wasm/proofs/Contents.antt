@@ -86,6 +86,7 @@ module _ (old behind mid part new : At) (id size : ℕ) (id_read : byte.parse ol
         sized = p.3;
         counted = subst (λ (n : ℕ). u32.spells part.place t n) same v.spelled.2.3;
       }
+
   pub section_fault : (f : Error) → IsContentFault id part f → IsSectionFault old f
   section_fault (e.Malformed place) h = (rw (id_read, sized_none (content id) behind mid part new size size_read cut begins h.0) refl, within place h.1)
   section_fault (e.TooManyLocals place) h = locals_fault place h

@@ -3,3 +3,9 @@ pub mod Over
 pub mod Later
 pub mod Listing
 pub mod Contents
+pub mod Pairing
+pub mod Until
+pub mod Rising
+pub mod Gathering
+pub mod Held
+pub mod Assembling
