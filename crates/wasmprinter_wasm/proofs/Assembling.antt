@@ -1,22 +1,22 @@
 -- A module is put together from its sections.
-use Rattle.std.proofs.Common.{◌≡◌, ℕ, ◌+◌, ◌<◌, ◌≤◌, Bool, true, false, List, [], ◌∷◌, ◌++◌, length, Option, Some, None, refl, sym, ap, subst, ◌∙◌, arith, inl, inr}
+use Rattle.std.proofs.Common.{◌≡◌, ℕ, ◌+◌, true, List, [], ◌∷◌, length, Some, refl, sym, ap, subst, ◌∙◌, arith, inl, inr}
 use Rattle.std.specs.Prelude.{Result, Ok, Err, IsOkUnless}
 use Rattle.std.specs.List.{AllByRecursion}
 use Rattle.wasmprinter_spec.specs.Grammar.{At, from, ◌>>=◌, bind_some, some_is, Placed}
 use Rattle.wasmprinter_spec.specs.Choices.{tested}
 use Rattle.wasmprinter_spec.specs.Repeated.{until_end}
 use Rattle.wasmprinter_spec.specs.Sized.{headed}
-use Rattle.wasmprinter_spec.specs.Placed.{Body, Export, PlacedFunction, PlacedModule}
+use Rattle.wasmprinter_spec.specs.Placed.{Export, PlacedFunction, PlacedModule}
 use Rattle.wasmprinter_spec.specs.Types.{FuncType}
 use Rattle.wasmprinter_spec.specs.Sections.{Section, section}
-use Rattle.wasmprinter_spec.specs.Binary.{preamble, are_above, types_in, type_indices_in, exports_in, bodies_in, paired, module_from, assembled, binary, Spells}
-use Rattle.wasmprinter_spec.specs.Limits.{most_functions, HasFewLocals, IsWithinLimits}
+use Rattle.wasmprinter_spec.specs.Binary.{preamble, are_above, type_indices_in, bodies_in, paired, module_from, assembled, binary, Spells}
+use Rattle.wasmprinter_spec.specs.Limits.{HasFewLocals, IsWithinLimits}
 use Rattle.wasmprinter_bytes.specs.Reads.{end_of}
 use Rattle.wasmprinter_bytes.specs.declared.error.Error.{Error}
 use Rattle.wasmprinter_bytes.specs.declared.error.Error.TheVariants as e
 use Rattle.wasmprinter_wasm.specs.Refusals.{AnyIsOver}
 use Rattle.wasmprinter_wasm.specs.Contents.{HasFew}
-use Rattle.wasmprinter_wasm.specs.Gathering.{Gathered, none_gathered, added_all, sections_at, HoldsSections, IsSectionsFault}
+use Rattle.wasmprinter_wasm.specs.Gathering.{Gathered, none_gathered, sections_at, HoldsSections, IsSectionsFault}
 use Rattle.wasmprinter_wasm.specs.Modules.{functions_of, module_seen, bodies_of, IsPaired}
 use Rattle.wasmprinter_wasm.specs.Decoding.{IsFaultOf, TakesModule}
 use Rattle.wasmprinter_wasm.proofs.Later.{Later, later_none, later_more, many_later, functions_later}

@@ -1,16 +1,14 @@
 -- The loop over the sections of a module.
-use Rattle.std.proofs.Common.{◌≡◌, ℕ, ◌+◌, ◌<◌, ◌≤◌, Bool, true, false, List, [], ◌∷◌, ◌++◌, length, Option, Some, None, refl, sym, ap, subst, ◌∙◌, arith, append_assoc, append-nil, length-append, inl, inr}
+use Rattle.std.proofs.Common.{◌≡◌, ℕ, ◌<◌, ◌≤◌, true, List, [], ◌∷◌, ◌++◌, length, Option, Some, None, refl, sym, ap, subst, ◌∙◌, arith, append_assoc, append-nil, length-append, inl, inr}
 use Rattle.std.specs.List.{AllByRecursion}
-use Rattle.wasmprinter_spec.specs.Grammar.{At, ◌>>=◌, bind_some, some_is, Placed}
-use Rattle.wasmprinter_spec.specs.Repeated.{until_end}
+use Rattle.wasmprinter_spec.specs.Grammar.{At, bind_some, some_is, Placed}
 use Rattle.wasmprinter_spec.specs.Placed.{Body}
 use Rattle.wasmprinter_spec.specs.Sections.{Section, TypeSection, FunctionSection, ExportSection, CodeSection, section}
 use Rattle.wasmprinter_spec.specs.Binary.{rank, are_above, type_indices_in, bodies_in}
-use Rattle.wasmprinter_spec.specs.Limits.{most_functions}
 use Rattle.wasmprinter_bytes.specs.Reads.{end_of}
 use Rattle.wasmprinter_bytes.specs.declared.error.Error.{Error}
 use Rattle.wasmprinter_bytes.specs.declared.error.Error.TheVariants as e
-use Rattle.wasmprinter_wasm.specs.Refusals.{HasManyLocals, HasFunctionSection, AnyIsOver}
+use Rattle.wasmprinter_wasm.specs.Refusals.{AnyIsOver}
 use Rattle.wasmprinter_wasm.specs.Contents.{IsSmall, IsSectionFault}
 use Rattle.wasmprinter_wasm.specs.Gathering.{Gathered, none_gathered, added, added_all, sections_at, HoldsSections, IsSectionsFault}
 use Rattle.wasmprinter_wasm.proofs.Later.{Later, later_none, later_more, many_later, functions_later}

@@ -1,5 +1,5 @@
 -- Reading that has come to a later place.
-use Rattle.std.proofs.Common.{◌≡◌, ℕ, ◌+◌, List, [], ◌∷◌, ◌++◌, length, Option, Some, refl, sym, ap, ◌∙◌, arith, append_assoc, append-nil, length-append}
+use Rattle.std.proofs.Common.{◌≡◌, ℕ, ◌+◌, List, [], ◌∷◌, ◌++◌, length, Some, refl, sym, ap, ◌∙◌, arith, append_assoc, append-nil, length-append}
 use Rattle.wasmprinter_spec.specs.Grammar.{At, Grammar}
 use Rattle.wasmprinter_wasm.specs.Refusals.{HasManyLocals, HasFunctionSection}
 use Rattle.wasmprinter_wasm.proofs.Over.{many_in_part}

@@ -1,9 +1,9 @@
 -- Functions from type indices and bodies.
-use Rattle.std.proofs.Common.{◌≡◌, ℕ, suc, ◌+◌, ◌<◌, ◌≤◌, get_or, List, [], ◌∷◌, length, map, Option, Some, None, refl, sym, ap, subst, ◌∙◌, arith}
+use Rattle.std.proofs.Common.{◌≡◌, ℕ, suc, ◌<◌, ◌≤◌, get_or, List, [], ◌∷◌, length, Some, None, refl, sym, ap, subst, ◌∙◌, arith}
 use Rattle.std.proofs.lemmas.List.{length-map}
 use Rattle.std.specs.Prelude.{slice_get}
 use Rattle.std.proofs.lemmas.Option.{slice_get-get_or, slice_get_past}
-use Rattle.wasmprinter_spec.specs.Grammar.{◌>>=◌, Placed, some_is, bind_some}
+use Rattle.wasmprinter_spec.specs.Grammar.{Placed, some_is, bind_some}
 use Rattle.wasmprinter_spec.specs.Placed.{Body, PlacedFunction}
 use Rattle.wasmprinter_spec.specs.Binary.{paired}
 use Rattle.wasmprinter_wasm.specs.Modules.{functions_of, bodies_of, body_at}

@@ -1,9 +1,8 @@
 -- Sections in order.
-use Rattle.std.proofs.Common.{◌≡◌, ℕ, ◌+◌, ◌<◌, ◌≤◌, Bool, true, false, ltb, lit≤, ◌&&◌, List, [], ◌∷◌, ◌++◌, length, refl, sym, ap, subst, ◌∙◌, arith, append-nil}
-use Rattle.std.specs.Prelude.{nat_lt}
+use Rattle.std.proofs.Common.{◌≡◌, ℕ, ◌<◌, ◌≤◌, true, ltb, lit≤, List, [], ◌∷◌, ◌++◌, length, refl, ap, ◌∙◌, arith, append-nil}
 use Rattle.std.proofs.lemmas.Bool.{and_parts, ltb-true, lt-ltb}
 use Rattle.wasmprinter_spec.specs.Sections.{Section, TypeSection, FunctionSection, ExportSection, CodeSection}
-use Rattle.wasmprinter_spec.specs.Binary.{rank, are_above, types_in, type_indices_in, exports_in, bodies_in}
+use Rattle.wasmprinter_spec.specs.Binary.{rank, are_above, type_indices_in}
 use Rattle.wasmprinter_wasm.specs.Contents.{HasCount}
 use Rattle.wasmprinter_wasm.specs.Gathering.{Gathered, added, added_all}
 

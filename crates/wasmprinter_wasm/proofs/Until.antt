@@ -1,7 +1,6 @@
 -- Items up to the end of the bytes, read one at a time.
-use Rattle.std.proofs.Common.{◌≡◌, ℕ, zero, suc, ◌+◌, ◌<◌, ◌≤◌, Bool, true, false, cond, eqb, ltb, List, [], ◌∷◌, ◌++◌, length, Option, Some, None, refl, sym, ap, ◌∙◌, arith}
+use Rattle.std.proofs.Common.{◌≡◌, ℕ, zero, suc, ◌<◌, ◌≤◌, cond, eqb, ltb, List, [], ◌∷◌, ◌++◌, length, Option, Some, None, refl, ap, ◌∙◌, arith}
 use Rattle.std.proofs.lemmas.Bool.{ne_eqb, eq-eqb, lt-ltb}
-use Rattle.std.proofs.lemmas.List.{nil_from_length}
 use Rattle.wasmprinter_spec.specs.Grammar.{At, Grammar, ◌>>=◌}
 use Rattle.wasmprinter_spec.specs.Repeated.{entries_at, until_end}
 

@@ -1,4 +1,4 @@
-use Rattle.std.proofs.Common.{◌-◌, arith, Some, sym, ap, ◌∙◌}
+use Rattle.std.proofs.Common.{arith, Some, sym, ap, ◌∙◌}
 use Rattle.std.proofs.lemmas.Result.{err_from_is_err_and}
 use Rattle.wasmprinter_spec.specs.Grammar.{At}
 use Rattle.wasmprinter_spec.specs.Repeated.{items_at}
