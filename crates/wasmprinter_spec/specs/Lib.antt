@@ -16,3 +16,13 @@ pub mod Binary
 pub mod Module
 pub mod Limits
 pub mod Indexed
+pub mod Call
+pub mod Colour
+pub mod Meaning
+pub mod Options
+pub mod Quoted
+pub mod Character
+pub mod Numeral
+pub mod Token
+pub mod Forest
+pub mod Piece
