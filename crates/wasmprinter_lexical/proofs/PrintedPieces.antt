@@ -6,7 +6,6 @@ use Rattle.std.specs.Fmt.{signed_decimal, digits}
 use Rattle.std.specs.Int.Signed.{mag}
 use Rattle.std.specs.Str.{is_utf8}
 use Rattle.std.specs.List.{starts_with}
-use Rattle.std.proofs.Math.Pointwise.{pointwise}
 use Rattle.std.proofs.lemmas.Str.{IsUtf8-from_ascii, is_utf8-from_IsUtf8}
 use Rattle.wasmprinter_spec.specs.Call.{Call, Text, text_of}
 use Rattle.wasmprinter_spec.specs.Options.{Options, IsBlank}
@@ -143,7 +142,7 @@ not_begun [] b bs h n = absurd (true≢false (sym h))
 not_begun (c ∷ cs) b bs h n =
     let escape : c ≡ 27 = eqb-true c 27 h in
     let other : eqb c b ≡ false = false_from_ne_true (eqb c b) (λ e. true≢false (sym (eq-eqb b 27 (sym (eqb-true c b e) ∙ escape)) ∙ n)) in
-    ap (λ t. t && pointwise eqb cs (take (length cs) bs)) other
+    rw other
 
 no_sequence : (ss : List (List ℕ)) (b : ℕ) (bs : List ℕ) → all_escape ss ≡ true → eqb b 27 ≡ false → sequence_length_in ss (b ∷ bs) ≡ 0
 unfolding all_escape

@@ -1,5 +1,5 @@
 -- What pieces read as. `Writes a ps b f`: behind the edge a the pieces ps may stand, they leave the edge b, and their tokens are those of
--- the items f, annotations cut out, of which none is a custom section. One rule for each piece and each kind of group; `search writing`
+-- the items f, annotations cut out, of which none is a custom section in this row or in a group of it. One rule for each piece and each kind of group; `search writing`
 -- finds whole derivations.
 use Rattle.std.proofs.Common.{◌≡◌, ℕ, ℤ, ◌<◌, ◌^◌, Bool, true, false, ◌&&◌, ◌||◌, List, [], ◌∷◌, ◌++◌, Option, Some, None, refl, sym, ap, ap₂, ◌∙◌, append_assoc, append-nil, true≢false, codes, decimal, subst, encode_utf8_all}
 use Rattle.std.proofs.lemmas.Bool.{and_parts, and_from}
@@ -9,12 +9,12 @@ use Rattle.std.proofs.Math.Utf8.{scalars}
 use Rattle.wasmprinter_spec.specs.Call.{text_of}
 use Rattle.wasmprinter_spec.specs.Options.{Options, IsBlank}
 use Rattle.wasmprinter_spec.specs.Token.{left, right, word, string, tokens}
-use Rattle.wasmprinter_spec.specs.Forest.{Forest, End, Word, String, Group, flat, onto, cut, row_customs, forest, the_one, grow}
+use Rattle.wasmprinter_spec.specs.Forest.{Forest, End, Word, String, Group, flat, onto, cut, row_customs, customs, forest, the_one, grow}
 use Rattle.wasmprinter_spec.specs.Piece as piece
 use Rattle.wasmprinter_spec.specs.Piece.{Piece, Begin, Feed, Break, Gap, Open, OpenGap, Shut, TypeWord, Number, Constant, Mark, Quoted, all_calls, all_tokens, piece_tokens}
 use Rattle.wasmprinter_spec.specs.Layout.{group, group_gap, group_at, group_gap_at, close, has_break}
 use Rattle.wasmprinter_lexical.proofs.Runs.{is_word}
-use Rattle.wasmprinter_lexical.proofs.Grown.{flat-onto, one-flat, cut-onto, row_customs-onto}
+use Rattle.wasmprinter_lexical.proofs.Grown.{flat-onto, one-flat, cut-onto, row_customs-onto, customs-onto}
 use Rattle.wasmprinter_lexical.proofs.Pieces.{Edge, Free, Bound, begins, leaves, may_follow, joined, ArePieces, all_text, text_of-all_calls, pieces_lex}
 
 pub record Writes (a : Edge) (ps : List Piece) (b : Edge) (f : Forest) : Type 0 where
@@ -23,7 +23,8 @@ pub record Writes (a : Edge) (ps : List Piece) (b : Edge) (f : Forest) : Type 0 
   pub whole : Forest
   pub tokens : all_tokens ps ≡ flat whole
   pub without : cut whole ≡ f
-  pub customs : row_customs whole ≡ []
+  pub in_row : row_customs whole ≡ []
+  pub in_groups : customs whole ≡ []
 
 -- ---- what follows from it
 
@@ -55,7 +56,8 @@ both_write {a = a} {ps = ps} {qs = qs} {f = f} {g = g} v w = record {
   whole = onto v.whole w.whole;
   tokens = all_tokens-append ps qs ∙ ap (λ t. t ++ all_tokens qs) v.tokens ∙ ap (λ t. flat v.whole ++ t) w.tokens ∙ sym (flat-onto v.whole w.whole);
   without = cut-onto v.whole w.whole ∙ ap₂ onto v.without w.without;
-  customs = row_customs-onto v.whole w.whole ∙ ap₂ (λ x y. x ++ y) v.customs w.customs;
+  in_row = row_customs-onto v.whole w.whole ∙ ap₂ (λ x y. x ++ y) v.in_row w.in_row;
+  in_groups = customs-onto v.whole w.whole ∙ ap₂ (λ x y. x ++ y) v.in_groups w.in_groups;
 }
 
 -- ---- the rules for pieces. Each holds at every edge at which it can, so that a search has nothing to choose.
@@ -73,13 +75,13 @@ joins_anywhere : (a : Edge) (p : Piece) (ps : List Piece) → begins p ≡ true 
 joins_anywhere a p ps b j = and_from (may_follow a p) (joined (leaves p) ps) (begins_all a p b) j
 
 pub nothing_writes : {a : Edge} → Writes a [] a End
-nothing_writes = record { joins = λ qs h. h; are = tt; whole = End; tokens = refl; without = refl; customs = refl }
+nothing_writes = record { joins = λ qs h. h; are = tt; whole = End; tokens = refl; without = refl; in_row = refl; in_groups = refl }
 
 pub free_writes : {b : Edge} → Writes Free [] b End
-free_writes {b = b} = record { joins = λ qs h. loosen b qs h; are = tt; whole = End; tokens = refl; without = refl; customs = refl }
+free_writes {b = b} = record { joins = λ qs h. loosen b qs h; are = tt; whole = End; tokens = refl; without = refl; in_row = refl; in_groups = refl }
 
 pub begin_writes : {b : Edge} {place : ℕ} {ps : List Piece} {f : Forest} → Writes Free ps b f → Writes Free (Begin place ∷ ps) b f
-begin_writes w = record { joins = w.joins; are = (tt, w.are); whole = w.whole; tokens = w.tokens; without = w.without; customs = w.customs }
+begin_writes w = record { joins = w.joins; are = (tt, w.are); whole = w.whole; tokens = w.tokens; without = w.without; in_row = w.in_row; in_groups = w.in_groups }
 
 pub feed_writes : {a b : Edge} {ps : List Piece} {f : Forest} → Writes Free ps b f → Writes a (Feed ∷ ps) b f
 feed_writes {a = a} {ps = ps} w = record {
@@ -88,7 +90,8 @@ feed_writes {a = a} {ps = ps} w = record {
   whole = w.whole;
   tokens = w.tokens;
   without = w.without;
-  customs = w.customs;
+  in_row = w.in_row;
+  in_groups = w.in_groups;
 }
 
 pub break_writes : {a b : Edge} {place : Option ℕ} {nesting : ℕ} {ps : List Piece} {f : Forest} → Writes Free ps b f → Writes a (Break place nesting ∷ ps) b f
@@ -98,7 +101,8 @@ break_writes {a = a} {place = place} {nesting = nesting} {ps = ps} w = record {
   whole = w.whole;
   tokens = w.tokens;
   without = w.without;
-  customs = w.customs;
+  in_row = w.in_row;
+  in_groups = w.in_groups;
 }
 
 pub gap_writes : {a b : Edge} {ps : List Piece} {f : Forest} → Writes Free ps b f → Writes a (Gap ∷ ps) b f
@@ -108,7 +112,8 @@ gap_writes {a = a} {ps = ps} w = record {
   whole = w.whole;
   tokens = w.tokens;
   without = w.without;
-  customs = w.customs;
+  in_row = w.in_row;
+  in_groups = w.in_groups;
 }
 
 pub mark_writes : {a b : Edge} {n : ℕ} {ps : List Piece} {f : Forest} → n < 2 ^ 64 → Writes Free ps b f → Writes a (Mark n ∷ ps) b f
@@ -118,7 +123,8 @@ mark_writes {a = a} {n = n} {ps = ps} h w = record {
   whole = w.whole;
   tokens = w.tokens;
   without = w.without;
-  customs = w.customs;
+  in_row = w.in_row;
+  in_groups = w.in_groups;
 }
 
 pub word_writes : {b : Edge} {v : List ℕ} {ps : List Piece} {f : Forest} → is_word v ≡ true → Writes Bound ps b f → Writes Free (piece.Word v ∷ ps) b (Word v f)
@@ -128,7 +134,8 @@ word_writes {v = v} h w = record {
   whole = Word v w.whole;
   tokens = ap (λ t. word v ∷ t) w.tokens;
   without = ap (Word v) w.without;
-  customs = w.customs;
+  in_row = w.in_row;
+  in_groups = w.in_groups;
 }
 
 pub type_word_writes : {b : Edge} {v : List ℕ} {ps : List Piece} {f : Forest} → is_word v ≡ true → Writes Bound ps b f → Writes Free (TypeWord v ∷ ps) b (Word v f)
@@ -138,7 +145,8 @@ type_word_writes {v = v} h w = record {
   whole = Word v w.whole;
   tokens = ap (λ t. word v ∷ t) w.tokens;
   without = ap (Word v) w.without;
-  customs = w.customs;
+  in_row = w.in_row;
+  in_groups = w.in_groups;
 }
 
 pub number_writes : {b : Edge} {n : ℕ} {ps : List Piece} {f : Forest} → n < 2 ^ 64 → Writes Bound ps b f → Writes Free (Number n ∷ ps) b (Word (decimal n) f)
@@ -148,7 +156,8 @@ number_writes {n = n} h w = record {
   whole = Word (decimal n) w.whole;
   tokens = ap (λ t. word (decimal n) ∷ t) w.tokens;
   without = ap (Word (decimal n)) w.without;
-  customs = w.customs;
+  in_row = w.in_row;
+  in_groups = w.in_groups;
 }
 
 pub constant_writes : {a b : Edge} {z : ℤ} {ps : List Piece} {f : Forest} → mag z < 2 ^ 63 → Writes Bound ps b f → Writes a (Constant z ∷ ps) b (Word (signed_decimal z) f)
@@ -158,7 +167,8 @@ constant_writes {a = a} {z = z} {ps = ps} h w = record {
   whole = Word (signed_decimal z) w.whole;
   tokens = ap (λ t. word (signed_decimal z) ∷ t) w.tokens;
   without = ap (Word (signed_decimal z)) w.without;
-  customs = w.customs;
+  in_row = w.in_row;
+  in_groups = w.in_groups;
 }
 
 pub quoted_writes : {b : Edge} {cs : List ℕ} {ps : List Piece} {f : Forest} → scalars cs ≡ true → Writes Bound ps b f → Writes Free (Quoted cs ∷ ps) b (String (encode_utf8_all cs) f)
@@ -168,12 +178,13 @@ quoted_writes {cs = cs} h w = record {
   whole = String (encode_utf8_all cs) w.whole;
   tokens = ap (λ t. string (encode_utf8_all cs) ∷ t) w.tokens;
   without = ap (String (encode_utf8_all cs)) w.without;
-  customs = w.customs;
+  in_row = w.in_row;
+  in_groups = w.in_groups;
 }
 
 -- ---- groups
 
-close_tokens : (place : Option ℕ) (nesting : ℕ) (t : Bool) → all_tokens (close place nesting t) ≡ right ∷ []
+pub close_tokens : (place : Option ℕ) (nesting : ℕ) (t : Bool) → all_tokens (close place nesting t) ≡ right ∷ []
 close_tokens place nesting true = refl
 close_tokens place nesting false = refl
 
@@ -212,7 +223,8 @@ closed_writes {b = b} {e = e} {f = f} p v place nesting t ps a i w = record {
       ap (λ x. x ++ all_tokens (ps ++ close place nesting t)) i.opens
       ∙ ap (λ x. left ∷ (word v ∷ x)) (all_tokens-append ps (close place nesting t) ∙ ap (λ x. x ++ all_tokens (close place nesting t)) w.tokens ∙ ap (λ x. flat w.whole ++ x) (close_tokens place nesting t));
   without = ap (λ x. Group (Word v x) End) w.without;
-  customs = refl;
+  in_row = refl;
+  in_groups = append-nil (row_customs w.whole) ∙ w.in_row;
 }
 
 pub group_writes : {a b : Edge} (nesting : ℕ) (v : List ℕ) (ps : List Piece) {f : Forest} → is_word v ≡ true → Writes Bound ps Bound f → Writes a (group nesting v ps) b (Group (Word v f) End)
