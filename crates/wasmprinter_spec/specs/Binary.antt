@@ -1,4 +1,4 @@
--- How bytes spell a module (section 5.5.16 of the standard): a preamble, and sections up to the end.
+-- How bytes spell a module (section 5.5 of the standard, "Modules"): a preamble, and sections up to the end.
 use Rattle.std.specs.Prelude.{◌≡◌, ℕ, ◌+◌, ◌<◌, List, [], ◌∷◌, ◌++◌, Bool, true, false, ◌&&◌, nat_lt, bytes_eq, Option, Some, None, if◌then◌else◌}
 use Rattle.std.specs.List.{AllByRecursion}
 use Rattle.wasmprinter_spec.specs.Grammar.{Grammar, Whole, ◌>>=◌, mapped, Placed}
