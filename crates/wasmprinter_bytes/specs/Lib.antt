@@ -1,0 +1,4 @@
+pub mod Emits
+pub mod EmitsLaws
+pub mod Styles
+pub mod Writers
