@@ -26,3 +26,9 @@ pub mod Numeral
 pub mod Token
 pub mod Forest
 pub mod Piece
+pub mod Layout
+pub mod IndexSpaces
+pub mod Code
+pub mod OperatorText
+pub mod Read
+pub mod Laws
