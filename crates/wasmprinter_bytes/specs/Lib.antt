@@ -1,3 +1,4 @@
+pub mod Reads
 pub mod Emits
 pub mod EmitsLaws
 pub mod Styles

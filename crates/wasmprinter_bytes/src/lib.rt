@@ -1,7 +1,8 @@
-//! Errors, and printers.
+//! Why a module is refused, reading a WebAssembly module's bytes, and printers.
 #![tactic(auto)]
 
-pub mod error;
+pub mod bytes;
+mod error;
 pub mod print;
 
-pub use error::Error;
+pub use error::{Error, Malformed};
