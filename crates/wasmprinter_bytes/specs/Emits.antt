@@ -15,11 +15,6 @@ abbrev pub Claims : {P E : Type 0} → Meaning P → P → List ℕ → ℕ → 
 Claims m old name place bytes new (Ok answer) = Succeeded m old (Claim name place bytes answer) new
 Claims m old name place bytes new (Err e) = (answer : Bool) → Failed m old (Claim name place bytes answer) new
 
--- one layout after another: `++`, under a name that stays as it is written
-infixr 5 ◌⨾◌
-unfoldable pub ◌⨾◌ : List Call → List Call → List Call
-l ⨾ k = l ++ k
-
 -- all calls of the layout were made, up to cutting
 pub record Whole {P : Type 0} (m : Meaning P) (old new : P) (layout : List Call) : Type 0 where
   pub calls : List Call

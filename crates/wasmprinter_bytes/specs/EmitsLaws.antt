@@ -1,10 +1,11 @@
 -- What follows from `Made` and `Owes`, for any printer: how the parts of a layout go together.
 use Rattle.std.specs.Prelude.{◌≡◌, ℕ, Bool, true, false, List, [], ◌∷◌, ◌++◌, Result, Ok, Err, IsErrAnd}
 use Rattle.std.proofs.Common.{refl, sym, ap, ap₂, ◌∙◌, subst, append_assoc, append-nil, true≢false}
+use Rattle.std.proofs.lemmas.List.{map-append}
 use Rattle.std.specs.declared.io.Error.{Error as IoError}
-use Rattle.wasmprinter_spec.specs.Call.{Call, cut_call, atoms}
+use Rattle.wasmprinter_spec.specs.Call.{Call, Text, cut_call, atoms}
 use Rattle.wasmprinter_spec.specs.Meaning.{Meaning, Run, Succeeded, Failed}
-use Rattle.wasmprinter_bytes.specs.Emits.{Emits, Made, Owes, Calls, Stops, is_printer, Whole, Begun, Broken, ◌⨾◌}
+use Rattle.wasmprinter_bytes.specs.Emits.{Emits, Made, Owes, Calls, Stops, is_printer, Whole, Broken}
 use Rattle.wasmprinter_bytes.specs.declared.error.Error.{Error}
 use Rattle.wasmprinter_bytes.specs.declared.error.Error.TheVariants.{Printer}
 
@@ -32,8 +33,7 @@ longer w l k rest p =
     sym (append_assoc (atoms w) rest (atoms k)) ∙ ap (λ x. x ++ atoms k) p ∙ sym (atoms-append l k)
 
 then_stops : {P : Type 0} (m : Meaning P) (a s t : P) (b : Bool) (l k : List Call) →
-    Whole m a s l → Stops m s t b k → Stops m a t b (l ⨾ k)
-unfolding ◌⨾◌
+    Whole m a s l → Stops m s t b k → Stops m a t b (l ++ k)
 then_stops m a s t true l k w v = record {
   calls = w.calls ++ v.calls;
   call = v.call;
@@ -52,8 +52,7 @@ then_stops m a s t false l k w v = record {
 }
 
 then_calls : {P : Type 0} (m : Meaning P) (a s t : P) (r : Result (Unit {0}) Error) (l k : List Call) →
-    Whole m a s l → Calls m s t r k → Calls m a t r (l ⨾ k)
-unfolding ◌⨾◌
+    Whole m a s l → Calls m s t r k → Calls m a t r (l ++ k)
 then_calls m a s t (Ok x) l k w v = record {
   calls = w.calls ++ v.calls;
   run = Run-append m a s t w.calls v.calls w.run v.run;
@@ -63,11 +62,10 @@ then_calls m a s t (Err e) l k w v = then_stops m a s t (is_printer e) l k w v
 
 -- one call after another, of which the first is whole
 pub then : {P : Type 0} (m : Meaning P) {a s t : P} {r : Result (Unit {0}) Error} {l k : List Call} →
-    Made m a s (Ok tt) l → Made m s t r k → Made m a t r (l ⨾ k)
+    Made m a s (Ok tt) l → Made m s t r k → Made m a t r (l ++ k)
 then m {a} {s} {t} {r} {l} {k} x y = record { made = then_calls m a s t r l k x.made y.made }
 
-ends_stops : {P : Type 0} (m : Meaning P) (a t : P) (b : Bool) (l k : List Call) → Stops m a t b l → Stops m a t b (l ⨾ k)
-unfolding ◌⨾◌
+ends_stops : {P : Type 0} (m : Meaning P) (a t : P) (b : Bool) (l k : List Call) → Stops m a t b l → Stops m a t b (l ++ k)
 ends_stops m a t true l k v = record {
   calls = v.calls;
   call = v.call;
@@ -86,7 +84,7 @@ ends_stops m a t false l k v = record {
 
 -- where a function has failed, what would have come after it
 pub ends : {P U : Type 0} (m : Meaning P) {a t : P} (r : Result U Error) {e : Error} {l : List Call} (k : List Call) →
-    IsErrAnd r (λ y. y ≡ e) → Made m a t (Err e) l → Emits m a t r (l ⨾ k)
+    IsErrAnd r (λ y. y ≡ e) → Made m a t (Err e) l → Emits m a t r (l ++ k)
 ends m (Ok x) k f v = absurd f
 ends m {a} {t} (Err y) {e} {l} k f v =
     record { made = ends_stops m a t (is_printer y) l k (subst (λ z. Stops m a t (is_printer z) l) (sym f) v.made) }
@@ -116,13 +114,6 @@ call_fails m {a} {t} (Err y) e {c} f v = let made : Broken m a t (c ∷ []) = re
   failed = v;
   alike = append-nil (atoms (c ∷ []));
 } in record { made = subst (λ z. Stops m a t (is_printer z) (c ∷ [])) (sym f) made }
-
--- one call that failed, before others
-pub call_fails_in : {P U : Type 0} (m : Meaning P) {a t : P} (r : Result U Error) (e : IoError) {c : Call} (k : List Call) →
-    IsErrAnd r (λ y. y ≡ Printer e) → Failed m a c t → Emits m a t r ((c ∷ []) ⨾ k)
-call_fails_in m (Ok x) e k f v = absurd f
-call_fails_in m {a} {t} (Err y) e {c} k f v =
-    record { made = ends_stops m a t (is_printer y) (c ∷ []) k (call_fails {U = Unit {0}} m (Err y) e f v).made }
 
 -- no call
 pub nothing : {P : Type 0} (m : Meaning P) (a : P) → Made m a a (Ok tt) []
@@ -170,10 +161,9 @@ owes_none m whole o = alike m whole (sym (append-nil (atoms o.layout)) ∙ o.ali
 
 -- a part of what is owed was made
 pub pays : {P : Type 0} (m : Meaning P) {a s t : P} {whole l k : List Call} →
-    Owes m a s whole (l ⨾ k) → Made m s t (Ok tt) l → Owes m a t whole k
-unfolding ◌⨾◌
+    Owes m a s whole (l ++ k) → Made m s t (Ok tt) l → Owes m a t whole k
 pays m {l = l} {k} o v = record {
-  layout = o.layout ⨾ l;
+  layout = o.layout ++ l;
   made = then m o.made v;
   alike =
       ap (λ x. x ++ atoms k) (atoms-append o.layout l) ∙ append_assoc (atoms o.layout) (atoms l) (atoms k) ∙ ap (λ x. atoms o.layout ++ x) (sym (atoms-append l k)) ∙ o.alike;
@@ -187,5 +177,19 @@ owes_alike m k e o = record { layout = o.layout; made = o.made; alike = ap (λ x
 -- all that was owed was made, or a beginning of it
 pub settles : {P : Type 0} (m : Meaning P) {a s t : P} {r : Result (Unit {0}) Error} {whole k : List Call} →
     Owes m a s whole k → Made m s t r k → Made m a t r whole
-unfolding ◌⨾◌
 settles m {whole = whole} {k} o v = alike m whole (atoms-append o.layout k ∙ o.alike) (then m o.made v)
+
+-- a text in two parts
+atoms-text : (x y : List ℕ) (k : List Call) → atoms (Text x ∷ Text y ∷ k) ≡ atoms (Text (x ++ y) ∷ k)
+atoms-text x y k =
+    sym (append_assoc (cut_call (Text x)) (cut_call (Text y)) (atoms k)) ∙ ap (λ b. b ++ atoms k) (sym (map-append (λ b. Text (b ∷ [])) x y))
+
+-- the first part of a text, and then the rest
+pub then_text : {P : Type 0} (m : Meaning P) {a s t : P} {r : Result (Unit {0}) Error} {x y : List ℕ} {k : List Call} →
+    Made m a s (Ok tt) (Text x ∷ []) → Made m s t r (Text y ∷ k) → Made m a t r (Text (x ++ y) ∷ k)
+then_text m {x = x} {y} {k} v w = alike m (Text (x ++ y) ∷ k) (atoms-text x y k) (then m v w)
+
+-- where the first part of a text has failed, what would have come after it
+pub ends_text : {P U : Type 0} (m : Meaning P) {a t : P} (r : Result U Error) {e : Error} {x : List ℕ} (y : List ℕ) (k : List Call) →
+    IsErrAnd r (λ z. z ≡ e) → Made m a t (Err e) (Text x ∷ []) → Emits m a t r (Text (x ++ y) ∷ k)
+ends_text m r {x = x} y k f v = alike m (Text (x ++ y) ∷ k) (atoms-text x y k) (ends m r (Text y ∷ k) f v)

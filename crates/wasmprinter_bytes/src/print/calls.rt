@@ -1,8 +1,9 @@
 //! The calls of a printer, with this crate's errors.
 ghost use Rattle.std.specs.Prelude.{[], ◌∷◌, Option};
 ghost use Rattle.wasmprinter_spec.specs.Call.{Text, Newline, Line, Start, Reset};
-ghost use Rattle.wasmprinter_bytes.specs.Emits.{Emits, ◌⨾◌};
+ghost use Rattle.wasmprinter_bytes.specs.Emits.{Emits};
 ghost use Rattle.wasmprinter_bytes.specs.Styles.{style_of};
+ghost use Rattle.wasmprinter_spec.specs.Piece.{styled};
 
 use crate::error::Error;
 use crate::print::Print;
@@ -61,4 +62,13 @@ pub fn reset<P: Print>(p: &mut P) -> Result<(), Error>
 {
     p.reset_color()?;
     Ok(())
+}
+
+/// Writes a piece of text in a style.
+pub fn styled<P: Print>(p: &mut P, style: Style, s: &str) -> Result<(), Error>
+    ensures { Emits P.meaning p.old p.new result (styled (style_of style) s.now) }
+{
+    start(p, style)?;
+    text(p, s)?;
+    reset(p)
 }
