@@ -180,7 +180,7 @@ pub settles : {P : Type 0} (m : Meaning P) {a s t : P} {r : Result (Unit {0}) Er
 settles m {whole = whole} {k} o v = alike m whole (atoms-append o.layout k ∙ o.alike) (then m o.made v)
 
 -- a text in two parts
-atoms-text : (x y : List ℕ) (k : List Call) → atoms (Text x ∷ Text y ∷ k) ≡ atoms (Text (x ++ y) ∷ k)
+pub atoms-text : (x y : List ℕ) (k : List Call) → atoms (Text x ∷ Text y ∷ k) ≡ atoms (Text (x ++ y) ∷ k)
 atoms-text x y k =
     sym (append_assoc (cut_call (Text x)) (cut_call (Text y)) (atoms k)) ∙ ap (λ b. b ++ atoms k) (sym (map-append (λ b. Text (b ∷ [])) x y))
 

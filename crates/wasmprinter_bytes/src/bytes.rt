@@ -81,7 +81,10 @@ impl<'a> Cursor<'a> {
         requires { place + length bytes.now < 2 ^ 64 }
         ensures { result ≡ record { place = place; bytes = bytes.now } }
     {
-        Cursor { place, rest: bytes }
+        Cursor {
+            place,
+            rest: bytes,
+        }
     }
 
     /// The place of the next byte.
@@ -180,11 +183,7 @@ impl<'a> Cursor<'a> {
         let place = self.place;
         let byte = self.u8()?;
         if byte < MORE {
-            if has_bits(byte, bits) {
-                Ok(u64::from(byte))
-            } else {
-                Err(Malformed { place })
-            }
+            if has_bits(byte, bits) { Ok(u64::from(byte)) } else { Err(Malformed { place }) }
         } else if bits > BITS {
             let high = self.unsigned(bits - BITS)?;
             Ok(joined(byte - MORE, high))
@@ -206,17 +205,9 @@ impl<'a> Cursor<'a> {
         let place = self.place;
         let byte = self.u8()?;
         if byte < SIGN {
-            if has_bits(byte, bits - 1) {
-                Ok(i64::from(byte))
-            } else {
-                Err(Malformed { place })
-            }
+            if has_bits(byte, bits - 1) { Ok(i64::from(byte)) } else { Err(Malformed { place }) }
         } else if byte < MORE {
-            if has_bits(MORE - 1 - byte, bits - 1) {
-                Ok(negative(byte))
-            } else {
-                Err(Malformed { place })
-            }
+            if has_bits(MORE - 1 - byte, bits - 1) { Ok(negative(byte)) } else { Err(Malformed { place }) }
         } else if bits > BITS {
             let high = self.signed(bits - BITS)?;
             Ok(joined_signed(byte - MORE, high))

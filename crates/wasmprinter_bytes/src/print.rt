@@ -6,7 +6,7 @@ ghost use Rattle.wasmprinter_spec.specs.Meaning.{Meaning, Succeeded, Failed};
 ghost use Rattle.wasmprinter_bytes.specs.Emits.{Does, Claims, Emits, Made, is_printer};
 ghost use Rattle.wasmprinter_bytes.specs.EmitsLaws.{then, ends, fails, called, call_fails, nothing, gives_up, then_text, ends_text};
 ghost use Rattle.wasmprinter_bytes.specs.Prints.{Written, Prints};
-ghost use Rattle.wasmprinter_bytes.specs.PrintsLaws.{no_piece, one_piece, then_pieces, piece_ends, both_pieces, pieces_end, last_pieces_end, no_pieces_end};
+ghost use Rattle.wasmprinter_bytes.specs.PrintsLaws.{no_piece, one_piece, both_pieces, pieces_end, last_pieces_end, no_pieces_end};
 ghost use Rattle.wasmprinter_spec.specs.Options.{Options};
 ghost use Rattle.wasmprinter_spec.specs.Piece.{Piece, calls};
 ghost use Rattle.wasmprinter_bytes.specs.declared.error.Error.{Error};
@@ -104,6 +104,12 @@ pub trait Print {
     // the first part of a text that failed, whatever would have come after it
     ghost text_breaks_off: { (a t : Self) (r : Result (Unit {0}) Error) (e : Error) (x y : List ℕ) (k : List Call) → IsErrAnd r (λ z. z ≡ e) → Made meaning a t (Err e) (Text x ∷ []) → Emits meaning a t r (Text (x ++ y) ∷ k) } = { λ a t r e x y k f v. ends_text meaning r y k f v };
 
+    // the first byte of a text, and then the rest
+    ghost byte_then: { (a s t : Self) (r : Result (Unit {0}) Error) (x : ℕ) (y : List ℕ) (k : List Call) → Made meaning a s (Ok tt) (Text (x ∷ []) ∷ []) → Made meaning s t r (Text y ∷ k) → Made meaning a t r (Text (x ∷ y) ∷ k) } = { λ a s t r x y k v w. then_text meaning v w };
+
+    // the first byte of a text that failed, whatever would have come after it
+    ghost byte_breaks_off: { (a t : Self) (r : Result (Unit {0}) Error) (e : Error) (x : ℕ) (y : List ℕ) (k : List Call) → IsErrAnd r (λ z. z ≡ e) → Made meaning a t (Err e) (Text (x ∷ []) ∷ []) → Emits meaning a t r (Text (x ∷ y) ∷ k) } = { λ a t r e x y k f v. ends_text meaning r y k f v };
+
     // a call on the printer
     ghost call_done: { (a t : Self) (c : Call) → Succeeded meaning a c t → Made meaning a t (Ok tt) (c ∷ []) } = { λ a t c s. called meaning s };
 
@@ -116,10 +122,10 @@ pub trait Print {
     ghost idle: { (a : Self) → Made meaning a a (Ok tt) [] } = { λ a. nothing meaning a };
 
     // a piece, and then the rest
-    ghost piece_then: { (o : Options) (a s t : Self) (r : Result (Unit {0}) Error) (x : Piece) (xs : List Piece) → Made meaning a s (Ok tt) (calls o x) → Written meaning o s t r xs → Written meaning o a t r (x ∷ xs) } = { λ o a s t r x xs v w. then_pieces meaning x v w };
+    ghost piece_then: { (o : Options) (a s t : Self) (r : Result (Unit {0}) Error) (x : Piece) (xs : List Piece) → Written meaning o a s (Ok tt) (x ∷ []) → Written meaning o s t r xs → Written meaning o a t r (x ∷ xs) } = { λ o a s t r x xs v w. both_pieces meaning v w };
 
     // a piece that failed, whatever would have come after it
-    ghost piece_breaks_off: { (o : Options) (a t : Self) (r : Result (Unit {0}) Error) (e : Error) (x : Piece) (xs : List Piece) → IsErrAnd r (λ y. y ≡ e) → Made meaning a t (Err e) (calls o x) → Prints meaning o a t r (x ∷ xs) } = { λ o a t r e x xs f v. piece_ends meaning o r x xs f v };
+    ghost piece_breaks_off: { (o : Options) (a t : Self) (r : Result (Unit {0}) Error) (e : Error) (x : Piece) (xs : List Piece) → IsErrAnd r (λ y. y ≡ e) → Written meaning o a t (Err e) (x ∷ []) → Prints meaning o a t r (x ∷ xs) } = { λ o a t r e x xs f v. pieces_end meaning r xs f v };
 
     // the last piece
     ghost piece_done: { (o : Options) (a t : Self) (r : Result (Unit {0}) Error) (x : Piece) → Made meaning a t r (calls o x) → Written meaning o a t r (x ∷ []) } = { λ o a t r x v. one_piece meaning o x v };
