@@ -40,5 +40,6 @@ pub record IsRangedFunction (f : PlacedFunction) : Type 0 where
 pub record IsRanged (m : PlacedModule) : Type 0 where
   pub types : length m.types < 2 ^ 32
   pub functions : length m.functions < 2 ^ 32
+  pub exports : length m.exports < 2 ^ 32
   pub each_function : AllByRecursion IsRangedFunction m.functions
   pub each_export : AllByRecursion (λ e. IsRangedExport e.value) m.exports

@@ -1,4 +1,4 @@
--- Calls on a printer, and the text that a list of calls hands over.
+-- Calls on a printer, and the text that a list of calls hands over. This is the printer's own: the standard knows only the text.
 use Rattle.std.specs.Prelude.{ℕ, List, [], ◌∷◌, ◌++◌, Bool, Option, map}
 
 -- what a style call chooses

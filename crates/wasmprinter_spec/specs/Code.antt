@@ -1,4 +1,4 @@
--- Operators in the text format, and folded ones as a flat list (sections 6.5.1 and 6.5.9 of the standard): a folded group of an operator
+-- Operators in the text format, and folded ones as a flat list (section 6.5 of the standard, "Folded Instructions"): a folded group of an operator
 -- gives its operands, each a group, and then the operator.
 use Rattle.std.specs.Prelude.{ℕ, List, [], ◌∷◌, ◌++◌, Option, Some, None}
 use Rattle.wasmprinter_spec.specs.Grammar.{◌>>=◌}

@@ -1,4 +1,4 @@
--- From tokens to nested groups, and annotations cut out of them (section 6.2.5 of the standard).
+-- From tokens to nested groups, and annotations cut out of them (section 6.2 of the standard, "Annotations").
 use Rattle.std.specs.Prelude.{List, [], ◌∷◌, ◌++◌, ℕ, Option, Some, None, bytes_eq, codes, cond}
 use Rattle.wasmprinter_spec.specs.Token as token
 use Rattle.wasmprinter_spec.specs.Token.{Token, tokens}

@@ -1,4 +1,4 @@
--- Every used index is declared: it is below the number of what its index space holds (section 2.5.1 of the standard). Every valid
+-- Every used index is declared: it is below the number of what its index space holds (section 2.5 of the standard, "Indices"). Every valid
 -- module is so.
 use Rattle.std.specs.Prelude.{ℕ, ◌+◌, ◌<◌, List, length, Option, Some, None, slice_get}
 use Rattle.std.specs.List.{AllByRecursion}

@@ -1,4 +1,4 @@
--- Texts and bytes in quotes, as they are printed.
+-- Texts and bytes in quotes, as they are printed (section 6.3 of the standard, "Strings").
 use Rattle.std.specs.Prelude.{ℕ, ◌/◌, ◌%◌, List, [], ◌∷◌, ◌++◌, Bool, ◌&&◌, ◌==◌, nat_le, not, false, codes, flat_map, if◌then◌else◌}
 use Rattle.std.specs.Fmt.{digits, digit_glyph}
 

@@ -1,5 +1,5 @@
--- Items up to a byte that closes them and with which no item begins, as operators up to the byte 0B of `end` (section 5.4.9
--- of the standard).
+-- Items up to a byte that closes them and with which no item begins, as operators up to the byte 0B of `end` (section 5.4 of the
+-- standard, "Expressions").
 use Rattle.std.specs.Prelude.{◌≡◌, ℕ, zero, suc, List, [], ◌∷◌, ◌++◌, ◌+◌, ◌<◌, ◌≤◌, length, Bool, true, false, Option, Some, None, ◌==◌, if◌then◌else◌, refl}
 use Rattle.std.proofs.Common.{sym, ap, subst, ◌∙◌, arith, append_assoc, cond, eqb, inl, inr}
 use Rattle.std.proofs.lemmas.Bool.{eqb-true, eq-eqb, ne_eqb}
