@@ -1,0 +1,280 @@
+//! A cursor over a module's bytes: whole numbers in LEB128 (section 5.2.2 of the WebAssembly Core Specification) and names
+//! (section 5.2.4).
+ghost use Rattle.std.specs.Prelude.{◌≡◌, ◌<◌, ◌≤◌, ◌^◌, ◌+◌, ◌-◌, ◌*◌, ◌↔◌, [], length, take, nat_lt, IfOk, IsTrue, pos, neg_ℤ, negsuc, ◌+ℤ◌, ◌*ℤ◌, ◌≤ℤ◌, ◌<ℤ◌};
+ghost use Rattle.wasmprinter_spec.specs.Grammar.{byte};
+ghost use Rattle.wasmprinter_spec.specs.Sized.{front};
+ghost use Rattle.wasmprinter_spec.specs.Leb.{unsigned, signed};
+ghost use Rattle.wasmprinter_spec.specs.Name.{u32 as u32_grammar, name};
+ghost use Rattle.wasmprinter_bytes.specs.Reads.{Reads, IsWithin, end_of};
+
+use crate::error::Malformed;
+use std::marker::Model;
+
+/// The bits that one byte of LEB128 holds.
+const BITS: u32 = 7;
+
+/// A byte of LEB128 from here on has more bytes behind it.
+const MORE: u8 = 0x80;
+
+/// The last byte of a signed number in LEB128 from here on is negative.
+const SIGN: u8 = 0x40;
+
+/// The bytes that are left, and the place of the first of them.
+///
+/// A read that is refused leaves the cursor somewhere before the end.
+#[derive(Drop)]
+pub struct Cursor<'a> {
+    place: u64,
+    rest: &'a [u8],
+}
+
+impl<'a> Model for Cursor<'a> {
+    ghost use Rattle.std.specs.Prelude.{◌<◌, ◌^◌, ◌+◌, length};
+    ghost use Rattle.wasmprinter_spec.specs.Grammar.{At};
+
+    ghost Value = { At };
+
+    ghost view = { λ c. record { place = c.place; bytes = c.rest.now } };
+
+    ghost invariant = { λ c. c.place + length c.rest.now < 2 ^ 64 };
+}
+
+/// Whether a number of seven bits is one of so many bits.
+#[tactic(auto, using(crate::proofs::Powers::small_fits))]
+fn has_bits(low: u8, bits: u32) -> bool
+    requires { low < 128 }
+    ensures { result ≡ nat_lt low (2 ^ bits) }
+{
+    bits >= BITS || low < 1 << bits
+}
+
+/// The negative number whose low seven bits are these.
+fn negative(byte: u8) -> i64
+    requires { byte < 128 }
+    ensures { result ≡ negsuc (127 - byte) }
+{
+    i64::from(byte) - i64::from(MORE)
+}
+
+/// Seven bits with others above them.
+fn joined(low: u8, high: u64) -> u64
+    requires seven { low < 128 }
+    requires above { high < 2 ^ 57 }
+    ensures { result ≡ low + 128 * high }
+{
+    u64::from(low) + u64::from(MORE) * high
+}
+
+/// Seven bits with others above them, the highest of which is the sign.
+fn joined_signed(low: u8, high: i64) -> i64
+    requires seven { low < 128 }
+    requires above { neg_ℤ (pos (2 ^ 56)) ≤ℤ high }
+    requires below { high <ℤ pos (2 ^ 56) }
+    ensures { result ≡ pos low +ℤ pos 128 *ℤ high }
+{
+    i64::from(low) + i64::from(MORE) * high
+}
+
+impl<'a> Cursor<'a> {
+    /// At the first of the bytes, which lies at the place.
+    pub fn new(place: u64, bytes: &'a [u8]) -> Self
+        requires { place + length bytes.now < 2 ^ 64 }
+        ensures { result ≡ record { place = place; bytes = bytes.now } }
+    {
+        Cursor {
+            place,
+            rest: bytes,
+        }
+    }
+
+    /// The place of the next byte.
+    pub fn place(&self) -> u64
+        ensures { result ≡ self.now.place }
+    {
+        self.place
+    }
+
+    /// How many bytes are left.
+    pub fn len(&self) -> usize
+        ensures { result ≡ length self.now.bytes }
+    {
+        self.rest.len()
+    }
+
+    /// Whether no byte is left.
+    pub fn is_empty(&self) -> bool
+        ensures { IsTrue result ↔ (self.now.bytes ≡ []) }
+    {
+        self.rest.is_empty()
+    }
+
+    /// A second cursor that stands at the same place.
+    pub fn fork(&self) -> Cursor<'a>
+        ensures { result ≡ self.now }
+    {
+        Cursor {
+            place: self.place,
+            rest: self.rest,
+        }
+    }
+
+    /// A second cursor over the next bytes, so many, alone.
+    pub fn front(&self, len: usize) -> Cursor<'a>
+        requires { len ≤ length self.now.bytes }
+        ensures { result ≡ record { place = self.now.place; bytes = take len self.now.bytes } }
+    {
+        Cursor {
+            place: self.place,
+            rest: &self.rest[..len],
+        }
+    }
+
+    /// The next byte.
+    pub fn u8(&mut self) -> Result<u8, Malformed>
+        ensures reads { Reads (λ b. b) byte.parse self.old result self.new }
+        ensures within { IsWithin self.old result }
+        ensures end { end_of self.new ≡ end_of self.old }
+    {
+        match self.rest.split_first() {
+            Some((byte, rest)) => {
+                self.place += 1;
+                self.rest = rest;
+                Ok(*byte)
+            }
+            None => Err(Malformed { place: self.place }),
+        }
+    }
+
+    /// So many bytes.
+    pub fn take(&mut self, len: usize) -> Result<&'a [u8], Malformed>
+        ensures reads { Reads (λ b. b.now) (front len).parse self.old result self.new }
+        ensures within { IsWithin self.old result }
+        ensures end { end_of self.new ≡ end_of self.old }
+    {
+        if self.rest.len() < len {
+            return Err(Malformed { place: self.place });
+        }
+        let (bytes, rest) = self.rest.split_at(len);
+        self.place += len as u64;
+        self.rest = rest;
+        Ok(bytes)
+    }
+
+    /// A cursor over so many bytes, alone; this one goes on behind them.
+    pub fn part(&mut self, len: usize) -> Result<Cursor<'a>, Malformed>
+        ensures reads { Reads (λ c. c.bytes) (front len).parse self.old result self.new }
+        ensures place { IfOk result (λ c. c.place ≡ self.old.place) }
+        ensures within { IsWithin self.old result }
+        ensures end { end_of self.new ≡ end_of self.old }
+    {
+        let place = self.place;
+        let rest = self.take(len)?;
+        Ok(Cursor { place, rest })
+    }
+
+    /// An unsigned number of so many bits, in at most as many bytes as these fill.
+    fn unsigned(&mut self, bits: u32) -> Result<u64, Malformed>
+        requires { bits ≤ 64 }
+        ensures reads { Reads (λ n. n) (unsigned bits).parse self.old result self.new }
+        ensures within { IsWithin self.old result }
+        ensures end { end_of self.new ≡ end_of self.old }
+        ensures range { IfOk result (λ n. n < 2 ^ bits) }
+    {
+        let place = self.place;
+        let byte = self.u8()?;
+        if byte < MORE {
+            if has_bits(byte, bits) { Ok(u64::from(byte)) } else { Err(Malformed { place }) }
+        } else if bits > BITS {
+            let high = self.unsigned(bits - BITS)?;
+            Ok(joined(byte - MORE, high))
+        } else {
+            Err(Malformed { place })
+        }
+    }
+
+    /// A signed number of so many bits, in at most as many bytes as these fill.
+    fn signed(&mut self, bits: u32) -> Result<i64, Malformed>
+        requires least { 1 ≤ bits }
+        requires most { bits ≤ 64 }
+        ensures reads { Reads (λ n. n) (signed bits).parse self.old result self.new }
+        ensures within { IsWithin self.old result }
+        ensures end { end_of self.new ≡ end_of self.old }
+        ensures above { IfOk result (λ n. neg_ℤ (pos (2 ^ (bits - 1))) ≤ℤ n) }
+        ensures below { IfOk result (λ n. n <ℤ pos (2 ^ (bits - 1))) }
+    {
+        let place = self.place;
+        let byte = self.u8()?;
+        if byte < SIGN {
+            if has_bits(byte, bits - 1) { Ok(i64::from(byte)) } else { Err(Malformed { place }) }
+        } else if byte < MORE {
+            if has_bits(MORE - 1 - byte, bits - 1) { Ok(negative(byte)) } else { Err(Malformed { place }) }
+        } else if bits > BITS {
+            let high = self.signed(bits - BITS)?;
+            Ok(joined_signed(byte - MORE, high))
+        } else {
+            Err(Malformed { place })
+        }
+    }
+
+    /// An unsigned number of 32 bits.
+    pub fn u32(&mut self) -> Result<u32, Malformed>
+        ensures reads { Reads (λ n. n) u32_grammar.parse self.old result self.new }
+        ensures within { IsWithin self.old result }
+        ensures end { end_of self.new ≡ end_of self.old }
+    {
+        let number = self.unsigned(u32::BITS)?;
+        Ok(number as u32)
+    }
+
+    /// An unsigned number of 64 bits.
+    pub fn u64(&mut self) -> Result<u64, Malformed>
+        ensures reads { Reads (λ n. n) (unsigned 64).parse self.old result self.new }
+        ensures within { IsWithin self.old result }
+        ensures end { end_of self.new ≡ end_of self.old }
+    {
+        self.unsigned(u64::BITS)
+    }
+
+    /// A signed number of 32 bits.
+    pub fn s32(&mut self) -> Result<i32, Malformed>
+        ensures reads { Reads (λ n. n) (signed 32).parse self.old result self.new }
+        ensures within { IsWithin self.old result }
+        ensures end { end_of self.new ≡ end_of self.old }
+    {
+        let number = self.signed(i32::BITS)?;
+        Ok(number as i32)
+    }
+
+    /// A signed number of 33 bits.
+    pub fn s33(&mut self) -> Result<i64, Malformed>
+        ensures reads { Reads (λ n. n) (signed 33).parse self.old result self.new }
+        ensures within { IsWithin self.old result }
+        ensures end { end_of self.new ≡ end_of self.old }
+    {
+        self.signed(i32::BITS + 1)
+    }
+
+    /// A signed number of 64 bits.
+    pub fn s64(&mut self) -> Result<i64, Malformed>
+        ensures reads { Reads (λ n. n) (signed 64).parse self.old result self.new }
+        ensures within { IsWithin self.old result }
+        ensures end { end_of self.new ≡ end_of self.old }
+    {
+        self.signed(i64::BITS)
+    }
+
+    /// A name: a length, and so many bytes of UTF-8.
+    pub fn name(&mut self) -> Result<&'a str, Malformed>
+        ensures reads { Reads (λ s. s.now) name.parse self.old result self.new }
+        ensures within { IsWithin self.old result }
+        ensures end { end_of self.new ≡ end_of self.old }
+    {
+        let place = self.place;
+        let len = self.u32()?;
+        let bytes = self.take(len as usize)?;
+        match str::from_utf8(bytes) {
+            Ok(text) => Ok(text),
+            Err(_) => Err(Malformed { place }),
+        }
+    }
+}

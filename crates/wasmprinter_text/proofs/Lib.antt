@@ -1,0 +1,4 @@
+pub mod Digits
+pub mod Repeats
+pub mod Signs
+pub mod Texts

@@ -1,0 +1,4 @@
+//! The text of the parts of a module, over any printer.
+#![tactic(auto)]
+
+pub mod text;
