@@ -1,0 +1,5 @@
+pub mod Samples
+pub mod LebRows
+pub mod BinaryRows
+pub mod LayoutRows
+pub mod ColourRows
