@@ -157,3 +157,118 @@ stored_calls =
 stored_all_calls : atoms (calls with_offsets stored_placed) ≡ atoms stored_calls
 unfolding group group_gap group_at group_gap_at type_list type_group signature_pieces immediate_pieces operator_pieces body_pieces type_pieces local_group local_pieces header_pieces function_group function_pieces numbered field_pieces module_pieces layout repeated left_in place_text digits table control_rows number_rows
 stored_all_calls = refl
+
+-- ---- several types, functions, locals and results
+
+abbrev mixed_placed : PlacedModule
+mixed_placed = record {
+  types =
+      record { place = 0xb; value = record { params = []; results = [] } }
+      ∷ record { place = 0xe; value = record { params = I32 ∷ I64 ∷ []; results = I64 ∷ I32 ∷ [] } }
+      ∷ [];
+  functions =
+      record { type_index = 0; body = record { place = 0x22; value = record { locals = []; operators = []; end = 0x23 } } }
+      ∷ record {
+        type_index = 1;
+        body = record {
+          place = 0x25;
+          value = record {
+            locals =
+                record { place = 0x26; value = record { count = 0; type = I32 } }
+                ∷ record { place = 0x28; value = record { count = 2; type = I64 } }
+                ∷ record { place = 0x2a; value = record { count = 0; type = I64 } }
+                ∷ record { place = 0x2c; value = record { count = 1; type = I32 } }
+                ∷ [];
+            operators =
+                record { place = 0x2e; value = record { opcode = opcode 0 0x41; immediates = operator.I32 (neg_ℤ (pos 2147483648)) } }
+                ∷ record { place = 0x34; value = record { opcode = opcode 0 0x1a; immediates = NoImmediates } }
+                ∷ record { place = 0x35; value = record { opcode = opcode 0 0x42; immediates = operator.I64 (pos 9223372036854775807) } }
+                ∷ record { place = 0x40; value = record { opcode = opcode 0 0x10; immediates = Index 4294967295 } }
+                ∷ record { place = 0x46; value = record { opcode = opcode 0 0x0f; immediates = NoImmediates } }
+                ∷ [];
+            end = 0x47;
+          };
+        };
+      }
+      ∷ record {
+        type_index = 7;
+        body = record { place = 0x49; value = record { locals = record { place = 0x4a; value = record { count = 0; type = I32 } } ∷ []; operators = []; end = 0x4c } };
+      }
+      ∷ [];
+  exports =
+      record { place = 0x1a; value = record { name = 0x1b ∷ 0xc3 ∷ 0xa9 ∷ []; function = 1 } }
+      ∷ record { place = 0x20; value = record { name = []; function = 12 } }
+      ∷ [];
+  size = 0x4d;
+}
+
+-- locals of all entries on one line, whose place is that of the first entry that declares one; no signature of a type that isn't there
+mixed_text : printed defaults mixed_placed ≡ lines (
+  codes "(module"
+  ∷ codes "  (type (;0;) (func))"
+  ∷ codes "  (type (;1;) (func (param i32 i64) (result i64 i32)))"
+  ∷ codes "  (export \"\\u{1b}\\u{e9}\" (func 1))"
+  ∷ codes "  (export \"\" (func 12))"
+  ∷ codes "  (func (;0;) (type 0))"
+  ∷ codes "  (func (;1;) (type 1) (param i32 i64) (result i64 i32)"
+  ∷ codes "    (local i64 i64 i32)"
+  ∷ codes "    i32.const -2147483648"
+  ∷ codes "    drop"
+  ∷ codes "    i64.const 9223372036854775807"
+  ∷ codes "    call 4294967295"
+  ∷ codes "    return"
+  ∷ codes "  )"
+  ∷ codes "  (func (;2;) (type 7))"
+  ∷ codes ")"
+  ∷ [])
+unfolding group group_gap group_at group_gap_at type_list type_group signature_pieces immediate_pieces operator_pieces body_pieces type_pieces export_pieces local_group local_pieces header_pieces function_group function_pieces numbered field_pieces module_pieces layout repeated digits table control_rows number_rows char_text quoted_text chars
+mixed_text = refl
+
+-- with offsets the parentheses of functions close on lines of their own
+mixed_line_places : line_places (calls with_offsets mixed_placed) ≡
+    Some 0 ∷ Some 0xb ∷ Some 0xe ∷ Some 0x1a ∷ Some 0x20
+    ∷ Some 0x22 ∷ Some 0x23
+    ∷ Some 0x25 ∷ Some 0x28 ∷ Some 0x2e ∷ Some 0x34 ∷ Some 0x35 ∷ Some 0x40 ∷ Some 0x46 ∷ Some 0x47
+    ∷ Some 0x49 ∷ Some 0x4c
+    ∷ Some 0x4d ∷ []
+unfolding group group_gap group_at group_gap_at type_list type_group signature_pieces immediate_pieces operator_pieces body_pieces type_pieces export_pieces local_group local_pieces header_pieces function_group function_pieces numbered field_pieces module_pieces layout
+mixed_line_places = refl
+
+-- ---- beginnings of lines
+
+-- a place of more than six digits
+long_place : place_text (Some 0xabcdef0) ≡ codes "(;@abcdef0;)"
+unfolding place_text left_in digits
+long_place = refl
+
+no_place : text with_offsets (Break None 2) ≡ codes "\n               "
+unfolding place_text repeated
+no_place = refl
+
+-- no more than fifty levels are indented
+deep_line : text defaults (Break (Some 0x10) 60) ≡ 10 ∷ replicate 100 32
+unfolding repeated
+deep_line = refl
+
+other_indent : text (record defaults { indent = codes "\t." }) (Break None 3) ≡ codes "\n\t.\t.\t."
+unfolding repeated
+other_indent = refl
+
+-- ---- quotes
+
+plain_characters : quoted_text (codes " !#$%&'()[]{}~aZ09;@") ≡ codes "\" !#$%&'()[]{}~aZ09;@\""
+unfolding quoted_text char_text
+plain_characters = refl
+
+escaped_characters : quoted_text (0x1b ∷ 0xe9 ∷ 0x22 ∷ 0x5c ∷ 0x1f ∷ 0x7f ∷ 0x0a ∷ 0x00 ∷ 0x1f600 ∷ []) ≡ codes "\"\\u{1b}\\u{e9}\\u{22}\\u{5c}\\u{1f}\\u{7f}\\u{a}\\u{0}\\u{1f600}\""
+unfolding quoted_text char_text digits
+escaped_characters = refl
+
+escaped_bytes : quoted_bytes (0x41 ∷ 0x22 ∷ 0x00 ∷ []) ≡ codes "\"A\\22\\00\""
+unfolding quoted_bytes byte_text
+escaped_bytes = refl
+
+-- bytes are no characters
+escaped_high_bytes : quoted_bytes (0x20 ∷ 0x5c ∷ 0x7e ∷ 0x7f ∷ 0xc3 ∷ 0xa9 ∷ 0xff ∷ []) ≡ codes "\" \\5c~\\7f\\c3\\a9\\ff\""
+unfolding quoted_bytes byte_text
+escaped_high_bytes = refl
