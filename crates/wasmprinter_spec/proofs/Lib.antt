@@ -3,3 +3,6 @@ pub mod LebRows
 pub mod BinaryRows
 pub mod LayoutRows
 pub mod ColourRows
+pub mod NumeralRows
+pub mod TokenRows
+pub mod ForestRows
