@@ -3,8 +3,6 @@ use Rattle.std.specs.Prelude.{◌≡◌, ℕ, pos, neg_ℤ, List, [], ◌∷◌,
 use Rattle.std.specs.Fmt.{digits}
 use Rattle.std.specs.Str.{chars}
 use Rattle.wasmprinter_spec.specs.Types.{I32, I64}
-use Rattle.wasmprinter_spec.specs.Operator as operator
-use Rattle.wasmprinter_spec.specs.Operator.{opcode, NoImmediates, Index}
 use Rattle.wasmprinter_spec.specs.Table.{table, control_rows, number_rows}
 use Rattle.wasmprinter_spec.specs.Placed.{PlacedModule}
 use Rattle.wasmprinter_spec.specs.Call.{Call, Style, Text, Newline, Line, Start, Literal, Name, Keyword, TypeName, Comment, Reset, text_of, atoms}
@@ -12,16 +10,16 @@ use Rattle.wasmprinter_spec.specs.Options.{Options, Answers, defaults}
 use Rattle.wasmprinter_spec.specs.Quoted.{char_text, byte_text, quoted_text, quoted_bytes}
 use Rattle.wasmprinter_spec.specs.Piece.{Break, repeated, left_in, place_text, text}
 use Rattle.wasmprinter_spec.specs.Layout.{group, group_gap, group_at, group_gap_at, type_list, type_group, signature_pieces, immediate_pieces, operator_pieces, body_pieces, type_pieces, export_pieces, local_group, local_pieces, header_pieces, function_group, function_pieces, numbered, field_pieces, module_pieces, layout}
-use Rattle.wasmprinter_spec.proofs.Samples.{empty_placed, identity_placed, stored_placed, lines}
+use Rattle.wasmprinter_spec.proofs.Samples.{lines, empty_placed, identity_placed, identity_text, identity_text_with_offsets, stored_placed, stored_text, mixed_placed, mixed_text}
 
 abbrev unclaimed : Answers
 unclaimed = λ n. false
 
-abbrev calls : Options → PlacedModule → List Call
-calls o m = layout o unclaimed m
+abbrev all_calls : Options → PlacedModule → List Call
+all_calls o m = layout o unclaimed m
 
 abbrev printed : Options → PlacedModule → List ℕ
-printed o m = text_of (calls o m)
+printed o m = text_of (all_calls o m)
 
 abbrev with_offsets : Options
 with_offsets = record defaults { offsets = true }
@@ -37,41 +35,25 @@ line_places (c ∷ cs) = line_places cs
 
 -- ---- the module without fields
 
-empty_text : printed defaults empty_placed ≡ codes "(module)\n"
+empty_plain : printed defaults empty_placed ≡ codes "(module)\n"
 unfolding group_at numbered field_pieces module_pieces layout
-empty_text = refl
+empty_plain = refl
 
 empty_with_offsets : printed with_offsets empty_placed ≡ codes "(module\n(;@8     ;))\n"
 unfolding group_at numbered field_pieces module_pieces layout place_text left_in repeated digits
 empty_with_offsets = refl
 
-empty_calls : atoms (calls defaults empty_placed) ≡ atoms (Line (Some 0) ∷ Text (codes "(") ∷ Start Keyword ∷ Text (codes "module") ∷ Start Reset ∷ Text (codes ")") ∷ Newline ∷ [])
+empty_calls : atoms (all_calls defaults empty_placed) ≡ atoms (Line (Some 0) ∷ Text (codes "(") ∷ Start Keyword ∷ Text (codes "module") ∷ Start Reset ∷ Text (codes ")") ∷ Newline ∷ [])
 unfolding group_at numbered field_pieces module_pieces layout
 empty_calls = refl
 
 -- ---- a function under a name
 
-identity_text : printed defaults identity_placed ≡ lines (
-  codes "(module"
-  ∷ codes "  (type (;0;) (func (param i32) (result i32)))"
-  ∷ codes "  (export \"f\" (func 0))"
-  ∷ codes "  (func (;0;) (type 0) (param i32) (result i32)"
-  ∷ codes "    local.get 0"
-  ∷ codes "  )"
-  ∷ codes ")"
-  ∷ [])
+identity_plain : printed defaults identity_placed ≡ identity_text
 unfolding group group_gap group_at group_gap_at type_list type_group signature_pieces immediate_pieces operator_pieces body_pieces type_pieces export_pieces local_group local_pieces header_pieces function_group function_pieces numbered field_pieces module_pieces layout repeated digits table control_rows number_rows char_text quoted_text chars
-identity_text = refl
+identity_plain = refl
 
-identity_with_offsets : printed with_offsets identity_placed ≡ lines (
-  codes "(module"
-  ∷ codes "(;@b     ;)  (type (;0;) (func (param i32) (result i32)))"
-  ∷ codes "(;@17    ;)  (export \"f\" (func 0))"
-  ∷ codes "(;@1f    ;)  (func (;0;) (type 0) (param i32) (result i32)"
-  ∷ codes "(;@20    ;)    local.get 0"
-  ∷ codes "(;@22    ;)  )"
-  ∷ codes "(;@23    ;))"
-  ∷ [])
+identity_with_offsets : printed with_offsets identity_placed ≡ identity_text_with_offsets
 unfolding group group_gap group_at group_gap_at type_list type_group signature_pieces immediate_pieces operator_pieces body_pieces type_pieces export_pieces local_group local_pieces header_pieces function_group function_pieces numbered field_pieces module_pieces layout repeated left_in place_text digits table control_rows number_rows char_text quoted_text chars
 identity_with_offsets = refl
 
@@ -107,27 +89,17 @@ identity_without_indent : printed (record defaults { indent = [] }) identity_pla
 unfolding group group_gap group_at group_gap_at type_list type_group signature_pieces immediate_pieces operator_pieces body_pieces type_pieces export_pieces local_group local_pieces header_pieces function_group function_pieces numbered field_pieces module_pieces layout repeated digits table control_rows number_rows char_text quoted_text chars
 identity_without_indent = refl
 
-identity_line_places : line_places (calls defaults identity_placed) ≡ Some 0 ∷ Some 0xb ∷ Some 0x17 ∷ Some 0x1f ∷ Some 0x20 ∷ Some 0x22 ∷ Some 0x23 ∷ []
+identity_line_places : line_places (all_calls defaults identity_placed) ≡ Some 0 ∷ Some 0xb ∷ Some 0x17 ∷ Some 0x1f ∷ Some 0x20 ∷ Some 0x22 ∷ Some 0x23 ∷ []
 unfolding group group_gap group_at group_gap_at type_list type_group signature_pieces immediate_pieces operator_pieces body_pieces type_pieces export_pieces local_group local_pieces header_pieces function_group function_pieces numbered field_pieces module_pieces layout
 identity_line_places = refl
 
 -- ---- a function with a local
 
-stored_text : printed defaults stored_placed ≡ lines (
-  codes "(module"
-  ∷ codes "  (type (;0;) (func (result i64)))"
-  ∷ codes "  (func (;0;) (type 0) (result i64)"
-  ∷ codes "    (local i64)"
-  ∷ codes "    i64.const -1"
-  ∷ codes "    local.set 0"
-  ∷ codes "    local.get 0"
-  ∷ codes "  )"
-  ∷ codes ")"
-  ∷ [])
+stored_plain : printed defaults stored_placed ≡ stored_text
 unfolding group group_gap group_at group_gap_at type_list type_group signature_pieces immediate_pieces operator_pieces body_pieces type_pieces local_group local_pieces header_pieces function_group function_pieces numbered field_pieces module_pieces layout repeated digits table control_rows number_rows
-stored_text = refl
+stored_plain = refl
 
-stored_line_places : line_places (calls defaults stored_placed) ≡ Some 0 ∷ Some 0xb ∷ Some 0x17 ∷ Some 0x18 ∷ Some 0x1a ∷ Some 0x1c ∷ Some 0x1e ∷ Some 0x20 ∷ Some 0x21 ∷ []
+stored_line_places : line_places (all_calls defaults stored_placed) ≡ Some 0 ∷ Some 0xb ∷ Some 0x17 ∷ Some 0x18 ∷ Some 0x1a ∷ Some 0x1c ∷ Some 0x1e ∷ Some 0x20 ∷ Some 0x21 ∷ []
 unfolding group group_gap group_at group_gap_at type_list type_group signature_pieces immediate_pieces operator_pieces body_pieces type_pieces local_group local_pieces header_pieces function_group function_pieces numbered field_pieces module_pieces layout
 stored_line_places = refl
 
@@ -154,78 +126,19 @@ stored_calls =
     ++ Newline ∷ Line (Some 0x21) ∷ in_style Comment (codes "(;@21    ;)") ++ plain (codes ")")
     ++ Newline ∷ []
 
-stored_all_calls : atoms (calls with_offsets stored_placed) ≡ atoms stored_calls
+stored_all_calls : atoms (all_calls with_offsets stored_placed) ≡ atoms stored_calls
 unfolding group group_gap group_at group_gap_at type_list type_group signature_pieces immediate_pieces operator_pieces body_pieces type_pieces local_group local_pieces header_pieces function_group function_pieces numbered field_pieces module_pieces layout repeated left_in place_text digits table control_rows number_rows
 stored_all_calls = refl
 
 -- ---- several types, functions, locals and results
 
-abbrev mixed_placed : PlacedModule
-mixed_placed = record {
-  types =
-      record { place = 0xb; value = record { params = []; results = [] } }
-      ∷ record { place = 0xe; value = record { params = I32 ∷ I64 ∷ []; results = I64 ∷ I32 ∷ [] } }
-      ∷ [];
-  functions =
-      record { type_index = 0; body = record { place = 0x22; value = record { locals = []; operators = []; end = 0x23 } } }
-      ∷ record {
-        type_index = 1;
-        body = record {
-          place = 0x25;
-          value = record {
-            locals =
-                record { place = 0x26; value = record { count = 0; type = I32 } }
-                ∷ record { place = 0x28; value = record { count = 2; type = I64 } }
-                ∷ record { place = 0x2a; value = record { count = 0; type = I64 } }
-                ∷ record { place = 0x2c; value = record { count = 1; type = I32 } }
-                ∷ [];
-            operators =
-                record { place = 0x2e; value = record { opcode = opcode 0 0x41; immediates = operator.I32 (neg_ℤ (pos 2147483648)) } }
-                ∷ record { place = 0x34; value = record { opcode = opcode 0 0x1a; immediates = NoImmediates } }
-                ∷ record { place = 0x35; value = record { opcode = opcode 0 0x42; immediates = operator.I64 (pos 9223372036854775807) } }
-                ∷ record { place = 0x40; value = record { opcode = opcode 0 0x10; immediates = Index 4294967295 } }
-                ∷ record { place = 0x46; value = record { opcode = opcode 0 0x0f; immediates = NoImmediates } }
-                ∷ [];
-            end = 0x47;
-          };
-        };
-      }
-      ∷ record {
-        type_index = 7;
-        body = record { place = 0x49; value = record { locals = record { place = 0x4a; value = record { count = 0; type = I32 } } ∷ []; operators = []; end = 0x4c } };
-      }
-      ∷ [];
-  exports =
-      record { place = 0x1a; value = record { name = 0x1b ∷ 0xc3 ∷ 0xa9 ∷ []; function = 1 } }
-      ∷ record { place = 0x20; value = record { name = []; function = 12 } }
-      ∷ [];
-  size = 0x4d;
-}
-
 -- locals of all entries on one line, whose place is that of the first entry that declares one; no signature of a type that isn't there
-mixed_text : printed defaults mixed_placed ≡ lines (
-  codes "(module"
-  ∷ codes "  (type (;0;) (func))"
-  ∷ codes "  (type (;1;) (func (param i32 i64) (result i64 i32)))"
-  ∷ codes "  (export \"\\u{1b}\\u{e9}\" (func 1))"
-  ∷ codes "  (export \"\" (func 12))"
-  ∷ codes "  (func (;0;) (type 0))"
-  ∷ codes "  (func (;1;) (type 1) (param i32 i64) (result i64 i32)"
-  ∷ codes "    (local i64 i64 i32)"
-  ∷ codes "    i32.const -2147483648"
-  ∷ codes "    drop"
-  ∷ codes "    i64.const 9223372036854775807"
-  ∷ codes "    call 4294967295"
-  ∷ codes "    return"
-  ∷ codes "  )"
-  ∷ codes "  (func (;2;) (type 7))"
-  ∷ codes ")"
-  ∷ [])
+mixed_plain : printed defaults mixed_placed ≡ mixed_text
 unfolding group group_gap group_at group_gap_at type_list type_group signature_pieces immediate_pieces operator_pieces body_pieces type_pieces export_pieces local_group local_pieces header_pieces function_group function_pieces numbered field_pieces module_pieces layout repeated digits table control_rows number_rows char_text quoted_text chars
-mixed_text = refl
+mixed_plain = refl
 
 -- with offsets the parentheses of functions close on lines of their own
-mixed_line_places : line_places (calls with_offsets mixed_placed) ≡
+mixed_line_places : line_places (all_calls with_offsets mixed_placed) ≡
     Some 0 ∷ Some 0xb ∷ Some 0xe ∷ Some 0x1a ∷ Some 0x20
     ∷ Some 0x22 ∷ Some 0x23
     ∷ Some 0x25 ∷ Some 0x28 ∷ Some 0x2e ∷ Some 0x34 ∷ Some 0x35 ∷ Some 0x40 ∷ Some 0x46 ∷ Some 0x47

@@ -6,3 +6,5 @@ pub mod ColourRows
 pub mod NumeralRows
 pub mod TokenRows
 pub mod ForestRows
+pub mod ReadRows
+pub mod UnreadRows

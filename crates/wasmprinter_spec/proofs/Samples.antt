@@ -1,7 +1,7 @@
--- Modules that the worked rows share, written by hand: their bytes, what the bytes spell with places, and what the text says.
-use Rattle.std.specs.Prelude.{ℕ, negsuc, List, [], ◌∷◌, ◌++◌, codes}
+-- Modules that the worked rows share, written by hand: their bytes, what the bytes spell with places, their texts, and what these say.
+use Rattle.std.specs.Prelude.{ℕ, ℤ, pos, negsuc, neg_ℤ, List, [], ◌∷◌, ◌++◌, codes}
 use Rattle.wasmprinter_spec.specs.Types as types
-use Rattle.wasmprinter_spec.specs.Operator.{opcode, NoImmediates, Index, I64, Operator}
+use Rattle.wasmprinter_spec.specs.Operator.{opcode, NoImmediates, Index, I32, I64, Operator}
 use Rattle.wasmprinter_spec.specs.Placed.{PlacedModule}
 use Rattle.wasmprinter_spec.specs.Module.{Module}
 
@@ -9,11 +9,33 @@ use Rattle.wasmprinter_spec.specs.Module.{Module}
 abbrev pub head_bytes : List ℕ
 head_bytes = 0x00 ∷ 0x61 ∷ 0x73 ∷ 0x6d ∷ 0x01 ∷ 0x00 ∷ 0x00 ∷ 0x00 ∷ []
 
+-- lines, each with its line feed
+abbrev pub lines : List (List ℕ) → List ℕ
+lines [] = []
+lines (l ∷ ls) = l ++ codes "\n" ++ lines ls
+
+-- ---- operators
+
 abbrev pub local_get : ℕ → Operator
 local_get i = record { opcode = opcode 0 0x20; immediates = Index i }
 
 abbrev pub local_set : ℕ → Operator
 local_set i = record { opcode = opcode 0 0x21; immediates = Index i }
+
+abbrev pub call : ℕ → Operator
+call i = record { opcode = opcode 0 0x10; immediates = Index i }
+
+abbrev pub drop : Operator
+drop = record { opcode = opcode 0 0x1a; immediates = NoImmediates }
+
+abbrev pub return : Operator
+return = record { opcode = opcode 0 0x0f; immediates = NoImmediates }
+
+abbrev pub i32_const : ℤ → Operator
+i32_const z = record { opcode = opcode 0 0x41; immediates = I32 z }
+
+abbrev pub i64_const : ℤ → Operator
+i64_const z = record { opcode = opcode 0 0x42; immediates = I64 z }
 
 -- ---- the module without fields
 
@@ -56,6 +78,28 @@ identity = record {
   exports = record { name = codes "f"; function = 0 } ∷ [];
 }
 
+abbrev pub identity_text : List ℕ
+identity_text = lines (
+  codes "(module"
+  ∷ codes "  (type (;0;) (func (param i32) (result i32)))"
+  ∷ codes "  (export \"f\" (func 0))"
+  ∷ codes "  (func (;0;) (type 0) (param i32) (result i32)"
+  ∷ codes "    local.get 0"
+  ∷ codes "  )"
+  ∷ codes ")"
+  ∷ [])
+
+abbrev pub identity_text_with_offsets : List ℕ
+identity_text_with_offsets = lines (
+  codes "(module"
+  ∷ codes "(;@b     ;)  (type (;0;) (func (param i32) (result i32)))"
+  ∷ codes "(;@17    ;)  (export \"f\" (func 0))"
+  ∷ codes "(;@1f    ;)  (func (;0;) (type 0) (param i32) (result i32)"
+  ∷ codes "(;@20    ;)    local.get 0"
+  ∷ codes "(;@22    ;)  )"
+  ∷ codes "(;@23    ;))"
+  ∷ [])
+
 -- ---- a function with a local, in which it puts -1
 
 abbrev pub stored_bytes_to_end : List ℕ
@@ -79,7 +123,7 @@ stored_placed = record {
           value = record {
             locals = record { place = 0x18; value = record { count = 1; type = types.I64 } } ∷ [];
             operators =
-                record { place = 0x1a; value = record { opcode = opcode 0 0x42; immediates = I64 (negsuc 0) } }
+                record { place = 0x1a; value = i64_const (negsuc 0) }
                 ∷ record { place = 0x1c; value = local_set 0 }
                 ∷ record { place = 0x1e; value = local_get 0 }
                 ∷ [];
@@ -99,15 +143,100 @@ stored = record {
       record {
         type_index = 0;
         locals = types.I64 ∷ [];
-        operators = record { opcode = opcode 0 0x42; immediates = I64 (negsuc 0) } ∷ local_set 0 ∷ local_get 0 ∷ [];
+        operators = i64_const (negsuc 0) ∷ local_set 0 ∷ local_get 0 ∷ [];
       }
       ∷ [];
   exports = [];
 }
 
--- ---- texts
+abbrev pub stored_text : List ℕ
+stored_text = lines (
+  codes "(module"
+  ∷ codes "  (type (;0;) (func (result i64)))"
+  ∷ codes "  (func (;0;) (type 0) (result i64)"
+  ∷ codes "    (local i64)"
+  ∷ codes "    i64.const -1"
+  ∷ codes "    local.set 0"
+  ∷ codes "    local.get 0"
+  ∷ codes "  )"
+  ∷ codes ")"
+  ∷ [])
 
--- lines, each with its line feed
-abbrev pub lines : List (List ℕ) → List ℕ
-lines [] = []
-lines (l ∷ ls) = l ++ codes "\n" ++ lines ls
+-- ---- several types, functions, locals and results, and indices of what isn't there
+
+abbrev pub mixed_placed : PlacedModule
+mixed_placed = record {
+  types =
+      record { place = 0xb; value = record { params = []; results = [] } }
+      ∷ record { place = 0xe; value = record { params = types.I32 ∷ types.I64 ∷ []; results = types.I64 ∷ types.I32 ∷ [] } }
+      ∷ [];
+  functions =
+      record { type_index = 0; body = record { place = 0x22; value = record { locals = []; operators = []; end = 0x23 } } }
+      ∷ record {
+        type_index = 1;
+        body = record {
+          place = 0x25;
+          value = record {
+            locals =
+                record { place = 0x26; value = record { count = 0; type = types.I32 } }
+                ∷ record { place = 0x28; value = record { count = 2; type = types.I64 } }
+                ∷ record { place = 0x2a; value = record { count = 0; type = types.I64 } }
+                ∷ record { place = 0x2c; value = record { count = 1; type = types.I32 } }
+                ∷ [];
+            operators =
+                record { place = 0x2e; value = i32_const (neg_ℤ (pos 2147483648)) }
+                ∷ record { place = 0x34; value = drop }
+                ∷ record { place = 0x35; value = i64_const (pos 9223372036854775807) }
+                ∷ record { place = 0x40; value = call 4294967295 }
+                ∷ record { place = 0x46; value = return }
+                ∷ [];
+            end = 0x47;
+          };
+        };
+      }
+      ∷ record {
+        type_index = 7;
+        body = record { place = 0x49; value = record { locals = record { place = 0x4a; value = record { count = 0; type = types.I32 } } ∷ []; operators = []; end = 0x4c } };
+      }
+      ∷ [];
+  exports =
+      record { place = 0x1a; value = record { name = 0x1b ∷ 0xc3 ∷ 0xa9 ∷ []; function = 1 } }
+      ∷ record { place = 0x20; value = record { name = []; function = 12 } }
+      ∷ [];
+  size = 0x4d;
+}
+
+abbrev pub mixed : Module
+mixed = record {
+  types = record { params = []; results = [] } ∷ record { params = types.I32 ∷ types.I64 ∷ []; results = types.I64 ∷ types.I32 ∷ [] } ∷ [];
+  functions =
+      record { type_index = 0; locals = []; operators = [] }
+      ∷ record {
+        type_index = 1;
+        locals = types.I64 ∷ types.I64 ∷ types.I32 ∷ [];
+        operators = i32_const (neg_ℤ (pos 2147483648)) ∷ drop ∷ i64_const (pos 9223372036854775807) ∷ call 4294967295 ∷ return ∷ [];
+      }
+      ∷ record { type_index = 7; locals = []; operators = [] }
+      ∷ [];
+  exports = record { name = 0x1b ∷ 0xc3 ∷ 0xa9 ∷ []; function = 1 } ∷ record { name = []; function = 12 } ∷ [];
+}
+
+abbrev pub mixed_text : List ℕ
+mixed_text = lines (
+  codes "(module"
+  ∷ codes "  (type (;0;) (func))"
+  ∷ codes "  (type (;1;) (func (param i32 i64) (result i64 i32)))"
+  ∷ codes "  (export \"\\u{1b}\\u{e9}\" (func 1))"
+  ∷ codes "  (export \"\" (func 12))"
+  ∷ codes "  (func (;0;) (type 0))"
+  ∷ codes "  (func (;1;) (type 1) (param i32 i64) (result i64 i32)"
+  ∷ codes "    (local i64 i64 i32)"
+  ∷ codes "    i32.const -2147483648"
+  ∷ codes "    drop"
+  ∷ codes "    i64.const 9223372036854775807"
+  ∷ codes "    call 4294967295"
+  ∷ codes "    return"
+  ∷ codes "  )"
+  ∷ codes "  (func (;2;) (type 7))"
+  ∷ codes ")"
+  ∷ [])
