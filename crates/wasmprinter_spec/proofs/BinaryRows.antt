@@ -11,7 +11,7 @@ use Rattle.wasmprinter_spec.specs.Placed.{LocalEntry, PlacedModule}
 use Rattle.wasmprinter_spec.specs.Binary.{binary, Spells, IsComponent}
 use Rattle.wasmprinter_spec.specs.Limits.{IsWithinLimits}
 use Rattle.wasmprinter_spec.specs.Table.{table, control_rows, number_rows}
-use Rattle.wasmprinter_spec.proofs.Samples.{head_bytes, local_get, empty_placed, identity_bytes, identity_placed, stored_bytes_to_end, stored_bytes, stored_placed}
+use Rattle.wasmprinter_spec.proofs.Samples.{head_bytes, local_get, empty_placed, identity_bytes, identity_placed, stored_bytes_to_end, stored_bytes, stored_placed, mixed_bytes, mixed_placed}
 
 abbrev parsed : List ℕ → Option PlacedModule
 parsed bytes = binary.parse (from 0 bytes)
@@ -29,6 +29,10 @@ stored_module : parsed stored_bytes ≡ Some stored_placed
 unfolding table control_rows number_rows
 stored_module = refl
 
+mixed_module : parsed mixed_bytes ≡ Some mixed_placed
+unfolding table control_rows number_rows is_utf8 chars encode_utf8
+mixed_module = refl
+
 -- a parse is a spelling
 identity_spelled : Spells identity_bytes identity_placed
 identity_spelled = binary.sound (from 0 identity_bytes) identity_placed identity_module
@@ -37,6 +41,13 @@ identity_spelled = binary.sound (from 0 identity_bytes) identity_placed identity
 without_end : parsed (stored_bytes_to_end ++ (0x0a ∷ [])) ≡ None
 unfolding table control_rows number_rows
 without_end = refl
+
+-- where there is no parse nothing is spelled
+unspelled : (bytes : List ℕ) (m : PlacedModule) → parsed bytes ≡ None → Spells bytes m → ⊥
+unspelled bytes m e s = let p : parsed bytes ≡ Some m = binary.complete (from 0 bytes) m s in absurd (cc (e, p))
+
+without_end_unspelled : (m : PlacedModule) → Spells (stored_bytes_to_end ++ (0x0a ∷ [])) m → ⊥
+without_end_unspelled m = unspelled (stored_bytes_to_end ++ (0x0a ∷ [])) m without_end
 
 -- the numbers below n, from the lowest, at which a list of bytes cut there is a module
 abbrev length_if : Option PlacedModule → ℕ → List ℕ

@@ -139,11 +139,11 @@ mixed_plain = refl
 
 -- with offsets the parentheses of functions close on lines of their own
 mixed_line_places : line_places (all_calls with_offsets mixed_placed) ≡
-    Some 0 ∷ Some 0xb ∷ Some 0xe ∷ Some 0x1a ∷ Some 0x20
-    ∷ Some 0x22 ∷ Some 0x23
-    ∷ Some 0x25 ∷ Some 0x28 ∷ Some 0x2e ∷ Some 0x34 ∷ Some 0x35 ∷ Some 0x40 ∷ Some 0x46 ∷ Some 0x47
-    ∷ Some 0x49 ∷ Some 0x4c
-    ∷ Some 0x4d ∷ []
+    Some 0 ∷ Some 0xb ∷ Some 0xe ∷ Some 0x1e ∷ Some 0x24
+    ∷ Some 0x2b ∷ Some 0x2c
+    ∷ Some 0x2e ∷ Some 0x31 ∷ Some 0x37 ∷ Some 0x3d ∷ Some 0x3e ∷ Some 0x49 ∷ Some 0x4f ∷ Some 0x50
+    ∷ Some 0x52 ∷ Some 0x55
+    ∷ Some 0x56 ∷ []
 unfolding group group_gap group_at group_gap_at type_list type_group signature_pieces immediate_pieces operator_pieces body_pieces type_pieces export_pieces local_group local_pieces header_pieces function_group function_pieces numbered field_pieces module_pieces layout
 mixed_line_places = refl
 

@@ -164,6 +164,24 @@ stored_text = lines (
 
 -- ---- several types, functions, locals and results, and indices of what isn't there
 
+abbrev pub mixed_bytes : List ℕ
+mixed_bytes =
+    head_bytes
+    ++ (0x01 ∷ 0x0b ∷ 0x02 ∷ [])
+    ++ (0x60 ∷ 0x00 ∷ 0x00 ∷ [])
+    ++ (0x60 ∷ 0x02 ∷ 0x7f ∷ 0x7e ∷ 0x02 ∷ 0x7e ∷ 0x7f ∷ [])
+    ++ (0x03 ∷ 0x04 ∷ 0x03 ∷ 0x00 ∷ 0x01 ∷ 0x07 ∷ [])
+    ++ (0x07 ∷ 0x0a ∷ 0x02 ∷ [])
+    ++ (0x03 ∷ 0x1b ∷ 0xc3 ∷ 0xa9 ∷ 0x00 ∷ 0x01 ∷ [])
+    ++ (0x00 ∷ 0x00 ∷ 0x0c ∷ [])
+    ++ (0x0a ∷ 0x2d ∷ 0x03 ∷ [])
+    ++ (0x02 ∷ 0x00 ∷ 0x0b ∷ [])
+    ++ (0x23 ∷ 0x04 ∷ 0x00 ∷ 0x7f ∷ 0x02 ∷ 0x7e ∷ 0x00 ∷ 0x7e ∷ 0x01 ∷ 0x7f ∷ [])
+    ++ (0x41 ∷ 0x80 ∷ 0x80 ∷ 0x80 ∷ 0x80 ∷ 0x78 ∷ 0x1a ∷ [])
+    ++ (0x42 ∷ 0xff ∷ 0xff ∷ 0xff ∷ 0xff ∷ 0xff ∷ 0xff ∷ 0xff ∷ 0xff ∷ 0xff ∷ 0x00 ∷ [])
+    ++ (0x10 ∷ 0xff ∷ 0xff ∷ 0xff ∷ 0xff ∷ 0x0f ∷ 0x0f ∷ 0x0b ∷ [])
+    ++ (0x04 ∷ 0x01 ∷ 0x00 ∷ 0x7f ∷ 0x0b ∷ [])
+
 abbrev pub mixed_placed : PlacedModule
 mixed_placed = record {
   types =
@@ -171,39 +189,39 @@ mixed_placed = record {
       ∷ record { place = 0xe; value = record { params = types.I32 ∷ types.I64 ∷ []; results = types.I64 ∷ types.I32 ∷ [] } }
       ∷ [];
   functions =
-      record { type_index = 0; body = record { place = 0x22; value = record { locals = []; operators = []; end = 0x23 } } }
+      record { type_index = 0; body = record { place = 0x2b; value = record { locals = []; operators = []; end = 0x2c } } }
       ∷ record {
         type_index = 1;
         body = record {
-          place = 0x25;
+          place = 0x2e;
           value = record {
             locals =
-                record { place = 0x26; value = record { count = 0; type = types.I32 } }
-                ∷ record { place = 0x28; value = record { count = 2; type = types.I64 } }
-                ∷ record { place = 0x2a; value = record { count = 0; type = types.I64 } }
-                ∷ record { place = 0x2c; value = record { count = 1; type = types.I32 } }
+                record { place = 0x2f; value = record { count = 0; type = types.I32 } }
+                ∷ record { place = 0x31; value = record { count = 2; type = types.I64 } }
+                ∷ record { place = 0x33; value = record { count = 0; type = types.I64 } }
+                ∷ record { place = 0x35; value = record { count = 1; type = types.I32 } }
                 ∷ [];
             operators =
-                record { place = 0x2e; value = i32_const (neg_ℤ (pos 2147483648)) }
-                ∷ record { place = 0x34; value = drop }
-                ∷ record { place = 0x35; value = i64_const (pos 9223372036854775807) }
-                ∷ record { place = 0x40; value = call 4294967295 }
-                ∷ record { place = 0x46; value = return }
+                record { place = 0x37; value = i32_const (neg_ℤ (pos 2147483648)) }
+                ∷ record { place = 0x3d; value = drop }
+                ∷ record { place = 0x3e; value = i64_const (pos 9223372036854775807) }
+                ∷ record { place = 0x49; value = call 4294967295 }
+                ∷ record { place = 0x4f; value = return }
                 ∷ [];
-            end = 0x47;
+            end = 0x50;
           };
         };
       }
       ∷ record {
         type_index = 7;
-        body = record { place = 0x49; value = record { locals = record { place = 0x4a; value = record { count = 0; type = types.I32 } } ∷ []; operators = []; end = 0x4c } };
+        body = record { place = 0x52; value = record { locals = record { place = 0x53; value = record { count = 0; type = types.I32 } } ∷ []; operators = []; end = 0x55 } };
       }
       ∷ [];
   exports =
-      record { place = 0x1a; value = record { name = 0x1b ∷ 0xc3 ∷ 0xa9 ∷ []; function = 1 } }
-      ∷ record { place = 0x20; value = record { name = []; function = 12 } }
+      record { place = 0x1e; value = record { name = 0x1b ∷ 0xc3 ∷ 0xa9 ∷ []; function = 1 } }
+      ∷ record { place = 0x24; value = record { name = []; function = 12 } }
       ∷ [];
-  size = 0x4d;
+  size = 0x56;
 }
 
 abbrev pub mixed : Module

@@ -1,5 +1,5 @@
 -- Worked rows of the reader (section 6 of the standard): texts that write no module.
-use Rattle.std.specs.Prelude.{◌≡◌, ℕ, List, [], ◌∷◌, ◌++◌, map, codes, Option, Some, None, refl}
+use Rattle.std.specs.Prelude.{◌≡◌, ℕ, ◌+◌, List, [], ◌∷◌, ◌++◌, map, codes, Option, Some, None, refl}
 use Rattle.std.specs.Char.{encode_utf8}
 use Rattle.std.specs.Str.{is_utf8, chars}
 use Rattle.wasmprinter_spec.specs.Table.{table, control_rows, number_rows}
@@ -9,22 +9,25 @@ use Rattle.wasmprinter_spec.specs.Numeral.{numeral, natural, integer}
 use Rattle.wasmprinter_spec.specs.Token.{escape, lex}
 use Rattle.wasmprinter_spec.specs.Read.{groups, read}
 
-abbrev text_if : Option Module → List ℕ → List (List ℕ)
-text_if None text = []
-text_if (Some m) text = text ∷ []
+abbrev number_if : Option Module → ℕ → List ℕ
+number_if None n = []
+number_if (Some m) n = n ∷ []
 
--- the texts among these that write a module
-abbrev texts_read : List (List ℕ) → List (List ℕ)
-texts_read [] = []
-texts_read (t ∷ ts) = text_if (read t) t ++ texts_read ts
+abbrev numbers_from : ℕ → List (List ℕ) → List ℕ
+numbers_from n [] = []
+numbers_from n (t ∷ ts) = number_if (read t) n ++ numbers_from (n + 1) ts
 
--- so that a row which reads is seen
-read_among : texts_read (codes "(module" ∷ codes "(module)" ∷ codes "module" ∷ []) ≡ codes "(module)" ∷ []
+-- which of these texts write a module, counted from 0
+abbrev numbers_read : List (List ℕ) → List ℕ
+numbers_read ts = numbers_from 0 ts
+
+-- a text that reads is seen
+read_among : numbers_read (codes "(module" ∷ codes "(module)" ∷ codes "module" ∷ codes "(module (type (func)))" ∷ []) ≡ 1 ∷ 3 ∷ []
 unfolding lex class escape numeral natural integer groups table control_rows number_rows is_utf8 chars encode_utf8
 read_among = refl
 
 -- parentheses that don't match, more than one module or none
-unread_groups : texts_read (
+unread_groups : numbers_read (
   codes "module"
   ∷ codes "()"
   ∷ codes "(module"
@@ -40,7 +43,7 @@ unfolding lex class escape numeral natural integer groups table control_rows num
 unread_groups = refl
 
 -- texts and comments that stay open, signs that mean nothing outside annotations, and characters that stand in comments alone
-unread_tokens : texts_read (
+unread_tokens : numbers_read (
   codes "(module (export \"f (func 0)))"
   ∷ codes "(module (; )"
   ∷ codes "(module (; (; ;) )"
@@ -64,7 +67,7 @@ unfolding lex class escape numeral natural integer groups table control_rows num
 unread_tokens = refl
 
 -- two tokens that touch
-unread_touching : texts_read (
+unread_touching : numbers_read (
   codes "(module (export \"a\"\"b\" (func 0)))"
   ∷ codes "(module (export\"a\" (func 0)))"
   ∷ codes "(module $\"a\"(export $a\"a\" (func 0)))"
@@ -76,11 +79,11 @@ unfolding lex class escape numeral natural integer groups table control_rows num
 unread_touching = refl
 
 -- custom sections are not read yet
-unread_customs : texts_read (codes "(module (@custom \"a\" \"b\"))" ∷ codes "(module (type (func)) (@\"custom\" \"a\" (before first) \"b\"))" ∷ []) ≡ []
+unread_customs : numbers_read (codes "(module (@custom \"a\" \"b\"))" ∷ codes "(module (type (func)) (@\"custom\" \"a\" (before first) \"b\"))" ∷ []) ≡ []
 unfolding lex class escape numeral natural integer groups table control_rows number_rows is_utf8 chars encode_utf8
 unread_customs = refl
 
-unread_fields : texts_read (
+unread_fields : numbers_read (
   codes "(module (functions 1))"
   ∷ codes "(module type)"
   ∷ codes "(module \"m\")"
@@ -104,7 +107,7 @@ unfolding lex class escape numeral natural integer groups table control_rows num
 unread_fields = refl
 
 -- numbers beyond 32 bits, and identifiers without one declaration in their space
-unread_indices : texts_read (
+unread_indices : numbers_read (
   codes "(module (export \"f\" (func 4294967296)))"
   ∷ codes "(module (export \"f\" (func +0)))"
   ∷ codes "(module (export \"f\" (func -0)))"
@@ -125,7 +128,7 @@ unfolding lex class escape numeral natural integer groups table control_rows num
 unread_indices = refl
 
 -- a signature beside a type's index is whole and in order
-unread_signatures : texts_read (
+unread_signatures : numbers_read (
   codes "(module (type (func (param i32))) (func (type 0) (param i64)))"
   ∷ codes "(module (type (func)) (func (type 0) (param i32)))"
   ∷ codes "(module (type (func (param i32 i32))) (func (type 0) (param i32)))"
@@ -146,7 +149,7 @@ unread_signatures = refl
 abbrev procedure : List ℕ → List ℕ
 procedure code = codes "(module (type (func)) (func (type 0) (local i32) " ++ code ++ codes "))"
 
-unread_code : texts_read (map procedure (
+unread_code : numbers_read (map procedure (
   codes "i32.constant 1"
   ∷ codes "1"
   ∷ codes "\"drop\""
@@ -169,7 +172,7 @@ unfolding lex class escape numeral natural integer groups table control_rows num
 unread_code = refl
 
 -- operands stand behind what the operator's word takes, and are folded themselves
-unread_folded : texts_read (map procedure (
+unread_folded : numbers_read (map procedure (
   codes "(local.set 0 i32.const 1)"
   ∷ codes "(local.set (i32.const 1) 0)"
   ∷ codes "(drop drop)"
