@@ -1,6 +1,8 @@
 -- Worked rows of the binary format (section 5 of the standard): what single lists of bytes spell.
-use Rattle.std.specs.Prelude.{◌≡◌, ℕ, zero, suc, ◌+◌, List, [], ◌∷◌, ◌++◌, take, drop, length, codes, Option, Some, None, refl}
-use Rattle.std.proofs.Common.{arith}
+use Rattle.std.specs.Prelude.{◌≡◌, ℕ, zero, suc, ◌+◌, List, [], ◌∷◌, ◌++◌, take, drop, length, codes, nat_lt, true, Option, Some, None, refl}
+use Rattle.std.proofs.Common.{arith, ltb}
+use Rattle.std.proofs.lemmas.Bool.{and_parts, ltb-true}
+use Rattle.std.specs.List.{list_all}
 use Rattle.std.specs.Char.{encode_utf8}
 use Rattle.std.specs.Str.{is_utf8, chars}
 use Rattle.wasmprinter_spec.specs.Grammar.{from, Placed}
@@ -8,7 +10,7 @@ use Rattle.wasmprinter_spec.specs.Grammar.{from, Placed}
 
 use Rattle.wasmprinter_spec.specs.Types.{I32}
 use Rattle.wasmprinter_spec.specs.Placed.{LocalEntry, PlacedModule}
-use Rattle.wasmprinter_spec.specs.Binary.{binary, Spells, IsComponent}
+use Rattle.wasmprinter_spec.specs.Binary.{binary, AreBytes, Spells, IsComponent}
 use Rattle.wasmprinter_spec.specs.Limits.{IsWithinLimits}
 use Rattle.wasmprinter_spec.specs.Table.{table, control_rows, number_rows}
 use Rattle.wasmprinter_spec.proofs.Samples.{head_bytes, local_get, empty_placed, identity_bytes, identity_placed, stored_bytes_to_end, stored_bytes, stored_placed, mixed_bytes, mixed_placed}
@@ -33,9 +35,19 @@ mixed_module : parsed mixed_bytes ≡ Some mixed_placed
 unfolding table control_rows number_rows is_utf8 chars encode_utf8
 mixed_module = refl
 
+-- bytes by a test of each
+below_256 : (bytes : List ℕ) → list_all (λ b. nat_lt b 256) bytes ≡ true → AreBytes bytes
+below_256 [] h = tt
+below_256 (b ∷ bs) h =
+    let parts : (ltb b 256 ≡ true) × (list_all (λ c. ltb c 256) bs ≡ true) = and_parts (ltb b 256) (list_all (λ c. ltb c 256) bs) h in
+    (ltb-true b 256 parts.0, below_256 bs parts.1)
+
 -- a parse is a spelling
 identity_spelled : Spells identity_bytes identity_placed
-identity_spelled = binary.sound (from 0 identity_bytes) identity_placed identity_module
+identity_spelled = record {
+  are_bytes = below_256 identity_bytes refl;
+  spelled = binary.sound (from 0 identity_bytes) identity_placed identity_module;
+}
 
 -- another byte in place of the last `end`
 without_end : parsed (stored_bytes_to_end ++ (0x0a ∷ [])) ≡ None
@@ -44,7 +56,7 @@ without_end = refl
 
 -- where there is no parse nothing is spelled
 unspelled : (bytes : List ℕ) (m : PlacedModule) → parsed bytes ≡ None → Spells bytes m → ⊥
-unspelled bytes m e s = let p : parsed bytes ≡ Some m = binary.complete (from 0 bytes) m s in absurd (cc (e, p))
+unspelled bytes m e s = let p : parsed bytes ≡ Some m = binary.complete (from 0 bytes) m s.spelled in absurd (cc (e, p))
 
 without_end_unspelled : (m : PlacedModule) → Spells (stored_bytes_to_end ++ (0x0a ∷ [])) m → ⊥
 without_end_unspelled m = unspelled (stored_bytes_to_end ++ (0x0a ∷ [])) m without_end
