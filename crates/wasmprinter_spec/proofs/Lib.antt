@@ -8,3 +8,4 @@ pub mod TokenRows
 pub mod ForestRows
 pub mod ReadRows
 pub mod UnreadRows
+pub mod IndexedRows
