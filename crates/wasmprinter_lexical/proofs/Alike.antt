@@ -1,5 +1,5 @@
 -- Cutting text into pieces changes no text.
-use Rattle.std.proofs.Common.{◌≡◌, ℕ, List, [], ◌∷◌, ◌++◌, refl, ap, ◌∙◌, map}
+use Rattle.std.proofs.Common.{◌≡◌, ℕ, List, [], ◌∷◌, ◌++◌, refl, sym, ap, ◌∙◌, map}
 use Rattle.wasmprinter_spec.specs.Call.{Call, Text, Newline, Line, Start, Claim, call_text, text_of, cut_call, atoms}
 use Rattle.wasmprinter_lexical.proofs.Pieces.{text_of-append}
 
