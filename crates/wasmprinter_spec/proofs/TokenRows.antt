@@ -35,6 +35,17 @@ no_names : tokens (codes "$ $\"\" $\"\\ff\" ($)") ≡ reserved ∷ reserved ∷ 
 unfolding lex class escape encode_utf8 is_utf8 chars
 no_names = refl
 
+-- each of these is a token by itself that stands in annotations alone
+reserved_signs : tokens (codes ", ; [ ] { }") ≡ reserved ∷ reserved ∷ reserved ∷ reserved ∷ reserved ∷ reserved ∷ []
+unfolding lex class
+reserved_signs = refl
+
+-- what the end of the text cuts off
+cut_tokens : tokens (codes "a") ++ tokens (codes "$a") ++ tokens (codes "$") ++ tokens (codes ";") ++ tokens (codes "(") ++ tokens (codes "(@") ++ tokens (codes "(@a") ++ tokens (codes "\"a\"")
+    ≡ word (codes "a") ∷ name (codes "a") ∷ reserved ∷ reserved ∷ left ∷ left ∷ reserved ∷ left_note (codes "a") ∷ string (codes "a") ∷ []
+unfolding lex class
+cut_tokens = refl
+
 -- ---- tokens that touch
 
 touching_strings : tokens (codes "\"a\"\"b\"") ≡ string (codes "a") ∷ reserved ∷ string (codes "b") ∷ []
@@ -61,6 +72,11 @@ line_comments = refl
 block_comments : tokens (codes "a(; b (; c ;) d ;)e (;;) (;(;;);) (;;;) (;();) (; ;; ;) f") ≡ word (codes "a") ∷ word (codes "e") ∷ word (codes "f") ∷ []
 unfolding lex class
 block_comments = refl
+
+-- one opens behind a parenthesis, a semicolon or another opening
+nested_comments : tokens (codes "(; ((; ;) ;) a (; ;(; ;) ;) b (; (;) ;) ;) c (;(;;)(;;);) d") ≡ word (codes "a") ∷ word (codes "b") ∷ word (codes "c") ∷ word (codes "d") ∷ []
+unfolding lex class
+nested_comments = refl
 
 -- characters that stand in no token stand in comments
 in_comments : tokens (codes "(; " ++ 0x00 ∷ 0x7f ∷ 0xc3 ∷ 0xa9 ∷ codes " \" ;) ;; " ++ 0x01 ∷ 0xc3 ∷ 0xa9 ∷ codes "\" (;") ≡ []
