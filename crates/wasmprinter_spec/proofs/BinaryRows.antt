@@ -4,8 +4,6 @@ use Rattle.std.proofs.Common.{arith}
 use Rattle.std.specs.Char.{encode_utf8}
 use Rattle.std.specs.Str.{is_utf8, chars}
 use Rattle.wasmprinter_spec.specs.Grammar.{from, Placed}
-
-
 use Rattle.wasmprinter_spec.specs.Types.{I32}
 use Rattle.wasmprinter_spec.specs.Placed.{LocalEntry, PlacedModule}
 use Rattle.wasmprinter_spec.specs.Binary.{binary, Spells, IsComponent}
@@ -170,6 +168,10 @@ most_locals_within = record { locals = (omega arith, tt); functions = omega arit
 
 too_many_beyond : IsWithinLimits (many_locals 50001) → ⊥
 too_many_beyond w = omega (arith, w.locals.0)
+
+-- those of all entries count together
+too_many_in_two_entries : IsWithinLimits (with_locals (record { place = 0x17; value = record { count = 25000; type = I32 } } ∷ record { place = 0x1b; value = record { count = 25001; type = I32 } } ∷ []) 0x1f 0x20) → ⊥
+too_many_in_two_entries w = omega (arith, w.locals.0)
 
 function_limit : most_functions ≡ 1000000
 function_limit = refl

@@ -1,7 +1,7 @@
 -- Worked rows of the table of operators (sections 5.4 and 6.5 of the standard): words, shapes and arities by opcode.
-use Rattle.std.specs.Prelude.{◌≡◌, ℕ, List, [], ◌∷◌, map, codes, Option, Some, None, option_map, refl}
+use Rattle.std.specs.Prelude.{◌≡◌, ℕ, List, [], ◌∷◌, map, codes, Some, option_map, refl}
 use Rattle.wasmprinter_spec.specs.Operator.{opcode}
-use Rattle.wasmprinter_spec.specs.Row.{Row, Shape, NoneShape, IndexShape, I32Shape, I64Shape, Func, Local, Arity, Fixed, OfCall, OfReturn}
+use Rattle.wasmprinter_spec.specs.Row.{NoneShape, IndexShape, I32Shape, I64Shape, Func, Local, Fixed, OfCall, OfReturn}
 use Rattle.wasmprinter_spec.specs.Table.{table, control_rows, number_rows, by_word, by_opcode, word_of}
 
 -- return, call, drop, local.get, local.set, i32.const, i64.const

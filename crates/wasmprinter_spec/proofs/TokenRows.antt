@@ -1,10 +1,10 @@
 -- Worked rows of the lexical format (sections 6.2 and 6.3 of the standard): the tokens of single texts.
-use Rattle.std.specs.Prelude.{◌≡◌, ℕ, List, [], ◌∷◌, ◌++◌, codes, Option, Some, None, option_map, refl}
+use Rattle.std.specs.Prelude.{◌≡◌, [], ◌∷◌, ◌++◌, codes, refl}
 use Rattle.std.specs.Char.{encode_utf8}
 use Rattle.std.specs.Str.{is_utf8, chars}
 use Rattle.wasmprinter_spec.specs.Character.{class}
 use Rattle.wasmprinter_spec.specs.Numeral.{numeral}
-use Rattle.wasmprinter_spec.specs.Token.{Token, left, left_note, right, word, name, string, reserved, bad, escape, lex, tokens}
+use Rattle.wasmprinter_spec.specs.Token.{left, left_note, right, word, name, string, reserved, bad, escape, lex, tokens}
 
 -- ---- words, names and parentheses
 
@@ -21,6 +21,12 @@ sign_characters = refl
 one_word : tokens (codes "i32$x @a") ≡ word (codes "i32$x") ∷ word (codes "@a") ∷ []
 unfolding lex class
 one_word = refl
+
+-- they may begin one too, the dollar aside
+first_signs : tokens (codes "\\a $\\a (@\\a @ @@ # $# (@#")
+    ≡ word (codes "\\a") ∷ name (codes "\\a") ∷ left_note (codes "\\a") ∷ word (codes "@") ∷ word (codes "@@") ∷ word (codes "#") ∷ name (codes "#") ∷ left_note (codes "#") ∷ []
+unfolding lex class
+first_signs = refl
 
 same_name : tokens (codes "$f $\"f\" $\"\\66\" $\"\\u{66}\"") ≡ name (codes "f") ∷ name (codes "f") ∷ name (codes "f") ∷ name (codes "f") ∷ []
 unfolding lex class escape numeral encode_utf8 is_utf8 chars
@@ -116,4 +122,3 @@ character_escapes = refl
 plain_string : tokens (34 ∷ 0xc3 ∷ 0xa9 ∷ codes " (; ;; )'\"") ≡ string (0xc3 ∷ 0xa9 ∷ codes " (; ;; )'") ∷ []
 unfolding lex class
 plain_string = refl
-
