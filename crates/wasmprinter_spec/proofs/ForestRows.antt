@@ -133,6 +133,10 @@ wrong_escape : forest (codes "\"\\x\"") ≡ None
 unfolding lex class escape
 wrong_escape = refl
 
+letter_behind_hexadecimal : forest (codes "\"\\g0\"") ≡ None
+unfolding lex class escape
+letter_behind_hexadecimal = refl
+
 half_byte : forest (codes "\"\\6\"") ≡ None
 unfolding lex class escape
 half_byte = refl
