@@ -1,4 +1,5 @@
 //! The text of the parts of a module, over any printer.
 #![tactic(auto)]
 
+pub mod layout;
 pub mod text;

@@ -4,7 +4,7 @@ mod numbers;
 mod strings;
 mod words;
 
-pub use lines::{Options, break_line, close};
+pub use lines::{begin, break_line, close, end};
 pub use numbers::{constant, mark, number};
 pub use strings::write_quoted;
-pub use words::{gap, open, shut, type_word};
+pub use words::{gap, open, shut, type_word, word};

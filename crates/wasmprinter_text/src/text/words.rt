@@ -1,7 +1,7 @@
 //! Parentheses, blanks and words.
 ghost use Rattle.std.specs.Prelude.{[], ◌∷◌};
 ghost use Rattle.wasmprinter_spec.specs.Options.{Options};
-ghost use Rattle.wasmprinter_spec.specs.Piece.{Gap, Open, Shut, TypeWord};
+ghost use Rattle.wasmprinter_spec.specs.Piece.{Gap, Open, Shut, Word, TypeWord};
 ghost use Rattle.wasmprinter_bytes.specs.Prints.{Prints};
 
 use wasmprinter_bytes::Error;
@@ -27,6 +27,13 @@ pub fn gap<P: Print>(p: &mut P) -> Result<(), Error>
     ensures { (o : Options) → Prints P.meaning o p.old p.new result (Gap ∷ []) }
 {
     text(p, " ")
+}
+
+/// Writes a word without a style.
+pub fn word<P: Print>(p: &mut P, word: &str) -> Result<(), Error>
+    ensures { (o : Options) → Prints P.meaning o p.old p.new result (Word word.now ∷ []) }
+{
+    text(p, word)
 }
 
 /// Writes the word of a type.
