@@ -81,10 +81,7 @@ impl<'a> Cursor<'a> {
         requires { place + length bytes.now < 2 ^ 64 }
         ensures { result ≡ record { place = place; bytes = bytes.now } }
     {
-        Cursor {
-            place,
-            rest: bytes,
-        }
+        Cursor { place, rest: bytes }
     }
 
     /// The place of the next byte.
@@ -151,7 +148,7 @@ impl<'a> Cursor<'a> {
         ensures within { IsWithin self.old result }
         ensures end { end_of self.new ≡ end_of self.old }
     {
-        if self.rest.len() < len {
+        if self.len() < len {
             return Err(Malformed { place: self.place });
         }
         let (bytes, rest) = self.rest.split_at(len);
@@ -183,7 +180,11 @@ impl<'a> Cursor<'a> {
         let place = self.place;
         let byte = self.u8()?;
         if byte < MORE {
-            if has_bits(byte, bits) { Ok(u64::from(byte)) } else { Err(Malformed { place }) }
+            if has_bits(byte, bits) {
+                Ok(u64::from(byte))
+            } else {
+                Err(Malformed { place })
+            }
         } else if bits > BITS {
             let high = self.unsigned(bits - BITS)?;
             Ok(joined(byte - MORE, high))
@@ -205,9 +206,17 @@ impl<'a> Cursor<'a> {
         let place = self.place;
         let byte = self.u8()?;
         if byte < SIGN {
-            if has_bits(byte, bits - 1) { Ok(i64::from(byte)) } else { Err(Malformed { place }) }
+            if has_bits(byte, bits - 1) {
+                Ok(i64::from(byte))
+            } else {
+                Err(Malformed { place })
+            }
         } else if byte < MORE {
-            if has_bits(MORE - 1 - byte, bits - 1) { Ok(negative(byte)) } else { Err(Malformed { place }) }
+            if has_bits(MORE - 1 - byte, bits - 1) {
+                Ok(negative(byte))
+            } else {
+                Err(Malformed { place })
+            }
         } else if bits > BITS {
             let high = self.signed(bits - BITS)?;
             Ok(joined_signed(byte - MORE, high))
