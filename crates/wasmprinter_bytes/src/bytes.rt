@@ -1,6 +1,6 @@
 //! A cursor over a module's bytes: whole numbers in LEB128 (section 5.2.2 of the WebAssembly Core Specification) and names
 //! (section 5.2.4).
-ghost use Rattle.std.specs.Prelude.{◌≡◌, ◌<◌, ◌≤◌, ◌^◌, ◌+◌, ◌-◌, ◌*◌, ◌↔◌, [], length, take, nat_lt, IfOk, IsTrue, pos, neg_ℤ, negsuc, ◌+ℤ◌, ◌*ℤ◌, ◌≤ℤ◌, ◌<ℤ◌};
+ghost use Rattle.std.specs.Prelude.{◌≡◌, ◌<◌, ◌≤◌, ◌^◌, ◌+◌, ◌-◌, ◌*◌, ◌↔◌, [], length, take, slice_get, nat_lt, IfOk, IsTrue, pos, neg_ℤ, negsuc, ◌+ℤ◌, ◌*ℤ◌, ◌≤ℤ◌, ◌<ℤ◌};
 ghost use Rattle.wasmprinter_spec.specs.Grammar.{byte};
 ghost use Rattle.wasmprinter_spec.specs.Sized.{front};
 ghost use Rattle.wasmprinter_spec.specs.Leb.{unsigned, signed};
@@ -91,6 +91,13 @@ impl<'a> Cursor<'a> {
         self.place
     }
 
+    /// The place behind the last byte.
+    pub fn end(&self) -> u64
+        ensures { result ≡ end_of self.now }
+    {
+        self.place + self.len() as u64
+    }
+
     /// How many bytes are left.
     pub fn len(&self) -> usize
         ensures { result ≡ length self.now.bytes }
@@ -124,6 +131,13 @@ impl<'a> Cursor<'a> {
             place: self.place,
             rest: &self.rest[..len],
         }
+    }
+
+    /// The next byte, which isn't passed by.
+    pub fn peek(&self) -> Option<u8>
+        ensures { result ≡ slice_get self.now.bytes 0 }
+    {
+        self.rest.first().copied()
     }
 
     /// The next byte.

@@ -101,6 +101,7 @@ fn parts_and_names_are_read(rt: HostRuntime) -> Result<(), Fail> {
     };
     assert_eq!(rt; part.place(), 0x14);
     assert_eq!(rt; part.front(1).len(), 1);
+    assert_eq!(rt; part.peek(), Some(0x01));
     assert_eq!(rt; part.u8(), Ok(0x01));
     assert_eq!(rt; part.take(2), Err(Malformed { place: 0x15 }));
     let taken: Result<&[u8], Malformed> = Ok(&[0x2a]);

@@ -1,0 +1,5 @@
+pub mod Dense
+pub mod Entries
+pub mod Closing
+pub mod Skipping
+pub mod Walking
