@@ -1,4 +1,5 @@
 pub mod Digits
+pub mod Layouts
 pub mod Repeats
 pub mod Signs
 pub mod Texts
