@@ -1,14 +1,14 @@
 -- Numbers as text: what their bytes are, and that they read back.
-use Rattle.std.proofs.Common.{◌≡◌, ℕ, zero, suc, ◌<◌, ◌≤◌, ◌^◌, ◌/◌, ◌%◌, ◌+◌, ◌-◌, Bool, true, false, ◌&&◌, ◌||◌, not, cond, leb, ltb, eqb, List, [], ◌∷◌, ◌++◌, Option, Some, None, refl, sym, ap, ◌∙◌, arith, true≢false, decimal, ℤ, pos, negsuc, neg_ℤ, ◌≤ℤ◌, ◌<ℤ◌, lit<, lit≤, codes, length, replicate}
-use Rattle.std.proofs.lemmas.Bool.{and_from, or_right, lt-ltb, le-leb, le-ltb, agree_below, agree_below_at, false_from_ne_true, eqb-true}
+use Rattle.std.proofs.Common.{◌≡◌, ℕ, suc, ◌<◌, ◌≤◌, ◌^◌, ◌-◌, Bool, true, false, ◌&&◌, ◌||◌, not, leb, eqb, List, [], ◌∷◌, Some, refl, sym, ap, ◌∙◌, arith, true≢false, decimal, ℤ, pos, negsuc, lit<, lit≤}
+use Rattle.std.proofs.lemmas.Bool.{and_from, lt-ltb, le-leb, agree_below, agree_below_at, false_from_ne_true, eqb-true}
 use Rattle.std.proofs.lemmas.Fmt.{decimal_is_IsNumeral, digits_is_IsNumeral}
 use Rattle.std.proofs.lemmas.Str.Parse.{digit_at}
 use Rattle.std.specs.Char.{digit_value}
 use Rattle.std.specs.Str.Parse.{digits_value, AllDigits, IsNumeral}
-use Rattle.std.specs.Fmt.{digits, digits_onto, digit_glyph, signed_decimal}
+use Rattle.std.specs.Fmt.{digits, signed_decimal}
 use Rattle.std.specs.Int.Signed.{mag}
 use Rattle.wasmprinter_spec.specs.Character.{Class, class, Plain}
-use Rattle.wasmprinter_spec.specs.Numeral.{is_underscore, is_digit, begins_with_digit, follows_digit, is_numeral, without_underscores, numeral, natural, below, integer, with_number, unsigned_integer, as_signed, negative}
+use Rattle.wasmprinter_spec.specs.Numeral.{is_underscore, is_digit, follows_digit, is_numeral, without_underscores, numeral, natural, integer, unsigned_integer}
 use Rattle.wasmprinter_lexical.proofs.Runs.{runs, is_quiet, is_plain_class, all_run, all_quiet, is_word}
 
 -- ---- a digit

@@ -1,17 +1,16 @@
 -- One piece, and pieces behind one another: their text lexes to their tokens, and all its bytes are printed ones.
-use Rattle.std.proofs.Common.{◌≡◌, ℕ, zero, suc, ℤ, pos, negsuc, ◌<◌, ◌-◌, ◌^◌, Bool, true, false, ◌&&◌, min, cond, List, [], ◌∷◌, ◌++◌, Option, Some, None, refl, sym, ap, ◌∙◌, append_assoc, append-nil, true≢false, codes, decimal, flat_map, replicate, length, encode_utf8_all, ◌⊎◌, inl, inr, subst, arith}
+use Rattle.std.proofs.Common.{◌≡◌, ℕ, zero, suc, ◌<◌, ◌-◌, ◌^◌, Bool, true, false, ◌&&◌, min, List, [], ◌∷◌, ◌++◌, Option, Some, None, refl, sym, ap, ◌∙◌, append_assoc, append-nil, true≢false, codes, decimal, replicate, length, ◌⊎◌, inl, inr}
 use Rattle.std.proofs.lemmas.Bool.{and_parts, and_from}
 use Rattle.std.specs.Fmt.{signed_decimal, digits}
 use Rattle.std.specs.Int.Signed.{mag}
-use Rattle.std.specs.List.{AllByRecursion}
-use Rattle.std.proofs.Math.Utf8.{scalar, scalars}
+use Rattle.std.proofs.Math.Utf8.{scalars}
 use Rattle.wasmprinter_spec.specs.Character.{class}
-use Rattle.wasmprinter_spec.specs.Call.{Call, Text, Newline, Line, Start, Comment, Reset, call_text, text_of}
+use Rattle.wasmprinter_spec.specs.Call.{Call, Text, call_text, text_of}
 use Rattle.wasmprinter_spec.specs.Options.{Options, IsBlank}
-use Rattle.wasmprinter_spec.specs.Quoted.{quoted_text, char_text}
+use Rattle.wasmprinter_spec.specs.Quoted.{quoted_text}
 use Rattle.wasmprinter_spec.specs.Token.{Clear, lex}
 use Rattle.wasmprinter_spec.specs.Piece.{Piece, Begin, Feed, Break, Gap, Open, OpenGap, Shut, Word, TypeWord, Number, Constant, Mark, Quoted, repeated, left_in, place_text, place_calls, most_indents, calls, text, piece_tokens, all_calls, all_tokens}
-use Rattle.wasmprinter_lexical.proofs.Runs.{is_quiet, is_word, all_run, all_quiet, all_blank, is_blank_class, delimited, word_lexes, open_lexes, blanks_lex, comment_lexes}
+use Rattle.wasmprinter_lexical.proofs.Runs.{is_quiet, is_word, all_quiet, all_blank, is_blank_class, delimited, word_lexes, open_lexes, blanks_lex, comment_lexes}
 use Rattle.wasmprinter_lexical.proofs.Numbers.{is_word-decimal, is_word-signed_decimal, all_quiet-decimal}
 use Rattle.wasmprinter_lexical.proofs.Quotes.{text_lexes}
 use Rattle.wasmprinter_lexical.proofs.Printed.{hex_digits_are_good}

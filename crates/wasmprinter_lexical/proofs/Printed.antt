@@ -1,9 +1,8 @@
 -- Printed bytes: a line feed, a tab, or from the blank to the tilde. So printed text is UTF-8, and no byte in it begins a colour sequence.
-use Rattle.std.proofs.Common.{◌≡◌, ℕ, zero, suc, ◌<◌, ◌≤◌, ◌/◌, ◌%◌, Bool, true, false, ◌&&◌, ◌||◌, not, cond, leb, ltb, eqb, List, [], ◌∷◌, ◌++◌, refl, sym, ap, ◌∙◌, arith, true≢false, inl, inr, ◌⊎◌, decimal, flat_map, lit<, codes}
-use Rattle.std.proofs.lemmas.Bool.{and_parts, and_from, agree_below, agree_below_at, ltb-true, ltb-false, lt-ltb, le-ltb, le-leb, ne_eqb, false_from_ne_true}
+use Rattle.std.proofs.Common.{◌≡◌, ℕ, zero, suc, ◌<◌, ◌≤◌, ◌/◌, ◌%◌, Bool, true, false, ◌&&◌, ◌||◌, not, cond, leb, ltb, eqb, List, [], ◌∷◌, ◌++◌, refl, sym, ap, ◌∙◌, arith, true≢false}
+use Rattle.std.proofs.lemmas.Bool.{and_parts, and_from, agree_below, agree_below_at, ltb-true, ltb-false, le-ltb, le-leb, ne_eqb}
 use Rattle.std.specs.Fmt.{digits, digits_onto, digit_glyph}
 use Rattle.wasmprinter_spec.specs.Character.{Class, Foreign, class}
-use Rattle.wasmprinter_spec.specs.Quoted.{char_text, is_plain, quoted_text}
 use Rattle.wasmprinter_lexical.proofs.Runs.{runs, is_quiet, is_blank_class, all_run, all_quiet, all_blank}
 
 abbrev pub is_printed : ℕ → Bool
@@ -25,11 +24,27 @@ all_printed-append (c ∷ cs) b h k =
 class-foreign : (b : ℕ) → 128 ≤ b → class b ≡ Foreign
 unfolding class
 class-foreign b h =
-    rw (ne_eqb b 32 (λ e. omega arith), ne_eqb b 9 (λ e. omega arith), ne_eqb b 10 (λ e. omega arith), ne_eqb b 13 (λ e. omega arith),
-    ne_eqb b 40 (λ e. omega arith), ne_eqb b 41 (λ e. omega arith), ne_eqb b 59 (λ e. omega arith), ne_eqb b 34 (λ e. omega arith),
-    ne_eqb b 92 (λ e. omega arith), ne_eqb b 36 (λ e. omega arith), ne_eqb b 64 (λ e. omega arith), ne_eqb b 44 (λ e. omega arith),
-    ne_eqb b 91 (λ e. omega arith), ne_eqb b 93 (λ e. omega arith), ne_eqb b 123 (λ e. omega arith), ne_eqb b 125 (λ e. omega arith),
-    le-ltb b 32 (omega arith), ne_eqb b 127 (λ e. omega arith), le-leb 128 b h)
+    rw (
+      ne_eqb b 32 (λ e. omega arith),
+      ne_eqb b 9 (λ e. omega arith),
+      ne_eqb b 10 (λ e. omega arith),
+      ne_eqb b 13 (λ e. omega arith),
+      ne_eqb b 40 (λ e. omega arith),
+      ne_eqb b 41 (λ e. omega arith),
+      ne_eqb b 59 (λ e. omega arith),
+      ne_eqb b 34 (λ e. omega arith),
+      ne_eqb b 92 (λ e. omega arith),
+      ne_eqb b 36 (λ e. omega arith),
+      ne_eqb b 64 (λ e. omega arith),
+      ne_eqb b 44 (λ e. omega arith),
+      ne_eqb b 91 (λ e. omega arith),
+      ne_eqb b 93 (λ e. omega arith),
+      ne_eqb b 123 (λ e. omega arith),
+      ne_eqb b 125 (λ e. omega arith),
+      le-ltb b 32 (omega arith),
+      ne_eqb b 127 (λ e. omega arith),
+      le-leb 128 b h,
+    )
 
 -- a test of classes that no foreign byte passes, and below 128 only printed ones
 module _ (good : Class → Bool) (none : good Foreign ≡ false) (low : agree_below (λ b. not (good (class b)) || is_printed b) (λ b. true) 128 ≡ true) where

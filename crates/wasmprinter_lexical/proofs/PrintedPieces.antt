@@ -1,17 +1,15 @@
 -- The text of pieces holds printed bytes alone, so it is UTF-8 and holds no colour sequence.
-use Rattle.std.proofs.Common.{◌≡◌, ℕ, zero, suc, ℤ, pos, negsuc, ◌-◌, ◌^◌, Bool, true, false, ◌&&◌, ◌||◌, not, min, cond, leb, eqb, List, [], ◌∷◌, ◌++◌, Option, Some, None, refl, sym, ap, ◌∙◌, true≢false, append_assoc, ◌<◌, ◌≤◌, slice_index, codes, decimal, flat_map, replicate, length, arith, take, nat_eq}
+use Rattle.std.proofs.Common.{◌≡◌, ℕ, zero, suc, ◌-◌, Bool, true, false, ◌&&◌, ◌||◌, not, min, cond, leb, eqb, List, [], ◌∷◌, ◌++◌, Option, Some, None, refl, sym, ap, ◌∙◌, true≢false, append_assoc, ◌<◌, ◌≤◌, slice_index, codes, decimal, flat_map, replicate, length, arith, nat_eq}
 use Rattle.std.specs.Prelude.{IsUtf8}
 use Rattle.std.proofs.lemmas.Bool.{and_parts, and_from, false_from_ne_true, eqb-true, eq-eqb, leb-true, or_right}
 use Rattle.std.specs.Fmt.{signed_decimal, digits}
-use Rattle.std.specs.Int.Signed.{mag}
-use Rattle.std.specs.Str.{is_utf8}
 use Rattle.std.specs.List.{starts_with}
-use Rattle.std.proofs.lemmas.Str.{IsUtf8-from_ascii, is_utf8-from_IsUtf8}
-use Rattle.wasmprinter_spec.specs.Call.{Call, Text, text_of}
+use Rattle.std.proofs.lemmas.Str.{IsUtf8-from_ascii}
+use Rattle.wasmprinter_spec.specs.Call.{Text, text_of}
 use Rattle.wasmprinter_spec.specs.Options.{Options, IsBlank}
 use Rattle.wasmprinter_spec.specs.Quoted.{char_text, is_plain, quoted_text}
-use Rattle.wasmprinter_spec.specs.Piece.{Piece, Begin, Feed, Break, Gap, Open, OpenGap, Shut, Word, TypeWord, Number, Constant, Mark, Quoted, repeated, left_in, place_text, place_calls, most_indents, calls, text, all_calls}
-use Rattle.wasmprinter_lexical.proofs.Runs.{is_word, is_plain_class, runs, all_run, all_blank}
+use Rattle.wasmprinter_spec.specs.Piece.{Piece, Begin, Feed, Break, Gap, Open, OpenGap, Shut, Word, TypeWord, Number, Constant, Mark, Quoted, repeated, left_in, place_text, place_calls, most_indents, text, all_calls}
+use Rattle.wasmprinter_lexical.proofs.Runs.{is_word, is_plain_class, runs, all_run}
 use Rattle.wasmprinter_spec.specs.Character.{class}
 use Rattle.wasmprinter_spec.specs.Colour.{sequences, sequence_length_in, uncolour_step, uncolour_after, uncolour}
 use Rattle.wasmprinter_lexical.proofs.Numbers.{plain_runs, is_word-decimal, is_word-signed_decimal}

@@ -1,13 +1,13 @@
 -- Text and bytes in quotes read back.
-use Rattle.std.proofs.Common.{◌≡◌, ℕ, ◌<◌, ◌≤◌, ◌^◌, ◌/◌, ◌%◌, ◌*◌, ◌+◌, Bool, true, false, ◌&&◌, ◌||◌, not, cond, leb, ltb, eqb, List, [], ◌∷◌, ◌++◌, refl, sym, ap, ap₂, ◌∙◌, arith, true≢false, append_assoc, append-nil, flat_map, encode_utf8, encode_utf8_all, lt_trans, lit<}
-use Rattle.std.proofs.lemmas.Bool.{and_parts, and_from, agree_below, agree_below_at, leb-true, ltb-true, lt-ltb, eqb-true}
+use Rattle.std.proofs.Common.{◌≡◌, ℕ, ◌<◌, ◌≤◌, ◌^◌, ◌/◌, ◌%◌, ◌*◌, ◌+◌, Bool, true, false, ◌&&◌, ◌||◌, not, cond, leb, ltb, eqb, List, [], ◌∷◌, ◌++◌, refl, sym, ap, ◌∙◌, arith, true≢false, append_assoc, append-nil, flat_map, encode_utf8, encode_utf8_all, lt_trans, lit<}
+use Rattle.std.proofs.lemmas.Bool.{and_parts, agree_below, agree_below_at, leb-true, lt-ltb, eqb-true}
 use Rattle.std.proofs.lemmas.Str.{encode_ascii}
 use Rattle.std.proofs.Math.Utf8.{scalar, scalars, scalar_fits}
 use Rattle.std.specs.Char.{digit_value}
 use Rattle.std.specs.Fmt.{digits, digit_glyph}
 use Rattle.std.specs.List.{AllByRecursion}
-use Rattle.wasmprinter_spec.specs.Character.{Class, Space, Tab, Feed, Left, Right, Semicolon, Quote, Backslash, Dollar, At, Plain, Reserved, Control, Foreign, class}
-use Rattle.wasmprinter_spec.specs.Token.{string, Part, AsString, Clear, Tight, InQuoted, InBrace, InHex, Next, in_quoted, in_brace, in_hex, end_brace, with_char, in_escape, quoted_tokens, lex, escape, Escape, Digit}
+use Rattle.wasmprinter_spec.specs.Character.{Class, Tab, Feed, Quote, Backslash, Control, class}
+use Rattle.wasmprinter_spec.specs.Token.{string, Part, AsString, Clear, InQuoted, InBrace, Next, in_quoted, in_brace, in_hex, end_brace, with_char, in_escape, lex, escape, Escape, Digit}
 use Rattle.wasmprinter_spec.specs.Quoted.{char_text, byte_text, is_plain, quoted_text, quoted_bytes}
 use Rattle.wasmprinter_lexical.proofs.Runs.{tight_clears, delimited}
 use Rattle.wasmprinter_lexical.proofs.Numbers.{no_brace, no_brace-digits, numeral-digits}

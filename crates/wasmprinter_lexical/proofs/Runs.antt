@@ -1,8 +1,8 @@
 -- What the lexer does with a run of bytes, with a comment and with blanks.
-use Rattle.std.proofs.Common.{◌≡◌, ℕ, zero, suc, Bool, true, false, ◌&&◌, not, List, [], ◌∷◌, ◌++◌, refl, sym, ap, ◌∙◌, append_assoc, append-nil, true≢false, codes}
+use Rattle.std.proofs.Common.{◌≡◌, ℕ, Bool, true, false, ◌&&◌, List, [], ◌∷◌, ◌++◌, refl, sym, ap, ◌∙◌, append_assoc, append-nil, true≢false, codes}
 use Rattle.std.proofs.lemmas.Bool.{and_parts}
 use Rattle.wasmprinter_spec.specs.Character.{Class, Space, Tab, Feed, Left, Right, Semicolon, Backslash, Dollar, At, Plain, class}
-use Rattle.wasmprinter_spec.specs.Token.{left, word, Part, AsWord, run_token, Clear, Tight, InRun, AfterLeft, InLine, InBlock, Next, clear, delimits, touch, in_run, after_left, in_line, in_block, lex}
+use Rattle.wasmprinter_spec.specs.Token.{left, word, Part, AsWord, run_token, Clear, Tight, InRun, AfterLeft, InBlock, Next, clear, delimits, touch, in_run, after_left, in_block, lex}
 
 -- ---- kinds of bytes
 

@@ -1,7 +1,7 @@
 -- What pieces read as. `Writes a ps b f`: behind the edge a the pieces ps may stand, they leave the edge b, and their tokens are those of
 -- the items f, annotations cut out, of which none is a custom section in this row or in a group of it. One rule for each piece and each kind of group; `search writing`
 -- finds whole derivations.
-use Rattle.std.proofs.Common.{◌≡◌, ℕ, ℤ, ◌<◌, ◌^◌, Bool, true, false, ◌&&◌, ◌||◌, List, [], ◌∷◌, ◌++◌, Option, Some, None, refl, sym, ap, ap₂, ◌∙◌, append_assoc, append-nil, true≢false, codes, decimal, subst, encode_utf8_all}
+use Rattle.std.proofs.Common.{◌≡◌, ℕ, ℤ, ◌<◌, ◌^◌, Bool, true, false, ◌||◌, List, [], ◌∷◌, ◌++◌, Option, Some, None, refl, sym, ap, ap₂, ◌∙◌, append_assoc, append-nil, decimal, subst, encode_utf8_all}
 use Rattle.std.proofs.lemmas.Bool.{and_parts, and_from}
 use Rattle.std.specs.Fmt.{signed_decimal}
 use Rattle.std.specs.Int.Signed.{mag}
@@ -15,7 +15,7 @@ use Rattle.wasmprinter_spec.specs.Piece.{Piece, Begin, Feed, Break, Gap, Open, O
 use Rattle.wasmprinter_spec.specs.Layout.{group, group_gap, group_at, group_gap_at, close, has_break}
 use Rattle.wasmprinter_lexical.proofs.Runs.{is_word}
 use Rattle.wasmprinter_lexical.proofs.Grown.{flat-onto, one-flat, cut-onto, row_customs-onto, customs-onto}
-use Rattle.wasmprinter_lexical.proofs.Pieces.{Edge, Free, Bound, begins, leaves, may_follow, joined, ArePieces, all_text, text_of-all_calls, pieces_lex}
+use Rattle.wasmprinter_lexical.proofs.Pieces.{Edge, Free, Bound, begins, leaves, may_follow, joined, ArePieces, text_of-all_calls, pieces_lex}
 
 pub record Writes (a : Edge) (ps : List Piece) (b : Edge) (f : Forest) : Type 0 where
   pub joins : (qs : List Piece) → joined b qs ≡ true → joined a (ps ++ qs) ≡ true

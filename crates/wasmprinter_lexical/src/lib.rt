@@ -8,17 +8,14 @@ ghost use Rattle.wasmprinter_spec.specs.Laws.{AlikeHaveOneText, QuotedTextReads,
 /// Two lists of calls that differ only in how text is cut into pieces have one text.
 pub fn alike_calls_have_one_text()
     ensures { AlikeHaveOneText }
-{
-}
+{}
 
 /// The quoted text of any string is one token, that string (section 6.3 of the standard, "Strings").
 pub fn quoted_text_reads()
     ensures { QuotedTextReads }
-{
-}
+{}
 
 /// The quoted text of any bytes is one token, the string of these bytes.
 pub fn quoted_bytes_read()
     ensures { QuotedBytesRead }
-{
-}
+{}

@@ -1,5 +1,5 @@
 -- What holds of all values that bytes spell: a predicate goes through each combinator of grammars from the parts to the whole.
-use Rattle.std.proofs.Common.{◌≡◌, ℕ, ◌<◌, ◌+◌, List, [], ◌∷◌, ◌++◌, length, Bool, true, false, Option, Some, subst, sym}
+use Rattle.std.proofs.Common.{◌≡◌, ℕ, ◌+◌, List, [], ◌∷◌, ◌++◌, length, Bool, true, false, Option, Some, subst, sym}
 use Rattle.std.specs.List.{AllByRecursion}
 use Rattle.wasmprinter_spec.specs.Grammar.{Grammar, some_is, seq, mapped, as_value, nothing, never, choose, placed}
 use Rattle.wasmprinter_spec.specs.Repeated.{Items, times, Entries}

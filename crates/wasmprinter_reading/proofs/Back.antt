@@ -1,5 +1,5 @@
 -- The items of a module read back as that module.
-use Rattle.std.proofs.Common.{◌≡◌, ℕ, Bool, true, false, ◌&&◌, List, [], ◌∷◌, ◌++◌, Option, Some, None, refl, sym, ap, ◌∙◌, codes, slice_get, map, option_map, append-nil}
+use Rattle.std.proofs.Common.{◌≡◌, ℕ, Bool, true, false, List, [], ◌∷◌, ◌++◌, Option, Some, None, refl, ap, ◌∙◌, codes, slice_get, map, option_map, append-nil}
 use Rattle.std.specs.List.{AllByRecursion}
 use Rattle.std.proofs.lemmas.Bool.{and_from}
 use Rattle.std.proofs.lemmas.Option.{slice_get-map}
@@ -8,15 +8,14 @@ use Rattle.wasmprinter_spec.specs.Forest.{Forest, End, Word, Group, onto}
 use Rattle.wasmprinter_spec.specs.Types as types
 use Rattle.wasmprinter_spec.specs.Types.{ValType, FuncType}
 use Rattle.wasmprinter_spec.specs.Placed.{Export, PlacedFunction, PlacedModule}
-use Rattle.wasmprinter_spec.specs.Module.{Function, without_places, expanded, function_of, module_of}
+use Rattle.wasmprinter_spec.specs.Module.{without_places, expanded, function_of, module_of}
 use Rattle.wasmprinter_spec.specs.Layout.{signature_of}
-use Rattle.wasmprinter_spec.specs.IndexSpaces.{Identifiers, ByNumber, Spaces}
-use Rattle.wasmprinter_spec.specs.OperatorText.{operator}
-use Rattle.wasmprinter_spec.specs.Read.{types_of, ids_of, type_of, identified, TypeText, ExportText, FunctionText, Field, TypeField, ExportField, FunctionField, field, Fields, add, no_fields, fields, each, same_type, same_types, same_func_type, no_type, parameters, read_function, read_export, resolved, read_forest}
+use Rattle.wasmprinter_spec.specs.IndexSpaces.{Identifiers, ByNumber}
+use Rattle.wasmprinter_spec.specs.Read.{ids_of, identified, TypeText, ExportText, FunctionText, Field, TypeField, ExportField, FunctionField, field, Fields, add, no_fields, fields, each, same_type, same_types, same_func_type, parameters, read_function, read_export, resolved, read_forest}
 use Rattle.wasmprinter_lexical.proofs.Grown.{onto-End}
 use Rattle.wasmprinter_reading.proofs.Ranged.{IsRanged, IsRangedExport, IsRangedFunction}
 use Rattle.wasmprinter_reading.proofs.Trees.{type_items, export_items, function_items}
-use Rattle.wasmprinter_reading.proofs.BackParts.{unnamed, types_of-unnamed, printed_signature, chunks_of, listed_values, operators-read, type_field-items, export_field-items, function_field_of, function_field-items}
+use Rattle.wasmprinter_reading.proofs.BackParts.{unnamed, types_of-unnamed, printed_signature, chunks_of, listed_values, operators-read, type_field-items, export_field-items, function_field-items}
 
 -- ---- fields of one kind
 

@@ -1,25 +1,25 @@
 -- The items of types, operators and fields read back.
-use Rattle.std.proofs.Common.{◌≡◌, ℕ, zero, suc, ℤ, pos, negsuc, ◌<◌, ◌≤◌, ◌^◌, ◌-◌, Bool, true, false, List, [], ◌∷◌, ◌++◌, Option, Some, None, refl, sym, ap, ◌∙◌, codes, decimal, arith, bytes_eq, append-nil, map, lit<, lit≤}
+use Rattle.std.proofs.Common.{◌≡◌, ℕ, ℤ, pos, negsuc, ◌<◌, ◌^◌, false, List, [], ◌∷◌, Option, Some, None, refl, sym, ap, ◌∙◌, codes, decimal, arith, bytes_eq, append-nil, map, lit≤}
 use Rattle.std.proofs.lemmas.Int.{ints}
 use Rattle.std.proofs.lemmas.Bool.{lt-ltb}
 use Rattle.std.proofs.lemmas.Str.{is_utf8-from_IsUtf8}
 use Rattle.std.specs.Fmt.{signed_decimal}
 use Rattle.std.specs.List.{AllByRecursion}
 use Rattle.wasmprinter_spec.specs.Grammar.{Placed}
-use Rattle.wasmprinter_spec.specs.Forest.{Forest, End, Word, Group, onto}
+use Rattle.wasmprinter_spec.specs.Forest.{Forest, End, Word, onto}
 use Rattle.wasmprinter_spec.specs.Types as types
 use Rattle.wasmprinter_spec.specs.Types.{ValType, FuncType}
-use Rattle.wasmprinter_spec.specs.Numeral.{natural, integer}
-use Rattle.wasmprinter_spec.specs.Operator.{opcode, Immediates, NoImmediates, Index, I32, I64, Operator}
+use Rattle.wasmprinter_spec.specs.Numeral.{integer}
+use Rattle.wasmprinter_spec.specs.Operator.{Immediates, NoImmediates, Index, I32, I64, Operator}
 use Rattle.wasmprinter_spec.specs.Row.{Row, Shape, NoneShape, IndexShape, I32Shape, I64Shape}
 use Rattle.wasmprinter_spec.specs.Table.{by_opcode}
 use Rattle.wasmprinter_spec.specs.Placed.{Export, PlacedFunction}
 use Rattle.wasmprinter_spec.specs.Module.{without_places, expanded}
 use Rattle.wasmprinter_spec.specs.Layout.{type_word}
-use Rattle.wasmprinter_spec.specs.IndexSpaces.{Reference, ByNumber, reference, Spaces}
+use Rattle.wasmprinter_spec.specs.IndexSpaces.{ByNumber, reference, Spaces}
 use Rattle.wasmprinter_spec.specs.Code.{Chunk, chunk, Instruction, Flat, Code, code, flattened, unfolded}
 use Rattle.wasmprinter_spec.specs.OperatorText.{immediates, operator}
-use Rattle.wasmprinter_spec.specs.Read.{val_type, val_types, Variable, variable, variables, types_of, groups, Signature, signature, type_of, Field, TypeField, ExportField, FunctionField, field, each}
+use Rattle.wasmprinter_spec.specs.Read.{val_type, val_types, Variable, variable, variables, types_of, groups, Signature, signature, Field, TypeField, ExportField, FunctionField, field, each}
 use Rattle.wasmprinter_lexical.proofs.Grown.{onto-End, onto_assoc}
 use Rattle.wasmprinter_lexical.proofs.Numbers.{natural-decimal, integer-positive, integer-negative}
 use Rattle.wasmprinter_reading.proofs.Ranged.{IsSigned, HasShape, IsListed, IsRangedExport, IsRangedFunction}

@@ -1,22 +1,21 @@
 -- Printed text reads back, and its tokens do not depend on places and indent.
-use Rattle.std.proofs.Common.{◌≡◌, ℕ, ◌<◌, ◌^◌, ◌≤◌, ◌+◌, length, Bool, true, false, cond, ◌||◌, List, [], ◌∷◌, ◌++◌, Option, Some, None, refl, sym, ap, ◌∙◌, subst, codes, arith, map, slice_get, append-nil}
+use Rattle.std.proofs.Common.{◌≡◌, ℕ, ◌<◌, ◌^◌, ◌≤◌, ◌+◌, length, cond, List, [], ◌∷◌, None, refl, sym, ap, ◌∙◌, codes, arith, map}
 use Rattle.std.specs.List.{AllByRecursion}
 use Rattle.std.proofs.lemmas.Str.{is_utf8-from_IsUtf8}
 use Rattle.wasmprinter_spec.specs.Character.{class}
 use Rattle.wasmprinter_spec.specs.Grammar.{Placed, ◌>>=◌}
 use Rattle.wasmprinter_spec.specs.Types.{FuncType}
-use Rattle.wasmprinter_spec.specs.Forest.{Forest, End, Word, Group, onto, forest, customs, cut, row_customs}
+use Rattle.wasmprinter_spec.specs.Forest.{Forest, End, Word, Group, forest, cut}
 use Rattle.wasmprinter_spec.specs.Token.{tokens}
 use Rattle.wasmprinter_spec.specs.Call.{text_of}
 use Rattle.wasmprinter_spec.specs.Options.{Options, IsBlank}
-use Rattle.wasmprinter_spec.specs.Piece.{Piece, Begin, Feed, all_calls, all_tokens}
+use Rattle.wasmprinter_spec.specs.Piece.{Piece, Feed, all_calls, all_tokens}
 use Rattle.wasmprinter_spec.specs.Placed.{PlacedModule, PlacedFunction}
-use Rattle.wasmprinter_spec.specs.Layout.{numbered, type_pieces, export_pieces, function_pieces, function_group, field_pieces, module_pieces, layout, group_at}
+use Rattle.wasmprinter_spec.specs.Layout.{numbered, type_pieces, export_pieces, function_pieces, field_pieces, module_pieces, layout}
 use Rattle.wasmprinter_spec.specs.Laws.{ReadsBack, TokensStay, IsPlainText, PrintsPlainText}
 use Rattle.wasmprinter_spec.specs.Read.{read, read_groups, read_forest, without_customs}
-use Rattle.wasmprinter_spec.specs.Module.{module_of}
 use Rattle.wasmprinter_lexical.proofs.Pieces.{Free, Bound}
-use Rattle.wasmprinter_lexical.proofs.Writes.{Writes, writing, both_write, nothing_writes, break_writes, writes_forest, writes_tokens, begin_writes, group_at_then, feed_writes}
+use Rattle.wasmprinter_lexical.proofs.Writes.{Writes, both_write, nothing_writes, break_writes, writes_forest, writes_tokens, begin_writes, group_at_then, feed_writes}
 use Rattle.wasmprinter_lexical.proofs.PrintedPieces.{text_is_printed, printed_is_utf8, uncolour-printed}
 use Rattle.wasmprinter_reading.proofs.Ranged.{IsRanged, IsRangedExport, IsRangedFunction}
 use Rattle.wasmprinter_reading.proofs.Ranges.{ranged}

@@ -1,9 +1,8 @@
 -- What a module that some bytes spell keeps to: counts and indices are numbers of 32 bits, names are UTF-8, and the table lists each
 -- operator with such immediates.
-use Rattle.std.proofs.Common.{◌≡◌, ℕ, ◌<◌, ◌^◌, ◌≤ℤ◌, ◌<ℤ◌, ℤ, pos, neg_ℤ, length, Option, Some, None}
+use Rattle.std.proofs.Common.{ℕ, ◌<◌, ◌^◌, ◌≤ℤ◌, ◌<ℤ◌, ℤ, pos, neg_ℤ, length, Option, Some, None}
 use Rattle.std.specs.Prelude.{IsUtf8}
 use Rattle.std.specs.List.{AllByRecursion}
-use Rattle.wasmprinter_spec.specs.Grammar.{Placed}
 use Rattle.wasmprinter_spec.specs.Operator.{Immediates, NoImmediates, Index, I32, I64, Operator}
 use Rattle.wasmprinter_spec.specs.Row.{Row, Shape, NoneShape, IndexShape, I32Shape, I64Shape}
 use Rattle.wasmprinter_spec.specs.Table.{by_opcode}

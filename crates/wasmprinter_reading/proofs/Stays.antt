@@ -1,11 +1,11 @@
 -- The tokens of a layout do not depend on whether lines begin with their places.
-use Rattle.std.proofs.Common.{◌≡◌, ℕ, ◌+◌, Bool, true, false, ◌||◌, List, [], ◌∷◌, ◌++◌, Option, Some, None, refl, sym, ap, ◌∙◌, codes, slice_get}
+use Rattle.std.proofs.Common.{◌≡◌, ℕ, ◌+◌, Bool, true, false, ◌||◌, List, [], ◌∷◌, ◌++◌, Option, Some, refl, sym, ap, ◌∙◌, codes, slice_get}
 use Rattle.wasmprinter_spec.specs.Grammar.{Placed}
 use Rattle.wasmprinter_spec.specs.Types.{FuncType}
 use Rattle.wasmprinter_spec.specs.Token.{Token, left, right, word}
 use Rattle.wasmprinter_spec.specs.Options.{Options}
 use Rattle.wasmprinter_spec.specs.Piece.{Piece, Feed, all_tokens}
-use Rattle.wasmprinter_spec.specs.Placed.{Export, PlacedFunction, PlacedModule}
+use Rattle.wasmprinter_spec.specs.Placed.{PlacedFunction, PlacedModule}
 use Rattle.wasmprinter_spec.specs.Layout.{signature_of, header_pieces, local_pieces, body_pieces, group_at, group_gap_at, close, has_break, numbered, type_pieces, export_pieces, function_pieces, function_group, field_pieces, module_pieces}
 use Rattle.wasmprinter_lexical.proofs.Writes.{all_tokens-append, close_tokens}
 

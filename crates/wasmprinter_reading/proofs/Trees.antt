@@ -1,5 +1,5 @@
 -- What a module is written as: the items of each construct, and that its pieces write them.
-use Rattle.std.proofs.Common.{◌≡◌, ℕ, zero, suc, ℤ, pos, negsuc, neg_ℤ, ◌<◌, ◌≤◌, ◌^◌, ◌≤ℤ◌, ◌<ℤ◌, true, false, Bool, List, [], ◌∷◌, ◌++◌, Option, Some, None, refl, sym, ap, ◌∙◌, append_assoc, codes, decimal, chars, arith, encode_utf8_all}
+use Rattle.std.proofs.Common.{◌≡◌, ℕ, ℤ, pos, negsuc, ◌<◌, ◌^◌, true, false, Bool, List, [], ◌∷◌, ◌++◌, Option, Some, None, refl, ap, ◌∙◌, append_assoc, codes, decimal, chars, arith, encode_utf8_all}
 use Rattle.std.proofs.lemmas.Int.{ints}
 use Rattle.std.specs.Fmt.{signed_decimal}
 use Rattle.std.specs.Int.Signed.{mag}
@@ -172,8 +172,8 @@ header_writes t i f qs rest h r w =
     let small : f.type_index < 2 ^ 64 = omega (arith, r.type_index) in
     let signature : Writes Bound (signature_pieces 2 t ++ qs) Bound (onto (signature_items t) rest) = then (signature_writes 2 t) w in
     let joined : Writes Free (Mark i ∷ (Gap ∷ (group_gap 2 (codes "type") (Number f.type_index ∷ []) ++ (signature_pieces 2 t ++ qs)))) Bound
-        (Group (Word (codes "type") (Word (decimal f.type_index) End)) (onto (signature_items t) rest)) =
-        mark_writes h (gap_writes (group_gap_then 2 (codes "type") (Number f.type_index ∷ []) (signature_pieces 2 t ++ qs) refl (search writing) signature)) in
+    (Group (Word (codes "type") (Word (decimal f.type_index) End)) (onto (signature_items t) rest)) =
+    mark_writes h (gap_writes (group_gap_then 2 (codes "type") (Number f.type_index ∷ []) (signature_pieces 2 t ++ qs) refl (search writing) signature)) in
     rw (append_assoc (group_gap 2 (codes "type") (Number f.type_index ∷ [])) (signature_pieces 2 t) qs) joined
 
 pub function_writes : {a : Edge} (skeleton offsets : Bool) (t : FuncType) (i : ℕ) (f : PlacedFunction) → i < 2 ^ 64 → IsRangedFunction f →

@@ -7,23 +7,19 @@ ghost use Rattle.wasmprinter_spec.specs.Laws.{SpellsOne, ReadsBack, TokensStay, 
 /// Given bytes spell at most one module with its places (section 5.5 of the standard, "Modules").
 pub fn bytes_spell_one_module()
     ensures { SpellsOne }
-{
-}
+{}
 
 /// The reading law: the text that is laid out for a module that some bytes spell reads as exactly that module.
 pub fn printed_text_reads_back()
     ensures { ReadsBack }
-{
-}
+{}
 
 /// Places at the beginnings of lines, and the indent, change blanks and comments alone: the tokens stay.
 pub fn places_and_indent_keep_tokens()
     ensures { TokensStay }
-{
-}
+{}
 
 /// Printed text is UTF-8 and holds no colour sequence.
 pub fn printed_text_is_plain()
     ensures { PrintsPlainText }
-{
-}
+{}

@@ -1,5 +1,5 @@
 -- The colour sequences of a terminal (Select Graphic Rendition of ECMA-48), and a text without them.
-use Rattle.std.specs.Prelude.{ℕ, zero, suc, ◌+◌, ◌-◌, List, [], ◌∷◌, ◌++◌, Bool, ◌==◌, cond, nat_eq, codes, decimal, length, map}
+use Rattle.std.specs.Prelude.{ℕ, zero, suc, ◌+◌, List, [], ◌∷◌, ◌++◌, cond, nat_eq, codes, decimal, length, map}
 use Rattle.std.specs.List.{starts_with}
 
 -- red, green, yellow, magenta and cyan

@@ -1,7 +1,6 @@
 -- Indices in the text format: a number means itself, an identifier the place of its declaration (sections 6.3, "Identifiers",
 -- and 6.6, "Indices", of the standard). An index space is given by the identifiers of its declarations, in order.
 use Rattle.std.specs.Prelude.{ℕ, ◌+◌, List, [], ◌∷◌, Bool, true, false, cond, bytes_eq, Option, Some, None, if◌then◌else◌, option_map}
-use Rattle.wasmprinter_spec.specs.Grammar.{◌>>=◌}
 use Rattle.wasmprinter_spec.specs.Row.{Space, Func, Local}
 use Rattle.wasmprinter_spec.specs.Numeral.{natural, below}
 use Rattle.wasmprinter_spec.specs.Forest.{Forest, End, Word, Name}

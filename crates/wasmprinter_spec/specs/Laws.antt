@@ -1,5 +1,5 @@
 -- The laws of these definitions. Functions of the crates above have them as their contracts.
-use Rattle.std.specs.Prelude.{◌≡◌, ℕ, List, [], ◌∷◌, false, Option, Some, chars, IsUtf8}
+use Rattle.std.specs.Prelude.{◌≡◌, ℕ, List, [], ◌∷◌, false, Some, chars, IsUtf8}
 use Rattle.wasmprinter_spec.specs.Binary.{AreBytes, Spells}
 use Rattle.wasmprinter_spec.specs.Placed.{PlacedModule}
 use Rattle.wasmprinter_spec.specs.Module.{module_of}

@@ -1,6 +1,6 @@
 -- What calls on a printer mean: the state that each leaves, when it may fail, and what a failed call leaves. An implementation
 -- of the trait `Print` states its meaning; code over any printer is proved against it.
-use Rattle.std.specs.Prelude.{◌≡◌, ℕ, ◌+◌, ◌-◌, ◌^◌, nat_lt, if◌then◌else◌, List, [], ◌∷◌, Bool, Option, Some, None}
+use Rattle.std.specs.Prelude.{◌≡◌, ℕ, ◌+◌, ◌-◌, ◌^◌, nat_lt, if◌then◌else◌, List, [], ◌∷◌, Option, Some, None}
 use Rattle.wasmprinter_spec.specs.Call.{Call}
 
 pub record Meaning (P : Type 0) : Type 1 where

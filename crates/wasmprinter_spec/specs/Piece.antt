@@ -1,5 +1,5 @@
 -- Pieces: the smallest parts of a layout that read by themselves. Each has its calls on the printer and its tokens.
-use Rattle.std.specs.Prelude.{ℕ, ℤ, zero, suc, ◌-◌, min, List, [], ◌∷◌, ◌++◌, Bool, true, false, ◌&&◌, ◌==◌, nat_le, nat_lt, not, codes, decimal, Option, Some, None, flat_map, replicate, length, if◌then◌else◌, encode_utf8_all}
+use Rattle.std.specs.Prelude.{ℕ, ℤ, zero, suc, ◌-◌, min, List, [], ◌∷◌, ◌++◌, Bool, true, false, codes, decimal, Option, Some, None, replicate, length, encode_utf8_all}
 use Rattle.std.specs.Fmt.{signed_decimal, digits}
 use Rattle.wasmprinter_spec.specs.Call.{Call, Text, Newline, Line, Start, Style, Literal, Name, Keyword, TypeName, Comment, Reset, text_of}
 use Rattle.wasmprinter_spec.specs.Options.{Options}

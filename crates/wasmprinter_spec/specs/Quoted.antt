@@ -1,5 +1,5 @@
 -- Texts and bytes in quotes, as they are printed (section 6.3 of the standard, "Strings").
-use Rattle.std.specs.Prelude.{ℕ, ◌/◌, ◌%◌, List, [], ◌∷◌, ◌++◌, Bool, ◌&&◌, ◌==◌, nat_le, not, false, codes, flat_map, if◌then◌else◌}
+use Rattle.std.specs.Prelude.{ℕ, ◌/◌, ◌%◌, List, [], ◌∷◌, ◌++◌, Bool, ◌&&◌, ◌==◌, nat_le, not, false, flat_map, if◌then◌else◌}
 use Rattle.std.specs.Fmt.{digits, digit_glyph}
 
 -- a character that stands for itself in quotes: 0x20 to 0x7e but the quote and the backslash

@@ -1,14 +1,14 @@
 -- Reading a text (section 6 of the standard): the module that it writes, or none. Identifiers may be used before they are declared, so
 -- the fields are read first, and indices are resolved when all of them are known. Of the abbreviations of section 6.6 the reader has
 -- folded operators, and groups of several parameters, results and locals.
-use Rattle.std.specs.Prelude.{ℕ, List, [], ◌∷◌, ◌++◌, Bool, true, false, ◌&&◌, ◌||◌, codes, bytes_eq, Option, Some, None, if◌then◌else◌, slice_get, map, replicate, length}
+use Rattle.std.specs.Prelude.{ℕ, List, [], ◌∷◌, ◌++◌, Bool, true, false, ◌&&◌, codes, bytes_eq, Option, Some, None, if◌then◌else◌, slice_get, map, replicate, length}
 use Rattle.std.specs.Str.{is_utf8}
 use Rattle.wasmprinter_spec.specs.Grammar.{◌>>=◌}
 use Rattle.wasmprinter_spec.specs.Forest.{Forest, End, Word, Name, String, Group, forest, cut, customs}
 use Rattle.wasmprinter_spec.specs.Types.{ValType, I32, I64, FuncType}
 use Rattle.wasmprinter_spec.specs.Placed.{Export}
 use Rattle.wasmprinter_spec.specs.Module.{Function, Module}
-use Rattle.wasmprinter_spec.specs.IndexSpaces.{Identifiers, Reference, reference, index_in, Spaces}
+use Rattle.wasmprinter_spec.specs.IndexSpaces.{Identifiers, Reference, reference, index_in}
 use Rattle.wasmprinter_spec.specs.Code.{Chunk, unfolded}
 use Rattle.wasmprinter_spec.specs.OperatorText.{operator}
 

@@ -1,7 +1,7 @@
 -- From the bytes of a text to its tokens (sections 6.2 and 6.3 of the standard). `lex` goes over
 -- the bytes once; its mode says what stands open. Two tokens that touch are one reserved token in the standard: here `reserved`
 -- stands between them. A reserved token may stand in an annotation alone, and what is `bad` nowhere.
-use Rattle.std.specs.Prelude.{ℕ, zero, suc, ◌+◌, ◌*◌, ◌==◌, Bool, true, false, ◌&&◌, ◌||◌, nat_lt, List, [], ◌∷◌, ◌++◌, Option, Some, None, encode_utf8, if◌then◌else◌}
+use Rattle.std.specs.Prelude.{ℕ, zero, suc, ◌+◌, ◌*◌, ◌==◌, Bool, true, false, ◌||◌, nat_lt, List, [], ◌∷◌, ◌++◌, Option, Some, None, encode_utf8, if◌then◌else◌}
 use Rattle.std.specs.Char.{digit_value}
 use Rattle.std.specs.Str.{is_utf8}
 use Rattle.std.proofs.Math.Utf8.{scalar}

@@ -1,0 +1,2 @@
+//! A printer of WebAssembly modules as text.
+#![tactic(auto)]
