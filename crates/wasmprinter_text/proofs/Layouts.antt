@@ -1,11 +1,12 @@
--- The layouts of lists, item by item, and of groups whose lines don't change.
+-- The layouts of lists, item by item.
 use Rattle.std.specs.Prelude.{◌≡◌, ℕ, List, [], ◌∷◌, ◌++◌, map, false}
 use Rattle.std.proofs.Common.{refl, sym, ap, ◌∙◌}
 use Rattle.wasmprinter_spec.specs.Grammar.{Placed}
 use Rattle.wasmprinter_spec.specs.Operator.{Operator}
 use Rattle.wasmprinter_spec.specs.Types.{ValType as DefinedType}
 use Rattle.wasmprinter_spec.specs.Piece.{Piece, Gap, Open, Shut}
-use Rattle.wasmprinter_spec.specs.Layout.{has_break, group, type_list, type_group, operator_pieces, body_pieces}
+use Rattle.wasmprinter_spec.specs.Layout.{type_list, type_group, operator_pieces, body_pieces}
+use Rattle.wasmprinter_text.proofs.Lines.{type_group-some as some_types}
 use Rattle.wasmprinter_ops.specs.Operators.{placed_seen, pairs}
 use Rattle.wasmprinter_ops.specs.ValTypes.{type_seen}
 use Rattle.wasmprinter_ops.specs.declared.types.ValType.{ValType}
@@ -43,17 +44,6 @@ pub types-next : (ts rest : List ValType) (t : ValType) → ts ≡ t ∷ rest �
 unfolding type_list
 types-next ts rest t e = ap (λ xs. type_list (map type_seen xs)) e
 
--- types stand on one line
-pub types-line : (ts : List DefinedType) → has_break (type_list ts) ≡ false
-unfolding type_list
-types-line [] = refl
-types-line (t ∷ ts) = types-line ts
-
--- a group whose lines don't change
-pub group-line : (nesting : ℕ) (w : List ℕ) (ps : List Piece) → has_break ps ≡ false → group nesting w ps ≡ Open w ∷ (ps ++ (Shut ∷ []))
-unfolding group
-group-line nesting w ps e = rw e refl
-
 -- a group of no types
 pub type_group-none : (nesting : ℕ) (w : List ℕ) (ts : List ValType) → ts ≡ [] → type_group nesting w (map type_seen ts) ≡ []
 unfolding type_group
@@ -61,10 +51,8 @@ type_group-none nesting w ts e = ap (λ xs. type_group nesting w (map type_seen 
 
 of_types : (nesting : ℕ) (w : List ℕ) (us vs : List DefinedType) (u : DefinedType) → us ≡ u ∷ vs →
     type_group nesting w us ≡ Gap ∷ (Open w ∷ (type_list us ++ (Shut ∷ [])))
-unfolding type_group
 of_types nesting w us vs u e =
-    ap (type_group nesting w) e ∙ ap (λ xs. Gap ∷ xs) (group-line nesting w (type_list (u ∷ vs)) (types-line (u ∷ vs)))
-    ∙ sym (ap (λ xs. Gap ∷ (Open w ∷ (type_list xs ++ (Shut ∷ [])))) e)
+    ap (type_group nesting w) e ∙ some_types nesting w u vs ∙ sym (ap (λ xs. Gap ∷ (Open w ∷ (type_list xs ++ (Shut ∷ [])))) e)
 
 -- a group of types
 pub type_group-some : (nesting : ℕ) (w : List ℕ) (ts rest : List ValType) (t : ValType) → ts ≡ t ∷ rest →
