@@ -5,7 +5,7 @@ use Rattle.wasmprinter_spec.specs.Call.{Call}
 use Rattle.wasmprinter_spec.specs.Options.{Options}
 use Rattle.wasmprinter_spec.specs.Piece.{Piece, calls, all_calls}
 use Rattle.wasmprinter_spec.specs.Meaning.{Meaning}
-use Rattle.wasmprinter_bytes.specs.Emits.{Made, ended, is_printer}
+use Rattle.wasmprinter_bytes.specs.Emits.{Made, Amid, ended, moment_of}
 use Rattle.wasmprinter_bytes.specs.EmitsLaws.{then, ends, fails, nothing, gives_up}
 use Rattle.wasmprinter_bytes.specs.Prints.{Laid, Written, Prints, Lacks}
 use Rattle.wasmprinter_bytes.specs.declared.error.Error.{Error}
@@ -55,9 +55,9 @@ pub last_pieces_end : {P U : Type 0} (m : Meaning P) {o : Options} {a t : P} (r 
     IsErrAnd r (λ y. y ≡ e) → Written m o a t (Err e) xs → Prints m o a t r xs
 last_pieces_end m {o} r {xs = xs} f v = writes m o xs (fails m r f (written m v))
 
--- an error that isn't the printer's, before any piece
+-- an error amid printing, before any piece
 pub no_pieces_end : {P U : Type 0} (m : Meaning P) (o : Options) (a : P) (r : Result U Error) (e : Error) (xs : List Piece) →
-    IsErrAnd r (λ y. y ≡ e) → is_printer e ≡ false → Prints m o a a r xs
+    IsErrAnd r (λ y. y ≡ e) → moment_of e ≡ Amid → Prints m o a a r xs
 no_pieces_end m o a r e xs f h = writes m o xs (gives_up m a r e (all_calls o xs) f h)
 
 -- at first all is lacking
