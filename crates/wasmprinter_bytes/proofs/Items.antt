@@ -1,5 +1,5 @@
 -- Items that are known to stand there, read one at a time.
-use Rattle.std.proofs.Common.{◌≡◌, ℕ, zero, suc, ◌+◌, ◌-◌, ◌<◌, ◌≤◌, List, [], ◌∷◌, Option, Some, None, refl, sym, arith}
+use Rattle.std.proofs.Common.{◌≡◌, ℕ, zero, suc, ◌+◌, ◌-◌, ◌<◌, ◌≤◌, length, List, [], ◌∷◌, Option, Some, None, refl, sym, arith}
 use Rattle.std.specs.Prelude.{MatchOption}
 use Rattle.wasmprinter_spec.specs.Grammar.{At, ◌>>=◌}
 use Rattle.wasmprinter_spec.specs.Name.{u32}
@@ -51,6 +51,17 @@ module _ {A : Type 0} (parse : At → Option (A × At)) where
   skip_end count i at total le h =
       let k : count - i ≡ 0 = omega arith in
       sym (rw k at h)
+
+-- as many items as are known to stand there
+module _ {A : Type 0} (parse : At → Option (A × At)) where
+  length_of : (n : ℕ) (r : Option (A × At)) → ((x : A × At) → HasItems parse n x.1 → length (items_of parse n x.1) ≡ n) → MatchOption r ⊥ (λ x. HasItems parse n x.1)
+      → length (some_or r [] (λ x. x.0 ∷ items_of parse n x.1)) ≡ suc n
+  length_of n None f h = absurd h
+  length_of n (Some x) f h = let e = f x h in omega arith
+
+  pub length-items_of : (n : ℕ) (at : At) → HasItems parse n at → length (items_of parse n at) ≡ n
+  length-items_of zero at h = refl
+  length-items_of (suc n) at h = length_of n (parse at) (λ x. length-items_of n x.1) h
 
 -- a count and so many items
 module _ {A : Type 0} (parse : At → Option (A × At)) where

@@ -1,5 +1,5 @@
 //! Vectors (section 5.1.3 of the WebAssembly Core Specification): a count, and so many items one after the other.
-ghost use Rattle.std.specs.Prelude.{◌≡◌};
+ghost use Rattle.std.specs.Prelude.{◌≡◌, length};
 ghost use Rattle.wasmprinter_bytes.specs.Reads.{Reads, IsWithin, end_of};
 ghost use Rattle.wasmprinter_bytes.specs.Lists.{Takes, vec_at};
 
@@ -102,6 +102,13 @@ impl<'a, T: Spelled> Items<'a, T> {
             cursor: start,
             item: PhantomData,
         })
+    }
+
+    /// How many values there are.
+    pub fn len(&self) -> u32
+        ensures { result ≡ length self.now }
+    {
+        self.left
     }
 
     /// The values in order.

@@ -3,3 +3,4 @@ pub mod Entries
 pub mod Closing
 pub mod Skipping
 pub mod Walking
+pub mod Made

@@ -103,6 +103,15 @@ impl<'a> Expression<'a> {
         })
     }
 
+    /// A second view of the same bytes.
+    pub fn fork(&self) -> Expression<'a>
+        ensures { result ≡ self.now }
+    {
+        Expression {
+            operators: self.operators.fork(),
+        }
+    }
+
     /// The operators in order, without the last `end`.
     pub fn operators(&self) -> OperatorsReader<'a>
         ensures { result ≡ self.now.items }

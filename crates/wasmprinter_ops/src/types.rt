@@ -1,8 +1,9 @@
 //! Value types (section 5.3).
 ghost use Rattle.std.specs.Prelude.{◌≡◌};
+ghost use Rattle.wasmprinter_spec.specs.Name.{vec};
 ghost use Rattle.wasmprinter_spec.specs.Types.{val_type};
 ghost use Rattle.wasmprinter_bytes.specs.Reads.{Reads, IsWithin, end_of};
-ghost use Rattle.wasmprinter_ops.specs.ValTypes.{type_seen, type_at};
+ghost use Rattle.wasmprinter_ops.specs.ValTypes.{type_seen, types_seen, type_at};
 
 use wasmprinter_bytes::Malformed;
 use wasmprinter_bytes::bytes::Cursor;
@@ -31,4 +32,22 @@ impl Spelled for ValType {
             _ => Err(Malformed { place }),
         }
     }
+}
+
+/// Reads a value type.
+pub fn read_type(cursor: &mut Cursor) -> Result<ValType, Malformed>
+    ensures reads { Reads type_seen val_type.parse cursor.old result cursor.new }
+    ensures within { IsWithin cursor.old result }
+    ensures end { end_of cursor.new ≡ end_of cursor.old }
+{
+    ValType::read(cursor)
+}
+
+/// Reads a count and so many value types.
+pub fn read_types<'a>(cursor: &mut Cursor<'a>) -> Result<ValTypes<'a>, Malformed>
+    ensures reads { Reads types_seen (vec val_type).parse cursor.old result cursor.new }
+    ensures within { IsWithin cursor.old result }
+    ensures end { end_of cursor.new ≡ end_of cursor.old }
+{
+    ValTypes::read(cursor)
 }
