@@ -1,1 +1,3 @@
 pub mod Powers
+pub mod Fronts
+pub mod Items

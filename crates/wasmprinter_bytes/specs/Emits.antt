@@ -1,9 +1,9 @@
 -- What generic code has made of a layout: all of it, a beginning of it, or a beginning whose last call failed.
-use Rattle.std.specs.Prelude.{◌≡◌, ℕ, Bool, true, false, List, [], ◌∷◌, ◌++◌, Result, Ok, Err}
+use Rattle.std.specs.Prelude.{◌≡◌, ℕ, Bool, List, [], ◌∷◌, ◌++◌, Result, Ok, Err}
 use Rattle.wasmprinter_spec.specs.Call.{Call, Claim, atoms}
 use Rattle.wasmprinter_spec.specs.Meaning.{Meaning, Run, Succeeded, Failed}
 use Rattle.wasmprinter_bytes.specs.declared.error.Error.{Error}
-use Rattle.wasmprinter_bytes.specs.declared.error.Error.TheVariants.{Printer}
+use Rattle.wasmprinter_bytes.specs.declared.error.Error.TheVariants.{Printer, Memory}
 
 -- one call, with what it answered
 abbrev pub Does : {P T E : Type 0} → Meaning P → P → Call → P → Result T E → Type 0
@@ -38,19 +38,26 @@ pub record Broken {P : Type 0} (m : Meaning P) (old new : P) (layout : List Call
   pub failed : Failed m before call new
   pub alike : atoms (calls ++ call ∷ []) ++ rest ≡ atoms layout
 
--- the error is that a call on the printer failed
-abbrev pub is_printer : Error → Bool
-is_printer (Printer e) = true
-is_printer e = false
+-- when an error comes: because a call on the printer failed, amid printing, or never once printing has begun
+pub data Moment : Type 0 where
+  AtPrinter : Moment
+  Amid : Moment
+  Never : Moment
 
--- what a function that failed has made, by whether a call on the printer was the cause
-abbrev pub Stops : {P : Type 0} → Meaning P → P → P → Bool → List Call → Type 0
-Stops m old new true layout = Broken m old new layout
-Stops m old new false layout = Begun m old new layout
+abbrev pub moment_of : Error → Moment
+moment_of (Printer e) = AtPrinter
+moment_of Memory = Amid
+moment_of e = Never
+
+-- what a function that failed has made
+abbrev pub Stops : {P : Type 0} → Meaning P → P → P → Moment → List Call → Type 0
+Stops m old new AtPrinter layout = Broken m old new layout
+Stops m old new Amid layout = Begun m old new layout
+Stops m old new Never layout = ⊥
 
 abbrev pub Calls : {P : Type 0} → Meaning P → P → P → Result (Unit {0}) Error → List Call → Type 0
 Calls m old new (Ok x) layout = Whole m old new layout
-Calls m old new (Err e) layout = Stops m old new (is_printer e) layout
+Calls m old new (Err e) layout = Stops m old new (moment_of e) layout
 
 -- what a function that ended so has made: the name by which lemmas go
 pub record Made {P : Type 0} (m : Meaning P) (old new : P) (r : Result (Unit {0}) Error) (layout : List Call) : Type 0 where
@@ -61,8 +68,9 @@ abbrev pub ended : {T : Type 0} → Result T Error → Result (Unit {0}) Error
 ended (Ok x) = Ok tt
 ended (Err e) = Err e
 
--- The calls that a function with this result has made are those of the layout, up to cutting. After an error they are a beginning
--- of it; and where a call on the printer failed, the calls before it, followed by it, are such a beginning.
+-- The calls that a function with this result has made are those of the layout, up to cutting. It refuses where memory was refused,
+-- and then they are a beginning of the layout; or where a call on the printer failed, and then the calls before it, followed by it, are
+-- such a beginning.
 abbrev pub Emits : {P T : Type 0} → Meaning P → P → P → Result T Error → List Call → Type 0
 Emits m old new r layout = Made m old new (ended r) layout
 
@@ -71,13 +79,3 @@ pub record Owes {P : Type 0} (m : Meaning P) (old new : P) (whole rest : List Ca
   pub layout : List Call
   pub made : Made m old new (Ok tt) layout
   pub alike : atoms layout ++ atoms rest ≡ atoms whole
-
--- an error, if any, is not the printer's
-abbrev pub IsOkOrRefused : {T : Type 0} → Result T Error → Type 0
-IsOkOrRefused (Ok x) = Unit {0}
-IsOkOrRefused (Err e) = is_printer e ≡ false
-
--- an error, if any, is the printer's
-abbrev pub IsOkOrPrinter : {T : Type 0} → Result T Error → Type 0
-IsOkOrPrinter (Ok x) = Unit {0}
-IsOkOrPrinter (Err e) = is_printer e ≡ true

@@ -1,11 +1,11 @@
 -- What follows from `Made` and `Owes`, for any printer: how the parts of a layout go together.
-use Rattle.std.specs.Prelude.{◌≡◌, ℕ, Bool, true, false, List, [], ◌∷◌, ◌++◌, Result, Ok, Err, IsErrAnd}
-use Rattle.std.proofs.Common.{refl, sym, ap, ap₂, ◌∙◌, subst, append_assoc, append-nil, true≢false}
+use Rattle.std.specs.Prelude.{◌≡◌, ℕ, List, [], ◌∷◌, ◌++◌, Result, Ok, Err, IsErrAnd}
+use Rattle.std.proofs.Common.{refl, sym, ap, ap₂, ◌∙◌, subst, append_assoc, append-nil}
 use Rattle.std.proofs.lemmas.List.{map-append}
 use Rattle.std.specs.declared.io.Error.{Error as IoError}
 use Rattle.wasmprinter_spec.specs.Call.{Call, Text, cut_call, atoms}
 use Rattle.wasmprinter_spec.specs.Meaning.{Meaning, Run, Succeeded, Failed}
-use Rattle.wasmprinter_bytes.specs.Emits.{Emits, Made, Owes, Calls, Stops, is_printer, Whole, Broken}
+use Rattle.wasmprinter_bytes.specs.Emits.{Emits, Made, Owes, Calls, Stops, Moment, AtPrinter, Amid, Never, moment_of, Whole, Begun, Broken}
 use Rattle.wasmprinter_bytes.specs.declared.error.Error.{Error}
 use Rattle.wasmprinter_bytes.specs.declared.error.Error.TheVariants.{Printer}
 
@@ -32,9 +32,9 @@ longer : (w l k rest : List Call) → atoms w ++ rest ≡ atoms l → atoms w ++
 longer w l k rest p =
     sym (append_assoc (atoms w) rest (atoms k)) ∙ ap (λ x. x ++ atoms k) p ∙ sym (atoms-append l k)
 
-then_stops : {P : Type 0} (m : Meaning P) (a s t : P) (b : Bool) (l k : List Call) →
+then_stops : {P : Type 0} (m : Meaning P) (a s t : P) (b : Moment) (l k : List Call) →
     Whole m a s l → Stops m s t b k → Stops m a t b (l ++ k)
-then_stops m a s t true l k w v = record {
+then_stops m a s t AtPrinter l k w v = record {
   calls = w.calls ++ v.calls;
   call = v.call;
   rest = v.rest;
@@ -44,12 +44,13 @@ then_stops m a s t true l k w v = record {
   alike =
       ap (λ x. atoms x ++ v.rest) (append_assoc w.calls v.calls (v.call ∷ [])) ∙ glue w.calls (v.calls ++ v.call ∷ []) l k v.rest w.alike v.alike;
 }
-then_stops m a s t false l k w v = record {
+then_stops m a s t Amid l k w v = record {
   calls = w.calls ++ v.calls;
   rest = v.rest;
   run = Run-append m a s t w.calls v.calls w.run v.run;
   alike = glue w.calls v.calls l k v.rest w.alike v.alike;
 }
+then_stops m a s t Never l k w v = v
 
 then_calls : {P : Type 0} (m : Meaning P) (a s t : P) (r : Result (Unit {0}) Error) (l k : List Call) →
     Whole m a s l → Calls m s t r k → Calls m a t r (l ++ k)
@@ -58,15 +59,15 @@ then_calls m a s t (Ok x) l k w v = record {
   run = Run-append m a s t w.calls v.calls w.run v.run;
   alike = atoms-append w.calls v.calls ∙ ap₂ (λ x y. x ++ y) w.alike v.alike ∙ sym (atoms-append l k);
 }
-then_calls m a s t (Err e) l k w v = then_stops m a s t (is_printer e) l k w v
+then_calls m a s t (Err e) l k w v = then_stops m a s t (moment_of e) l k w v
 
 -- one call after another, of which the first is whole
 pub then : {P : Type 0} (m : Meaning P) {a s t : P} {r : Result (Unit {0}) Error} {l k : List Call} →
     Made m a s (Ok tt) l → Made m s t r k → Made m a t r (l ++ k)
 then m {a} {s} {t} {r} {l} {k} x y = record { made = then_calls m a s t r l k x.made y.made }
 
-ends_stops : {P : Type 0} (m : Meaning P) (a t : P) (b : Bool) (l k : List Call) → Stops m a t b l → Stops m a t b (l ++ k)
-ends_stops m a t true l k v = record {
+ends_stops : {P : Type 0} (m : Meaning P) (a t : P) (b : Moment) (l k : List Call) → Stops m a t b l → Stops m a t b (l ++ k)
+ends_stops m a t AtPrinter l k v = record {
   calls = v.calls;
   call = v.call;
   rest = v.rest ++ atoms k;
@@ -75,26 +76,27 @@ ends_stops m a t true l k v = record {
   failed = v.failed;
   alike = longer (v.calls ++ v.call ∷ []) l k v.rest v.alike;
 }
-ends_stops m a t false l k v = record {
+ends_stops m a t Amid l k v = record {
   calls = v.calls;
   rest = v.rest ++ atoms k;
   run = v.run;
   alike = longer v.calls l k v.rest v.alike;
 }
+ends_stops m a t Never l k v = v
 
 -- where a function has failed, what would have come after it
 pub ends : {P U : Type 0} (m : Meaning P) {a t : P} (r : Result U Error) {e : Error} {l : List Call} (k : List Call) →
     IsErrAnd r (λ y. y ≡ e) → Made m a t (Err e) l → Emits m a t r (l ++ k)
 ends m (Ok x) k f v = absurd f
 ends m {a} {t} (Err y) {e} {l} k f v =
-    record { made = ends_stops m a t (is_printer y) l k (subst (λ z. Stops m a t (is_printer z) l) (sym f) v.made) }
+    record { made = ends_stops m a t (moment_of y) l k (subst (λ z. Stops m a t (moment_of z) l) (sym f) v.made) }
 
 -- and nothing would have come
 pub fails : {P U : Type 0} (m : Meaning P) {a t : P} (r : Result U Error) {e : Error} {l : List Call} →
     IsErrAnd r (λ y. y ≡ e) → Made m a t (Err e) l → Emits m a t r l
 fails m (Ok x) f v = absurd f
 fails m {a} {t} (Err y) {e} {l} f v =
-    record { made = subst (λ z. Stops m a t (is_printer z) l) (sym f) v.made }
+    record { made = subst (λ z. Stops m a t (moment_of z) l) (sym f) v.made }
 
 -- one call that succeeded
 pub called : {P : Type 0} (m : Meaning P) {a t : P} {c : Call} → Succeeded m a c t → Made m a t (Ok tt) (c ∷ [])
@@ -113,25 +115,25 @@ call_fails m {a} {t} (Err y) e {c} f v = let made : Broken m a t (c ∷ []) = re
   run = refl;
   failed = v;
   alike = append-nil (atoms (c ∷ []));
-} in record { made = subst (λ z. Stops m a t (is_printer z) (c ∷ [])) (sym f) made }
+} in record { made = subst (λ z. Stops m a t (moment_of z) (c ∷ [])) (sym f) made }
 
 -- no call
 pub nothing : {P : Type 0} (m : Meaning P) (a : P) → Made m a a (Ok tt) []
 nothing m a = record { made = record { calls = []; run = refl; alike = refl } }
 
--- no call of any layout, before an error that isn't the printer's
-gives_up_at : {P : Type 0} (m : Meaning P) (a : P) (e : Error) (b : Bool) (l : List Call) → b ≡ false → Stops m a a b l
-gives_up_at m a e true l f = absurd (true≢false f)
-gives_up_at m a e false l f = record { calls = []; rest = atoms l; run = refl; alike = refl }
+-- no call of any layout, before an error amid printing
+gives_up_at : {P : Type 0} (m : Meaning P) (a : P) (b : Moment) (l : List Call) → Amid ≡ b → Stops m a a b l
+gives_up_at m a b l f =
+    let none : Begun m a a l = record { calls = []; rest = atoms l; run = refl; alike = refl } in
+    subst (λ (x : Moment). Stops m a a x l) f none
 
 pub gives_up : {P U : Type 0} (m : Meaning P) (a : P) (r : Result U Error) (e : Error) (l : List Call) →
-    IsErrAnd r (λ y. y ≡ e) → is_printer e ≡ false → Emits m a a r l
+    IsErrAnd r (λ y. y ≡ e) → moment_of e ≡ Amid → Emits m a a r l
 gives_up m a (Ok x) e l f h = absurd f
-gives_up m a (Err y) e l f h =
-    record { made = gives_up_at m a y (is_printer y) l (ap is_printer f ∙ h) }
+gives_up m a (Err y) e l f h = record { made = gives_up_at m a (moment_of y) l (sym (ap moment_of f ∙ h)) }
 
-alike_stops : {P : Type 0} (m : Meaning P) (a t : P) (b : Bool) (l k : List Call) → atoms l ≡ atoms k → Stops m a t b l → Stops m a t b k
-alike_stops m a t true l k e v = record {
+alike_stops : {P : Type 0} (m : Meaning P) (a t : P) (b : Moment) (l k : List Call) → atoms l ≡ atoms k → Stops m a t b l → Stops m a t b k
+alike_stops m a t AtPrinter l k e v = record {
   calls = v.calls;
   call = v.call;
   rest = v.rest;
@@ -140,11 +142,12 @@ alike_stops m a t true l k e v = record {
   failed = v.failed;
   alike = v.alike ∙ e;
 }
-alike_stops m a t false l k e v = record { calls = v.calls; rest = v.rest; run = v.run; alike = v.alike ∙ e }
+alike_stops m a t Amid l k e v = record { calls = v.calls; rest = v.rest; run = v.run; alike = v.alike ∙ e }
+alike_stops m a t Never l k e v = v
 
 alike_calls : {P : Type 0} (m : Meaning P) (a t : P) (r : Result (Unit {0}) Error) (l k : List Call) → atoms l ≡ atoms k → Calls m a t r l → Calls m a t r k
 alike_calls m a t (Ok x) l k e v = record { calls = v.calls; run = v.run; alike = v.alike ∙ e }
-alike_calls m a t (Err y) l k e v = alike_stops m a t (is_printer y) l k e v
+alike_calls m a t (Err y) l k e v = alike_stops m a t (moment_of y) l k e v
 
 -- layouts that differ in cutting alone serve each other
 pub alike : {P : Type 0} (m : Meaning P) {a t : P} {r : Result (Unit {0}) Error} {l : List Call} (k : List Call) →

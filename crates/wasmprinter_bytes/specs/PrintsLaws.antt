@@ -5,9 +5,9 @@ use Rattle.wasmprinter_spec.specs.Call.{Call}
 use Rattle.wasmprinter_spec.specs.Options.{Options}
 use Rattle.wasmprinter_spec.specs.Piece.{Piece, calls, all_calls}
 use Rattle.wasmprinter_spec.specs.Meaning.{Meaning}
-use Rattle.wasmprinter_bytes.specs.Emits.{Made, ended, is_printer}
+use Rattle.wasmprinter_bytes.specs.Emits.{Made, Amid, ended, moment_of}
 use Rattle.wasmprinter_bytes.specs.EmitsLaws.{then, ends, fails, nothing, gives_up}
-use Rattle.wasmprinter_bytes.specs.Prints.{Laid, Written, Prints}
+use Rattle.wasmprinter_bytes.specs.Prints.{Laid, Written, Prints, Lacks}
 use Rattle.wasmprinter_bytes.specs.declared.error.Error.{Error}
 
 -- calls go through `++`
@@ -55,7 +55,33 @@ pub last_pieces_end : {P U : Type 0} (m : Meaning P) {o : Options} {a t : P} (r 
     IsErrAnd r (λ y. y ≡ e) → Written m o a t (Err e) xs → Prints m o a t r xs
 last_pieces_end m {o} r {xs = xs} f v = writes m o xs (fails m r f (written m v))
 
--- an error that isn't the printer's, before any piece
+-- an error amid printing, before any piece
 pub no_pieces_end : {P U : Type 0} (m : Meaning P) (o : Options) (a : P) (r : Result U Error) (e : Error) (xs : List Piece) →
-    IsErrAnd r (λ y. y ≡ e) → is_printer e ≡ false → Prints m o a a r xs
+    IsErrAnd r (λ y. y ≡ e) → moment_of e ≡ Amid → Prints m o a a r xs
 no_pieces_end m o a r e xs f h = writes m o xs (gives_up m a r e (all_calls o xs) f h)
+
+-- at first all is lacking
+pub lacks_all : {P : Type 0} (m : Meaning P) (o : Options) (a : P) (whole : List Piece) → Lacks m o a a whole whole
+lacks_all m o a whole = record { front = []; written = no_piece m o a; joined = refl }
+
+-- in the end nothing is
+pub lacks_none : {P : Type 0} (m : Meaning P) {o : Options} {a t : P} (whole : List Piece) → Lacks m o a t whole [] → Written m o a t (Ok tt) whole
+lacks_none m {o} {a} {t} whole l =
+    subst (λ (xs : List Piece). Written m o a t (Ok tt) xs) (sym (append-nil l.front) ∙ l.joined) l.written
+
+-- the next of what is lacking was written
+pub next_written : {P : Type 0} (m : Meaning P) {o : Options} {a s t : P} {whole : List Piece} (xs ys : List Piece) →
+    Lacks m o a s whole (xs ++ ys) → Written m o s t (Ok tt) xs → Lacks m o a t whole ys
+next_written m xs ys l v =
+    record { front = l.front ++ xs; written = both_pieces m l.written v; joined = append_assoc l.front xs ys ∙ l.joined }
+
+-- all that was lacking was written, or a beginning of it
+pub rest_written : {P : Type 0} (m : Meaning P) {o : Options} {a s t : P} {r : Result (Unit {0}) Error} {whole : List Piece} (rest : List Piece) →
+    Lacks m o a s whole rest → Written m o s t r rest → Written m o a t r whole
+rest_written m {o} {a} {t = t} {r} rest l v =
+    subst (λ (xs : List Piece). Written m o a t r xs) l.joined (both_pieces m l.written v)
+
+-- writing the next of what is lacking failed
+pub next_fails : {P U : Type 0} (m : Meaning P) {o : Options} {a s t : P} {whole : List Piece} (xs ys : List Piece) (r : Result U Error) {e : Error} →
+    Lacks m o a s whole (xs ++ ys) → Written m o s t (Err e) xs → IsErrAnd r (λ y. y ≡ e) → Prints m o a t r whole
+next_fails m xs ys r l v f = rest_written m (xs ++ ys) l (pieces_end m r ys f v)

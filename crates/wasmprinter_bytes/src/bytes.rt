@@ -1,6 +1,6 @@
 //! A cursor over a module's bytes: whole numbers in LEB128 (section 5.2.2 of the WebAssembly Core Specification) and names
 //! (section 5.2.4).
-ghost use Rattle.std.specs.Prelude.{◌≡◌, ◌<◌, ◌≤◌, ◌^◌, ◌+◌, ◌-◌, ◌*◌, ◌↔◌, [], length, take, nat_lt, IfOk, IsTrue, pos, neg_ℤ, negsuc, ◌+ℤ◌, ◌*ℤ◌, ◌≤ℤ◌, ◌<ℤ◌};
+ghost use Rattle.std.specs.Prelude.{◌≡◌, ◌<◌, ◌≤◌, ◌^◌, ◌+◌, ◌-◌, ◌*◌, ◌↔◌, [], length, take, slice_get, nat_lt, IfOk, IsTrue, pos, neg_ℤ, negsuc, ◌+ℤ◌, ◌*ℤ◌, ◌≤ℤ◌, ◌<ℤ◌};
 ghost use Rattle.wasmprinter_spec.specs.Grammar.{byte};
 ghost use Rattle.wasmprinter_spec.specs.Sized.{front};
 ghost use Rattle.wasmprinter_spec.specs.Leb.{unsigned, signed};
@@ -81,10 +81,7 @@ impl<'a> Cursor<'a> {
         requires { place + length bytes.now < 2 ^ 64 }
         ensures { result ≡ record { place = place; bytes = bytes.now } }
     {
-        Cursor {
-            place,
-            rest: bytes,
-        }
+        Cursor { place, rest: bytes }
     }
 
     /// The place of the next byte.
@@ -92,6 +89,13 @@ impl<'a> Cursor<'a> {
         ensures { result ≡ self.now.place }
     {
         self.place
+    }
+
+    /// The place behind the last byte.
+    pub fn end(&self) -> u64
+        ensures { result ≡ end_of self.now }
+    {
+        self.place + self.len() as u64
     }
 
     /// How many bytes are left.
@@ -129,6 +133,13 @@ impl<'a> Cursor<'a> {
         }
     }
 
+    /// The next byte, which isn't passed by.
+    pub fn peek(&self) -> Option<u8>
+        ensures { result ≡ slice_get self.now.bytes 0 }
+    {
+        self.rest.first().copied()
+    }
+
     /// The next byte.
     pub fn u8(&mut self) -> Result<u8, Malformed>
         ensures reads { Reads (λ b. b) byte.parse self.old result self.new }
@@ -151,7 +162,7 @@ impl<'a> Cursor<'a> {
         ensures within { IsWithin self.old result }
         ensures end { end_of self.new ≡ end_of self.old }
     {
-        if self.rest.len() < len {
+        if self.len() < len {
             return Err(Malformed { place: self.place });
         }
         let (bytes, rest) = self.rest.split_at(len);
@@ -183,7 +194,11 @@ impl<'a> Cursor<'a> {
         let place = self.place;
         let byte = self.u8()?;
         if byte < MORE {
-            if has_bits(byte, bits) { Ok(u64::from(byte)) } else { Err(Malformed { place }) }
+            if has_bits(byte, bits) {
+                Ok(u64::from(byte))
+            } else {
+                Err(Malformed { place })
+            }
         } else if bits > BITS {
             let high = self.unsigned(bits - BITS)?;
             Ok(joined(byte - MORE, high))
@@ -205,9 +220,17 @@ impl<'a> Cursor<'a> {
         let place = self.place;
         let byte = self.u8()?;
         if byte < SIGN {
-            if has_bits(byte, bits - 1) { Ok(i64::from(byte)) } else { Err(Malformed { place }) }
+            if has_bits(byte, bits - 1) {
+                Ok(i64::from(byte))
+            } else {
+                Err(Malformed { place })
+            }
         } else if byte < MORE {
-            if has_bits(MORE - 1 - byte, bits - 1) { Ok(negative(byte)) } else { Err(Malformed { place }) }
+            if has_bits(MORE - 1 - byte, bits - 1) {
+                Ok(negative(byte))
+            } else {
+                Err(Malformed { place })
+            }
         } else if bits > BITS {
             let high = self.signed(bits - BITS)?;
             Ok(joined_signed(byte - MORE, high))

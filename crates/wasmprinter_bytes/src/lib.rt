@@ -3,6 +3,10 @@
 
 pub mod bytes;
 mod error;
+pub mod lists;
 pub mod print;
 
 pub use error::{Error, Malformed};
+
+#[cfg(test)]
+mod tests;

@@ -3,7 +3,7 @@ ghost use Rattle.std.specs.Prelude.{◌≡◌, ℕ, List, [], ◌∷◌, ◌++�
 ghost use Rattle.std.specs.declared.io.Error.{Error as IoError};
 ghost use Rattle.wasmprinter_spec.specs.Call.{Call, Text, Newline, Line, Start, Literal, Name, Keyword, TypeName, Comment, Reset};
 ghost use Rattle.wasmprinter_spec.specs.Meaning.{Meaning, Succeeded, Failed};
-ghost use Rattle.wasmprinter_bytes.specs.Emits.{Does, Claims, Emits, Made, is_printer};
+ghost use Rattle.wasmprinter_bytes.specs.Emits.{Does, Claims, Emits, Made, Amid, moment_of};
 ghost use Rattle.wasmprinter_bytes.specs.EmitsLaws.{then, ends, fails, called, call_fails, nothing, gives_up, then_text, ends_text};
 ghost use Rattle.wasmprinter_bytes.specs.Prints.{Written, Prints};
 ghost use Rattle.wasmprinter_bytes.specs.PrintsLaws.{no_piece, one_piece, both_pieces, pieces_end, last_pieces_end, no_pieces_end};
@@ -115,8 +115,8 @@ pub trait Print {
 
     ghost call_failed: { (a t : Self) (r : Result (Unit {0}) Error) (e : IoError) (c : Call) → IsErrAnd r (λ y. y ≡ Printer e) → Failed meaning a c t → Emits meaning a t r (c ∷ []) } = { λ a t r e c f v. call_fails meaning r e f v };
 
-    // an error of another kind, whatever was to come
-    ghost stops: { (a : Self) (r : Result (Unit {0}) Error) (e : Error) (l : List Call) → IsErrAnd r (λ y. y ≡ e) → is_printer e ≡ false → Emits meaning a a r l } = { λ a r e l f h. gives_up meaning a r e l f h };
+    // an error amid printing, whatever was to come
+    ghost stops: { (a : Self) (r : Result (Unit {0}) Error) (e : Error) (l : List Call) → IsErrAnd r (λ y. y ≡ e) → moment_of e ≡ Amid → Emits meaning a a r l } = { λ a r e l f h. gives_up meaning a r e l f h };
 
     // no call
     ghost idle: { (a : Self) → Made meaning a a (Ok tt) [] } = { λ a. nothing meaning a };
@@ -139,8 +139,8 @@ pub trait Print {
     // the last pieces, of which one failed
     ghost pieces_fail_at_last: { (o : Options) (a t : Self) (r : Result (Unit {0}) Error) (e : Error) (xs : List Piece) → IsErrAnd r (λ y. y ≡ e) → Written meaning o a t (Err e) xs → Prints meaning o a t r xs } = { λ o a t r e xs f v. last_pieces_end meaning r f v };
 
-    // an error of another kind, whatever was to come
-    ghost pieces_stop: { (o : Options) (a : Self) (r : Result (Unit {0}) Error) (e : Error) (xs : List Piece) → IsErrAnd r (λ y. y ≡ e) → is_printer e ≡ false → Prints meaning o a a r xs } = { λ o a r e xs f h. no_pieces_end meaning o a r e xs f h };
+    // an error amid printing, whatever was to come
+    ghost pieces_stop: { (o : Options) (a : Self) (r : Result (Unit {0}) Error) (e : Error) (xs : List Piece) → IsErrAnd r (λ y. y ≡ e) → moment_of e ≡ Amid → Prints meaning o a a r xs } = { λ o a r e xs f h. no_pieces_end meaning o a r e xs f h };
 
     // no piece
     ghost no_pieces: { (o : Options) (a : Self) → Written meaning o a a (Ok tt) [] } = { λ o a. no_piece meaning o a };

@@ -1,10 +1,13 @@
-//! Numbers, strings, words and lines (section 6.3 of the WebAssembly Core Specification), each in its style.
+//! Numbers, strings, words and lines (section 6.3 of the WebAssembly Core Specification), each in its style, and types
+//! (section 6.4).
 mod lines;
 mod numbers;
 mod strings;
+mod types;
 mod words;
 
-pub use lines::{Options, break_line, close};
+pub use lines::{begin, break_line, close, end};
 pub use numbers::{constant, mark, number};
 pub use strings::write_quoted;
-pub use words::{gap, open, shut, type_word};
+pub use types::{signature, type_list};
+pub use words::{gap, open, open_gap, shut, type_word, word};

@@ -2,14 +2,15 @@
 ghost use Rattle.std.specs.Prelude.{[], ◌∷◌, ◌++◌, true, false, Some};
 ghost use Rattle.std.specs.Fmt.{digits};
 ghost use Rattle.wasmprinter_spec.specs.Call.{Text};
-ghost use Rattle.wasmprinter_spec.specs.Piece.{Break, repeated, left_in, place_calls};
+ghost use Rattle.wasmprinter_spec.specs.Options.{Options};
+ghost use Rattle.wasmprinter_spec.specs.Piece.{Begin, Feed, Break, repeated, left_in, place_calls};
 ghost use Rattle.wasmprinter_spec.specs.Layout.{close as closing};
 ghost use Rattle.wasmprinter_bytes.specs.Emits.{Emits};
 ghost use Rattle.wasmprinter_bytes.specs.Prints.{Prints};
 
+use crate::layout::Layout;
 use crate::text::numbers::{HEXADECIMAL, hexadecimal_len, write_digits};
 use crate::text::words::shut;
-use std::marker::Model;
 use wasmprinter_bytes::Error;
 use wasmprinter_bytes::print::{Print, Style, feed, reset, start, text};
 
@@ -21,25 +22,6 @@ const COMMENT_WIDTH: usize = 11;
 
 /// The levels of nesting of which each is indented.
 const MOST_INDENTS: u32 = 50;
-
-/// How a module is laid out.
-#[derive(Drop)]
-pub struct Options<'a> {
-    /// Each line begins with the place of what stands on it.
-    pub offsets: bool,
-    /// Bodies are left out.
-    pub skeleton: bool,
-    /// The text that stands once for each level of nesting.
-    pub indent: &'a str,
-}
-
-impl<'a> Model for Options<'a> {
-    ghost use Rattle.wasmprinter_spec.specs.Options.{Options};
-
-    ghost Value = { Options };
-
-    ghost view = { λ o. record { offsets = o.offsets; skeleton = o.skeleton; indent = o.indent.now } };
-}
 
 /// Writes a text so many times.
 fn write_repeated<P: Print>(p: &mut P, s: &str, count: usize) -> Result<(), Error>
@@ -94,57 +76,72 @@ fn write_offset<P: Print>(p: &mut P, place: Option<u64>) -> Result<(), Error>
 
 fn write_wanted_offset<P: Print>(
     p: &mut P,
-    options: &Options<'_>,
+    layout: &Layout<'_>,
     place: Option<u64>,
 ) -> Result<(), Error>
-    ensures { Emits P.meaning p.old p.new result (place_calls options.now.offsets place) }
+    ensures { Emits P.meaning p.old p.new result (place_calls layout.now.offsets place) }
 {
-    if options.offsets {
+    if layout.offsets {
         write_offset(p, place)
     } else {
         Ok(())
     }
 }
 
+/// Begins the first line, at this place.
+pub fn begin<P: Print>(p: &mut P, place: u64) -> Result<(), Error>
+    ensures { (o : Options) → Prints P.meaning o p.old p.new result (Begin place ∷ []) }
+{
+    p.start_line(Some(place));
+    Ok(())
+}
+
+/// Ends the last line.
+pub fn end<P: Print>(p: &mut P) -> Result<(), Error>
+    ensures { (o : Options) → Prints P.meaning o p.old p.new result (Feed ∷ []) }
+{
+    feed(p)
+}
+
 /// Begins a line: what stands on it has this place in the module's bytes, if any, and is nested so deep.
 pub fn break_line<P: Print>(
     p: &mut P,
-    options: &Options<'_>,
+    layout: &Layout<'_>,
     place: Option<u64>,
     nesting: u32,
 ) -> Result<(), Error>
-    ensures { Prints P.meaning options.now p.old p.new result (Break place nesting ∷ []) }
+    ensures { Prints P.meaning layout.now p.old p.new result (Break place nesting ∷ []) }
 {
     feed(p)?;
     p.start_line(place);
-    write_wanted_offset(p, options, place)?;
-    write_repeated(p, options.indent, nesting.min(MOST_INDENTS) as usize)
+    write_wanted_offset(p, layout, place)?;
+    write_repeated(p, layout.indent, nesting.min(MOST_INDENTS) as usize)
 }
 
 fn shut_below<P: Print>(
     p: &mut P,
-    options: &Options<'_>,
+    layout: &Layout<'_>,
     place: Option<u64>,
     nesting: u32,
 ) -> Result<(), Error>
-    ensures { Prints P.meaning options.now p.old p.new result (closing place nesting true) }
+    ensures { Prints P.meaning layout.now p.old p.new result (closing place nesting true) }
 {
-    break_line(p, options, place, nesting)?;
+    break_line(p, layout, place, nesting)?;
     shut(p)
 }
 
 /// Closes a group: where the line has changed since the group began, on a line of its own.
 pub fn close<P: Print>(
     p: &mut P,
-    options: &Options<'_>,
+    layout: &Layout<'_>,
     place: Option<u64>,
     nesting: u32,
     changed: bool,
 ) -> Result<(), Error>
-    ensures { Prints P.meaning options.now p.old p.new result (closing place nesting changed) }
+    ensures { Prints P.meaning layout.now p.old p.new result (closing place nesting changed) }
 {
     if changed {
-        shut_below(p, options, place, nesting)
+        shut_below(p, layout, place, nesting)
     } else {
         shut(p)
     }

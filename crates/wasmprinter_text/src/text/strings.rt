@@ -1,9 +1,11 @@
 //! Texts in quotes (section 6.3.3 of the WebAssembly Core Specification).
 ghost use Rattle.std.specs.Prelude.{◌≡◌, [], ◌∷◌, flat_map, chars};
 ghost use Rattle.wasmprinter_spec.specs.Call.{Text, Literal};
-ghost use Rattle.wasmprinter_spec.specs.Piece.{styled};
+ghost use Rattle.wasmprinter_spec.specs.Options.{Options};
+ghost use Rattle.wasmprinter_spec.specs.Piece.{Quoted, styled};
 ghost use Rattle.wasmprinter_spec.specs.Quoted.{is_plain, char_text, quoted_text};
 ghost use Rattle.wasmprinter_bytes.specs.Emits.{Emits};
+ghost use Rattle.wasmprinter_bytes.specs.Prints.{Prints};
 
 use crate::text::numbers::{HEXADECIMAL, write_digits_between};
 use wasmprinter_bytes::Error;
@@ -40,7 +42,8 @@ fn write_chars<P: Print>(p: &mut P, s: &str) -> Result<(), Error>
 /// It answers `Printer` where a call on the printer fails, and no other error.
 #[tactic(auto, unfolding(wasmprinter_spec::specs::Quoted::quoted_text))]
 pub fn write_quoted<P: Print>(p: &mut P, s: &str) -> Result<(), Error>
-    ensures { Emits P.meaning p.old p.new result (styled Literal (quoted_text (chars s.now))) }
+    ensures calls { Emits P.meaning p.old p.new result (styled Literal (quoted_text (chars s.now))) }
+    ensures pieces { (o : Options) → Prints P.meaning o p.old p.new result (Quoted (chars s.now) ∷ []) }
 {
     start(p, Style::Literal)?;
     text(p, "\"")?;

@@ -1,0 +1,21 @@
+-- A loop that reads items into a list.
+use Rattle.std.proofs.Common.{◌≡◌, ℕ, suc, ◌+◌, ◌-◌, ◌<◌, List, [], ◌∷◌, ◌++◌, Option, Some, None, refl, sym, ap, ◌∙◌, append_assoc, arith}
+use Rattle.wasmprinter_spec.specs.Grammar.{At, ◌>>=◌}
+use Rattle.wasmprinter_spec.specs.Repeated.{items_at}
+
+-- what is read, behind what was read before
+abbrev pub with_front : {A : Type 0} → List A → Option (List A × At) → Option (List A × At)
+with_front front read = read >>= λ x. Some (front ++ x.0, x.1)
+
+module _ {A : Type 0} (parse : At → Option (A × At)) where
+  regroup : (xs : List A) (x : A) (r : Option (List A × At)) → with_front xs (r >>= λ b. Some (x ∷ b.0, b.1)) ≡ with_front (xs ++ x ∷ []) r
+  regroup xs x (Some b) = ap (λ (ys : List A). Some (ys, b.1)) (sym (append_assoc xs (x ∷ []) b.0))
+  regroup xs x None = refl
+
+  -- one more item is read
+  pub front_more : (xs : List A) (count i : ℕ) (at : At) (x : A) (after : At) (total : Option (List A × At)) → i < count → parse at ≡ Some (x, after)
+      → with_front xs (items_at parse (count - i) at) ≡ total → with_front (xs ++ x ∷ []) (items_at parse (count - (i + 1)) after) ≡ total
+  front_more xs count i at x after total lt e h =
+      let k : count - i ≡ suc (count - (i + 1)) = omega arith in
+      let one : with_front xs (items_at parse (count - i) at) ≡ with_front (xs ++ x ∷ []) (items_at parse (count - (i + 1)) after) = rw (k, e) (regroup xs x (items_at parse (count - (i + 1)) after)) in
+      sym one ∙ h

@@ -1,0 +1,72 @@
+-- Items that are known to stand there, read one at a time.
+use Rattle.std.proofs.Common.{◌≡◌, ℕ, zero, suc, ◌+◌, ◌-◌, ◌<◌, ◌≤◌, length, List, [], ◌∷◌, Option, Some, None, refl, sym, arith}
+use Rattle.std.specs.Prelude.{MatchOption}
+use Rattle.wasmprinter_spec.specs.Grammar.{At, ◌>>=◌}
+use Rattle.wasmprinter_spec.specs.Name.{u32}
+use Rattle.wasmprinter_spec.specs.Repeated.{some_or, items_at, items_of, skip_at, HasItems}
+use Rattle.wasmprinter_bytes.specs.Lists.{vec_at}
+
+-- items and where reading stands behind them
+abbrev pub with_end : {A : Type 0} → List A → Option At → Option (List A × At)
+with_end xs None = None
+with_end xs (Some e) = Some (xs, e)
+
+skip_over : {A : Type 0} (r : Option At) (x : A) (xs : List A) → (with_end xs r >>= λ b. Some (x ∷ b.0, b.1)) ≡ with_end (x ∷ xs) r
+skip_over None x xs = refl
+skip_over (Some e) x xs = refl
+
+module _ {A : Type 0} (parse : At → Option (A × At)) where
+  skip_then : (n : ℕ) (r : Option (A × At)) → ((x : A × At) → items_at parse n x.1 ≡ with_end (items_of parse n x.1) (skip_at parse n x.1))
+      → (r >>= λ a. items_at parse n a.1 >>= λ b. Some (a.0 ∷ b.0, b.1)) ≡ with_end (some_or r [] (λ x. x.0 ∷ items_of parse n x.1)) (r >>= λ x. skip_at parse n x.1)
+  skip_then n None h = refl
+  skip_then n (Some x) h = rw (h x) (skip_over (skip_at parse n x.1) x.0 (items_of parse n x.1))
+
+  -- the items and where reading stands behind them
+  pub items_at-skip : (n : ℕ) (at : At) → items_at parse n at ≡ with_end (items_of parse n at) (skip_at parse n at)
+  items_at-skip zero at = refl
+  items_at-skip (suc n) at = skip_then n (parse at) (λ x. items_at-skip n x.1)
+
+  has_then : (n : ℕ) (r : Option (A × At)) (e : At) → ((x : A × At) → skip_at parse n x.1 ≡ Some e → HasItems parse n x.1) → (r >>= λ x. skip_at parse n x.1) ≡ Some e → MatchOption r ⊥ (λ x. HasItems parse n x.1)
+  has_then n None e h s = absurd cc
+  has_then n (Some x) e h s = h x s
+
+  pub HasItems-skip : (n : ℕ) (at e : At) → skip_at parse n at ≡ Some e → HasItems parse n at
+  HasItems-skip zero at e s = tt
+  HasItems-skip (suc n) at e s = has_then n (parse at) e (λ x t. HasItems-skip n x.1 e t) s
+
+  -- a loop over a count: i items are read
+  pub skip_more : (count i : ℕ) (at : At) (x : A) (after : At) (total : Option At) → i < count → parse at ≡ Some (x, after) → skip_at parse (count - i) at ≡ total → skip_at parse (count - (i + 1)) after ≡ total
+  skip_more count i at x after total lt e h =
+      let k : count - i ≡ suc (count - (i + 1)) = omega arith in
+      let g : skip_at parse (suc (count - (i + 1))) at ≡ total = rw k at h in
+      rw e at g
+
+  pub skip_none : (count i : ℕ) (at : At) (total : Option At) → i < count → parse at ≡ None → skip_at parse (count - i) at ≡ total → total ≡ None
+  skip_none count i at total lt e h =
+      let k : count - i ≡ suc (count - (i + 1)) = omega arith in
+      let g : skip_at parse (suc (count - (i + 1))) at ≡ total = rw k at h in
+      sym (rw e at g)
+
+  pub skip_end : (count i : ℕ) (at : At) (total : Option At) → count ≤ i → skip_at parse (count - i) at ≡ total → total ≡ Some at
+  skip_end count i at total le h =
+      let k : count - i ≡ 0 = omega arith in
+      sym (rw k at h)
+
+-- as many items as are known to stand there
+module _ {A : Type 0} (parse : At → Option (A × At)) where
+  length_of : (n : ℕ) (r : Option (A × At)) → ((x : A × At) → HasItems parse n x.1 → length (items_of parse n x.1) ≡ n) → MatchOption r ⊥ (λ x. HasItems parse n x.1)
+      → length (some_or r [] (λ x. x.0 ∷ items_of parse n x.1)) ≡ suc n
+  length_of n None f h = absurd h
+  length_of n (Some x) f h = let e = f x h in omega arith
+
+  pub length-items_of : (n : ℕ) (at : At) → HasItems parse n at → length (items_of parse n at) ≡ n
+  length-items_of zero at h = refl
+  length-items_of (suc n) at h = length_of n (parse at) (λ x. length-items_of n x.1) h
+
+-- a count and so many items
+module _ {A : Type 0} (parse : At → Option (A × At)) where
+  pub vec_some : (old mid e : At) (n : ℕ) → u32.parse old ≡ Some (n, mid) → skip_at parse n mid ≡ Some e → vec_at parse old ≡ Some (items_of parse n mid, e)
+  vec_some old mid e n c s = rw (c, items_at-skip parse n mid, s) refl
+
+  pub vec_none : (old mid : At) (n : ℕ) → u32.parse old ≡ Some (n, mid) → skip_at parse n mid ≡ None → vec_at parse old ≡ None
+  vec_none old mid n c s = rw (c, items_at-skip parse n mid, s) refl

@@ -1,0 +1,145 @@
+//! Vectors (section 5.1.3 of the WebAssembly Core Specification): a count, and so many items one after the other.
+ghost use Rattle.std.specs.Prelude.{◌≡◌, length};
+ghost use Rattle.wasmprinter_bytes.specs.Reads.{Reads, IsWithin, end_of};
+ghost use Rattle.wasmprinter_bytes.specs.Lists.{Takes, vec_at};
+
+use crate::bytes::Cursor;
+use crate::error::{Error, Malformed};
+use std::alloc::Global;
+use std::marker::{Model, PhantomData};
+
+/// A value that bytes spell, read without memory of its own; it borrows nothing.
+pub trait Spelled: Drop {
+    ghost use Rattle.std.specs.Prelude.{Option};
+    ghost use Rattle.wasmprinter_spec.specs.Grammar.{At};
+
+    /// How it is read.
+    ghost parse: { At → Option (Self × At) };
+
+    /// Reads the value at the cursor.
+    fn read(cursor: &mut Cursor) -> Result<Self, Malformed>
+        ensures reads { Reads (λ x. x) parse cursor.old result cursor.new }
+        ensures within { IsWithin cursor.old result }
+        ensures end { end_of cursor.new ≡ end_of cursor.old };
+}
+
+impl Spelled for u32 {
+    ghost use Rattle.wasmprinter_spec.specs.Name.{u32};
+
+    ghost parse = { u32.parse };
+
+    fn read(cursor: &mut Cursor) -> Result<u32, Malformed> {
+        cursor.u32()
+    }
+}
+
+/// A value that bytes spell, read without memory of its own; it may borrow the bytes.
+pub trait SpelledIn<'a>: Drop {
+    ghost use Rattle.std.specs.Prelude.{Option};
+    ghost use Rattle.wasmprinter_spec.specs.Grammar.{At};
+
+    /// How it is read.
+    ghost parse: { At → Option (Self × At) };
+
+    /// Reads the value at the cursor.
+    fn read(cursor: &mut Cursor<'a>) -> Result<Self, Malformed>
+        ensures reads { Reads (λ x. x) parse cursor.old result cursor.new }
+        ensures within { IsWithin cursor.old result }
+        ensures end { end_of cursor.new ≡ end_of cursor.old };
+}
+
+/// Reads a count and so many values, and keeps them in memory.
+pub fn read_list<'a, T: SpelledIn<'a>>(
+    alloc: Global,
+    cursor: &mut Cursor<'a>,
+) -> Result<Vec<T>, Error>
+    ensures reads { Takes (λ v. v.items) (vec_at T.parse) cursor.old result cursor.new }
+    ensures end { end_of cursor.new ≡ end_of cursor.old }
+{
+    let count = cursor.u32()?;
+    let start = cursor.fork();
+    let mut values = Vec::new(alloc);
+    for _ in 0..count {
+        values.push(T::read(cursor)?)?;
+    }
+    let _ = start;
+    Ok(values)
+}
+
+/// So many values that are known to stand one after the other; they are read again as they are asked for.
+#[derive(Drop)]
+pub struct Items<'a, T: Spelled> {
+    left: u32,
+    cursor: Cursor<'a>,
+    item: PhantomData<T>,
+}
+
+impl<'a, T: Spelled> Model for Items<'a, T> {
+    ghost use Rattle.std.specs.Prelude.{List};
+    ghost use Rattle.wasmprinter_spec.specs.Repeated.{items_of, HasItems};
+
+    ghost Value = { List T };
+
+    ghost view = { λ t. items_of T.parse t.left t.cursor };
+
+    ghost invariant = { λ t. HasItems T.parse t.left t.cursor };
+}
+
+impl<'a, T: Spelled> Items<'a, T> {
+    /// Reads a count and so many values.
+    pub fn read(cursor: &mut Cursor<'a>) -> Result<Self, Malformed>
+        ensures reads { Reads (λ t. t) (vec_at T.parse) cursor.old result cursor.new }
+        ensures within { IsWithin cursor.old result }
+        ensures end { end_of cursor.new ≡ end_of cursor.old }
+    {
+        let count = cursor.u32()?;
+        let start = cursor.fork();
+        for _ in 0..count {
+            T::read(cursor)?;
+        }
+        Ok(Items {
+            left: count,
+            cursor: start,
+            item: PhantomData,
+        })
+    }
+
+    /// How many values there are.
+    pub fn len(&self) -> u32
+        ensures { result ≡ length self.now }
+    {
+        self.left
+    }
+
+    /// The values in order.
+    pub fn iter(&self) -> Items<'a, T>
+        ensures { result ≡ self.now }
+    {
+        Items {
+            left: self.left,
+            cursor: self.cursor.fork(),
+            item: PhantomData,
+        }
+    }
+}
+
+impl<'a, T: Spelled> Iterator for Items<'a, T> {
+    ghost use Rattle.std.specs.Iterator.{YieldsFirst, item_count};
+
+    type Item = T;
+
+    ghost next_gives = { YieldsFirst (λ values. values) };
+
+    ghost remaining = { item_count (λ values. values) };
+
+    fn next(&mut self) -> Option<T> {
+        if self.left == 0 {
+            return None;
+        }
+        self.left -= 1;
+        match T::read(&mut self.cursor) {
+            Ok(value) => Some(value),
+            Err(_) => unreachable!(),
+        }
+    }
+}

@@ -1,0 +1,50 @@
+-- Items that take all bytes, each at least one.
+use Rattle.std.proofs.Common.{◌≡◌, ℕ, ◌+◌, ◌<◌, List, [], ◌∷◌, ◌++◌, length, Some, refl, sym, ap, subst, ◌∙◌, arith, append_assoc, append-nil, length-append}
+use Rattle.wasmprinter_spec.specs.Grammar.{At, from, Spans, Grammar}
+use Rattle.wasmprinter_spec.specs.Repeated.{Entries, until_end}
+
+module _ {A : Type 0} (g : Grammar A) where
+  -- the first item, and the others behind it
+  pub record FirstEntry (at : At) (xs : List A) : Type 0 where
+    pub item : A
+    pub others : List A
+    pub after : At
+    pub is : xs ≡ item ∷ others
+    pub first : g.parse at ≡ Some (item, after)
+    pub rest : (until_end g).parse after ≡ Some others
+
+  first_of : (at : At) (xs : List A) → (at.bytes ≡ [] → ⊥) → Entries g at.place at.bytes xs → FirstEntry at xs
+  first_of at [] some s = absurd (some s)
+  first_of at (x ∷ xs) some s =
+      let after : At = from (at.place + length s.0) s.1 in
+      record {
+        item = x;
+        others = xs;
+        after = after;
+        is = refl;
+        first = g.complete at (x, after) (record { text = s.0; parts = s.2; ends = refl; spelled = s.4 });
+        rest = (until_end g).complete after xs s.5;
+      }
+
+  pub first_entry : (at : At) (xs : List A) → (at.bytes ≡ [] → ⊥) → (until_end g).parse at ≡ Some xs → FirstEntry at xs
+  first_entry at xs some e = first_of at xs some ((until_end g).sound at xs e)
+
+  -- one more item at the end
+  entries-push : (xs : List A) (p : ℕ) (t u : List ℕ) (x : A) → Entries g p t xs → 0 < length u → g.spells (p + length t) u x → Entries g p (t ++ u) (xs ++ x ∷ [])
+  entries-push [] p t u x s some last =
+      let z : p + 0 ≡ p = omega arith in
+      let here : g.spells (p + 0) u x = subst (λ (r : List ℕ). g.spells (p + length r) u x) s last in
+      let at_p : g.spells p u x = subst (λ (q : ℕ). g.spells q u x) z here in
+      subst (λ (r : List ℕ). Entries g p (r ++ u) (x ∷ [])) (sym s) (u, [], sym (append-nil u), some, at_p, refl)
+  entries-push (y ∷ ys) p t u x s some last =
+      let l : p + length t ≡ p + length s.0 + length s.1 = omega (arith, ap length s.2, length-append s.0 s.1) in
+      let more : Entries g (p + length s.0) (s.1 ++ u) (ys ++ x ∷ []) = entries-push ys (p + length s.0) s.1 u x s.5 some (subst (λ (q : ℕ). g.spells q u x) l last) in
+      (s.0, s.1 ++ u, ap (λ (r : List ℕ). r ++ u) s.2 ∙ append_assoc s.0 s.1 u, s.3, s.4, more)
+
+  pub spans-push : (start mid after : At) (xs : List A) (x : A) → Spans (Entries g) start (xs, mid) → (s : Spans g.spells mid (x, after)) → 0 < length s.text → Spans (Entries g) start (xs ++ x ∷ [], after)
+  spans-push start mid after xs x f s some = record {
+    text = f.text ++ s.text;
+    parts = f.parts ∙ ap (λ (r : List ℕ). f.text ++ r) s.parts ∙ sym (append_assoc f.text s.text after.bytes);
+    ends = omega (arith, f.ends, s.ends, length-append f.text s.text);
+    spelled = entries-push xs start.place f.text s.text x f.spelled some (subst (λ (q : ℕ). g.spells q s.text x) f.ends s.spelled);
+  }

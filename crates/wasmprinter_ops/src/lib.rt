@@ -1,0 +1,11 @@
+//! Operators (section 5.4 of the WebAssembly Core Specification): opcodes with their immediates, and walks over the bytes that
+//! spell them.
+#![tactic(auto)]
+
+pub mod expression;
+pub mod opcode;
+pub mod operator;
+mod tables;
+#[cfg(test)]
+mod tests;
+pub mod types;

@@ -1,0 +1,93 @@
+-- Bodies with more locals than are allowed.
+use Rattle.std.proofs.Common.{◌≡◌, ℕ, ◌+◌, ◌<◌, ◌≤◌, List, [], ◌∷◌, ◌++◌, length, Option, Some, None, refl, sym, ap, subst, ◌∙◌, arith, append_assoc, length-append}
+use Rattle.wasmprinter_spec.specs.Grammar.{At, from, Spans, Grammar, ◌>>=◌, bind_some, some_is, seq, Placed, placed}
+use Rattle.wasmprinter_spec.specs.Sized.{front_at}
+use Rattle.wasmprinter_spec.specs.Terminated.{Closed}
+use Rattle.wasmprinter_spec.specs.Name.{u32, vec}
+use Rattle.wasmprinter_spec.specs.Placed.{LocalEntry, Body}
+use Rattle.wasmprinter_spec.specs.Operator.{Operator}
+use Rattle.wasmprinter_spec.specs.Instructions.{expression}
+use Rattle.wasmprinter_spec.specs.Sections.{local_entry, body, body_from, code_entry}
+use Rattle.wasmprinter_spec.specs.Limits.{local_count, most_locals}
+use Rattle.wasmprinter_wasm.proofs.Parts.{sized, sized_none, sized_some, old_parts, part_within}
+use Rattle.wasmprinter_bytes.specs.declared.error.Error.{Error}
+use Rattle.wasmprinter_bytes.specs.declared.error.Error.TheVariants as e
+use Rattle.wasmprinter_wasm.specs.Refusals.{HasManyLocals, IsOver}
+use Rattle.wasmprinter_wasm.specs.Bodies.{IsBodyFault}
+
+-- what is among some of the bytes is among all of them
+pub many_in_part : (at part : At) (t r : List ℕ) (place : ℕ) → at.bytes ≡ t ++ (part.bytes ++ r) → part.place ≡ at.place + length t → HasManyLocals part place → HasManyLocals at place
+many_in_part at part t r place parts begins m = record {
+  before = t ++ m.before;
+  text = m.text;
+  behind = m.behind ++ r;
+  parts = parts ∙ ap (λ (bs : List ℕ). t ++ (bs ++ r)) m.parts
+      ∙ ap (λ (bs : List ℕ). t ++ bs) (append_assoc m.before (m.text ++ m.behind) r ∙ ap (λ (bs : List ℕ). m.before ++ bs) (append_assoc m.text m.behind r))
+      ∙ sym (append_assoc t m.before (m.text ++ (m.behind ++ r)));
+  starts = omega (arith, m.starts, begins, length-append t m.before);
+  locals = m.locals;
+  spelled = m.spelled;
+  many = m.many;
+}
+
+abbrev Entries : Type 0
+Entries = List (Placed LocalEntry)
+
+-- the locals that were read are those of the body, if one stands there
+module _ (at mid : At) (locals : Entries) (read : (vec (placed local_entry)).parse at ≡ Some (locals, mid)) where
+  body_locals : (x : Body × At) → body.parse at ≡ Some x → x.0.locals ≡ locals
+  body_locals x e =
+      let a = bind_some ((seq (vec (placed local_entry)) (λ _. expression)).parse at) (λ a. Some (body_from a.0.0 a.0.1, a.1)) x e in
+      let b = bind_some ((vec (placed local_entry)).parse at) (λ l. expression.parse l.1 >>= λ c. Some ((l.0, c.0), c.1)) a.0 a.1 in
+      let c = bind_some (expression.parse b.0.1) (λ c. Some ((b.0.0, c.0), c.1)) a.0 b.2 in
+      let same : b.0.0 ≡ locals = ap (λ (y : Entries × At). y.0) (some_is b.0 (locals, mid) (sym b.1 ∙ read)) in
+      let first : b.0.0 ≡ a.0.0.0 = ap (λ (y : (Entries × Closed (Placed Operator)) × At). y.0.0) (some_is ((b.0.0, c.0.0), c.0.1) a.0 c.2) in
+      let made : a.0.0.0 ≡ x.0.locals = ap (λ (y : Body × At). y.0.locals) (some_is (body_from a.0.0.0 a.0.0.1, a.0.1) x a.2) in
+      sym made ∙ sym first ∙ same
+
+  is_over : (place : ℕ) → place ≡ at.place → most_locals < local_count locals → (x : Placed Body × At) → (placed body).parse at ≡ Some x → IsOver place x.0
+  is_over place begins many x e =
+      let with_place : Body × At → Placed Body × At = λ a. (record { place = at.place; value = a.0 }, a.1) in
+      let a = bind_some (body.parse at) (λ a. Some (with_place a)) x e in
+      let here : IsOver place (with_place a.0).0 = (sym begins, subst (λ (ls : Entries). most_locals < local_count ls) (sym (body_locals a.0 a.1)) many) in
+      subst (λ (y : Placed Body × At). IsOver place y.0) (some_is (with_place a.0) x a.2) here
+
+  -- too many locals were read
+  pub body_over : (place : ℕ) → place ≡ at.place → most_locals < local_count locals → HasManyLocals at place × ((x : Placed Body × At) → (placed body).parse at ≡ Some x → IsOver place x.0)
+  body_over place begins many =
+      let s = (vec (placed local_entry)).sound at (locals, mid) read in
+      (record {
+        before = [];
+        text = s.text;
+        behind = mid.bytes;
+        parts = s.parts;
+        starts = omega arith;
+        locals = locals;
+        spelled = subst (λ (p : ℕ). (vec (placed local_entry)).spells p s.text locals) (sym begins) s.spelled;
+        many = many;
+      }, is_over place begins many)
+
+-- a fault of a body is one of the entry
+module _ (old mid part new : At) (size : ℕ) (size_read : u32.parse old ≡ Some (size, mid)) (cut : front_at size mid ≡ Some (part.bytes, new)) (begins : part.place ≡ mid.place) where
+  entry_body : (x : Placed Body × At) → code_entry.parse old ≡ Some x → (after : At) × ((placed body).parse part ≡ Some (x.0, after))
+  entry_body x e =
+      let a = bind_some ((sized (placed body)).parse old) (λ a. Some (a.0.1, a.1)) x e in
+      let s = sized_some (placed body) old mid part new size size_read cut begins a.0 a.1 in
+      let same : a.0.0.1 ≡ x.0 = ap (λ (y : Placed Body × At). y.0) (some_is (a.0.0.1, a.0.1) x a.2) in
+      (s.0, s.1 ∙ ap (λ (b : Placed Body). Some (b, s.0)) same)
+
+  entry_over : (place : ℕ) → IsBodyFault (placed body).parse part (e.TooManyLocals place) → IsBodyFault code_entry.parse old (e.TooManyLocals place)
+  entry_over place h =
+      let p = old_parts (placed body) old mid part new size size_read cut begins in
+      (many_in_part old part p.0 new.bytes place p.1 p.2 h.0, λ x f. let b = entry_body x f in h.1 (x.0, b.0) b.1)
+
+  entry_malformed : (place : ℕ) → IsBodyFault (placed body).parse part (e.Malformed place) → IsBodyFault code_entry.parse old (e.Malformed place)
+  entry_malformed place h =
+      let none : code_entry.parse old ≡ None = rw (sized_none (placed body) old mid part new size size_read cut begins h.0) refl in
+      let within = part_within (placed body) old mid part new size size_read cut begins in
+      (none, omega (arith, h.1, within))
+
+  pub entry_fault : (f : Error) → IsBodyFault (placed body).parse part f → IsBodyFault code_entry.parse old f
+  entry_fault (e.Malformed place) h = entry_malformed place h
+  entry_fault (e.TooManyLocals place) h = entry_over place h
+  entry_fault _ h = absurd h

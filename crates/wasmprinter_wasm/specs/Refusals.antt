@@ -1,0 +1,38 @@
+-- Why a module that is not malformed may be refused: a function has more locals than are allowed, or there are more functions.
+use Rattle.std.specs.Prelude.{◌≡◌, ℕ, ◌+◌, ◌<◌, ◌≤◌, ◌⊎◌, List, [], ◌∷◌, ◌++◌, length, Option, Some, None, Result, Ok, Err}
+use Rattle.wasmprinter_spec.specs.Grammar.{At, Placed, placed}
+use Rattle.wasmprinter_spec.specs.Name.{u32, vec}
+use Rattle.wasmprinter_spec.specs.Placed.{LocalEntry, Body}
+use Rattle.wasmprinter_spec.specs.Sections.{local_entry}
+use Rattle.wasmprinter_spec.specs.Limits.{local_count, most_locals}
+
+-- among the bytes begin at the place a count and so many entries of locals, which add up to more than are allowed
+pub record HasManyLocals (at : At) (place : ℕ) : Type 0 where
+  pub before : List ℕ
+  pub text : List ℕ
+  pub behind : List ℕ
+  pub parts : at.bytes ≡ before ++ (text ++ behind)
+  pub starts : place ≡ at.place + length before
+  pub locals : List (Placed LocalEntry)
+  pub spelled : (vec (placed local_entry)).spells place text locals
+  pub many : most_locals < local_count locals
+
+-- among the bytes begins a function section, an id and a size, with the count
+pub record HasFunctionSection (at : At) (count : ℕ) : Type 0 where
+  pub before : List ℕ
+  pub size_text : List ℕ
+  pub count_text : List ℕ
+  pub behind : List ℕ
+  pub parts : at.bytes ≡ before ++ 0x03 ∷ (size_text ++ (count_text ++ behind))
+  pub size : ℕ
+  pub sized : u32.spells (at.place + length before + 1) size_text size
+  pub counted : u32.spells (at.place + length before + 1 + length size_text) count_text count
+
+-- the body begins at the place, and has more locals than are allowed
+abbrev pub IsOver : ℕ → Placed Body → Type 0
+IsOver place b = (b.place ≡ place) × (most_locals < local_count b.value.locals)
+
+-- one of the bodies is so
+abbrev pub AnyIsOver : ℕ → List (Placed Body) → Type 0
+AnyIsOver place [] = ⊥
+AnyIsOver place (b ∷ bs) = IsOver place b ⊎ AnyIsOver place bs
