@@ -1,10 +1,10 @@
 -- The layouts of lists, item by item.
-use Rattle.std.specs.Prelude.{◌≡◌, ℕ, List, [], ◌∷◌, ◌++◌, map, false}
+use Rattle.std.specs.Prelude.{◌≡◌, ℕ, List, [], ◌∷◌, ◌++◌, map}
 use Rattle.std.proofs.Common.{refl, sym, ap, ◌∙◌}
 use Rattle.wasmprinter_spec.specs.Grammar.{Placed}
 use Rattle.wasmprinter_spec.specs.Operator.{Operator}
 use Rattle.wasmprinter_spec.specs.Types.{ValType as DefinedType}
-use Rattle.wasmprinter_spec.specs.Piece.{Piece, Gap, Open, Shut}
+use Rattle.wasmprinter_spec.specs.Piece.{Gap, Open, Shut}
 use Rattle.wasmprinter_spec.specs.Layout.{type_list, type_group, operator_pieces, body_pieces}
 use Rattle.wasmprinter_text.proofs.Lines.{type_group-some as some_types}
 use Rattle.wasmprinter_ops.specs.Operators.{placed_seen, pairs}

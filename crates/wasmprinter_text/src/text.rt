@@ -1,12 +1,14 @@
 //! Numbers, strings, words and lines (section 6.3 of the WebAssembly Core Specification), each in its style, and types
 //! (section 6.4).
 mod lines;
+mod locals;
 mod numbers;
 mod strings;
 mod types;
 mod words;
 
 pub use lines::{begin, break_line, close, end};
+pub use locals::{declaring_place, write_locals};
 pub use numbers::{constant, mark, number};
 pub use strings::write_quoted;
 pub use types::{signature, type_list};
