@@ -1,2 +1,5 @@
 pub mod Parts
 pub mod Over
+pub mod Later
+pub mod Listing
+pub mod Contents
