@@ -7,9 +7,9 @@ mod strings;
 mod types;
 mod words;
 
-pub use lines::{begin, break_line, close, end};
+pub use lines::{begin, break_line, close_at, end};
 pub use locals::{declaring_place, write_locals};
 pub use numbers::{constant, mark, number};
 pub use strings::write_quoted;
-pub use types::{signature, type_list};
+pub use types::signature;
 pub use words::{gap, open, open_gap, shut, type_word, word};
