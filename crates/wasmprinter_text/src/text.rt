@@ -8,8 +8,8 @@ mod types;
 mod words;
 
 pub use lines::{begin, break_line, close_at, end};
-pub use locals::{declaring_place, write_locals};
-pub use numbers::{constant, mark, number};
+pub use locals::{has_locals, write_locals};
+pub use numbers::{constant, mark, number, write_index};
 pub use strings::write_quoted;
 pub use types::signature;
 pub use words::{gap, open, open_gap, shut, type_word, word};

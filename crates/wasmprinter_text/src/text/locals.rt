@@ -3,7 +3,7 @@ ghost use Rattle.std.specs.Prelude.{◌≡◌, [], ◌∷◌, ◌++◌, Some, co
 ghost use Rattle.wasmprinter_spec.specs.Options.{Options};
 ghost use Rattle.wasmprinter_spec.specs.Module.{expanded};
 ghost use Rattle.wasmprinter_spec.specs.Piece.{Break, Open, Shut};
-ghost use Rattle.wasmprinter_spec.specs.Layout.{type_list as list_of_types, local_pieces};
+ghost use Rattle.wasmprinter_spec.specs.Layout.{has_break, type_list as list_of_types, local_pieces};
 ghost use Rattle.wasmprinter_bytes.specs.Prints.{Prints};
 ghost use Rattle.wasmprinter_ops.specs.ValTypes.{type_seen};
 ghost use Rattle.wasmprinter_text.specs.Declaring.{declaring_place};
@@ -21,7 +21,7 @@ use wasmprinter_wasm::Locals;
 const LOCALS_NESTING: u32 = 2;
 
 /// The place of the first entry that declares a local.
-pub fn declaring_place(locals: &Locals<'_>) -> Option<u64>
+fn declaring_place(locals: &Locals<'_>) -> Option<u64>
     ensures { result ≡ declaring_place locals.now }
 {
     for entry in locals.iter() {
@@ -30,6 +30,13 @@ pub fn declaring_place(locals: &Locals<'_>) -> Option<u64>
         }
     }
     None
+}
+
+/// Whether there are locals, which begin a line.
+pub fn has_locals(locals: &Locals<'_>) -> bool
+    ensures { result ≡ has_break (local_pieces locals.now) }
+{
+    declaring_place(locals).is_some()
 }
 
 /// Writes a value type so many times, a blank before each.

@@ -1,0 +1,7 @@
+//! The fields of a module (section 6.6 of the WebAssembly Core Specification), each on a line of its own.
+mod exports;
+mod functions;
+mod types;
+
+/// How deep the fields of a module are nested.
+const FIELD_NESTING: u32 = 1;

@@ -1,0 +1,106 @@
+//! Functions (section 6.6.3 of the WebAssembly Core Specification).
+ghost use Rattle.std.specs.Prelude.{◌≡◌, [], ◌∷◌, ◌++◌, ◌||◌, Some, codes, slice_get};
+ghost use Rattle.wasmprinter_spec.specs.Options.{Options};
+ghost use Rattle.wasmprinter_spec.specs.Piece.{Gap, OpenGap, Shut, Word};
+ghost use Rattle.wasmprinter_spec.specs.Layout.{has_break, close, signature_of, signature_pieces, local_pieces, body_pieces, function_pieces};
+ghost use Rattle.wasmprinter_bytes.specs.Prints.{Prints};
+ghost use Rattle.wasmprinter.specs.Header.{header};
+
+use crate::sections::FIELD_NESTING;
+use wasmprinter_bytes::Error;
+use wasmprinter_bytes::print::Print;
+use wasmprinter_text::flat::{has_operators, write_operators};
+use wasmprinter_text::layout::Layout;
+use wasmprinter_text::text::{
+    break_line, close_at, gap, has_locals, mark, open_gap, shut, signature, word, write_index,
+    write_locals,
+};
+use wasmprinter_wasm::{Body, FuncType};
+
+/// Writes the signature of a type, and nothing where there is no such type.
+fn write_signature<P: Print>(
+    p: &mut P,
+    types: &[FuncType<'_>],
+    type_index: u32,
+) -> Result<(), Error>
+    ensures { (o : Options) → Prints P.meaning o p.old p.new result (signature_pieces 2 (signature_of (slice_get types.now type_index))) }
+{
+    match types.get(type_index as usize) {
+        Some(func_type) => signature(p, func_type),
+        None => Ok(()),
+    }
+}
+
+/// Writes a function's number, the index of its type, and its signature.
+#[tactic(auto, unfolding(crate::specs::Header::header))]
+fn write_header<P: Print>(
+    p: &mut P,
+    types: &[FuncType<'_>],
+    function: u32,
+    type_index: u32,
+) -> Result<(), Error>
+    ensures { (o : Options) → Prints P.meaning o p.old p.new result (header function type_index (signature_of (slice_get types.now type_index))) }
+{
+    mark(p, u64::from(function))?;
+    gap(p)?;
+    write_index(p, "type", type_index)?;
+    write_signature(p, types, type_index)
+}
+
+/// Writes a function without its body.
+fn write_outline<P: Print>(
+    p: &mut P,
+    types: &[FuncType<'_>],
+    function: u32,
+    type_index: u32,
+) -> Result<(), Error>
+    ensures { (o : Options) → Prints P.meaning o p.old p.new result
+        (OpenGap (codes "func") ∷ (header function type_index (signature_of (slice_get types.now type_index)) ++ (Gap ∷ (Word (codes "...") ∷ (Shut ∷ []))))) }
+{
+    open_gap(p, "func")?;
+    write_header(p, types, function, type_index)?;
+    gap(p)?;
+    word(p, "...")?;
+    shut(p)
+}
+
+/// Writes a function with its body.
+fn write_whole<P: Print>(
+    p: &mut P,
+    layout: &Layout<'_>,
+    types: &[FuncType<'_>],
+    function: u32,
+    type_index: u32,
+    body: &Body<'_>,
+) -> Result<(), Error>
+    ensures { Prints P.meaning layout.now p.old p.new result
+        (OpenGap (codes "func") ∷ (header function type_index (signature_of (slice_get types.now type_index))
+        ++ (local_pieces body.now.value.locals ++ (body_pieces body.now.value.operators
+        ++ close (Some body.now.value.end) 1 (layout.now.offsets || (has_break (local_pieces body.now.value.locals) || has_break (body_pieces body.now.value.operators))))))) }
+{
+    open_gap(p, "func")?;
+    write_header(p, types, function, type_index)?;
+    write_locals(p, layout, &body.locals())?;
+    write_operators(p, layout, body.operators())?;
+    let changed = has_locals(&body.locals()) || has_operators(body.operators());
+    close_at(p, layout, body.end(), FIELD_NESTING, changed)
+}
+
+/// Writes the function with the number: its type's index and its body.
+pub(crate) fn write_function<P: Print>(
+    p: &mut P,
+    layout: &Layout<'_>,
+    types: &[FuncType<'_>],
+    function: u32,
+    type_index: u32,
+    body: &Body<'_>,
+) -> Result<(), Error>
+    ensures { Prints P.meaning layout.now p.old p.new result (function_pieces layout.now types.now function (record { type_index = type_index; body = body.now })) }
+{
+    break_line(p, layout, Some(body.place()), FIELD_NESTING)?;
+    if layout.skeleton {
+        write_outline(p, types, function, type_index)
+    } else {
+        write_whole(p, layout, types, function, type_index, body)
+    }
+}
