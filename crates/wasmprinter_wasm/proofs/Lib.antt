@@ -3,3 +3,5 @@ pub mod Over
 pub mod Later
 pub mod Listing
 pub mod Contents
+pub mod Pairing
+pub mod Functions

@@ -1,9 +1,13 @@
-//! Bodies
+//! Modules in the binary format (chapter 5 of the WebAssembly Core Specification): decoding, and what a decoded module holds.
 #![tactic(auto)]
 
 mod body;
 mod entries;
+mod module;
+mod readers;
 mod section;
 
 pub use body::{Body, LocalEntry, Locals};
 pub use entries::{Export, FuncType};
+pub use module::Module;
+pub use readers::Function;

@@ -15,7 +15,7 @@ use wasmprinter_text::text::{
     break_line, close_at, gap, has_locals, mark, open_gap, shut, signature, word, write_index,
     write_locals,
 };
-use wasmprinter_wasm::{Body, FuncType};
+use wasmprinter_wasm::{Body, FuncType, Function};
 
 /// Writes the signature of a type, and nothing where there is no such type.
 fn write_signature<P: Print>(
@@ -36,12 +36,12 @@ fn write_signature<P: Print>(
 fn write_header<P: Print>(
     p: &mut P,
     types: &[FuncType<'_>],
-    function: u32,
+    number: u32,
     type_index: u32,
 ) -> Result<(), Error>
-    ensures { (o : Options) → Prints P.meaning o p.old p.new result (header function type_index (signature_of (slice_get types.now type_index))) }
+    ensures { (o : Options) → Prints P.meaning o p.old p.new result (header number type_index (signature_of (slice_get types.now type_index))) }
 {
-    mark(p, u64::from(function))?;
+    mark(p, u64::from(number))?;
     gap(p)?;
     write_index(p, "type", type_index)?;
     write_signature(p, types, type_index)
@@ -51,17 +51,24 @@ fn write_header<P: Print>(
 fn write_outline<P: Print>(
     p: &mut P,
     types: &[FuncType<'_>],
-    function: u32,
-    type_index: u32,
+    number: u32,
+    function: &Function<'_>,
 ) -> Result<(), Error>
     ensures { (o : Options) → Prints P.meaning o p.old p.new result
-        (OpenGap (codes "func") ∷ (header function type_index (signature_of (slice_get types.now type_index)) ++ (Gap ∷ (Word (codes "...") ∷ (Shut ∷ []))))) }
+        (OpenGap (codes "func") ∷ (header number function.now.type_index (signature_of (slice_get types.now function.now.type_index)) ++ (Gap ∷ (Word (codes "...") ∷ (Shut ∷ []))))) }
 {
     open_gap(p, "func")?;
-    write_header(p, types, function, type_index)?;
+    write_header(p, types, number, function.type_index())?;
     gap(p)?;
     word(p, "...")?;
     shut(p)
+}
+
+/// Whether a body has locals or operators, which begin lines.
+fn has_lines(body: &Body<'_>) -> bool
+    ensures { result ≡ (has_break (local_pieces body.now.value.locals) || has_break (body_pieces body.now.value.operators)) }
+{
+    has_locals(&body.locals()) || has_operators(body.operators())
 }
 
 /// Writes a function with its body.
@@ -69,38 +76,36 @@ fn write_whole<P: Print>(
     p: &mut P,
     layout: &Layout<'_>,
     types: &[FuncType<'_>],
-    function: u32,
-    type_index: u32,
-    body: &Body<'_>,
+    number: u32,
+    function: &Function<'_>,
 ) -> Result<(), Error>
     ensures { Prints P.meaning layout.now p.old p.new result
-        (OpenGap (codes "func") ∷ (header function type_index (signature_of (slice_get types.now type_index))
-        ++ (local_pieces body.now.value.locals ++ (body_pieces body.now.value.operators
-        ++ close (Some body.now.value.end) 1 (layout.now.offsets || (has_break (local_pieces body.now.value.locals) || has_break (body_pieces body.now.value.operators))))))) }
+        (OpenGap (codes "func") ∷ (header number function.now.type_index (signature_of (slice_get types.now function.now.type_index))
+        ++ (local_pieces function.now.body.value.locals ++ (body_pieces function.now.body.value.operators
+        ++ close (Some function.now.body.value.end) 1 (layout.now.offsets || (has_break (local_pieces function.now.body.value.locals) || has_break (body_pieces function.now.body.value.operators))))))) }
 {
+    let body = function.body();
     open_gap(p, "func")?;
-    write_header(p, types, function, type_index)?;
+    write_header(p, types, number, function.type_index())?;
     write_locals(p, layout, &body.locals())?;
     write_operators(p, layout, body.operators())?;
-    let changed = has_locals(&body.locals()) || has_operators(body.operators());
-    close_at(p, layout, body.end(), FIELD_NESTING, changed)
+    close_at(p, layout, body.end(), FIELD_NESTING, has_lines(body))
 }
 
-/// Writes the function with the number: its type's index and its body.
+/// Writes the function with the number.
 pub(crate) fn write_function<P: Print>(
     p: &mut P,
     layout: &Layout<'_>,
     types: &[FuncType<'_>],
-    function: u32,
-    type_index: u32,
-    body: &Body<'_>,
+    number: u32,
+    function: &Function<'_>,
 ) -> Result<(), Error>
-    ensures { Prints P.meaning layout.now p.old p.new result (function_pieces layout.now types.now function (record { type_index = type_index; body = body.now })) }
+    ensures { Prints P.meaning layout.now p.old p.new result (function_pieces layout.now types.now number function.now) }
 {
-    break_line(p, layout, Some(body.place()), FIELD_NESTING)?;
+    break_line(p, layout, Some(function.body().place()), FIELD_NESTING)?;
     if layout.skeleton {
-        write_outline(p, types, function, type_index)
+        write_outline(p, types, number, function)
     } else {
-        write_whole(p, layout, types, function, type_index, body)
+        write_whole(p, layout, types, number, function)
     }
 }
