@@ -1,15 +1,13 @@
 -- Faults of what a section holds are faults of the section.
-use Rattle.std.proofs.Common.{◌≡◌, ℕ, ◌+◌, ◌<◌, ◌≤◌, List, [], ◌∷◌, ◌++◌, length, Option, Some, None, refl, sym, ap, subst, ◌∙◌, arith, length-append, append_assoc}
-use Rattle.wasmprinter_spec.specs.Grammar.{At, Grammar, ◌>>=◌, bind_some, some_is, byte}
+use Rattle.std.proofs.Common.{◌≡◌, ℕ, ◌≤◌, List, [], ◌∷◌, ◌++◌, length, Option, Some, None, refl, sym, ap, subst, ◌∙◌, arith, length-append, append_assoc}
+use Rattle.wasmprinter_spec.specs.Grammar.{At, ◌>>=◌, bind_some, some_is, byte}
 use Rattle.wasmprinter_spec.specs.Name.{u32, vec}
 use Rattle.wasmprinter_spec.specs.Sized.{front_at}
 use Rattle.wasmprinter_spec.specs.Sections.{Section, FunctionSection, content, section}
-use Rattle.wasmprinter_spec.specs.Binary.{bodies_in}
-use Rattle.wasmprinter_spec.specs.Limits.{most_functions}
 use Rattle.wasmprinter_bytes.specs.Reads.{end_of}
 use Rattle.wasmprinter_bytes.specs.declared.error.Error.{Error}
 use Rattle.wasmprinter_bytes.specs.declared.error.Error.TheVariants as e
-use Rattle.wasmprinter_wasm.specs.Refusals.{HasManyLocals, HasFunctionSection, AnyIsOver}
+use Rattle.wasmprinter_wasm.specs.Refusals.{HasFunctionSection}
 use Rattle.wasmprinter_wasm.specs.Contents.{AreTooMany, HasCount, IsContentFault, IsSectionFault}
 use Rattle.wasmprinter_wasm.proofs.Parts.{sized, sized_none, sized_some, old_parts, part_within}
 use Rattle.wasmprinter_wasm.proofs.Over.{many_in_part}
@@ -86,6 +84,7 @@ module _ (old behind mid part new : At) (id size : ℕ) (id_read : byte.parse ol
         sized = p.3;
         counted = subst (λ (n : ℕ). u32.spells part.place t n) same v.spelled.2.3;
       }
+
   pub section_fault : (f : Error) → IsContentFault id part f → IsSectionFault old f
   section_fault (e.Malformed place) h = (rw (id_read, sized_none (content id) behind mid part new size size_read cut begins h.0) refl, within place h.1)
   section_fault (e.TooManyLocals place) h = locals_fault place h

@@ -5,3 +5,8 @@ pub mod Listing
 pub mod Contents
 pub mod Pairing
 pub mod Functions
+pub mod Until
+pub mod Rising
+pub mod Gathering
+pub mod Held
+pub mod Assembling

@@ -1,9 +1,9 @@
 -- Functions from type indices and bodies.
-use Rattle.std.proofs.Common.{◌≡◌, ℕ, suc, ◌+◌, ◌<◌, ◌≤◌, get_or, List, [], ◌∷◌, length, map, Option, Some, None, refl, sym, ap, ◌∙◌, arith}
+use Rattle.std.proofs.Common.{◌≡◌, ℕ, suc, ◌<◌, ◌≤◌, get_or, List, [], ◌∷◌, length, Some, None, refl, sym, ap, subst, ◌∙◌, arith}
 use Rattle.std.proofs.lemmas.List.{length-map}
 use Rattle.std.specs.Prelude.{slice_get}
 use Rattle.std.proofs.lemmas.Option.{slice_get-get_or, slice_get_past}
-use Rattle.wasmprinter_spec.specs.Grammar.{◌>>=◌, Placed, some_is, bind_some}
+use Rattle.wasmprinter_spec.specs.Grammar.{Placed, some_is, bind_some}
 use Rattle.wasmprinter_spec.specs.Placed.{Body, PlacedFunction}
 use Rattle.wasmprinter_spec.specs.Binary.{paired}
 use Rattle.wasmprinter_wasm.specs.Modules.{functions_of, bodies_of, body_at}
@@ -25,13 +25,6 @@ pairs_of (i ∷ is) (b ∷ bs) e =
     let p = pairs_of is bs (omega arith) in
     record { functions = record { type_index = i; body = b } ∷ p.functions; are = rw p.are refl; bodies = ap (λ (xs : List (Placed Body)). b ∷ xs) p.bodies }
 
--- where the numbers differ there are none
-pub unpaired : (is : List ℕ) (bs : List (Placed Body)) → (length is ≡ length bs → ⊥) → paired is bs ≡ None
-unpaired [] [] ne = absurd (ne refl)
-unpaired [] (b ∷ bs) ne = refl
-unpaired (i ∷ is) [] ne = refl
-unpaired (i ∷ is) (b ∷ bs) ne = let none : paired is bs ≡ None = unpaired is bs (λ e. ne (omega arith)) in rw none refl
-
 -- the bodies of the functions
 pub bodies-functions_of : (is : List ℕ) (bs : List (Placed Body)) → length is ≡ length bs → bodies_of (functions_of is bs) ≡ bs
 bodies-functions_of is bs e = let p = pairs_of is bs e in rw p.are p.bodies
@@ -47,3 +40,24 @@ module _ (fs : List PlacedFunction) (bs : List (Placed Body)) (i : ℕ) where
 
   pub body_past : bodies_of fs ≡ bs → length bs ≤ i → None ≡ body_at fs i
   body_past e le = sym (slice_get_past bs i le) ∙ ap (λ (xs : List (Placed Body)). slice_get xs i) (sym e)
+
+-- functions that there are have these bodies, as many as type indices
+pub record Paired (is : List ℕ) (bs : List (Placed Body)) (fs : List PlacedFunction) : Type 0 where
+  pub bodies : bodies_of fs ≡ bs
+  pub count : length fs ≡ length is
+
+pub paired_of : (is : List ℕ) (bs : List (Placed Body)) (fs : List PlacedFunction) → paired is bs ≡ Some fs → Paired is bs fs
+paired_of [] [] fs e = subst (Paired [] []) (some_is [] fs e) (record { bodies = refl; count = refl })
+paired_of [] (b ∷ bs) fs e = absurd cc
+paired_of (i ∷ is) [] fs e = absurd cc
+paired_of (i ∷ is) (b ∷ bs) fs e =
+    let rest = bind_some (paired is bs) (λ xs. Some (record { type_index = i; body = b } ∷ xs)) fs e in
+    let p = paired_of is bs rest.0 rest.1 in
+    subst (Paired (i ∷ is) (b ∷ bs)) (some_is (record { type_index = i; body = b } ∷ rest.0) fs rest.2)
+    (record { bodies = ap (λ (xs : List (Placed Body)). b ∷ xs) p.bodies; count = ap suc p.count })
+
+-- there are as many type indices as bodies
+pub paired_length : (is : List ℕ) (bs : List (Placed Body)) (fs : List PlacedFunction) → paired is bs ≡ Some fs → length is ≡ length bs
+paired_length is bs fs e =
+    let p = paired_of is bs fs e in
+    sym p.count ∙ sym (length-map fs body_of) ∙ ap length p.bodies

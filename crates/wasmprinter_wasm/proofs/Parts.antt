@@ -1,7 +1,7 @@
 -- A size, and a value of exactly so many bytes, which are cut out and read apart.
-use Rattle.std.proofs.Common.{◌≡◌, ℕ, ◌+◌, ◌<◌, ◌≤◌, List, [], ◌∷◌, ◌++◌, length, Option, Some, None, refl, sym, ap, subst, ◌∙◌, arith, append_assoc, length-append}
-use Rattle.wasmprinter_spec.specs.Grammar.{At, from, Spans, Grammar, ◌>>=◌, bind_some, some_is, seq}
-use Rattle.wasmprinter_spec.specs.Sized.{front, front_at, front_sound, exactly, alone, alone_at, ended}
+use Rattle.std.proofs.Common.{◌≡◌, ℕ, ◌+◌, ◌≤◌, List, [], ◌∷◌, ◌++◌, length, Option, Some, None, refl, sym, ap, ◌∙◌, arith, length-append}
+use Rattle.wasmprinter_spec.specs.Grammar.{At, from, Grammar, ◌>>=◌, bind_some, some_is, seq}
+use Rattle.wasmprinter_spec.specs.Sized.{front_at, front_sound, exactly, alone, alone_at, ended}
 use Rattle.wasmprinter_spec.specs.Name.{u32}
 use Rattle.wasmprinter_bytes.specs.Reads.{end_of}
 

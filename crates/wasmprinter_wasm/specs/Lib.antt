@@ -2,3 +2,5 @@ pub mod Refusals
 pub mod Bodies
 pub mod Contents
 pub mod Modules
+pub mod Gathering
+pub mod Decoding

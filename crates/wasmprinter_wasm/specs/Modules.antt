@@ -1,5 +1,5 @@
 -- Modules from what their sections hold.
-use Rattle.std.specs.Prelude.{◌≡◌, ℕ, ◌≤◌, List, [], length, map, Option, Some, None, slice_get}
+use Rattle.std.specs.Prelude.{◌≡◌, ℕ, ◌≤◌, List, [], length, map, Option, slice_get}
 use Rattle.wasmprinter_spec.specs.Grammar.{Placed}
 use Rattle.wasmprinter_spec.specs.Repeated.{some_or}
 use Rattle.wasmprinter_spec.specs.Types.{FuncType}

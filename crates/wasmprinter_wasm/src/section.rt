@@ -15,8 +15,11 @@ use wasmprinter_bytes::lists::{Items, read_list};
 pub(crate) const MOST_FUNCTIONS: u32 = 1_000_000;
 
 const TYPE: u8 = 1;
+
 const FUNCTION: u8 = 3;
+
 const EXPORT: u8 = 7;
+
 const CODE: u8 = 10;
 
 /// What a section holds.

@@ -1,4 +1,4 @@
-use Rattle.std.proofs.Common.{◌-◌, arith, Some, sym, ap, ◌∙◌}
+use Rattle.std.proofs.Common.{arith, Some, sym, ap, ◌∙◌}
 use Rattle.std.proofs.lemmas.Result.{err_from_is_err_and}
 use Rattle.wasmprinter_spec.specs.Grammar.{At}
 use Rattle.wasmprinter_spec.specs.Repeated.{items_at}
@@ -20,8 +20,8 @@ loop-init c = record {
 pub loop-preserved : goal.loop-preserved
 loop-preserved c = record {
   rest = rw c.in_ok-push.ensures.items
-    (front_more code_entry.parse c.loop.bodies.items c.in_ok-count.count c.loop.counter c.loop.cursor c.in_ok-read_entry.field-0 c.read_entry.new.cursor
-    (items_at code_entry.parse c.in_ok-count.count c.fork-start.result) (omega arith) c.in_ok-read_entry.ensures.reads.0 c.loop.invariant.rest);
+      (front_more code_entry.parse c.loop.bodies.items c.in_ok-count.count c.loop.counter c.loop.cursor c.in_ok-read_entry.field-0 c.read_entry.new.cursor
+      (items_at code_entry.parse c.in_ok-count.count c.fork-start.result) (omega arith) c.in_ok-read_entry.ensures.reads.0 c.loop.invariant.rest);
   end = omega (arith, c.in_ok-read_entry.ensures.end, c.loop.invariant.end);
   few = rw c.in_ok-push.ensures.items (few-push c.loop.bodies.items c.in_ok-read_entry.field-0 c.loop.invariant.few c.in_ok-read_entry.ensures.reads.1);
   later = later_more code_entry c.fork-start.result c.loop.cursor c.read_entry.new.cursor c.in_ok-read_entry.field-0 c.in_ok-read_entry.ensures.reads.0 c.loop.invariant.later;

@@ -1,4 +1,4 @@
-use Rattle.std.proofs.Common.{◌≡◌, length, sym, ap, ◌∙◌}
+use Rattle.std.proofs.Common.{length, sym, ap, ◌∙◌}
 use Rattle.wasmprinter_spec.specs.Placed.{PlacedModule}
 use Rattle.wasmprinter_wasm.proofs.Pairing.{length-functions_of}
 use Rattle.wasmprinter_wasm.proofs.module.Module.function_count.Goals as goal
