@@ -1,11 +1,10 @@
 -- The headline from its three parts: what the decoder read, what the printer made of it, and the reading law.
-use Rattle.std.proofs.Common.{◌≡◌, ℕ, List, Some, false, refl, sym, ap, ◌∙◌, subst}
+use Rattle.std.proofs.Common.{◌≡◌, ℕ, List, false, refl, sym, ap, ◌∙◌, subst}
 use Rattle.std.specs.Prelude.{IsUtf8}
 use Rattle.wasmprinter_spec.specs.Binary.{Spells}
 use Rattle.wasmprinter_spec.specs.Placed.{PlacedModule}
 use Rattle.wasmprinter_spec.specs.Limits.{IsWithinLimits}
-use Rattle.wasmprinter_spec.specs.Module.{module_of}
-use Rattle.wasmprinter_spec.specs.Call.{Call, atoms, text_of}
+use Rattle.wasmprinter_spec.specs.Call.{text_of}
 use Rattle.wasmprinter_spec.specs.Colour.{uncolour}
 use Rattle.wasmprinter_spec.specs.Meaning.{Meaning}
 use Rattle.wasmprinter_spec.specs.Options.{Options, Answers}

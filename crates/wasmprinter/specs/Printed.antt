@@ -1,5 +1,5 @@
 -- What it is that a module was printed: the headline.
-use Rattle.std.specs.Prelude.{◌≡◌, ℕ, List, false, Option, Some, IsUtf8}
+use Rattle.std.specs.Prelude.{◌≡◌, ℕ, List, false, Some, IsUtf8}
 use Rattle.std.specs.List.{AllByRecursion}
 use Rattle.wasmprinter_spec.specs.Binary.{Spells}
 use Rattle.wasmprinter_spec.specs.Placed.{PlacedModule}

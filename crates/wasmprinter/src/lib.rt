@@ -1,2 +1,4 @@
 //! A printer of WebAssembly modules as text.
 #![tactic(auto)]
+
+mod sections;

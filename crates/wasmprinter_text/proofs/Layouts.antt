@@ -1,11 +1,12 @@
 -- The layouts of lists, item by item.
-use Rattle.std.specs.Prelude.{◌≡◌, ℕ, List, [], ◌∷◌, ◌++◌, map, false}
+use Rattle.std.specs.Prelude.{◌≡◌, ℕ, List, [], ◌∷◌, ◌++◌, map, true, Option, Some, None, is_some}
+use Rattle.std.specs.Iterator.{YieldsFirst}
 use Rattle.std.proofs.Common.{refl, sym, ap, ◌∙◌}
 use Rattle.wasmprinter_spec.specs.Grammar.{Placed}
 use Rattle.wasmprinter_spec.specs.Operator.{Operator}
 use Rattle.wasmprinter_spec.specs.Types.{ValType as DefinedType}
-use Rattle.wasmprinter_spec.specs.Piece.{Piece, Gap, Open, Shut}
-use Rattle.wasmprinter_spec.specs.Layout.{type_list, type_group, operator_pieces, body_pieces}
+use Rattle.wasmprinter_spec.specs.Piece.{Gap, Open, Shut}
+use Rattle.wasmprinter_spec.specs.Layout.{has_break, type_list, type_group, operator_pieces, body_pieces}
 use Rattle.wasmprinter_text.proofs.Lines.{type_group-some as some_types}
 use Rattle.wasmprinter_ops.specs.Operators.{placed_seen, pairs}
 use Rattle.wasmprinter_ops.specs.ValTypes.{type_seen}
@@ -32,6 +33,17 @@ body-none os e = of_none os (sym (seen-pairs os) ∙ ap (map placed_seen) e)
 pub body-next : (os rest : List (Placed Operator)) (x : ℕ × Operator) → pairs os ≡ x ∷ pairs rest → body_pieces os ≡ operator_pieces (placed_seen x) ++ body_pieces rest
 body-next os rest x e =
     of_some os rest (placed_seen x) (sym (seen-pairs os) ∙ ap (map placed_seen) e ∙ ap (λ xs. placed_seen x ∷ xs) (seen-pairs rest))
+
+-- an operator begins a line
+body-break : (os rest : List (Placed Operator)) (o : Placed Operator) → os ≡ o ∷ rest → has_break (body_pieces os) ≡ true
+unfolding body_pieces operator_pieces
+body-break os rest o e = ap (λ xs. has_break (body_pieces xs)) e
+
+-- whether lines change for operators is whether a first one is given
+pub operators-break : (os rest : List (Placed Operator)) (r : Option (ℕ × Operator)) → YieldsFirst pairs os r rest → has_break (body_pieces os) ≡ is_some r
+operators-break os rest None y = ap has_break (body-none os y.0)
+operators-break os rest (Some x) y =
+    body-break os rest (placed_seen x) (sym (seen-pairs os) ∙ ap (map placed_seen) y ∙ ap (λ xs. placed_seen x ∷ xs) (seen-pairs rest))
 
 -- no type is left
 pub types-none : (ts : List ValType) → ts ≡ [] → type_list (map type_seen ts) ≡ []

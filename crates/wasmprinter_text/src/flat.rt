@@ -1,8 +1,8 @@
 //! Operators, each on a line of its own (section 6.5 of the WebAssembly Core Specification).
-ghost use Rattle.std.specs.Prelude.{[], ◌∷◌};
+ghost use Rattle.std.specs.Prelude.{◌≡◌, [], ◌∷◌};
 ghost use Rattle.wasmprinter_spec.specs.Options.{Options};
 ghost use Rattle.wasmprinter_spec.specs.Piece.{Gap, Number};
-ghost use Rattle.wasmprinter_spec.specs.Layout.{immediate_pieces, operator_pieces, body_pieces};
+ghost use Rattle.wasmprinter_spec.specs.Layout.{has_break, immediate_pieces, operator_pieces, body_pieces};
 ghost use Rattle.wasmprinter_bytes.specs.Prints.{Prints};
 ghost use Rattle.wasmprinter_ops.specs.Immediates.{immediates_seen};
 
@@ -48,6 +48,13 @@ pub fn write_operator<P: Print>(
     break_line(p, layout, Some(place), BODY_NESTING)?;
     word(p, operator.opcode.word())?;
     write_immediates(p, operator.immediates)
+}
+
+/// Whether there are operators, which begin lines.
+pub fn has_operators(mut operators: OperatorsReader<'_>) -> bool
+    ensures { result ≡ has_break (body_pieces operators.entry) }
+{
+    operators.next().is_some()
 }
 
 /// Writes operators, each on a line of its own.

@@ -1,2 +1,12 @@
 pub mod Parts
 pub mod Over
+pub mod Later
+pub mod Listing
+pub mod Contents
+pub mod Pairing
+pub mod Functions
+pub mod Until
+pub mod Rising
+pub mod Gathering
+pub mod Held
+pub mod Assembling

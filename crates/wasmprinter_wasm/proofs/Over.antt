@@ -1,6 +1,6 @@
 -- Bodies with more locals than are allowed.
-use Rattle.std.proofs.Common.{◌≡◌, ℕ, ◌+◌, ◌<◌, ◌≤◌, List, [], ◌∷◌, ◌++◌, length, Option, Some, None, refl, sym, ap, subst, ◌∙◌, arith, append_assoc, length-append}
-use Rattle.wasmprinter_spec.specs.Grammar.{At, from, Spans, Grammar, ◌>>=◌, bind_some, some_is, seq, Placed, placed}
+use Rattle.std.proofs.Common.{◌≡◌, ℕ, ◌+◌, ◌<◌, List, [], ◌++◌, length, Some, None, refl, sym, ap, subst, ◌∙◌, arith, append_assoc, length-append}
+use Rattle.wasmprinter_spec.specs.Grammar.{At, ◌>>=◌, bind_some, some_is, seq, Placed, placed}
 use Rattle.wasmprinter_spec.specs.Sized.{front_at}
 use Rattle.wasmprinter_spec.specs.Terminated.{Closed}
 use Rattle.wasmprinter_spec.specs.Name.{u32, vec}
@@ -55,17 +55,19 @@ module _ (at mid : At) (locals : Entries) (read : (vec (placed local_entry)).par
   -- too many locals were read
   pub body_over : (place : ℕ) → place ≡ at.place → most_locals < local_count locals → HasManyLocals at place × ((x : Placed Body × At) → (placed body).parse at ≡ Some x → IsOver place x.0)
   body_over place begins many =
-      let s = (vec (placed local_entry)).sound at (locals, mid) read in
-      (record {
-        before = [];
-        text = s.text;
-        behind = mid.bytes;
-        parts = s.parts;
-        starts = omega arith;
-        locals = locals;
-        spelled = subst (λ (p : ℕ). (vec (placed local_entry)).spells p s.text locals) (sym begins) s.spelled;
-        many = many;
-      }, is_over place begins many)
+      let s = (vec (placed local_entry)).sound at (locals, mid) read in (
+        record {
+          before = [];
+          text = s.text;
+          behind = mid.bytes;
+          parts = s.parts;
+          starts = omega arith;
+          locals = locals;
+          spelled = subst (λ (p : ℕ). (vec (placed local_entry)).spells p s.text locals) (sym begins) s.spelled;
+          many = many;
+        },
+        is_over place begins many,
+      )
 
 -- a fault of a body is one of the entry
 module _ (old mid part new : At) (size : ℕ) (size_read : u32.parse old ≡ Some (size, mid)) (cut : front_at size mid ≡ Some (part.bytes, new)) (begins : part.place ≡ mid.place) where

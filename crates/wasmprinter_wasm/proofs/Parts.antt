@@ -1,7 +1,7 @@
 -- A size, and a value of exactly so many bytes, which are cut out and read apart.
-use Rattle.std.proofs.Common.{◌≡◌, ℕ, ◌+◌, ◌<◌, ◌≤◌, List, [], ◌∷◌, ◌++◌, length, Option, Some, None, refl, sym, ap, subst, ◌∙◌, arith, append_assoc, length-append}
-use Rattle.wasmprinter_spec.specs.Grammar.{At, from, Spans, Grammar, ◌>>=◌, bind_some, some_is, seq}
-use Rattle.wasmprinter_spec.specs.Sized.{front, front_at, front_sound, exactly, alone, alone_at, ended}
+use Rattle.std.proofs.Common.{◌≡◌, ℕ, ◌+◌, ◌≤◌, List, [], ◌∷◌, ◌++◌, length, Option, Some, None, refl, sym, ap, ◌∙◌, arith, length-append}
+use Rattle.wasmprinter_spec.specs.Grammar.{At, from, Grammar, ◌>>=◌, bind_some, some_is, seq}
+use Rattle.wasmprinter_spec.specs.Sized.{front_at, front_sound, exactly, alone, alone_at, ended}
 use Rattle.wasmprinter_spec.specs.Name.{u32}
 use Rattle.wasmprinter_bytes.specs.Reads.{end_of}
 
@@ -49,12 +49,12 @@ module _ {A : Type 0} (g : Grammar A) where
         (b.0.1, b.1 ∙ ap (λ (v : A). Some (v, b.0.1)) same)
 
     -- the size, the part, and the rest
-    pub old_parts : (t : List ℕ) × (old.bytes ≡ t ++ (part.bytes ++ new.bytes)) × (part.place ≡ old.place + length t)
+    pub old_parts : (t : List ℕ) × (old.bytes ≡ t ++ (part.bytes ++ new.bytes)) × (part.place ≡ old.place + length t) × u32.spells old.place t size
     old_parts =
         let s = u32.sound old (size, mid) size_read in
         let f = front_sound size mid (part.bytes, new) cut in
         let same : f.text ≡ part.bytes = sym f.spelled.1 in
-        (s.text, s.parts ∙ ap (λ (bs : List ℕ). s.text ++ bs) (f.parts ∙ ap (λ (bs : List ℕ). bs ++ new.bytes) same), begins ∙ s.ends)
+        (s.text, s.parts ∙ ap (λ (bs : List ℕ). s.text ++ bs) (f.parts ∙ ap (λ (bs : List ℕ). bs ++ new.bytes) same), begins ∙ s.ends, s.spelled)
 
     pub part_within : end_of part ≤ end_of old
     part_within = omega (arith, ap length old_parts.1, old_parts.2, length-append old_parts.0 (part.bytes ++ new.bytes), length-append part.bytes new.bytes)

@@ -1,5 +1,5 @@
 -- Reading bodies of functions.
-use Rattle.std.specs.Prelude.{◌≡◌, ℕ, ◌≤◌, List, Option, Some, None, Result, Ok, Err}
+use Rattle.std.specs.Prelude.{◌≡◌, ◌≤◌, Option, Some, None, Result, Ok, Err}
 use Rattle.wasmprinter_spec.specs.Grammar.{At, Placed, placed}
 use Rattle.wasmprinter_spec.specs.Placed.{Body}
 use Rattle.wasmprinter_spec.specs.Sections.{body, code_entry}

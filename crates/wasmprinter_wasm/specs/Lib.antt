@@ -1,2 +1,6 @@
 pub mod Refusals
 pub mod Bodies
+pub mod Contents
+pub mod Modules
+pub mod Gathering
+pub mod Decoding

@@ -120,7 +120,11 @@ impl<'a> Body<'a> {
             return Err(Error::TooManyLocals { place });
         }
         let code = Expression::read(cursor)?;
-        Ok(Body { place, locals, code })
+        Ok(Body {
+            place,
+            locals,
+            code,
+        })
     }
 
     /// Reads an entry of a code section: a size, and a body of exactly so many bytes.

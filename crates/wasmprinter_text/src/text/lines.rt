@@ -1,10 +1,10 @@
 //! Lines, their places and their indents, and groups that close on a line of their own.
-ghost use Rattle.std.specs.Prelude.{[], ◌∷◌, ◌++◌, true, false, Some};
+ghost use Rattle.std.specs.Prelude.{[], ◌∷◌, ◌++◌, ◌||◌, true, false, Some};
 ghost use Rattle.std.specs.Fmt.{digits};
 ghost use Rattle.wasmprinter_spec.specs.Call.{Text};
 ghost use Rattle.wasmprinter_spec.specs.Options.{Options};
 ghost use Rattle.wasmprinter_spec.specs.Piece.{Begin, Feed, Break, repeated, left_in, place_calls};
-ghost use Rattle.wasmprinter_spec.specs.Layout.{close as closing};
+ghost use Rattle.wasmprinter_spec.specs.Layout.{close};
 ghost use Rattle.wasmprinter_bytes.specs.Emits.{Emits};
 ghost use Rattle.wasmprinter_bytes.specs.Prints.{Prints};
 
@@ -121,28 +121,41 @@ pub fn break_line<P: Print>(
 fn shut_below<P: Print>(
     p: &mut P,
     layout: &Layout<'_>,
-    place: Option<u64>,
+    place: u64,
     nesting: u32,
 ) -> Result<(), Error>
-    ensures { Prints P.meaning layout.now p.old p.new result (closing place nesting true) }
+    ensures { Prints P.meaning layout.now p.old p.new result (close (Some place) nesting true) }
 {
-    break_line(p, layout, place, nesting)?;
+    break_line(p, layout, Some(place), nesting)?;
     shut(p)
 }
 
-/// Closes a group: where the line has changed since the group began, on a line of its own.
-pub fn close<P: Print>(
+fn shut_if<P: Print>(
     p: &mut P,
     layout: &Layout<'_>,
-    place: Option<u64>,
+    place: u64,
     nesting: u32,
-    changed: bool,
+    on_new_line: bool,
 ) -> Result<(), Error>
-    ensures { Prints P.meaning layout.now p.old p.new result (closing place nesting changed) }
+    ensures { Prints P.meaning layout.now p.old p.new result (close (Some place) nesting on_new_line) }
 {
-    if changed {
+    if on_new_line {
         shut_below(p, layout, place, nesting)
     } else {
         shut(p)
     }
+}
+
+/// Closes a group at a place: where the line has changed since the group began, or lines begin with their places, on a line of its
+/// own.
+pub fn close_at<P: Print>(
+    p: &mut P,
+    layout: &Layout<'_>,
+    place: u64,
+    nesting: u32,
+    changed: bool,
+) -> Result<(), Error>
+    ensures { Prints P.meaning layout.now p.old p.new result (close (Some place) nesting (layout.now.offsets || changed)) }
+{
+    shut_if(p, layout, place, nesting, layout.offsets || changed)
 }

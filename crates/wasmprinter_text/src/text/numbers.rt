@@ -4,9 +4,11 @@ ghost use Rattle.std.specs.Fmt.{digits, digit_glyph, signed_decimal};
 ghost use Rattle.wasmprinter_spec.specs.Call.{Text};
 ghost use Rattle.wasmprinter_spec.specs.Options.{Options};
 ghost use Rattle.wasmprinter_spec.specs.Piece.{Number, Mark, Constant};
+ghost use Rattle.wasmprinter_spec.specs.Layout.{group_gap};
 ghost use Rattle.wasmprinter_bytes.specs.Emits.{Emits};
 ghost use Rattle.wasmprinter_bytes.specs.Prints.{Prints};
 
+use crate::text::words::{open_gap, shut};
 use wasmprinter_bytes::Error;
 use wasmprinter_bytes::print::{Print, Style, reset, start, text};
 
@@ -82,6 +84,16 @@ pub fn number<P: Print>(p: &mut P, n: u64) -> Result<(), Error>
     start(p, Style::Name)?;
     write_digits(p, DECIMAL, n)?;
     reset(p)
+}
+
+/// Writes an index as a group behind a keyword.
+#[tactic(auto, unfolding(wasmprinter_spec::specs::Layout::group_gap))]
+pub fn write_index<P: Print>(p: &mut P, keyword: &str, index: u32) -> Result<(), Error>
+    ensures { (o : Options) → Prints P.meaning o p.old p.new result (group_gap 2 keyword.now (Number index ∷ [])) }
+{
+    open_gap(p, keyword)?;
+    number(p, u64::from(index))?;
+    shut(p)
 }
 
 /// Writes the number of a declaration, as a comment.

@@ -10,6 +10,7 @@ use crate::text::words::{gap, open, shut, type_word};
 use wasmprinter_bytes::Error;
 use wasmprinter_bytes::print::Print;
 use wasmprinter_ops::types::{ValType, ValTypes};
+use wasmprinter_wasm::FuncType;
 
 /// The word of a value type.
 fn word_of(value_type: ValType) -> &'static str
@@ -31,7 +32,7 @@ pub(crate) fn write_type<P: Print>(p: &mut P, value_type: ValType) -> Result<(),
 }
 
 /// Writes value types, a blank before each.
-pub fn type_list<P: Print>(p: &mut P, types: &ValTypes<'_>) -> Result<(), Error>
+fn type_list<P: Print>(p: &mut P, types: &ValTypes<'_>) -> Result<(), Error>
     ensures { (o : Options) → Prints P.meaning o p.old p.new result (list_of_types (map type_seen types.now)) }
 {
     for value_type in types.iter() {
@@ -61,13 +62,9 @@ fn type_group<P: Print>(p: &mut P, keyword: &str, types: &ValTypes<'_>) -> Resul
 
 /// Writes the types of parameters and results.
 #[tactic(auto, unfolding(wasmprinter_spec::specs::Layout::signature_pieces))]
-pub fn signature<P: Print>(
-    p: &mut P,
-    params: &ValTypes<'_>,
-    results: &ValTypes<'_>,
-) -> Result<(), Error>
-    ensures { (o : Options) → Prints P.meaning o p.old p.new result (signature_pieces 2 (record { params = map type_seen params.now; results = map type_seen results.now })) }
+pub fn signature<P: Print>(p: &mut P, func_type: &FuncType<'_>) -> Result<(), Error>
+    ensures { (o : Options) → Prints P.meaning o p.old p.new result (signature_pieces 2 func_type.now.value) }
 {
-    type_group(p, "param", params)?;
-    type_group(p, "result", results)
+    type_group(p, "param", &func_type.params())?;
+    type_group(p, "result", &func_type.results())
 }

@@ -1,0 +1,154 @@
+-- A module is put together from its sections.
+use Rattle.std.proofs.Common.{◌≡◌, ℕ, ◌+◌, true, List, [], ◌∷◌, length, Some, refl, sym, ap, subst, ◌∙◌, arith, inl, inr}
+use Rattle.std.specs.Prelude.{Result, Ok, Err, IsOkUnless}
+use Rattle.std.specs.List.{AllByRecursion}
+use Rattle.wasmprinter_spec.specs.Grammar.{At, from, ◌>>=◌, bind_some, some_is, Placed}
+use Rattle.wasmprinter_spec.specs.Choices.{tested}
+use Rattle.wasmprinter_spec.specs.Repeated.{until_end}
+use Rattle.wasmprinter_spec.specs.Sized.{headed}
+use Rattle.wasmprinter_spec.specs.Placed.{Export, PlacedFunction, PlacedModule}
+use Rattle.wasmprinter_spec.specs.Types.{FuncType}
+use Rattle.wasmprinter_spec.specs.Sections.{Section, section}
+use Rattle.wasmprinter_spec.specs.Binary.{preamble, are_above, type_indices_in, bodies_in, paired, module_from, assembled, binary, Spells}
+use Rattle.wasmprinter_spec.specs.Limits.{HasFewLocals, IsWithinLimits}
+use Rattle.wasmprinter_bytes.specs.Reads.{end_of}
+use Rattle.wasmprinter_bytes.specs.declared.error.Error.{Error}
+use Rattle.wasmprinter_bytes.specs.declared.error.Error.TheVariants as e
+use Rattle.wasmprinter_wasm.specs.Refusals.{AnyIsOver}
+use Rattle.wasmprinter_wasm.specs.Contents.{HasFew}
+use Rattle.wasmprinter_wasm.specs.Gathering.{Gathered, none_gathered, sections_at, HoldsSections, IsSectionsFault}
+use Rattle.wasmprinter_wasm.specs.Modules.{functions_of, module_seen, bodies_of, IsPaired}
+use Rattle.wasmprinter_wasm.specs.Decoding.{IsFaultOf, TakesModule}
+use Rattle.wasmprinter_wasm.proofs.Later.{Later, later_none, later_more, many_later, functions_later}
+use Rattle.wasmprinter_wasm.proofs.Pairing.{Paired, Pairs, paired_of, paired_length, pairs_of}
+use Rattle.wasmprinter_wasm.proofs.Held.{HoldsAll, holds_all, HoldsFew, few_all}
+
+-- what the bytes of a module are: a preamble, and sections in order with as many type indices as bodies
+record Spelled (at : At) (m : PlacedModule) (size : ℕ) : Type 0 where
+  sections : List Section
+  read : sections_at at ≡ Some sections
+  rise : are_above 0 sections ≡ true
+  functions : List PlacedFunction
+  pairs : paired (type_indices_in sections) (bodies_in sections) ≡ Some functions
+  is : module_from size sections functions ≡ m
+
+-- modules of the same parts
+alike : (ts ts' : List (Placed FuncType)) (fs fs' : List PlacedFunction) (es es' : List (Placed Export)) (n n' : ℕ) → ts ≡ ts' → fs ≡ fs' → es ≡ es' → n ≡ n'
+    → ◌≡◌ {A = PlacedModule} (record { types = ts; functions = fs; exports = es; size = n }) (record { types = ts'; functions = fs'; exports = es'; size = n' })
+alike ts ts' fs fs' es es' n n' a b c d = rw (a, b, c, d) refl
+
+few_functions : (fs : List PlacedFunction) → AllByRecursion HasFew (bodies_of fs) → AllByRecursion HasFewLocals fs
+few_functions [] all = tt
+few_functions (f ∷ fs) all = (all.0, few_functions fs all.1)
+
+module _ (bytes pre : List ℕ) (at : At) (first : preamble.parse (from 0 bytes) ≡ Some (pre, at)) where
+  abbrev size : ℕ
+  size = 0 + length bytes
+
+  assembled_of : (ss : List Section) (m : PlacedModule) → sections_at at ≡ Some ss → assembled size ss ≡ Some m → Spelled at m size
+  assembled_of ss m read e =
+      let t = tested (are_above 0 ss) (paired (type_indices_in ss) (bodies_in ss) >>= λ fs. Some (module_from size ss fs)) m e in
+      let p = bind_some (paired (type_indices_in ss) (bodies_in ss)) (λ fs. Some (module_from size ss fs)) m t.1 in
+      record { sections = ss; read = read; rise = t.0; functions = p.0; pairs = p.1; is = some_is (module_from size ss p.0) m p.2 }
+
+  spelled_of : (m : PlacedModule) → Spells bytes m → Spelled at m size
+  spelled_of m s =
+      let read = binary.complete (from 0 bytes) m s in
+      let a = bind_some ((headed preamble (until_end section)).parse (from 0 bytes)) (λ x. assembled size x.1) m read in
+      let b = bind_some (preamble.parse (from 0 bytes)) (λ a. sections_at a.1 >>= λ ss. Some (a.0, ss)) a.0 a.1 in
+      let c = bind_some (sections_at b.0.1) (λ ss. Some (b.0.0, ss)) a.0 b.2 in
+      let there : b.0.1 ≡ at = ap (λ (x : List ℕ × At). x.1) (some_is b.0 (pre, at) (sym b.1 ∙ first)) in
+      let same : c.0 ≡ a.0.1 = ap (λ (x : List ℕ × List Section). x.1) (some_is (b.0.0, c.0) a.0 c.2) in
+      assembled_of c.0 m (ap sections_at (sym there) ∙ c.1) (ap (assembled size) same ∙ a.2)
+
+  later : Later (from 0 bytes) at
+  later = later_more preamble (from 0 bytes) (from 0 bytes) at pre first (later_none (from 0 bytes))
+
+  functions_are : (m : PlacedModule) (s : Spelled at m size) → Paired (type_indices_in s.sections) (bodies_in s.sections) m.functions
+  functions_are m s = subst (Paired (type_indices_in s.sections) (bodies_in s.sections)) (ap (λ (x : PlacedModule). x.functions) s.is)
+      (paired_of (type_indices_in s.sections) (bodies_in s.sections) s.functions s.pairs)
+
+  -- sections were refused
+  pub module_fault : end_of at ≡ length bytes → (f : Error) → IsSectionsFault at f → IsFaultOf bytes f
+  module_fault ends (e.Malformed place) h = (λ m s. let p = spelled_of m s in h.0 p.sections p.read p.rise, omega (arith, h.1, ends))
+  module_fault ends (e.TooManyLocals place) h = (
+    many_later (from 0 bytes) at place later h.0,
+    λ m s.
+        let p = spelled_of m s in
+        subst (AnyIsOver place) (sym (functions_are m p).bodies) (h.1 p.sections p.read),
+  )
+  module_fault ends (e.TooManyFunctions count) h =
+      (functions_later (from 0 bytes) at count later h.0, h.1, λ m s. let p = spelled_of m s in (functions_are m p).count ∙ h.2 p.sections p.read p.rise)
+  module_fault ends e.Memory h = tt
+  module_fault ends _ h = absurd h
+
+  -- the sections stand there
+  module _ (g : Gathered) (h : HoldsSections at g) where
+    held : HoldsAll none_gathered h.sections g
+    held = subst (HoldsAll none_gathered h.sections) (sym h.gathered) (holds_all h.sections h.rise)
+
+    few : HoldsFew g
+    few = subst HoldsFew (sym h.gathered) (few_all h.sections h.small)
+
+    -- but the numbers of type indices and bodies differ
+    pub module_unpaired : (length g.type_indices ≡ length g.bodies → ⊥) → IsFaultOf bytes (e.Malformed (length bytes))
+    module_unpaired ne = (
+      λ m s.
+          let p = spelled_of m s in
+          let same : p.sections ≡ h.sections = some_is p.sections h.sections (sym p.read ∙ h.read) in
+          let lengths : length (type_indices_in p.sections) ≡ length (bodies_in p.sections) = paired_length (type_indices_in p.sections) (bodies_in p.sections) p.functions p.pairs in
+          ne (ap length (held.type_indices ∙ ap type_indices_in (sym same)) ∙ lengths ∙ ap length (ap bodies_in same ∙ sym held.bodies)),
+      omega arith,
+    )
+
+    -- and the numbers of type indices and bodies are the same
+    module _ (same : length g.type_indices ≡ length g.bodies) where
+      pub paired_few : IsPaired g.type_indices g.bodies
+      paired_few = record { same = same; few = few.functions }
+
+      abbrev seen : PlacedModule
+      seen = module_seen g.types g.type_indices g.exports g.bodies (length bytes)
+
+      made : Pairs g.type_indices g.bodies
+      made = pairs_of g.type_indices g.bodies same
+
+      functions_made : functions_of g.type_indices g.bodies ≡ made.functions
+      functions_made = rw made.are refl
+
+      pairs : paired (type_indices_in h.sections) (bodies_in h.sections) ≡ Some made.functions
+      pairs = ap (λ (is : List ℕ). paired is (bodies_in h.sections)) (sym held.type_indices) ∙ ap (paired g.type_indices) (sym held.bodies) ∙ made.are
+
+      read : binary.parse (from 0 bytes) ≡ Some (module_from size h.sections made.functions)
+      read = rw (first, h.read, h.rise, pairs) refl
+
+      pub module_spelled : Spells bytes seen
+      module_spelled =
+          let same_module : module_from size h.sections made.functions ≡ seen = alike _ _ _ _ _ _ _ _ (sym held.types) (sym functions_made) (sym held.exports) (omega arith) in
+          binary.sound (from 0 bytes) seen (read ∙ ap (λ (m : PlacedModule). Some m) same_module)
+
+      pub module_within : IsWithinLimits seen
+      module_within =
+          let p = paired_of g.type_indices g.bodies made.functions made.are in
+          let locals : AllByRecursion HasFew (bodies_of made.functions) = subst (AllByRecursion HasFew) (sym made.bodies) few.locals in
+          record {
+            locals = subst (AllByRecursion HasFewLocals) (sym functions_made) (few_functions made.functions locals);
+            functions = omega (arith, ap length functions_made, p.count, few.functions);
+          }
+
+-- a function of too many locals is not among functions of few
+over_few : (place : ℕ) (fs : List PlacedFunction) → AllByRecursion HasFewLocals fs → AnyIsOver place (bodies_of fs) → ⊥
+over_few place [] few over = over
+over_few place (f ∷ fs) few (inl here) = absurd (omega (arith, here.1, few.0))
+over_few place (f ∷ fs) few (inr there) = over_few place fs few.1 there
+
+-- where a module within the limits is spelled, memory ran out
+pub memory_fault : (bytes : List ℕ) (f : Error) → IsFaultOf bytes f → (m : PlacedModule) → Spells bytes m → IsWithinLimits m → f ≡ e.Memory
+memory_fault bytes (e.Malformed place) h m s w = absurd (h.0 m s)
+memory_fault bytes (e.TooManyLocals place) h m s w = absurd (over_few place m.functions w.locals (h.1 m s))
+memory_fault bytes (e.TooManyFunctions count) h m s w = let l = h.2 m s in absurd (omega (arith, h.1, w.functions))
+memory_fault bytes e.Memory h m s w = refl
+memory_fault bytes _ h m s w = absurd h
+
+pub memory_alone : (bytes : List ℕ) (r : Result PlacedModule Error) → TakesModule bytes r → (m : PlacedModule) → Spells bytes m → IsWithinLimits m → IsOkUnless r e.Memory
+memory_alone bytes (Ok x) h m s w = tt
+memory_alone bytes (Err f) h m s w = memory_fault bytes f h m s w

@@ -1,0 +1,40 @@
+-- Reading that has come to a later place.
+use Rattle.std.proofs.Common.{◌≡◌, ℕ, ◌+◌, List, [], ◌∷◌, ◌++◌, length, Some, refl, sym, ap, ◌∙◌, arith, append_assoc, append-nil, length-append}
+use Rattle.wasmprinter_spec.specs.Grammar.{At, Grammar}
+use Rattle.wasmprinter_wasm.specs.Refusals.{HasManyLocals, HasFunctionSection}
+use Rattle.wasmprinter_wasm.proofs.Over.{many_in_part}
+
+-- the bytes from the second place on end those from the first
+pub record Later (start at : At) : Type 0 where
+  pub text : List ℕ
+  pub parts : start.bytes ≡ text ++ at.bytes
+  pub begins : at.place ≡ start.place + length text
+
+pub later_none : (at : At) → Later at at
+later_none at = record { text = []; parts = refl; begins = omega arith }
+
+-- behind what was read
+pub later_more : {A : Type 0} (g : Grammar A) (start at after : At) (x : A) → g.parse at ≡ Some (x, after) → Later start at → Later start after
+later_more g start at after x e l =
+    let s = g.sound at (x, after) e in
+    record {
+      text = l.text ++ s.text;
+      parts = l.parts ∙ ap (λ (bs : List ℕ). l.text ++ bs) s.parts ∙ sym (append_assoc l.text s.text after.bytes);
+      begins = omega (arith, l.begins, s.ends, length-append l.text s.text);
+    }
+
+-- what is among the later bytes is among all of them
+pub many_later : (start at : At) (place : ℕ) → Later start at → HasManyLocals at place → HasManyLocals start place
+many_later start at place l m = many_in_part start at l.text [] place (l.parts ∙ ap (λ (bs : List ℕ). l.text ++ bs) (sym (append-nil at.bytes))) l.begins m
+
+pub functions_later : (start at : At) (count : ℕ) → Later start at → HasFunctionSection at count → HasFunctionSection start count
+functions_later start at count l h = record {
+  before = l.text ++ h.before;
+  size_text = h.size_text;
+  count_text = h.count_text;
+  behind = h.behind;
+  parts = l.parts ∙ ap (λ (bs : List ℕ). l.text ++ bs) h.parts ∙ sym (append_assoc l.text h.before (0x03 ∷ (h.size_text ++ (h.count_text ++ h.behind))));
+  size = h.size;
+  sized = h.sized;
+  counted = h.counted;
+}

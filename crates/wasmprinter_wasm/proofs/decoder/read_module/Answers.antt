@@ -1,0 +1,45 @@
+use Rattle.std.proofs.Common.{◌≡◌, ℕ, List, length, arith, sym, ap, subst, ◌∙◌}
+use Rattle.std.proofs.lemmas.Result.{err_from_is_err_and}
+use Rattle.wasmprinter_spec.specs.Grammar.{Placed}
+use Rattle.wasmprinter_spec.specs.Types.{FuncType}
+use Rattle.wasmprinter_spec.specs.Placed.{Body, Export}
+use Rattle.wasmprinter_spec.specs.Binary.{preamble, preamble_bytes}
+use Rattle.wasmprinter_bytes.specs.Reads.{end_of}
+use Rattle.wasmprinter_wasm.specs.Gathering.{Gathered, HoldsSections}
+use Rattle.wasmprinter_wasm.proofs.Assembling.{module_fault, module_unpaired, paired_few, module_spelled, module_within}
+use Rattle.wasmprinter_wasm.proofs.decoder.read_module.Goals as goal
+
+abbrev gathered_of : ℕ → List (Placed FuncType) → List ℕ → List (Placed Export) → List (Placed Body) → Gathered
+gathered_of n ts is es bs = record { rank = n; types = ts; type_indices = is; exports = es; bodies = bs }
+
+pub returns-in_err-gathered : goal.returns-in_err-gathered
+returns-in_err-gathered c =
+    let p = err_from_is_err_and c.from_residual-in_err-gathered.result c.from_residual-in_err-gathered.ensures.1 in
+    let first = ap preamble.parse (sym c.new-cursor.ensures) ∙ c.in_ok-read_preamble.ensures.reads in
+    rw (p.1, p.2)
+    (module_fault c.args.wasm.now preamble_bytes c.read_preamble.new.cursor first (omega (arith, c.in_ok-read_preamble.ensures.end, ap end_of c.new-cursor.ensures))
+    c.in_err-gathered.field-0.0 c.in_err-gathered.ensures)
+
+pub returns-then-len : goal.returns-then-len
+returns-then-len c =
+    let first = ap preamble.parse (sym c.new-cursor.ensures) ∙ c.in_ok-read_preamble.ensures.reads in
+    let g : Gathered = gathered_of c.gathered.inside.rank c.gathered.inside.types.items c.gathered.inside.type_indices.items c.gathered.inside.exports.items c.gathered.inside.bodies.items in
+    let h : HoldsSections c.read_preamble.new.cursor g = subst (HoldsSections c.read_preamble.new.cursor) (sym c.gathered.view_is) c.in_ok-gathered.ensures in
+    module_unpaired c.args.wasm.now preamble_bytes c.read_preamble.new.cursor first g h
+    (λ same. c.if-len.true (c.len.ensures ∙ c.gathered.inside.type_indices.ok.0 ∙ same ∙ sym c.gathered.inside.bodies.ok.0 ∙ sym c.len-2.ensures))
+
+pub invariant_of-result : goal.invariant_of-result
+invariant_of-result c =
+    let first = ap preamble.parse (sym c.new-cursor.ensures) ∙ c.in_ok-read_preamble.ensures.reads in
+    let g : Gathered = gathered_of c.gathered.inside.rank c.gathered.inside.types.items c.gathered.inside.type_indices.items c.gathered.inside.exports.items c.gathered.inside.bodies.items in
+    let h : HoldsSections c.read_preamble.new.cursor g = subst (HoldsSections c.read_preamble.new.cursor) (sym c.gathered.view_is) c.in_ok-gathered.ensures in
+    paired_few c.args.wasm.now preamble_bytes c.read_preamble.new.cursor first g h
+    (omega (arith, c.if-len.false, c.gathered.inside.type_indices.ok.0, c.gathered.inside.bodies.ok.0, c.len.ensures, c.len-2.ensures))
+
+pub returns : goal.returns
+returns c =
+    let first = ap preamble.parse (sym c.new-cursor.ensures) ∙ c.in_ok-read_preamble.ensures.reads in
+    let g : Gathered = gathered_of c.gathered.inside.rank c.gathered.inside.types.items c.gathered.inside.type_indices.items c.gathered.inside.exports.items c.gathered.inside.bodies.items in
+    let h : HoldsSections c.read_preamble.new.cursor g = subst (HoldsSections c.read_preamble.new.cursor) (sym c.gathered.view_is) c.in_ok-gathered.ensures in
+    let same : length g.type_indices ≡ length g.bodies = omega (arith, c.if-len.false, c.gathered.inside.type_indices.ok.0, c.gathered.inside.bodies.ok.0, c.len.ensures, c.len-2.ensures) in
+    (module_spelled c.args.wasm.now preamble_bytes c.read_preamble.new.cursor first g h same, module_within c.args.wasm.now preamble_bytes c.read_preamble.new.cursor first g h same)

@@ -1,0 +1,62 @@
+-- What sections hold together.
+use Rattle.std.specs.Prelude.{◌≡◌, ℕ, ◌<◌, ◌≤◌, List, [], ◌∷◌, length, true, Option, Some, Result, Ok, Err}
+use Rattle.std.specs.List.{AllByRecursion}
+use Rattle.wasmprinter_spec.specs.Grammar.{At, Placed}
+use Rattle.wasmprinter_spec.specs.Repeated.{until_end}
+use Rattle.wasmprinter_spec.specs.Types.{FuncType}
+use Rattle.wasmprinter_spec.specs.Placed.{Body, Export}
+use Rattle.wasmprinter_spec.specs.Sections.{Section, TypeSection, FunctionSection, ExportSection, CodeSection, section}
+use Rattle.wasmprinter_spec.specs.Binary.{rank, are_above, type_indices_in, bodies_in}
+use Rattle.wasmprinter_spec.specs.Limits.{most_functions}
+use Rattle.wasmprinter_bytes.specs.Reads.{end_of}
+use Rattle.wasmprinter_bytes.specs.declared.error.Error.{Error}
+use Rattle.wasmprinter_bytes.specs.declared.error.Error.TheVariants.{Malformed, TooManyLocals, TooManyFunctions, Memory}
+use Rattle.wasmprinter_wasm.specs.Refusals.{HasManyLocals, HasFunctionSection, AnyIsOver}
+use Rattle.wasmprinter_wasm.specs.Contents.{IsSmall}
+
+-- what the sections hold, and the rank of the last
+pub record Gathered : Type 0 where
+  pub rank : ℕ
+  pub types : List (Placed FuncType)
+  pub type_indices : List ℕ
+  pub exports : List (Placed Export)
+  pub bodies : List (Placed Body)
+
+abbrev pub none_gathered : Gathered
+none_gathered = record { rank = 0; types = []; type_indices = []; exports = []; bodies = [] }
+
+-- with what one more section holds, in place of what one of its kind held
+abbrev pub added : Gathered → Section → Gathered
+added g (TypeSection ts) = record g { rank = rank (TypeSection ts); types = ts }
+added g (FunctionSection is) = record g { rank = rank (FunctionSection is); type_indices = is }
+added g (ExportSection es) = record g { rank = rank (ExportSection es); exports = es }
+added g (CodeSection bs) = record g { rank = rank (CodeSection bs); bodies = bs }
+
+abbrev pub added_all : Gathered → List Section → Gathered
+added_all g [] = g
+added_all g (s ∷ ss) = added_all (added g s) ss
+
+abbrev pub sections_at : At → Option (List Section)
+sections_at at = (until_end section).parse at
+
+-- sections in order stand there up to the end of the bytes, and hold this
+pub record HoldsSections (at : At) (g : Gathered) : Type 0 where
+  pub sections : List Section
+  pub read : sections_at at ≡ Some sections
+  pub rise : are_above 0 sections ≡ true
+  pub small : AllByRecursion IsSmall sections
+  pub gathered : g ≡ added_all none_gathered sections
+
+-- why sections up to the end of the bytes may be refused
+abbrev pub IsSectionsFault : At → Error → Type 0
+IsSectionsFault at (Malformed place) = ((ss : List Section) → sections_at at ≡ Some ss → are_above 0 ss ≡ true → ⊥) × (place ≤ end_of at)
+IsSectionsFault at (TooManyLocals place) = HasManyLocals at place × ((ss : List Section) → sections_at at ≡ Some ss → AnyIsOver place (bodies_in ss))
+IsSectionsFault at (TooManyFunctions count) =
+    HasFunctionSection at count × (most_functions < count)
+    × ((ss : List Section) → sections_at at ≡ Some ss → are_above 0 ss ≡ true → length (type_indices_in ss) ≡ count)
+IsSectionsFault at Memory = Unit {0}
+IsSectionsFault at _ = ⊥
+
+abbrev pub TakesSections : At → Result Gathered Error → Type 0
+TakesSections at (Ok g) = HoldsSections at g
+TakesSections at (Err e) = IsSectionsFault at e

@@ -1,0 +1,28 @@
+-- Modules from what their sections hold.
+use Rattle.std.specs.Prelude.{◌≡◌, ℕ, ◌≤◌, List, [], length, map, Option, slice_get}
+use Rattle.wasmprinter_spec.specs.Grammar.{Placed}
+use Rattle.wasmprinter_spec.specs.Repeated.{some_or}
+use Rattle.wasmprinter_spec.specs.Types.{FuncType}
+use Rattle.wasmprinter_spec.specs.Placed.{Body, Export, PlacedFunction, PlacedModule}
+use Rattle.wasmprinter_spec.specs.Binary.{paired}
+use Rattle.wasmprinter_spec.specs.Limits.{most_functions}
+
+-- each type index with its body, none where the numbers differ
+abbrev pub functions_of : List ℕ → List (Placed Body) → List PlacedFunction
+functions_of is bs = some_or (paired is bs) [] (λ fs. fs)
+
+abbrev pub module_seen : List (Placed FuncType) → List ℕ → List (Placed Export) → List (Placed Body) → ℕ → PlacedModule
+module_seen ts is es bs size = record { types = ts; functions = functions_of is bs; exports = es; size = size }
+
+-- there is a body for each type index, and no more functions than are allowed
+pub record IsPaired (is : List ℕ) (bs : List (Placed Body)) : Type 0 where
+  pub same : length is ≡ length bs
+  pub few : length is ≤ most_functions
+
+-- the bodies of functions
+abbrev pub bodies_of : List PlacedFunction → List (Placed Body)
+bodies_of fs = map (λ f. f.body) fs
+
+-- the body of the function with the number
+abbrev pub body_at : List PlacedFunction → ℕ → Option (Placed Body)
+body_at fs i = slice_get (bodies_of fs) i

@@ -1,0 +1,153 @@
+//! Decoding: a preamble, and sections up to the end (section 5.5.16).
+ghost use Rattle.std.specs.Prelude.{◌≡◌, ◌↔◌, IsTrue, IfOk, IfErr, IsErrOf, IsOkUnless};
+ghost use Rattle.wasmprinter_spec.specs.Placed.{PlacedModule};
+ghost use Rattle.wasmprinter_spec.specs.Binary.{Spells, IsComponent, preamble, preamble_bytes};
+ghost use Rattle.wasmprinter_spec.specs.Limits.{IsWithinLimits};
+ghost use Rattle.wasmprinter_bytes.specs.Reads.{Reads, IsWithin, end_of};
+ghost use Rattle.wasmprinter_wasm.specs.Contents.{section_seen};
+ghost use Rattle.wasmprinter_wasm.specs.Gathering.{none_gathered, added, TakesSections};
+ghost use Rattle.wasmprinter_wasm.specs.Decoding.{IsRefusal, TakesModule};
+
+use crate::body::Body;
+use crate::entries::{Export, FuncType};
+use crate::module::Module;
+use crate::section::Section;
+use std::alloc::Global;
+use std::marker::Model;
+use wasmprinter_bytes::bytes::Cursor;
+use wasmprinter_bytes::{Error, Malformed};
+
+/// The magic and the version.
+const PREAMBLE: [u8; 8] = [0x00, 0x61, 0x73, 0x6d, 0x01, 0x00, 0x00, 0x00];
+
+/// Whether the bytes are marked as a component.
+fn is_component(wasm: &[u8]) -> bool
+    ensures { IsTrue result ↔ IsComponent wasm.now }
+{
+    matches!(wasm, [0x00, 0x61, 0x73, 0x6d, _, _, 0x01, 0x00, ..])
+}
+
+/// Reads the magic and the version.
+fn read_preamble(cursor: &mut Cursor) -> Result<(), Malformed>
+    ensures reads { Reads (λ _. preamble_bytes) preamble.parse cursor.old result cursor.new }
+    ensures within { IsWithin cursor.old result }
+    ensures end { end_of cursor.new ≡ end_of cursor.old }
+{
+    let place = cursor.place();
+    let bytes = cursor.take(PREAMBLE.len())?;
+    if bytes == PREAMBLE.as_slice() {
+        Ok(())
+    } else {
+        Err(Malformed { place })
+    }
+}
+
+/// What the sections read so far hold.
+#[derive(Drop)]
+struct Gathered<'a> {
+    /// Where the last section stands in the order of sections.
+    rank: u8,
+    types: Vec<FuncType<'a>>,
+    type_indices: Vec<u32>,
+    exports: Vec<Export<'a>>,
+    bodies: Vec<Body<'a>>,
+}
+
+impl<'a> Model for Gathered<'a> {
+    ghost use Rattle.wasmprinter_wasm.specs.Gathering.{Gathered as GatheredValue};
+
+    ghost Value = { GatheredValue };
+
+    ghost view = { λ g. record {
+      rank = g.rank;
+      types = g.types.items;
+      type_indices = g.type_indices.items;
+      exports = g.exports.items;
+      bodies = g.bodies.items;
+    } };
+}
+
+impl<'a> Gathered<'a> {
+    /// Before any section is read.
+    fn new(alloc: Global) -> Self
+        ensures { result ≡ none_gathered }
+    {
+        Gathered {
+            rank: 0,
+            types: Vec::new(alloc),
+            type_indices: Vec::new(alloc),
+            exports: Vec::new(alloc),
+            bodies: Vec::new(alloc),
+        }
+    }
+
+    /// Keeps what a section holds.
+    fn add(&mut self, section: Section<'a>)
+        ensures { self.new ≡ added self.old (section_seen section.entry) }
+    {
+        self.rank = section.rank();
+        match section {
+            Section::Types(types) => self.types = types,
+            Section::Functions(type_indices) => self.type_indices = type_indices,
+            Section::Exports(exports) => self.exports = exports,
+            Section::Code(bodies) => self.bodies = bodies,
+        }
+    }
+
+    /// Reads sections up to the end of the bytes.
+    fn read(alloc: Global, cursor: &mut Cursor<'a>) -> Result<Self, Error>
+        ensures { TakesSections cursor.old result }
+    {
+        let mut gathered = Gathered::new(alloc);
+        'sections: while !cursor.is_empty() {
+            let place = cursor.place();
+            let section = Section::read(alloc, cursor)?;
+            if section.rank() <= gathered.rank {
+                return Err(Error::Malformed { place });
+            }
+            gathered.add(section);
+        }
+        Ok(gathered)
+    }
+}
+
+/// Reads the preamble and the sections, and puts a module together.
+fn read_module<'a>(alloc: Global, wasm: &'a [u8]) -> Result<Module<'a>, Error>
+    ensures { TakesModule wasm.now result }
+{
+    let mut cursor = Cursor::new(0, wasm);
+    read_preamble(&mut cursor)?;
+    let gathered = Gathered::read(alloc, &mut cursor)?;
+    let size = wasm.len() as u64;
+    if gathered.type_indices.len() != gathered.bodies.len() {
+        return Err(Error::Malformed { place: size });
+    }
+    Ok(Module {
+        types: gathered.types,
+        type_indices: gathered.type_indices,
+        exports: gathered.exports,
+        bodies: gathered.bodies,
+        size,
+    })
+}
+
+/// Decodes a module.
+///
+/// # Errors
+///
+/// `Component` where the bytes are marked as a component, else `Malformed` where they are outside the binary format, else
+/// `TooManyLocals` or `TooManyFunctions` where a limit of this printer is passed; `Memory` may come in place of any but
+/// `Component`.
+pub fn decode<'a>(alloc: Global, wasm: &'a [u8]) -> Result<Module<'a>, Error>
+    ensures ok { IfOk result (λ m. Spells wasm.now m × IsWithinLimits m) }
+    ensures refused { IfErr result (IsRefusal wasm.now) }
+    ensures component { IsErrOf result Error.Component ↔ IsComponent wasm.now }
+
+    // Bytes that spell a module within the limits are refused for memory alone.
+    ensures within { (m : PlacedModule) → Spells wasm.now m → IsWithinLimits m → IsOkUnless result Error.Memory }
+{
+    if is_component(wasm) {
+        return Err(Error::Component);
+    }
+    read_module(alloc, wasm)
+}

@@ -1,0 +1,47 @@
+//! A module that was decoded.
+ghost use Rattle.std.specs.Prelude.{◌≡◌, length, slice_get};
+ghost use Rattle.wasmprinter_wasm.specs.Modules.{body_at};
+
+use crate::body::Body;
+use crate::entries::{Export, FuncType};
+use std::marker::Model;
+
+/// A module; names and bodies are slices of the bytes that were decoded.
+#[derive(Drop)]
+pub struct Module<'a> {
+    pub(crate) types: Vec<FuncType<'a>>,
+    pub(crate) type_indices: Vec<u32>,
+    pub(crate) exports: Vec<Export<'a>>,
+    pub(crate) bodies: Vec<Body<'a>>,
+    pub(crate) size: u64,
+}
+
+impl<'a> Model for Module<'a> {
+    ghost use Rattle.wasmprinter_spec.specs.Placed.{PlacedModule};
+    ghost use Rattle.wasmprinter_wasm.specs.Modules.{module_seen, IsPaired};
+
+    ghost Value = { PlacedModule };
+
+    ghost view = { λ m. module_seen m.types.items m.type_indices.items m.exports.items m.bodies.items m.size };
+
+    ghost invariant = { λ m. IsPaired m.type_indices.items m.bodies.items };
+}
+
+impl<'a> Module<'a> {
+    /// How many functions the module defines, imported ones not among them.
+    pub fn function_count(&self) -> u32
+        ensures { result ≡ length self.now.functions }
+    {
+        self.bodies.len() as u32
+    }
+
+    /// The body of the defined function with the number, `None` past the last.
+    pub fn body(&self, i: u32) -> Option<Body<'a>>
+        ensures { result ≡ body_at self.now.functions i }
+    {
+        match self.bodies.get(i as usize) {
+            Some(body) => Some(body.fork()),
+            None => None,
+        }
+    }
+}

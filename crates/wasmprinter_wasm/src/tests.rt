@@ -1,0 +1,173 @@
+use crate::decoder::decode;
+use std::alloc::{AllocError, Global};
+use std::test::Fail;
+use wasmprinter_bytes::Error;
+
+/// The magic and the version.
+const PREAMBLE: [u8; 8] = [0x00, 0x61, 0x73, 0x6d, 0x01, 0x00, 0x00, 0x00];
+
+/// One function of type i32 to i32 that gives its parameter, given out as `f`.
+const IDENTITY: [u8; 35] = [
+    0x00, 0x61, 0x73, 0x6d, 0x01, 0x00, 0x00, 0x00, 0x01, 0x06, 0x01, 0x60, 0x01, 0x7f, 0x01, 0x7f,
+    0x03, 0x02, 0x01, 0x00, 0x07, 0x05, 0x01, 0x01, 0x66, 0x00, 0x00, 0x0a, 0x06, 0x01, 0x04, 0x00,
+    0x20, 0x00, 0x0b,
+];
+
+/// A type section with the one type of no parameters and no results.
+const TYPES: [u8; 6] = [0x01, 0x04, 0x01, 0x60, 0x00, 0x00];
+
+/// A function section with one function.
+const FUNCTIONS: [u8; 4] = [0x03, 0x02, 0x01, 0x00];
+
+/// A code section with one body without locals and operators.
+const CODE: [u8; 6] = [0x0a, 0x04, 0x01, 0x02, 0x00, 0x0b];
+
+/// A preamble, and the sections behind it.
+fn module(alloc: Global, sections: &[&[u8]]) -> Result<Vec<u8>, AllocError> {
+    let mut bytes = Vec::new(alloc);
+    bytes.extend_from_slice(&PREAMBLE)?;
+    for section in sections {
+        bytes.extend_from_slice(section)?;
+    }
+    Ok(bytes)
+}
+
+/// Whether the bytes are accepted.
+fn is_accepted(alloc: Global, bytes: &[u8]) -> bool {
+    decode(alloc, bytes).is_ok()
+}
+
+/// Whether the bytes are refused as malformed.
+fn is_malformed(alloc: Global, bytes: &[u8]) -> bool {
+    matches!(decode(alloc, bytes), Err(Error::Malformed { .. }))
+}
+
+#[test]
+fn beginnings_are_accepted_behind_sections_alone(rt: HostRuntime) {
+    for len in 0..IDENTITY.len() {
+        let beginning = &IDENTITY[..len];
+        if len == 8 || len == 16 {
+            assert!(rt; is_accepted(rt.alloc(), beginning), "at {len}");
+        } else {
+            assert!(rt; is_malformed(rt.alloc(), beginning), "at {len}");
+        }
+    }
+    assert!(rt; is_accepted(rt.alloc(), &IDENTITY));
+}
+
+#[test]
+fn sizes_may_be_longer_than_minimal(rt: HostRuntime) -> Result<(), Fail> {
+    let content = [0x01, 0x60, 0x01, 0x7f, 0x01, 0x7f];
+    let longer = module(rt.alloc(), &[&[0x01, 0x86, 0x00], &content])?;
+    assert!(rt; is_accepted(rt.alloc(), &longer));
+    let overlong = module(
+        rt.alloc(),
+        &[&[0x01, 0x86, 0x80, 0x80, 0x80, 0x80, 0x00], &content],
+    )?;
+    assert!(rt; is_malformed(rt.alloc(), &overlong));
+    Ok(())
+}
+
+#[test]
+fn locals_are_limited(rt: HostRuntime) -> Result<(), Fail> {
+    let most = [0x0a, 0x08, 0x01, 0x06, 0x01, 0xd0, 0x86, 0x03, 0x7f, 0x0b];
+    let accepted = module(rt.alloc(), &[&TYPES, &FUNCTIONS, &most])?;
+    assert!(rt; is_accepted(rt.alloc(), &accepted));
+    let more = [0x0a, 0x08, 0x01, 0x06, 0x01, 0xd1, 0x86, 0x03, 0x7f, 0x0b];
+    let refused = module(rt.alloc(), &[&TYPES, &FUNCTIONS, &more])?;
+    assert!(rt;
+        matches!(
+            decode(rt.alloc(), &refused),
+            Err(Error::TooManyLocals { place: 0x16 })
+        )
+    );
+    Ok(())
+}
+
+#[test]
+fn functions_are_limited(rt: HostRuntime) -> Result<(), Fail> {
+    let mut bytes = module(
+        rt.alloc(),
+        &[&TYPES, &[0x03, 0xc4, 0x84, 0x3d, 0xc1, 0x84, 0x3d]],
+    )?;
+    for _ in 0..1000001 {
+        bytes.push(0x00)?;
+    }
+    assert!(rt;
+        matches!(
+            decode(rt.alloc(), &bytes),
+            Err(Error::TooManyFunctions { count: 1000001 })
+        )
+    );
+    Ok(())
+}
+
+#[test]
+fn malformed_modules_are_refused(rt: HostRuntime) -> Result<(), Fail> {
+    let alloc = rt.alloc();
+    let two_functions: [u8; 5] = [0x03, 0x03, 0x02, 0x00, 0x00];
+    let behind_end: [u8; 7] = [0x0a, 0x05, 0x01, 0x03, 0x00, 0x0b, 0x0b];
+    let ends_early: [u8; 6] = [0x0a, 0x04, 0x01, 0x02, 0x00, 0x1a];
+    let past_the_end: [u8; 4] = [0x01, 0x7f, 0x01, 0x60];
+    let not_utf8: [u8; 7] = [0x07, 0x05, 0x01, 0x01, 0xff, 0x00, 0x00];
+    let many: [u8; 7] = [0x01, 0x05, 0xff, 0xff, 0xff, 0xff, 0x0f];
+    let unknown: [u8; 3] = [0x0e, 0x01, 0x00];
+    assert!(rt; is_accepted(alloc, &module(alloc, &[&TYPES, &FUNCTIONS, &CODE])?));
+    assert!(rt; is_malformed(alloc, &module(alloc, &[&TYPES, &two_functions, &CODE])?));
+    assert!(rt; is_malformed(alloc, &module(alloc, &[&TYPES, &TYPES])?));
+    assert!(rt; is_malformed(alloc, &module(alloc, &[&FUNCTIONS, &TYPES, &CODE])?));
+    assert!(rt; is_malformed(alloc, &module(alloc, &[&TYPES, &FUNCTIONS, &behind_end])?));
+    assert!(rt; is_malformed(alloc, &module(alloc, &[&TYPES, &FUNCTIONS, &ends_early])?));
+    assert!(rt; is_malformed(alloc, &module(alloc, &[&past_the_end])?));
+    assert!(rt;
+        is_malformed(
+            alloc,
+            &module(alloc, &[&TYPES, &FUNCTIONS, &not_utf8, &CODE])?
+        )
+    );
+    assert!(rt; is_malformed(alloc, &module(alloc, &[&many])?));
+    assert!(rt; is_malformed(alloc, &module(alloc, &[&unknown])?));
+    assert!(rt; is_malformed(alloc, &PREAMBLE[..7]));
+    Ok(())
+}
+
+#[test]
+fn components_are_refused(rt: HostRuntime) {
+    let component = [0x00, 0x61, 0x73, 0x6d, 0x0d, 0x00, 0x01, 0x00];
+    assert!(rt; matches!(decode(rt.alloc(), &component), Err(Error::Component)));
+}
+
+#[test]
+fn operators_have_their_places(rt: HostRuntime) -> Result<(), Fail> {
+    let types = [0x01, 0x05, 0x01, 0x60, 0x00, 0x01, 0x7e];
+    let code = [
+        0x0a, 0x0c, 0x01, 0x0a, 0x01, 0x01, 0x7e, 0x42, 0x7f, 0x21, 0x00, 0x20, 0x00, 0x0b,
+    ];
+    let bytes = module(rt.alloc(), &[&types, &FUNCTIONS, &code])?;
+    let Ok(decoded) = decode(rt.alloc(), &bytes) else {
+        assert!(rt; false);
+        return Ok(());
+    };
+    assert_eq!(rt; decoded.function_count(), 1);
+    assert!(rt; decoded.body(1).is_none());
+    let Some(body) = decoded.body(0) else {
+        assert!(rt; false);
+        return Ok(());
+    };
+    let wanted = [
+        (0x1a, "i64.const"),
+        (0x1c, "local.set"),
+        (0x1e, "local.get"),
+    ];
+    let mut reader = body.operators();
+    for (wanted_place, word) in wanted {
+        let Some((place, operator)) = reader.next() else {
+            assert!(rt; false, "no operator at {wanted_place}");
+            return Ok(());
+        };
+        assert_eq!(rt; place, wanted_place);
+        assert_eq!(rt; operator.opcode.word(), word);
+    }
+    assert!(rt; reader.next().is_none());
+    Ok(())
+}
