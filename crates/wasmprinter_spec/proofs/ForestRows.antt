@@ -1,4 +1,4 @@
--- Worked rows of annotations and groups (section 6.2.5 of the standard), and of texts that have no groups at all.
+-- Worked rows of annotations and groups (section 6.2 of the standard, "Annotations"), and of texts that have no groups at all.
 use Rattle.std.specs.Prelude.{◌≡◌, ℕ, List, [], ◌∷◌, ◌++◌, codes, Option, Some, None, option_map, refl}
 use Rattle.std.specs.Char.{encode_utf8}
 use Rattle.std.specs.Str.{is_utf8, chars}

@@ -1,4 +1,4 @@
--- Worked rows of declared indices (section 2.5.1 of the standard), and of indents.
+-- Worked rows of declared indices (section 2.5 of the standard, "Indices"), and of indents.
 use Rattle.std.specs.Prelude.{ℕ, List, [], ◌∷◌, codes, refl}
 use Rattle.std.proofs.Common.{arith, inl, inr}
 use Rattle.wasmprinter_spec.specs.Types.{I32}
