@@ -1,2 +1,8 @@
 pub mod Reads
 pub mod Lists
+pub mod Emits
+pub mod EmitsLaws
+pub mod Prints
+pub mod PrintsLaws
+pub mod Styles
+pub mod Writers

@@ -1,13 +1,21 @@
-// A library with one function.
+//! Laws over the definitions of text: what is printed in quotes reads back, and how text is cut into pieces changes nothing.
+//! Each law is the contract of a function with an empty body. The proofs below them say what the text of any list of pieces
+//! lexes to; the crate `wasmprinter_reading` stands on them.
 #![tactic(auto)]
 
-ghost use Rattle.std.specs.Prelude.{◌≡◌};
-ghost use Rattle.wasmprinter_lexical.specs.Echo.{echo_of};
+ghost use Rattle.wasmprinter_spec.specs.Laws.{AlikeHaveOneText, QuotedTextReads, QuotedBytesRead};
 
-// The `ensures` clause is the contract: what `echo` returns is `echo_of` of its argument, a definition
-// in `specs/Echo.antt`, which a caller's clause can cite too.
-pub fn echo(x: usize) -> usize
-    ensures { result ≡ echo_of x }
-{
-    x
-}
+/// Two lists of calls that differ only in how text is cut into pieces have one text.
+pub fn alike_calls_have_one_text()
+    ensures { AlikeHaveOneText }
+{}
+
+/// The quoted text of any string is one token, that string (section 6.3 of the standard, "Strings").
+pub fn quoted_text_reads()
+    ensures { QuotedTextReads }
+{}
+
+/// The quoted text of any bytes is one token, the string of these bytes.
+pub fn quoted_bytes_read()
+    ensures { QuotedBytesRead }
+{}

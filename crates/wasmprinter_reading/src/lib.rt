@@ -1,13 +1,25 @@
-// A library with one function.
+//! Laws over the definitions: what bytes spell, and that what is printed of it reads back. Each law is the contract of a function
+//! with an empty body. No code of the printer is in them: they relate the grammar, the layout and the reader of text.
 #![tactic(auto)]
 
-ghost use Rattle.std.specs.Prelude.{◌≡◌};
-ghost use Rattle.wasmprinter_reading.specs.Echo.{echo_of};
+ghost use Rattle.wasmprinter_spec.specs.Laws.{SpellsOne, ReadsBack, TokensStay, PrintsPlainText};
 
-// The `ensures` clause is the contract: what `echo` returns is `echo_of` of its argument, a definition
-// in `specs/Echo.antt`, which a caller's clause can cite too.
-pub fn echo(x: usize) -> usize
-    ensures { result ≡ echo_of x }
-{
-    x
-}
+/// Given bytes spell at most one module with its places (section 5.5 of the standard, "Modules").
+pub fn bytes_spell_one_module()
+    ensures { SpellsOne }
+{}
+
+/// The reading law: the text that is laid out for a module that some bytes spell reads as exactly that module.
+pub fn printed_text_reads_back()
+    ensures { ReadsBack }
+{}
+
+/// Places at the beginnings of lines, and the indent, change blanks and comments alone: the tokens stay.
+pub fn places_and_indent_keep_tokens()
+    ensures { TokensStay }
+{}
+
+/// Printed text is UTF-8 and holds no colour sequence.
+pub fn printed_text_is_plain()
+    ensures { PrintsPlainText }
+{}

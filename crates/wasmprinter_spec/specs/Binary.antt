@@ -1,5 +1,6 @@
--- How bytes spell a module (section 5.5.16 of the standard): a preamble, and sections up to the end.
-use Rattle.std.specs.Prelude.{◌≡◌, ℕ, ◌+◌, List, [], ◌∷◌, ◌++◌, Bool, true, false, ◌&&◌, nat_lt, bytes_eq, Option, Some, None, if◌then◌else◌}
+-- How bytes spell a module (section 5.5 of the standard, "Modules"): a preamble, and sections up to the end.
+use Rattle.std.specs.Prelude.{◌≡◌, ℕ, ◌<◌, List, [], ◌∷◌, ◌++◌, Bool, true, ◌&&◌, nat_lt, bytes_eq, Option, Some, None, if◌then◌else◌}
+use Rattle.std.specs.List.{AllByRecursion}
 use Rattle.wasmprinter_spec.specs.Grammar.{Grammar, Whole, ◌>>=◌, mapped, Placed}
 use Rattle.wasmprinter_spec.specs.Repeated.{until_end}
 use Rattle.wasmprinter_spec.specs.Sized.{front, headed, concluded}
@@ -67,9 +68,14 @@ assembled size ss = if are_above 0 ss then (paired (type_indices_in ss) (bodies_
 abbrev pub binary : Whole PlacedModule
 binary = concluded (λ size x. assembled size x.1) (headed preamble (until_end section))
 
+-- numbers that are bytes
+abbrev pub AreBytes : List ℕ → Type 0
+AreBytes bytes = AllByRecursion (λ b. b < 256) bytes
+
 -- the bytes spell the module with these places
-abbrev pub Spells : List ℕ → PlacedModule → Type 0
-Spells bytes m = binary.spells 0 bytes m
+pub record Spells (bytes : List ℕ) (m : PlacedModule) : Type 0 where
+  pub are_bytes : AreBytes bytes
+  pub spelled : binary.spells 0 bytes m
 
 -- the bytes are marked as a component: the magic, and 01 00 at the places 6 and 7
 abbrev pub IsComponent : List ℕ → Type 0

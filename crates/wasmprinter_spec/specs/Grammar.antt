@@ -1,7 +1,7 @@
 -- Grammars over bytes. A grammar says twice which bytes spell a value: as a relation, `spells`, which is what the standard
 -- writes ("Conventions" of its section 5.1), and as a reading from the front of the bytes, `parse`. `sound` and `complete`
 -- prove that both say the same. So a grammar that is composed of these pieces gives each text of bytes at most one value.
-use Rattle.std.specs.Prelude.{◌≡◌, ℕ, zero, suc, List, [], ◌∷◌, ◌++◌, ◌+◌, length, Bool, true, false, Option, Some, None, refl}
+use Rattle.std.specs.Prelude.{◌≡◌, ℕ, List, [], ◌∷◌, ◌++◌, ◌+◌, length, Bool, true, false, Option, Some, None, refl}
 use Rattle.std.proofs.Common.{sym, ap, subst, ◌∙◌, arith, append_assoc}
 use Rattle.std.proofs.lemmas.List.{length-append}
 

@@ -1,12 +1,11 @@
--- Every used index is declared: it is below the number of what its index space holds (section 2.5.1 of the standard). Every valid
+-- Every used index is declared: it is below the number of what its index space holds (section 2.5 of the standard, "Indices"). Every valid
 -- module is so.
-use Rattle.std.specs.Prelude.{ℕ, ◌+◌, ◌<◌, List, length, Option, Some, None, slice_get}
+use Rattle.std.specs.Prelude.{ℕ, ◌+◌, ◌<◌, length, Option, Some, None, slice_get}
 use Rattle.std.specs.List.{AllByRecursion}
 use Rattle.wasmprinter_spec.specs.Types.{FuncType}
-use Rattle.wasmprinter_spec.specs.Operator.{Immediates, NoImmediates, Index, I32, I64, Operator}
-use Rattle.wasmprinter_spec.specs.Row.{Row, Space, Func, Local, Shape, NoneShape, IndexShape, I32Shape, I64Shape}
+use Rattle.wasmprinter_spec.specs.Operator.{Immediates, Index, Operator}
+use Rattle.wasmprinter_spec.specs.Row.{Row, Space, Func, Local, Shape, IndexShape}
 use Rattle.wasmprinter_spec.specs.Table.{by_opcode}
-use Rattle.wasmprinter_spec.specs.Placed.{Export}
 use Rattle.wasmprinter_spec.specs.Module.{Function, Module}
 
 -- how many items each index space holds

@@ -1,5 +1,5 @@
 -- How bytes spell operators and expressions (section 5.4 of the standard). The grammar so far has no structured operators.
-use Rattle.std.specs.Prelude.{◌≡◌, ℕ, ◌+◌, List, length, [], ◌∷◌, ◌++◌, Bool, true, false, ◌||◌, ◌==◌, Option, Some, None, refl, if◌then◌else◌}
+use Rattle.std.specs.Prelude.{◌≡◌, ℕ, ◌+◌, List, length, ◌∷◌, ◌++◌, Bool, ◌||◌, ◌==◌, Option, Some, None, refl}
 use Rattle.std.proofs.Common.{sym, ap, ◌∙◌, subst}
 use Rattle.wasmprinter_spec.specs.Grammar.{Grammar, byte, seq, as_value, nothing, never, choose, Placed, placed, some_is}
 use Rattle.wasmprinter_spec.specs.Leb.{signed}

@@ -1,8 +1,8 @@
--- Whole numbers in LEB128 (section 5.2.2 of the standard): seven bits in each byte, the lowest first; a byte from 128 on has
+-- Whole numbers in LEB128 (section 5.2 of the standard, "Integers"): seven bits in each byte, the lowest first; a byte from 128 on has
 -- more behind it. A number of N bits takes at most as many bytes as N bits fill; within them a longer spelling than is needed
 -- is one too, and the bits of the last byte that the number has no room for are zero, or of a signed number repeat its sign.
-use Rattle.std.specs.Prelude.{◌≡◌, ℕ, zero, suc, ℤ, pos, negsuc, ◌+ℤ◌, ◌-ℤ◌, ◌*ℤ◌, List, [], ◌∷◌, ◌++◌, ◌+◌, ◌*◌, ◌-◌, ◌^◌, ◌<◌, ◌≤◌, ◌⊎◌, length, Option, Some, None, nat_lt, if◌then◌else◌, refl}
-use Rattle.std.proofs.Common.{sym, ap, subst, ◌∙◌, arith, cond, inl, inr, Bool, true, false, ltb}
+use Rattle.std.specs.Prelude.{◌≡◌, ℕ, ℤ, pos, negsuc, ◌+ℤ◌, ◌*ℤ◌, List, [], ◌∷◌, ◌++◌, ◌+◌, ◌*◌, ◌-◌, ◌^◌, ◌<◌, ◌≤◌, ◌⊎◌, length, Option, Some, None, nat_lt, if◌then◌else◌, refl}
+use Rattle.std.proofs.Common.{sym, ap, subst, ◌∙◌, arith, cond, inl, inr, ltb}
 use Rattle.std.proofs.lemmas.Bool.{ltb-true, ltb-false, lt-ltb, le-ltb}
 use Rattle.wasmprinter_spec.specs.Grammar.{At, from, Spans, Grammar, ◌>>=◌, bind_some, some_is}
 use Rattle.wasmprinter_spec.specs.Choices.{tested, chosen}

@@ -1,4 +1,4 @@
--- The limits of this printer: at most 50,000 locals in a function, parameters not counted, and at most 1,000,000 functions.
+-- The limits of this printer (the standard leaves them to implementations, in its appendix "Implementation Limitations"): at most 50,000 locals in a function, parameters not counted, and at most 1,000,000 functions.
 use Rattle.std.specs.Prelude.{ℕ, ◌+◌, ◌≤◌, List, [], ◌∷◌, length}
 use Rattle.std.specs.List.{AllByRecursion}
 use Rattle.wasmprinter_spec.specs.Grammar.{Placed}

@@ -1,4 +1,4 @@
--- Names in the binary format (section 5.2.4 of the standard): a length, and so many bytes of UTF-8.
+-- Names in the binary format (section 5.2 of the standard, "Names"): a length, and so many bytes of UTF-8.
 use Rattle.std.specs.Prelude.{ℕ, List, Option, Some, None, if◌then◌else◌}
 use Rattle.std.specs.Str.{is_utf8}
 use Rattle.wasmprinter_spec.specs.Grammar.{Grammar, seq, mapped, as_value}
@@ -9,7 +9,7 @@ use Rattle.wasmprinter_spec.specs.Leb.{unsigned}
 abbrev pub u32 : Grammar ℕ
 u32 = unsigned 32
 
--- a vector: a count and so many items (section 5.1.3)
+-- a list: a count and so many items (section 5.1, "Lists")
 abbrev pub vec : {A : Type 0} → Grammar A → Grammar (List A)
 vec g = vec_of u32 g
 

@@ -1,7 +1,7 @@
 -- What the table of operators says of one operator.
 use Rattle.std.specs.Prelude.{ℕ, List, Option}
 
--- the index spaces that immediates name (section 2.5.1 of the standard)
+-- the index spaces that immediates name (section 2.5 of the standard, "Indices")
 pub data Space : Type 0 where
   Func : Space
   Local : Space

@@ -1,11 +1,10 @@
 -- How bytes spell sections (section 5.5 of the standard). The grammar so far has the type, function, export and code sections.
-use Rattle.std.specs.Prelude.{ℕ, List, Option, Some, None, ◌==◌, if◌then◌else◌}
+use Rattle.std.specs.Prelude.{ℕ, List, ◌==◌}
 use Rattle.wasmprinter_spec.specs.Grammar.{Grammar, byte, seq, as_value, never, choose, Placed, placed}
-use Rattle.wasmprinter_spec.specs.Repeated.{until_end}
 use Rattle.wasmprinter_spec.specs.Sized.{exactly, alone}
 use Rattle.wasmprinter_spec.specs.Terminated.{Closed}
 use Rattle.wasmprinter_spec.specs.Name.{name, u32, vec}
-use Rattle.wasmprinter_spec.specs.Types.{ValType, FuncType, val_type, func_type, only}
+use Rattle.wasmprinter_spec.specs.Types.{FuncType, val_type, func_type, only}
 use Rattle.wasmprinter_spec.specs.Operator.{Operator}
 use Rattle.wasmprinter_spec.specs.Instructions.{expression}
 use Rattle.wasmprinter_spec.specs.Placed.{LocalEntry, Body, Export}

@@ -1,6 +1,6 @@
 -- Grammars of bytes whose number is given: n bytes, a value that takes exactly n bytes, a value with nothing behind it, and
--- a beginning with a rest (sections 5.5.2 and 5.5.16 of the standard: sections have a size, a module a preamble).
-use Rattle.std.specs.Prelude.{◌≡◌, ℕ, List, [], ◌∷◌, ◌++◌, ◌+◌, ◌≤◌, length, take, drop, Bool, true, false, Option, Some, None, nat_lt, if◌then◌else◌, refl}
+-- a beginning with a rest (section 5.5 of the standard: "Sections" have a size, "Modules" a preamble).
+use Rattle.std.specs.Prelude.{◌≡◌, ℕ, List, [], ◌∷◌, ◌++◌, ◌+◌, ◌≤◌, length, take, drop, false, Option, Some, None, nat_lt, if◌then◌else◌, refl}
 use Rattle.std.proofs.Common.{sym, ap, subst, ◌∙◌, arith, ltb}
 use Rattle.std.proofs.lemmas.Bool.{ltb-false, le-ltb}
 use Rattle.std.proofs.lemmas.List.{length-append, length-take-le, take-append-drop, take_at, drop_at, append-nil}

@@ -1,6 +1,6 @@
--- Items up to a byte that closes them and with which no item begins, as operators up to the byte 0B of `end` (section 5.4.9
--- of the standard).
-use Rattle.std.specs.Prelude.{◌≡◌, ℕ, zero, suc, List, [], ◌∷◌, ◌++◌, ◌+◌, ◌<◌, ◌≤◌, length, Bool, true, false, Option, Some, None, ◌==◌, if◌then◌else◌, refl}
+-- Items up to a byte that closes them and with which no item begins, as operators up to the byte 0B of `end` (section 5.4 of the
+-- standard, "Expressions").
+use Rattle.std.specs.Prelude.{◌≡◌, ℕ, zero, suc, List, [], ◌∷◌, ◌++◌, ◌+◌, ◌<◌, ◌≤◌, length, Bool, Option, Some, None, ◌==◌, if◌then◌else◌, refl}
 use Rattle.std.proofs.Common.{sym, ap, subst, ◌∙◌, arith, append_assoc, cond, eqb, inl, inr}
 use Rattle.std.proofs.lemmas.Bool.{eqb-true, eq-eqb, ne_eqb}
 use Rattle.std.proofs.lemmas.List.{length-append}
@@ -66,7 +66,7 @@ module _ {A : Type 0} (closer : ℕ) (g : Grammar A) (apart : (p : ℕ) (text : 
                 s.text ++ u,
                 ap (λ (r : List ℕ). s.text ++ r) t.spelled.1 ∙ sym (append_assoc s.text u (closer ∷ [])),
                 (s.text, u, refl, s.spelled, subst (λ (q : ℕ). Items g q u y.0.0.items) s.ends t.spelled.2),
-                omega (arith, t.spelled.3, s.ends, length-append s.text u)
+                omega (arith, t.spelled.3, s.ends, length-append s.text u),
               );
             })
       ]

@@ -9,7 +9,7 @@ use Rattle.wasmprinter_spec.specs.Sized.{headed}
 use Rattle.wasmprinter_spec.specs.Placed.{Export, PlacedFunction, PlacedModule}
 use Rattle.wasmprinter_spec.specs.Types.{FuncType}
 use Rattle.wasmprinter_spec.specs.Sections.{Section, section}
-use Rattle.wasmprinter_spec.specs.Binary.{preamble, are_above, type_indices_in, bodies_in, paired, module_from, assembled, binary, Spells}
+use Rattle.wasmprinter_spec.specs.Binary.{AreBytes, preamble, are_above, type_indices_in, bodies_in, paired, module_from, assembled, binary, Spells}
 use Rattle.wasmprinter_spec.specs.Limits.{HasFewLocals, IsWithinLimits}
 use Rattle.wasmprinter_bytes.specs.Reads.{end_of}
 use Rattle.wasmprinter_bytes.specs.declared.error.Error.{Error}
@@ -57,7 +57,7 @@ module _ (bytes pre : List ℕ) (at : At) (first : preamble.parse (from 0 bytes)
   -- what the bytes of a module are
   spelled_of : (m : PlacedModule) → Spells bytes m → Spelled at m size
   spelled_of m s =
-      let read = binary.complete (from 0 bytes) m s in
+      let read = binary.complete (from 0 bytes) m s.spelled in
       let a = bind_some ((headed preamble (until_end section)).parse (from 0 bytes)) (λ x. assembled size x.1) m read in
       let b = bind_some (preamble.parse (from 0 bytes)) (λ a. sections_at a.1 >>= λ ss. Some (a.0, ss)) a.0 a.1 in
       let c = bind_some (sections_at b.0.1) (λ ss. Some (b.0.0, ss)) a.0 b.2 in
@@ -136,10 +136,10 @@ module _ (bytes pre : List ℕ) (at : At) (first : preamble.parse (from 0 bytes)
       read = rw (first, h.read, h.rise, pairs) refl
 
       -- the bytes spell the module
-      pub module_spelled : Spells bytes seen
-      module_spelled =
+      pub module_spelled : AreBytes bytes → Spells bytes seen
+      module_spelled all =
           let same_module : module_from size h.sections made.functions ≡ seen = alike _ _ _ _ _ _ _ _ (sym held.types) (sym functions_made) (sym held.exports) (omega arith) in
-          binary.sound (from 0 bytes) seen (read ∙ ap (λ (m : PlacedModule). Some m) same_module)
+          record { are_bytes = all; spelled = binary.sound (from 0 bytes) seen (read ∙ ap (λ (m : PlacedModule). Some m) same_module) }
 
       -- the module is within the limits
       pub module_within : IsWithinLimits seen

@@ -4,6 +4,7 @@ pub mod Later
 pub mod Listing
 pub mod Contents
 pub mod Pairing
+pub mod Functions
 pub mod Until
 pub mod Rising
 pub mod Gathering

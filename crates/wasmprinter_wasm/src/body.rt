@@ -4,6 +4,7 @@ ghost use Rattle.wasmprinter_spec.specs.Grammar.{placed};
 ghost use Rattle.wasmprinter_spec.specs.Sections.{local_entry};
 ghost use Rattle.wasmprinter_spec.specs.Limits.{local_count, most_locals};
 ghost use Rattle.wasmprinter_bytes.specs.Reads.{Reads, IsWithin, end_of};
+ghost use Rattle.wasmprinter_ops.specs.ValTypes.{type_seen};
 ghost use Rattle.wasmprinter_wasm.specs.Bodies.{TakesBody, TakesEntry};
 
 use std::marker::Model;
@@ -46,6 +47,29 @@ impl Spelled for LocalEntry {
             count,
             val_type,
         })
+    }
+}
+
+impl LocalEntry {
+    /// The place of the entry.
+    pub fn place(&self) -> u64
+        ensures { result ≡ self.now.place }
+    {
+        self.place
+    }
+
+    /// How many locals there are.
+    pub fn count(&self) -> u32
+        ensures { result ≡ self.now.value.count }
+    {
+        self.count
+    }
+
+    /// Their type.
+    pub fn val_type(&self) -> ValType
+        ensures { type_seen result ≡ self.now.value.type }
+    {
+        self.val_type
     }
 }
 
@@ -136,5 +160,26 @@ impl<'a> Body<'a> {
         ensures { result ≡ self.now.value.operators }
     {
         self.code.operators()
+    }
+
+    /// The place of the body's first byte.
+    pub fn place(&self) -> u64
+        ensures { result ≡ self.now.place }
+    {
+        self.place
+    }
+
+    /// The locals, parameters not among them.
+    pub fn locals(&self) -> Locals<'a>
+        ensures { result ≡ self.now.value.locals }
+    {
+        self.locals.iter()
+    }
+
+    /// The place of the last `end`.
+    pub fn end(&self) -> u64
+        ensures { result ≡ self.now.value.end }
+    {
+        self.code.end()
     }
 }

@@ -3,6 +3,7 @@ ghost use Rattle.std.specs.Prelude.{◌≡◌};
 ghost use Rattle.wasmprinter_spec.specs.Grammar.{placed};
 ghost use Rattle.wasmprinter_spec.specs.Types.{func_type, only};
 ghost use Rattle.wasmprinter_spec.specs.Sections.{export};
+ghost use Rattle.wasmprinter_ops.specs.ValTypes.{types_seen};
 ghost use Rattle.wasmprinter_bytes.specs.Reads.{Reads, IsWithin, end_of};
 
 use std::marker::Model;
@@ -66,6 +67,29 @@ impl<'a> SpelledIn<'a> for FuncType<'a> {
     }
 }
 
+impl<'a> FuncType<'a> {
+    /// The place of the type.
+    pub fn place(&self) -> u64
+        ensures { result ≡ self.now.place }
+    {
+        self.place
+    }
+
+    /// The types of the parameters.
+    pub fn params(&self) -> ValTypes<'a>
+        ensures { types_seen result ≡ self.now.value.params }
+    {
+        self.params.iter()
+    }
+
+    /// The types of the results.
+    pub fn results(&self) -> ValTypes<'a>
+        ensures { types_seen result ≡ self.now.value.results }
+    {
+        self.results.iter()
+    }
+}
+
 /// A function that the module gives out under a name, with the entry's place.
 #[derive(Drop)]
 pub struct Export<'a> {
@@ -96,5 +120,28 @@ impl<'a> SpelledIn<'a> for Export<'a> {
             name,
             function,
         })
+    }
+}
+
+impl<'a> Export<'a> {
+    /// The place of the entry.
+    pub fn place(&self) -> u64
+        ensures { result ≡ self.now.place }
+    {
+        self.place
+    }
+
+    /// The name under which the function is given out.
+    pub fn name(&self) -> &'a str
+        ensures { result.now ≡ self.now.value.name }
+    {
+        self.name
+    }
+
+    /// The index of the function.
+    pub fn function(&self) -> u32
+        ensures { result ≡ self.now.value.function }
+    {
+        self.function
     }
 }

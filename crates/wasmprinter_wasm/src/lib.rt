@@ -5,12 +5,14 @@ mod body;
 mod decoder;
 mod entries;
 mod module;
+mod readers;
 mod section;
 
 pub use body::{Body, LocalEntry, Locals};
 pub use decoder::decode;
 pub use entries::{Export, FuncType};
 pub use module::Module;
+pub use readers::Function;
 
 #[cfg(test)]
 mod tests;

@@ -1,13 +1,17 @@
-use Rattle.std.proofs.Common.{◌≡◌, ℕ, List, length, arith, sym, ap, subst, ◌∙◌}
+use Rattle.std.proofs.Common.{◌≡◌, ◌<◌, ℕ, List, length, get_or, Fits, w8, arith, sym, ap, subst, ◌∙◌}
+use Rattle.std.proofs.lemmas.List.Elements.{All-from_get_or, recursion_from_All}
 use Rattle.std.proofs.lemmas.Result.{err_from_is_err_and}
 use Rattle.wasmprinter_spec.specs.Grammar.{Placed}
 use Rattle.wasmprinter_spec.specs.Types.{FuncType}
 use Rattle.wasmprinter_spec.specs.Placed.{Body, Export}
-use Rattle.wasmprinter_spec.specs.Binary.{preamble, preamble_bytes}
+use Rattle.wasmprinter_spec.specs.Binary.{AreBytes, preamble, preamble_bytes}
 use Rattle.wasmprinter_bytes.specs.Reads.{end_of}
 use Rattle.wasmprinter_wasm.specs.Gathering.{Gathered, HoldsSections}
 use Rattle.wasmprinter_wasm.proofs.Assembling.{module_fault, module_unpaired, paired_few, module_spelled, module_within}
 use Rattle.wasmprinter_wasm.proofs.decoder.read_module.Goals as goal
+
+are_bytes : (bytes : List ℕ) → ((i : ℕ) → Fits w8 (get_or bytes i 0)) → AreBytes bytes
+are_bytes bytes h = recursion_from_All (λ b. b < 256) bytes (All-from_get_or (λ b. b < 256) bytes 0 (λ i l. (h i).fits))
 
 abbrev gathered_of : ℕ → List (Placed FuncType) → List ℕ → List (Placed Export) → List (Placed Body) → Gathered
 gathered_of n ts is es bs = record { rank = n; types = ts; type_indices = is; exports = es; bodies = bs }
@@ -42,4 +46,4 @@ returns c =
     let g : Gathered = gathered_of c.gathered.inside.rank c.gathered.inside.types.items c.gathered.inside.type_indices.items c.gathered.inside.exports.items c.gathered.inside.bodies.items in
     let h : HoldsSections c.read_preamble.new.cursor g = subst (HoldsSections c.read_preamble.new.cursor) (sym c.gathered.view_is) c.in_ok-gathered.ensures in
     let same : length g.type_indices ≡ length g.bodies = omega (arith, c.if-len.false, c.gathered.inside.type_indices.ok.0, c.gathered.inside.bodies.ok.0, c.len.ensures, c.len-2.ensures) in
-    (module_spelled c.args.wasm.now preamble_bytes c.read_preamble.new.cursor first g h same, module_within c.args.wasm.now preamble_bytes c.read_preamble.new.cursor first g h same)
+    (module_spelled c.args.wasm.now preamble_bytes c.read_preamble.new.cursor first g h same (are_bytes c.args.wasm.now c.type_inv.wasm), module_within c.args.wasm.now preamble_bytes c.read_preamble.new.cursor first g h same)

@@ -1,0 +1,4 @@
+pub mod Header
+pub mod Indents
+pub mod Outcome
+pub mod Printed

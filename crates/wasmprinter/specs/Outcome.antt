@@ -1,0 +1,60 @@
+-- Why printing is refused, and what a refusal leaves of the printer.
+use Rattle.std.specs.Prelude.{◌≡◌, ℕ, ◌<◌, List, ◌++◌, length}
+use Rattle.wasmprinter_spec.specs.Binary.{Spells}
+use Rattle.wasmprinter_spec.specs.Placed.{PlacedModule}
+use Rattle.wasmprinter_spec.specs.Limits.{IsWithinLimits, most_functions}
+use Rattle.wasmprinter_spec.specs.Call.{Call, atoms}
+use Rattle.wasmprinter_spec.specs.Meaning.{Meaning, Run, Failed}
+use Rattle.wasmprinter_spec.specs.Options.{Options, Answers}
+use Rattle.wasmprinter_spec.specs.Layout.{layout}
+use Rattle.wasmprinter_bytes.specs.Emits.{Broken}
+use Rattle.wasmprinter_bytes.specs.declared.error.Error.{Error}
+use Rattle.wasmprinter_bytes.specs.declared.error.Error.TheVariants.{Malformed, Component, TooManyLocals, TooManyFunctions, EmptyTableInit, FoldLegacy, FoldHint, DylinkSubsection, Unreadable, Printer, Memory}
+use Rattle.wasmprinter_wasm.specs.Modules.{bodies_of}
+use Rattle.wasmprinter_wasm.specs.Refusals.{AnyIsOver}
+use Rattle.wasmprinter_wasm.specs.Decoding.{IsRefusal}
+
+-- After some list of calls one failed that may fail in that state, and a count of faults below its greatest value rose by one.
+pub record PrinterFailed {P : Type 0} (m : Meaning P) (old new : P) : Type 0 where
+  pub calls : List Call
+  pub before : P
+  pub run : Run m old calls before
+  pub call : Call
+  pub failed : Failed m before call new
+
+-- The cause of a refusal, where bytes spell this module: a function with its body at the place has too many locals; there are so many
+-- functions, and that is too many; a call on the printer failed; or memory was refused. No other error is answered.
+abbrev pub IsCause : {P : Type 0} → Meaning P → P → P → PlacedModule → Error → Type 0
+IsCause m old new placed (Malformed place) = ⊥
+IsCause m old new placed Component = ⊥
+IsCause m old new placed (TooManyLocals place) = AnyIsOver place (bodies_of placed.functions)
+IsCause m old new placed (TooManyFunctions count) = (length placed.functions ≡ count) × (most_functions < count)
+IsCause m old new placed (EmptyTableInit place) = ⊥
+IsCause m old new placed (FoldLegacy place) = ⊥
+IsCause m old new placed (FoldHint place) = ⊥
+IsCause m old new placed (DylinkSubsection id) = ⊥
+IsCause m old new placed Unreadable = ⊥
+IsCause m old new placed (Printer e) = PrinterFailed m old new
+IsCause m old new placed Memory = Unit {0}
+
+-- the error is answered for a cause, if bytes spell a module at all
+abbrev pub HasCause : {P : Type 0} → Meaning P → List ℕ → P → P → Error → Type 0
+HasCause m bytes old new e = (placed : PlacedModule) → Spells bytes placed → IsCause m old new placed e
+
+-- Of any bytes: the decoder's refusal is true, and the printer's comes only where a module within the limits is spelled.
+abbrev pub IsTrueOf : List ℕ → Error → Type 0
+IsTrueOf bytes (Printer e) = (placed : PlacedModule) × Spells bytes placed × IsWithinLimits placed
+IsTrueOf bytes e = IsRefusal bytes e
+
+-- the calls that were made are a beginning of the layout, if bytes spell a module at all
+pub record HasBegun {P : Type 0} (m : Meaning P) (o : Options) (bytes : List ℕ) (old new : P) : Type 0 where
+  pub calls : List Call
+  pub run : Run m old calls new
+  pub begins : (placed : PlacedModule) → Spells bytes placed → (answers : Answers) × (rest : List Call) × (atoms calls ++ rest ≡ atoms (layout o answers placed))
+
+-- What a refusal leaves. Where a call on the printer failed, the calls before it, followed by it, are a beginning of the layout, up to
+-- cutting; where memory was refused, the calls are one; after any other refusal no call was made.
+abbrev pub Leaves : {P : Type 0} → Meaning P → Options → List ℕ → P → P → Error → Type 0
+Leaves m o bytes old new (Printer e) = (placed : PlacedModule) → Spells bytes placed → (answers : Answers) × Broken m old new (layout o answers placed)
+Leaves m o bytes old new Memory = HasBegun m o bytes old new
+Leaves m o bytes old new e = new ≡ old

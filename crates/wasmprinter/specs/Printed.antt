@@ -1,0 +1,34 @@
+-- What it is that a module was printed: the headline.
+use Rattle.std.specs.Prelude.{◌≡◌, ℕ, List, false, Some, IsUtf8}
+use Rattle.std.specs.List.{AllByRecursion}
+use Rattle.wasmprinter_spec.specs.Binary.{Spells}
+use Rattle.wasmprinter_spec.specs.Placed.{PlacedModule}
+use Rattle.wasmprinter_spec.specs.Limits.{IsWithinLimits}
+use Rattle.wasmprinter_spec.specs.Module.{module_of}
+use Rattle.wasmprinter_spec.specs.Indexed.{IsIndexed}
+use Rattle.wasmprinter_spec.specs.Call.{Call, Claim, atoms, text_of}
+use Rattle.wasmprinter_spec.specs.Colour.{uncolour}
+use Rattle.wasmprinter_spec.specs.Meaning.{Meaning, Run}
+use Rattle.wasmprinter_spec.specs.Options.{Options, Answers, IsBlank}
+use Rattle.wasmprinter_spec.specs.Layout.{layout}
+use Rattle.wasmprinter_spec.specs.Read.{read}
+
+-- the printer didn't take a custom section itself
+abbrev pub IsUnclaimed : Call → Type 0
+IsUnclaimed (Claim name place bytes answer) = answer ≡ false
+IsUnclaimed _ = Unit {0}
+
+-- The printer's state is a run from the old one over calls that are alike the layout of the module that the bytes spell. Their text, colour
+-- sequences deleted, reads as exactly that module, where every used index is declared, bodies are printed, the indent is blank and
+-- no custom section was claimed.
+pub record Printed {P : Type 0} (m : Meaning P) (o : Options) (bytes : List ℕ) (old new : P) : Type 0 where
+  pub placed : PlacedModule
+  pub spelled : Spells bytes placed
+  pub within : IsWithinLimits placed
+  pub answers : Answers
+  pub calls : List Call
+  pub run : Run m old calls new
+  pub alike : atoms calls ≡ atoms (layout o answers placed)
+  pub reads : IsIndexed (module_of placed) → o.skeleton ≡ false → IsBlank o.indent → AllByRecursion IsUnclaimed calls →
+      read (uncolour (text_of calls)) ≡ Some (module_of placed)
+  pub utf8 : IsBlank o.indent → IsUtf8 (text_of calls)

@@ -1,0 +1,98 @@
+//! How a module is printed.
+ghost use Rattle.std.specs.Prelude.{◌≡◌, false, OnOk, IfErr};
+ghost use Rattle.wasmprinter.specs.Printed.{Printed};
+ghost use Rattle.wasmprinter.specs.Outcome.{HasCause, IsTrueOf, Leaves};
+
+use crate::sections::write_module;
+use std::alloc::Global;
+use std::marker::Model;
+use wasmprinter_bytes::Error;
+use wasmprinter_bytes::print::Print;
+use wasmprinter_text::layout::Layout;
+use wasmprinter_wasm::decode;
+
+/// The text of one level of nesting. The default of two blanks owns no memory.
+#[derive(Debug, Drop)]
+enum Indent {
+    TwoBlanks,
+}
+
+/// What is printed of a module, and how.
+#[derive(Debug, Drop)]
+pub struct Config {
+    print_offsets: bool,
+    print_skeleton: bool,
+    indent: Indent,
+}
+
+impl Model for Config {
+    ghost use Rattle.wasmprinter_spec.specs.Options.{Options};
+
+    ghost Value = { Options };
+
+    ghost use Rattle.wasmprinter.specs.Indents.{text_of};
+
+    ghost view = { λ c. record { offsets = c.print_offsets; skeleton = c.print_skeleton; indent = text_of c.indent } };
+}
+
+impl Config {
+    ghost use Rattle.wasmprinter_spec.specs.Options.{defaults};
+
+    /// No places in front of lines, bodies in full, and an indent of two blanks. Takes no memory.
+    pub fn new() -> Config
+        ensures { result ≡ defaults }
+    {
+        Config {
+            print_offsets: false,
+            print_skeleton: false,
+            indent: Indent::TwoBlanks,
+        }
+    }
+
+    fn indent(&self) -> &str
+        ensures { result.now ≡ self.now.indent }
+    {
+        match &self.indent {
+            Indent::TwoBlanks => "  ",
+        }
+    }
+
+    fn layout(&self) -> Layout<'_>
+        ensures { result ≡ self.now }
+    {
+        Layout {
+            offsets: self.print_offsets,
+            skeleton: self.print_skeleton,
+            indent: self.indent(),
+        }
+    }
+
+    /// Prints the text of a module in the binary format to a printer.
+    ///
+    /// The module is read and checked whole before the first call on the printer.
+    ///
+    /// # Errors
+    ///
+    /// `Component`, `Malformed`, `TooManyLocals` and `TooManyFunctions` as `decode` answers them; `Printer` where a call on the
+    /// printer failed; `Memory` where a growth was refused.
+    pub fn print<P: Print>(&self, alloc: Global, wasm: &[u8], printer: &mut P) -> Result<(), Error>
+        ensures printed { OnOk result (Printed P.meaning self.now wasm.now printer.old printer.new) }
+        ensures caused { IfErr result (HasCause P.meaning wasm.now printer.old printer.new) }
+        ensures refused { IfErr result (IsTrueOf wasm.now) }
+        ensures left { IfErr result (Leaves P.meaning self.now wasm.now printer.old printer.new) }
+    {
+        let module = decode(alloc, wasm)?;
+        write_module(printer, &self.layout(), &module)
+    }
+}
+
+impl Default for Config {
+    ghost use Rattle.std.specs.Prelude.{◌≡◌};
+    ghost use Rattle.wasmprinter_spec.specs.Options.{defaults};
+
+    ghost is_default = { λ c. c ≡ defaults };
+
+    fn default() -> Config {
+        Config::new()
+    }
+}

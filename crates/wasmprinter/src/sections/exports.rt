@@ -1,0 +1,36 @@
+//! Exports (section 6.6.8 of the WebAssembly Core Specification).
+ghost use Rattle.std.specs.Prelude.{[], ◌∷◌, ◌++◌, chars, codes};
+ghost use Rattle.wasmprinter_spec.specs.Options.{Options};
+ghost use Rattle.wasmprinter_spec.specs.Piece.{Gap, OpenGap, Shut, Number, Quoted};
+ghost use Rattle.wasmprinter_spec.specs.Layout.{group_gap, export_pieces};
+ghost use Rattle.wasmprinter_bytes.specs.Prints.{Prints};
+
+use crate::sections::FIELD_NESTING;
+use wasmprinter_bytes::Error;
+use wasmprinter_bytes::print::Print;
+use wasmprinter_text::layout::Layout;
+use wasmprinter_text::text::{break_line, gap, open_gap, shut, write_index, write_quoted};
+use wasmprinter_wasm::Export;
+
+fn write_export_group<P: Print>(p: &mut P, export: &Export<'_>) -> Result<(), Error>
+    ensures { (o : Options) → Prints P.meaning o p.old p.new result
+        (OpenGap (codes "export") ∷ (Quoted (chars export.now.value.name) ∷ (Gap ∷ (group_gap 2 (codes "func") (Number export.now.value.function ∷ []) ++ (Shut ∷ []))))) }
+{
+    open_gap(p, "export")?;
+    write_quoted(p, export.name())?;
+    gap(p)?;
+    write_index(p, "func", export.function())?;
+    shut(p)
+}
+
+/// Writes an export.
+pub(crate) fn write_export<P: Print>(
+    p: &mut P,
+    layout: &Layout<'_>,
+    export: &Export<'_>,
+) -> Result<(), Error>
+    ensures { Prints P.meaning layout.now p.old p.new result (export_pieces export.now) }
+{
+    break_line(p, layout, Some(export.place()), FIELD_NESTING)?;
+    write_export_group(p, export)
+}

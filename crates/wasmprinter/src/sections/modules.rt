@@ -1,0 +1,101 @@
+//! Modules (section 6.6.13 of the WebAssembly Core Specification).
+ghost use Rattle.std.specs.Prelude.{◌≡◌, [], ◌∷◌, ◌++◌, ◌||◌, Some, codes};
+ghost use Rattle.wasmprinter_spec.specs.Options.{Options};
+ghost use Rattle.wasmprinter_spec.specs.Piece.{Begin, Feed, Open};
+ghost use Rattle.wasmprinter_spec.specs.Layout.{has_break, close, numbered, type_pieces, export_pieces, function_pieces, field_pieces, module_pieces};
+ghost use Rattle.wasmprinter_bytes.specs.Prints.{Prints};
+
+use crate::sections::exports::write_export;
+use crate::sections::functions::write_function;
+use crate::sections::types::write_type;
+use wasmprinter_bytes::Error;
+use wasmprinter_bytes::print::Print;
+use wasmprinter_text::layout::Layout;
+use wasmprinter_text::text::{begin, close_at, end, open};
+use wasmprinter_wasm::{Export, FuncType, Module};
+
+fn write_types<P: Print>(
+    p: &mut P,
+    layout: &Layout<'_>,
+    types: &[FuncType<'_>],
+) -> Result<(), Error>
+    ensures { Prints P.meaning layout.now p.old p.new result (numbered type_pieces 0 types.now) }
+{
+    for (number, func_type) in types.iter().enumerate() {
+        write_type(p, layout, number as u64, func_type)?;
+    }
+    Ok(())
+}
+
+fn write_exports<P: Print>(
+    p: &mut P,
+    layout: &Layout<'_>,
+    exports: &[Export<'_>],
+) -> Result<(), Error>
+    ensures { Prints P.meaning layout.now p.old p.new result (numbered (λ i e. export_pieces e) 0 exports.now) }
+{
+    for export in exports {
+        write_export(p, layout, export)?;
+    }
+    Ok(())
+}
+
+fn write_functions<P: Print>(
+    p: &mut P,
+    layout: &Layout<'_>,
+    module: &Module<'_>,
+) -> Result<(), Error>
+    ensures { Prints P.meaning layout.now p.old p.new result (numbered (function_pieces layout.now module.now.types) 0 module.now.functions) }
+{
+    for number in 0..module.function_count() {
+        let function = module.function(number);
+        write_function(p, layout, module.types(), number, &function)?;
+    }
+    Ok(())
+}
+
+/// Writes the fields in the order of their sections.
+#[tactic(auto, unfolding(wasmprinter_spec::specs::Layout::field_pieces))]
+fn write_fields<P: Print>(p: &mut P, layout: &Layout<'_>, module: &Module<'_>) -> Result<(), Error>
+    ensures { Prints P.meaning layout.now p.old p.new result (field_pieces layout.now module.now) }
+{
+    write_types(p, layout, module.types())?;
+    write_exports(p, layout, module.exports())?;
+    write_functions(p, layout, module)
+}
+
+/// Whether the module has a field, each of which begins a line.
+fn has_fields(module: &Module<'_>) -> bool
+    ensures { (o : Options) → result ≡ has_break (field_pieces o module.now) }
+{
+    if !module.types().is_empty() {
+        return true;
+    }
+    if !module.exports().is_empty() {
+        return true;
+    }
+    module.function_count() != 0
+}
+
+fn write_lines<P: Print>(p: &mut P, layout: &Layout<'_>, module: &Module<'_>) -> Result<(), Error>
+    ensures { Prints P.meaning layout.now p.old p.new result
+        (Begin 0 ∷ (Open (codes "module") ∷ (field_pieces layout.now module.now
+        ++ (close (Some module.now.size) 0 (layout.now.offsets || has_break (field_pieces layout.now module.now)) ++ (Feed ∷ []))))) }
+{
+    begin(p, 0)?;
+    open(p, "module")?;
+    write_fields(p, layout, module)?;
+    close_at(p, layout, module.size(), 0, has_fields(module))?;
+    end(p)
+}
+
+/// Writes a module.
+pub(crate) fn write_module<P: Print>(
+    p: &mut P,
+    layout: &Layout<'_>,
+    module: &Module<'_>,
+) -> Result<(), Error>
+    ensures { Prints P.meaning layout.now p.old p.new result (module_pieces layout.now module.now) }
+{
+    write_lines(p, layout, module)
+}

@@ -1,0 +1,39 @@
+//! Types (section 6.6.1 of the WebAssembly Core Specification).
+ghost use Rattle.std.specs.Prelude.{[], ◌∷◌, ◌++◌, codes};
+ghost use Rattle.wasmprinter_spec.specs.Options.{Options};
+ghost use Rattle.wasmprinter_spec.specs.Piece.{Gap, Open, OpenGap, Shut, Mark};
+ghost use Rattle.wasmprinter_spec.specs.Layout.{signature_pieces, type_pieces};
+ghost use Rattle.wasmprinter_bytes.specs.Prints.{Prints};
+
+use crate::sections::FIELD_NESTING;
+use wasmprinter_bytes::Error;
+use wasmprinter_bytes::print::Print;
+use wasmprinter_text::layout::Layout;
+use wasmprinter_text::text::{break_line, gap, mark, open, open_gap, shut, signature};
+use wasmprinter_wasm::FuncType;
+
+fn write_type_group<P: Print>(p: &mut P, number: u64, func_type: &FuncType<'_>) -> Result<(), Error>
+    ensures { (o : Options) → Prints P.meaning o p.old p.new result
+        (OpenGap (codes "type") ∷ (Mark number ∷ (Gap ∷ (Open (codes "func") ∷ (signature_pieces 2 func_type.now.value ++ (Shut ∷ (Shut ∷ []))))))) }
+{
+    open_gap(p, "type")?;
+    mark(p, number)?;
+    gap(p)?;
+    open(p, "func")?;
+    signature(p, func_type)?;
+    shut(p)?;
+    shut(p)
+}
+
+/// Writes the type with the number.
+pub(crate) fn write_type<P: Print>(
+    p: &mut P,
+    layout: &Layout<'_>,
+    number: u64,
+    func_type: &FuncType<'_>,
+) -> Result<(), Error>
+    ensures { Prints P.meaning layout.now p.old p.new result (type_pieces number func_type.now) }
+{
+    break_line(p, layout, Some(func_type.place()), FIELD_NESTING)?;
+    write_type_group(p, number, func_type)
+}

@@ -1,0 +1,12 @@
+use Rattle.wasmprinter_spec.specs.Call as call
+use Rattle.wasmprinter_spec.specs.Call.{Style}
+use Rattle.wasmprinter_bytes.specs.declared.print.calls.Style.{Style as Chosen}
+use Rattle.wasmprinter_bytes.specs.declared.print.calls.Style.TheVariants.{Literal, Name, Keyword, TypeName, Comment}
+
+-- the style that is chosen
+abbrev pub style_of : Chosen → Style
+style_of Literal = call.Literal
+style_of Name = call.Name
+style_of Keyword = call.Keyword
+style_of TypeName = call.TypeName
+style_of Comment = call.Comment

@@ -1,0 +1,9 @@
+pub mod Runs
+pub mod Numbers
+pub mod Quotes
+pub mod Grown
+pub mod Printed
+pub mod Pieces
+pub mod Writes
+pub mod PrintedPieces
+pub mod Alike

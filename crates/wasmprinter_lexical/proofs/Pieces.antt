@@ -1,0 +1,207 @@
+-- One piece, and pieces behind one another: their text lexes to their tokens, and all its bytes are printed ones.
+use Rattle.std.proofs.Common.{◌≡◌, ℕ, zero, suc, ◌<◌, ◌-◌, ◌^◌, Bool, true, false, ◌&&◌, min, List, [], ◌∷◌, ◌++◌, Option, Some, None, refl, sym, ap, ◌∙◌, append_assoc, append-nil, true≢false, codes, decimal, replicate, length, ◌⊎◌, inl, inr}
+use Rattle.std.proofs.lemmas.Bool.{and_parts, and_from}
+use Rattle.std.specs.Fmt.{signed_decimal, digits}
+use Rattle.std.specs.Int.Signed.{mag}
+use Rattle.std.proofs.Math.Utf8.{scalars}
+use Rattle.wasmprinter_spec.specs.Character.{class}
+use Rattle.wasmprinter_spec.specs.Call.{Call, Text, call_text, text_of}
+use Rattle.wasmprinter_spec.specs.Options.{Options, IsBlank}
+use Rattle.wasmprinter_spec.specs.Quoted.{quoted_text}
+use Rattle.wasmprinter_spec.specs.Token.{Clear, lex}
+use Rattle.wasmprinter_spec.specs.Piece.{Piece, Begin, Feed, Break, Gap, Open, OpenGap, Shut, Word, TypeWord, Number, Constant, Mark, Quoted, repeated, left_in, place_text, place_calls, most_indents, calls, text, piece_tokens, all_calls, all_tokens}
+use Rattle.wasmprinter_lexical.proofs.Runs.{is_quiet, is_word, all_quiet, all_blank, is_blank_class, delimited, word_lexes, open_lexes, blanks_lex, comment_lexes}
+use Rattle.wasmprinter_lexical.proofs.Numbers.{is_word-decimal, is_word-signed_decimal, all_quiet-decimal}
+use Rattle.wasmprinter_lexical.proofs.Quotes.{text_lexes}
+use Rattle.wasmprinter_lexical.proofs.Printed.{hex_digits_are_good}
+
+-- ---- which piece may stand behind which
+
+-- what a piece leaves: anything may follow, or only what a token may end before
+pub data Edge : Type 0 where
+  Free : Edge
+  Bound : Edge
+
+-- begins with what a token may end before
+abbrev pub begins : Piece → Bool
+begins (Begin place) = false
+begins (Word w) = false
+begins (TypeWord w) = false
+begins (Number n) = false
+begins (Quoted cs) = false
+begins _ = true
+
+abbrev pub leaves : Piece → Edge
+leaves (Open w) = Bound
+leaves (Word w) = Bound
+leaves (TypeWord w) = Bound
+leaves (Number n) = Bound
+leaves (Constant z) = Bound
+leaves (Quoted cs) = Bound
+leaves _ = Free
+
+abbrev pub may_follow : Edge → Piece → Bool
+may_follow Free p = true
+may_follow Bound p = begins p
+
+abbrev pub joined : Edge → List Piece → Bool
+joined e [] = true
+joined e (p ∷ ps) = may_follow e p && joined (leaves p) ps
+
+-- what a piece holds is what its kind holds
+abbrev pub IsPiece : Piece → Type 0
+IsPiece (Open w) = is_word w ≡ true
+IsPiece (OpenGap w) = is_word w ≡ true
+IsPiece (Word w) = is_word w ≡ true
+IsPiece (TypeWord w) = is_word w ≡ true
+IsPiece (Number n) = n < 2 ^ 64
+IsPiece (Constant z) = mag z < 2 ^ 63
+IsPiece (Mark n) = n < 2 ^ 64
+IsPiece (Quoted cs) = scalars cs ≡ true
+IsPiece _ = Unit {0}
+
+abbrev pub ArePieces : List Piece → Type 0
+ArePieces [] = Unit {0}
+ArePieces (p ∷ ps) = IsPiece p × ArePieces ps
+
+abbrev pub follows : Edge → List ℕ → Bool
+follows Free rest = true
+follows Bound rest = delimited rest
+
+-- ---- a new line
+
+-- blanks and tabs
+is_blank_byte : (b : ℕ) → (b ≡ 32) ⊎ (b ≡ 9) → is_blank_class (class b) ≡ true
+unfolding class
+is_blank_byte b (inl e) = ap (λ c. is_blank_class (class c)) e
+is_blank_byte b (inr e) = ap (λ c. is_blank_class (class c)) e
+
+pub all_blank-IsBlank : (bs : List ℕ) → IsBlank bs → all_blank bs ≡ true
+all_blank-IsBlank [] h = refl
+all_blank-IsBlank (b ∷ bs) h = and_from (is_blank_class (class b)) (all_blank bs) (is_blank_byte b h.0) (all_blank-IsBlank bs h.1)
+
+all_blank-append : (a b : List ℕ) → all_blank a ≡ true → all_blank b ≡ true → all_blank (a ++ b) ≡ true
+all_blank-append [] b h k = k
+all_blank-append (c ∷ cs) b h k =
+    let parts : (is_blank_class (class c) ≡ true) × (all_blank cs ≡ true) = and_parts (is_blank_class (class c)) (all_blank cs) h in
+    and_from (is_blank_class (class c)) (all_blank (cs ++ b)) parts.0 (all_blank-append cs b parts.1 k)
+
+pub all_blank-repeated : (n : ℕ) (bs : List ℕ) → all_blank bs ≡ true → all_blank (repeated n bs) ≡ true
+unfolding repeated
+all_blank-repeated zero bs h = refl
+all_blank-repeated (suc n) bs h = all_blank-append bs (repeated n bs) h (all_blank-repeated n bs h)
+
+all_blank-blanks : (n : ℕ) → all_blank (replicate n 32) ≡ true
+unfolding class
+all_blank-blanks zero = refl
+all_blank-blanks (suc n) = all_blank-blanks n
+
+all_quiet-append : (a b : List ℕ) → all_quiet a ≡ true → all_quiet b ≡ true → all_quiet (a ++ b) ≡ true
+all_quiet-append [] b h k = k
+all_quiet-append (c ∷ cs) b h k =
+    let parts : (is_quiet (class c) ≡ true) × (all_quiet cs ≡ true) = and_parts (is_quiet (class c)) (all_quiet cs) h in
+    and_from (is_quiet (class c)) (all_quiet (cs ++ b)) parts.0 (all_quiet-append cs b parts.1 k)
+
+all_quiet-blanks : (n : ℕ) → all_quiet (replicate n 32) ≡ true
+unfolding class
+all_quiet-blanks zero = refl
+all_quiet-blanks (suc n) = all_quiet-blanks n
+
+all_quiet-left_in : (n p : ℕ) → all_quiet (left_in n (digits 16 false p)) ≡ true
+unfolding left_in
+all_quiet-left_in n p =
+    all_quiet-append (digits 16 false p) (replicate (n - length (digits 16 false p)) 32) (hex_digits_are_good p).1 (all_quiet-blanks (n - length (digits 16 false p)))
+
+-- the place at the beginning of a line is a comment or blanks
+place_lexes : (place : Option ℕ) (rest : List ℕ) → lex Clear (place_text place ++ rest) ≡ lex Clear rest
+unfolding place_text class
+place_lexes (Some p) rest =
+    ap (λ t. lex Clear (40 ∷ (59 ∷ (64 ∷ t)))) (append_assoc (left_in 6 (digits 16 false p)) (codes ";)") rest)
+    ∙ comment_lexes (64 ∷ left_in 6 (digits 16 false p)) rest (all_quiet-left_in 6 p)
+place_lexes None rest = blanks_lex (replicate 11 32) rest (all_blank-blanks 11)
+
+-- the text of calls, one after another
+pub text_of-append : (cs ds : List Call) → text_of (cs ++ ds) ≡ text_of cs ++ text_of ds
+text_of-append [] ds = refl
+text_of-append (c ∷ cs) ds = ap (λ t. call_text c ++ t) (text_of-append cs ds) ∙ sym (append_assoc (call_text c) (text_of cs) (text_of ds))
+
+place_calls_lex : (offsets : Bool) (place : Option ℕ) (rest : List ℕ) → lex Clear (text_of (place_calls offsets place) ++ rest) ≡ lex Clear rest
+place_calls_lex false place rest = refl
+place_calls_lex true (Some p) rest = ap (λ t. lex Clear (t ++ rest)) (append-nil (place_text (Some p))) ∙ place_lexes (Some p) rest
+place_calls_lex true None rest = ap (λ t. lex Clear (t ++ rest)) (append-nil (place_text None)) ∙ place_lexes None rest
+
+indent_lexes : (offsets : Bool) (place : Option ℕ) (indent rest : List ℕ) → all_blank indent ≡ true →
+    lex Clear (text_of (place_calls offsets place ++ (Text indent ∷ [])) ++ rest) ≡ lex Clear rest
+indent_lexes offsets place indent rest h =
+    ap (λ t. lex Clear (t ++ rest)) (text_of-append (place_calls offsets place) (Text indent ∷ []))
+    ∙ ap (lex Clear) (append_assoc (text_of (place_calls offsets place)) (indent ++ []) rest)
+    ∙ place_calls_lex offsets place ((indent ++ []) ++ rest)
+    ∙ ap (λ t. lex Clear (t ++ rest)) (append-nil indent)
+    ∙ blanks_lex indent rest h
+
+-- ---- one piece
+
+module _ (o : Options) (blank : all_blank o.indent ≡ true) where
+  piece_lexes : (p : Piece) (rest : List ℕ) → IsPiece p → follows (leaves p) rest ≡ true → lex Clear (text o p ++ rest) ≡ piece_tokens p ++ lex Clear rest
+  unfolding lex class
+  piece_lexes (Begin place) rest h d = refl
+  piece_lexes Feed rest h d = refl
+  piece_lexes (Break place nesting) rest h d =
+      indent_lexes o.offsets place (repeated (min nesting most_indents) o.indent) rest (all_blank-repeated (min nesting most_indents) o.indent blank)
+  piece_lexes Gap rest h d = refl
+  piece_lexes (Open w) rest h d =
+      ap (λ t. lex Clear (40 ∷ (t ++ rest))) (append-nil w) ∙ open_lexes w rest h d
+  piece_lexes (OpenGap w) rest h d =
+      ap (λ t. lex Clear (40 ∷ (t ++ rest))) (append-nil (w ++ (32 ∷ [])))
+      ∙ ap (λ t. lex Clear (40 ∷ t)) (append_assoc w (32 ∷ []) rest)
+      ∙ open_lexes w (32 ∷ rest) h refl
+  piece_lexes Shut rest h d = refl
+  piece_lexes (Word w) rest h d = ap (λ t. lex Clear (t ++ rest)) (append-nil w) ∙ word_lexes w rest h d
+  piece_lexes (TypeWord w) rest h d = ap (λ t. lex Clear (t ++ rest)) (append-nil w) ∙ word_lexes w rest h d
+  piece_lexes (Number n) rest h d = ap (λ t. lex Clear (t ++ rest)) (append-nil (decimal n)) ∙ word_lexes (decimal n) rest (is_word-decimal n h) d
+  piece_lexes (Constant z) rest h d = ap (λ t. lex Clear (t ++ rest)) (append-nil (signed_decimal z)) ∙ word_lexes (signed_decimal z) rest (is_word-signed_decimal z h) d
+  piece_lexes (Mark n) rest h d =
+      ap (λ t. lex Clear (40 ∷ (59 ∷ (t ++ rest)))) (append-nil (decimal n ++ codes ";)"))
+      ∙ ap (λ t. lex Clear (40 ∷ (59 ∷ t))) (append_assoc (decimal n) (codes ";)") rest)
+      ∙ comment_lexes (decimal n) rest (all_quiet-decimal n h)
+  piece_lexes (Quoted cs) rest h d =
+      ap (λ t. lex Clear (t ++ rest)) (append-nil (quoted_text cs)) ∙ text_lexes cs rest h d
+
+begins_delimited : (o : Options) (p : Piece) (rest : List ℕ) → begins p ≡ true → delimited (text o p ++ rest) ≡ true
+unfolding class
+begins_delimited o (Begin place) rest h = absurd (true≢false (sym h))
+begins_delimited o Feed rest h = refl
+begins_delimited o (Break place nesting) rest h = refl
+begins_delimited o Gap rest h = refl
+begins_delimited o (Open w) rest h = refl
+begins_delimited o (OpenGap w) rest h = refl
+begins_delimited o Shut rest h = refl
+begins_delimited o (Word w) rest h = absurd (true≢false (sym h))
+begins_delimited o (TypeWord w) rest h = absurd (true≢false (sym h))
+begins_delimited o (Number n) rest h = absurd (true≢false (sym h))
+begins_delimited o (Constant z) rest h = refl
+begins_delimited o (Mark n) rest h = refl
+begins_delimited o (Quoted cs) rest h = absurd (true≢false (sym h))
+
+-- ---- pieces behind one another
+
+abbrev pub all_text : Options → List Piece → List ℕ
+all_text o [] = []
+all_text o (p ∷ ps) = text o p ++ all_text o ps
+
+pub text_of-all_calls : (o : Options) (ps : List Piece) → text_of (all_calls o ps) ≡ all_text o ps
+text_of-all_calls o [] = refl
+text_of-all_calls o (p ∷ ps) = text_of-append (calls o p) (all_calls o ps) ∙ ap (λ t. text o p ++ t) (text_of-all_calls o ps)
+
+follows_first : (o : Options) (e : Edge) (ps : List Piece) → joined e ps ≡ true → follows e (all_text o ps) ≡ true
+follows_first o Free ps h = refl
+follows_first o Bound [] h = refl
+follows_first o Bound (p ∷ ps) h = begins_delimited o p (all_text o ps) (and_parts (begins p) (joined (leaves p) ps) h).0
+
+pub pieces_lex : (o : Options) → IsBlank o.indent → (e : Edge) (ps : List Piece) → joined e ps ≡ true → ArePieces ps → lex Clear (all_text o ps) ≡ all_tokens ps
+unfolding lex
+pieces_lex o blank e [] h a = refl
+pieces_lex o blank e (p ∷ ps) h a =
+    let parts : (may_follow e p ≡ true) × (joined (leaves p) ps ≡ true) = and_parts (may_follow e p) (joined (leaves p) ps) h in
+    piece_lexes o (all_blank-IsBlank o.indent blank) p (all_text o ps) a.0 (follows_first o (leaves p) ps parts.1)
+    ∙ ap (λ t. piece_tokens p ++ t) (pieces_lex o blank (leaves p) ps parts.1 a.1)

@@ -1,0 +1,113 @@
+-- Printed bytes: a line feed, a tab, or from the blank to the tilde. So printed text is UTF-8, and no byte in it begins a colour sequence.
+use Rattle.std.proofs.Common.{◌≡◌, ℕ, zero, suc, ◌<◌, ◌≤◌, ◌/◌, ◌%◌, Bool, true, false, ◌&&◌, ◌||◌, not, cond, leb, ltb, eqb, List, [], ◌∷◌, ◌++◌, refl, sym, ap, ◌∙◌, arith, true≢false}
+use Rattle.std.proofs.lemmas.Bool.{and_parts, and_from, agree_below, agree_below_at, ltb-true, ltb-false, le-ltb, le-leb, ne_eqb}
+use Rattle.std.specs.Fmt.{digits, digits_onto, digit_glyph}
+use Rattle.wasmprinter_spec.specs.Character.{Class, Foreign, class}
+use Rattle.wasmprinter_lexical.proofs.Runs.{runs, is_quiet, is_blank_class, all_run, all_quiet, all_blank}
+
+abbrev pub is_printed : ℕ → Bool
+is_printed b = eqb b 10 || eqb b 9 || (leb 32 b && leb b 126)
+
+abbrev pub all_printed : List ℕ → Bool
+all_printed [] = true
+all_printed (b ∷ bs) = is_printed b && all_printed bs
+
+pub all_printed-append : (a b : List ℕ) → all_printed a ≡ true → all_printed b ≡ true → all_printed (a ++ b) ≡ true
+all_printed-append [] b h k = k
+all_printed-append (c ∷ cs) b h k =
+    let parts : (is_printed c ≡ true) × (all_printed cs ≡ true) = and_parts (is_printed c) (all_printed cs) h in
+    and_from (is_printed c) (all_printed (cs ++ b)) parts.0 (all_printed-append cs b parts.1 k)
+
+-- ---- bytes of a class
+
+-- a byte from 128 on is foreign
+class-foreign : (b : ℕ) → 128 ≤ b → class b ≡ Foreign
+unfolding class
+class-foreign b h =
+    rw (
+      ne_eqb b 32 (λ e. omega arith),
+      ne_eqb b 9 (λ e. omega arith),
+      ne_eqb b 10 (λ e. omega arith),
+      ne_eqb b 13 (λ e. omega arith),
+      ne_eqb b 40 (λ e. omega arith),
+      ne_eqb b 41 (λ e. omega arith),
+      ne_eqb b 59 (λ e. omega arith),
+      ne_eqb b 34 (λ e. omega arith),
+      ne_eqb b 92 (λ e. omega arith),
+      ne_eqb b 36 (λ e. omega arith),
+      ne_eqb b 64 (λ e. omega arith),
+      ne_eqb b 44 (λ e. omega arith),
+      ne_eqb b 91 (λ e. omega arith),
+      ne_eqb b 93 (λ e. omega arith),
+      ne_eqb b 123 (λ e. omega arith),
+      ne_eqb b 125 (λ e. omega arith),
+      le-ltb b 32 (omega arith),
+      ne_eqb b 127 (λ e. omega arith),
+      le-leb 128 b h,
+    )
+
+-- a test of classes that no foreign byte passes, and below 128 only printed ones
+module _ (good : Class → Bool) (none : good Foreign ≡ false) (low : agree_below (λ b. not (good (class b)) || is_printed b) (λ b. true) 128 ≡ true) where
+  printed_by_class : (b : ℕ) → good (class b) ≡ true → is_printed b ≡ true
+  printed_by_class b h = by (ltb b 128) refl
+    where
+      by : (t : Bool) → ltb b 128 ≡ t → is_printed b ≡ true
+      by true e =
+          let k : (not (good (class b)) || is_printed b) ≡ true = agree_below_at (λ b. not (good (class b)) || is_printed b) (λ b. true) 128 b low (ltb-true b 128 e) in
+          rw h at k
+      by false e = absurd (true≢false (sym h ∙ ap good (class-foreign b (ltb-false b 128 e)) ∙ none))
+
+runs_low : agree_below (λ b. not (runs (class b)) || is_printed b) (λ b. true) 128 ≡ true
+unfolding class
+runs_low = refl
+
+pub all_printed-run : (w : List ℕ) → all_run w ≡ true → all_printed w ≡ true
+all_printed-run [] h = refl
+all_printed-run (b ∷ bs) h =
+    let parts : (runs (class b) ≡ true) × (all_run bs ≡ true) = and_parts (runs (class b)) (all_run bs) h in
+    and_from (is_printed b) (all_printed bs) (printed_by_class runs refl runs_low b parts.0) (all_printed-run bs parts.1)
+
+blank_low : agree_below (λ b. not (is_blank_class (class b)) || is_printed b) (λ b. true) 128 ≡ true
+unfolding class
+blank_low = refl
+
+pub all_printed-blank : (w : List ℕ) → all_blank w ≡ true → all_printed w ≡ true
+all_printed-blank [] h = refl
+all_printed-blank (b ∷ bs) h =
+    let parts : (is_blank_class (class b) ≡ true) × (all_blank bs ≡ true) = and_parts (is_blank_class (class b)) (all_blank bs) h in
+    and_from (is_printed b) (all_printed bs) (printed_by_class is_blank_class refl blank_low b parts.0) (all_printed-blank bs parts.1)
+
+-- ---- hexadecimal digits of any number
+
+good_glyph : ℕ → Bool
+good_glyph d = is_printed (digit_glyph false d) && is_quiet (class (digit_glyph false d))
+
+glyphs_low : agree_below good_glyph (λ d. true) 16 ≡ true
+unfolding good_glyph class
+glyphs_low = refl
+
+glyph_is_good : (d : ℕ) → d < 16 → (is_printed (digit_glyph false d) ≡ true) × (is_quiet (class (digit_glyph false d)) ≡ true)
+unfolding good_glyph
+glyph_is_good d h = and_parts _ _ (agree_below_at good_glyph (λ x. true) 16 d glyphs_low h)
+
+-- printed, and neither begins nor ends a comment
+abbrev good : List ℕ → Type 0
+good bs = (all_printed bs ≡ true) × (all_quiet bs ≡ true)
+
+good_digit : (d : ℕ) (bs : List ℕ) → d < 16 → good bs → good (digit_glyph false d ∷ bs)
+good_digit d bs h g =
+    let one = glyph_is_good d h in
+    (and_from (is_printed (digit_glyph false d)) (all_printed bs) one.0 g.0, and_from (is_quiet (class (digit_glyph false d))) (all_quiet bs) one.1 g.1)
+
+good_digits : (k n : ℕ) (bs : List ℕ) → good bs → good (digits_onto k 16 false n bs)
+good_digits zero n bs g = g
+good_digits (suc k) n bs g =
+    by _ _ (eqb (n / 16) 0) (good_digit (n % 16) bs (omega arith) g) (good_digits k (n / 16) (digit_glyph false (n % 16) ∷ bs) (good_digit (n % 16) bs (omega arith) g))
+  where
+    by : (a b : List ℕ) (t : Bool) → good a → good b → good (cond t a b)
+    by a b true x y = x
+    by a b false x y = y
+
+pub hex_digits_are_good : (n : ℕ) → (all_printed (digits 16 false n) ≡ true) × (all_quiet (digits 16 false n) ≡ true)
+unfolding digits
+hex_digits_are_good n = good_digits 64 n [] (refl, refl)

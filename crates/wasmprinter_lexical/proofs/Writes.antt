@@ -1,0 +1,260 @@
+-- What pieces read as. `Writes a ps b f`: behind the edge a the pieces ps may stand, they leave the edge b, and their tokens are those of
+-- the items f, annotations cut out, of which none is a custom section in this row or in a group of it. One rule for each piece and each kind of group; `search writing`
+-- finds whole derivations.
+use Rattle.std.proofs.Common.{◌≡◌, ℕ, ℤ, ◌<◌, ◌^◌, Bool, true, false, ◌||◌, List, [], ◌∷◌, ◌++◌, Option, Some, None, refl, sym, ap, ap₂, ◌∙◌, append_assoc, append-nil, decimal, subst, encode_utf8_all}
+use Rattle.std.proofs.lemmas.Bool.{and_parts, and_from}
+use Rattle.std.specs.Fmt.{signed_decimal}
+use Rattle.std.specs.Int.Signed.{mag}
+use Rattle.std.proofs.Math.Utf8.{scalars}
+use Rattle.wasmprinter_spec.specs.Call.{text_of}
+use Rattle.wasmprinter_spec.specs.Options.{Options, IsBlank}
+use Rattle.wasmprinter_spec.specs.Token.{left, right, word, string, tokens}
+use Rattle.wasmprinter_spec.specs.Forest.{Forest, End, Word, String, Group, flat, onto, cut, row_customs, customs, forest, the_one, grow}
+use Rattle.wasmprinter_spec.specs.Piece as piece
+use Rattle.wasmprinter_spec.specs.Piece.{Piece, Begin, Feed, Break, Gap, Open, OpenGap, Shut, TypeWord, Number, Constant, Mark, Quoted, all_calls, all_tokens, piece_tokens}
+use Rattle.wasmprinter_spec.specs.Layout.{group, group_gap, group_at, group_gap_at, close, has_break}
+use Rattle.wasmprinter_lexical.proofs.Runs.{is_word}
+use Rattle.wasmprinter_lexical.proofs.Grown.{flat-onto, one-flat, cut-onto, row_customs-onto, customs-onto}
+use Rattle.wasmprinter_lexical.proofs.Pieces.{Edge, Free, Bound, begins, leaves, may_follow, joined, ArePieces, text_of-all_calls, pieces_lex}
+
+pub record Writes (a : Edge) (ps : List Piece) (b : Edge) (f : Forest) : Type 0 where
+  pub joins : (qs : List Piece) → joined b qs ≡ true → joined a (ps ++ qs) ≡ true
+  pub are : ArePieces ps
+  pub whole : Forest
+  pub tokens : all_tokens ps ≡ flat whole
+  pub without : cut whole ≡ f
+  pub in_row : row_customs whole ≡ []
+  pub in_groups : customs whole ≡ []
+
+-- ---- what follows from it
+
+pub writes_tokens : {b : Edge} {f : Forest} (o : Options) → IsBlank o.indent → (ps : List Piece) → Writes Free ps b f → tokens (text_of (all_calls o ps)) ≡ all_tokens ps
+writes_tokens o blank ps w =
+    let j : joined Free ps ≡ true = subst (λ t. joined Free t ≡ true) (append-nil ps) (w.joins [] refl) in
+    ap tokens (text_of-all_calls o ps) ∙ pieces_lex o blank Free ps j w.are
+
+-- The text of pieces grows into what they write.
+pub writes_forest : {b : Edge} {f : Forest} (o : Options) → IsBlank o.indent → (ps : List Piece) (w : Writes Free ps b f) → forest (text_of (all_calls o ps)) ≡ Some w.whole
+writes_forest o blank ps w =
+    ap (λ t. the_one (grow t)) (writes_tokens o blank ps w ∙ w.tokens) ∙ one-flat w.whole
+
+-- ---- two parts
+
+pub all_tokens-append : (ps qs : List Piece) → all_tokens (ps ++ qs) ≡ all_tokens ps ++ all_tokens qs
+all_tokens-append [] qs = refl
+all_tokens-append (p ∷ ps) qs = ap (λ t. piece_tokens p ++ t) (all_tokens-append ps qs) ∙ sym (append_assoc (piece_tokens p) (all_tokens ps) (all_tokens qs))
+
+ArePieces-append : (ps qs : List Piece) → ArePieces ps → ArePieces qs → ArePieces (ps ++ qs)
+ArePieces-append [] qs a b = b
+ArePieces-append (p ∷ ps) qs a b = (a.0, ArePieces-append ps qs a.1 b)
+
+-- one and another, where the second may stand behind a word
+pub both_write : {a b c : Edge} {ps qs : List Piece} {f g : Forest} → Writes a ps b f → Writes b qs c g → Writes a (ps ++ qs) c (onto f g)
+both_write {a = a} {ps = ps} {qs = qs} {f = f} {g = g} v w = record {
+  joins = λ rs h. subst (λ t. joined a t ≡ true) (sym (append_assoc ps qs rs)) (v.joins (qs ++ rs) (w.joins rs h));
+  are = ArePieces-append ps qs v.are w.are;
+  whole = onto v.whole w.whole;
+  tokens = all_tokens-append ps qs ∙ ap (λ t. t ++ all_tokens qs) v.tokens ∙ ap (λ t. flat v.whole ++ t) w.tokens ∙ sym (flat-onto v.whole w.whole);
+  without = cut-onto v.whole w.whole ∙ ap₂ onto v.without w.without;
+  in_row = row_customs-onto v.whole w.whole ∙ ap₂ (λ x y. x ++ y) v.in_row w.in_row;
+  in_groups = customs-onto v.whole w.whole ∙ ap₂ (λ x y. x ++ y) v.in_groups w.in_groups;
+}
+
+-- ---- the rules for pieces. Each holds at every edge at which it can, so that a search has nothing to choose.
+
+loosen : (b : Edge) (qs : List Piece) → joined b qs ≡ true → joined Free qs ≡ true
+loosen b [] h = refl
+loosen b (q ∷ qs) h = (and_parts (may_follow b q) (joined (leaves q) qs) h).1
+
+begins_all : (a : Edge) (p : Piece) → begins p ≡ true → may_follow a p ≡ true
+begins_all Free p b = refl
+begins_all Bound p b = b
+
+-- a piece that may stand behind a word may stand anywhere
+joins_anywhere : (a : Edge) (p : Piece) (ps : List Piece) → begins p ≡ true → joined (leaves p) ps ≡ true → joined a (p ∷ ps) ≡ true
+joins_anywhere a p ps b j = and_from (may_follow a p) (joined (leaves p) ps) (begins_all a p b) j
+
+pub nothing_writes : {a : Edge} → Writes a [] a End
+nothing_writes = record { joins = λ qs h. h; are = tt; whole = End; tokens = refl; without = refl; in_row = refl; in_groups = refl }
+
+pub free_writes : {b : Edge} → Writes Free [] b End
+free_writes {b = b} = record { joins = λ qs h. loosen b qs h; are = tt; whole = End; tokens = refl; without = refl; in_row = refl; in_groups = refl }
+
+pub begin_writes : {b : Edge} {place : ℕ} {ps : List Piece} {f : Forest} → Writes Free ps b f → Writes Free (Begin place ∷ ps) b f
+begin_writes w = record { joins = w.joins; are = (tt, w.are); whole = w.whole; tokens = w.tokens; without = w.without; in_row = w.in_row; in_groups = w.in_groups }
+
+pub feed_writes : {a b : Edge} {ps : List Piece} {f : Forest} → Writes Free ps b f → Writes a (Feed ∷ ps) b f
+feed_writes {a = a} {ps = ps} w = record {
+  joins = λ qs h. joins_anywhere a Feed (ps ++ qs) refl (w.joins qs h);
+  are = (tt, w.are);
+  whole = w.whole;
+  tokens = w.tokens;
+  without = w.without;
+  in_row = w.in_row;
+  in_groups = w.in_groups;
+}
+
+pub break_writes : {a b : Edge} {place : Option ℕ} {nesting : ℕ} {ps : List Piece} {f : Forest} → Writes Free ps b f → Writes a (Break place nesting ∷ ps) b f
+break_writes {a = a} {place = place} {nesting = nesting} {ps = ps} w = record {
+  joins = λ qs h. joins_anywhere a (Break place nesting) (ps ++ qs) refl (w.joins qs h);
+  are = (tt, w.are);
+  whole = w.whole;
+  tokens = w.tokens;
+  without = w.without;
+  in_row = w.in_row;
+  in_groups = w.in_groups;
+}
+
+pub gap_writes : {a b : Edge} {ps : List Piece} {f : Forest} → Writes Free ps b f → Writes a (Gap ∷ ps) b f
+gap_writes {a = a} {ps = ps} w = record {
+  joins = λ qs h. joins_anywhere a Gap (ps ++ qs) refl (w.joins qs h);
+  are = (tt, w.are);
+  whole = w.whole;
+  tokens = w.tokens;
+  without = w.without;
+  in_row = w.in_row;
+  in_groups = w.in_groups;
+}
+
+pub mark_writes : {a b : Edge} {n : ℕ} {ps : List Piece} {f : Forest} → n < 2 ^ 64 → Writes Free ps b f → Writes a (Mark n ∷ ps) b f
+mark_writes {a = a} {n = n} {ps = ps} h w = record {
+  joins = λ qs g. joins_anywhere a (Mark n) (ps ++ qs) refl (w.joins qs g);
+  are = (h, w.are);
+  whole = w.whole;
+  tokens = w.tokens;
+  without = w.without;
+  in_row = w.in_row;
+  in_groups = w.in_groups;
+}
+
+pub word_writes : {b : Edge} {v : List ℕ} {ps : List Piece} {f : Forest} → is_word v ≡ true → Writes Bound ps b f → Writes Free (piece.Word v ∷ ps) b (Word v f)
+word_writes {v = v} h w = record {
+  joins = w.joins;
+  are = (h, w.are);
+  whole = Word v w.whole;
+  tokens = ap (λ t. word v ∷ t) w.tokens;
+  without = ap (Word v) w.without;
+  in_row = w.in_row;
+  in_groups = w.in_groups;
+}
+
+pub type_word_writes : {b : Edge} {v : List ℕ} {ps : List Piece} {f : Forest} → is_word v ≡ true → Writes Bound ps b f → Writes Free (TypeWord v ∷ ps) b (Word v f)
+type_word_writes {v = v} h w = record {
+  joins = w.joins;
+  are = (h, w.are);
+  whole = Word v w.whole;
+  tokens = ap (λ t. word v ∷ t) w.tokens;
+  without = ap (Word v) w.without;
+  in_row = w.in_row;
+  in_groups = w.in_groups;
+}
+
+pub number_writes : {b : Edge} {n : ℕ} {ps : List Piece} {f : Forest} → n < 2 ^ 64 → Writes Bound ps b f → Writes Free (Number n ∷ ps) b (Word (decimal n) f)
+number_writes {n = n} h w = record {
+  joins = w.joins;
+  are = (h, w.are);
+  whole = Word (decimal n) w.whole;
+  tokens = ap (λ t. word (decimal n) ∷ t) w.tokens;
+  without = ap (Word (decimal n)) w.without;
+  in_row = w.in_row;
+  in_groups = w.in_groups;
+}
+
+pub constant_writes : {a b : Edge} {z : ℤ} {ps : List Piece} {f : Forest} → mag z < 2 ^ 63 → Writes Bound ps b f → Writes a (Constant z ∷ ps) b (Word (signed_decimal z) f)
+constant_writes {a = a} {z = z} {ps = ps} h w = record {
+  joins = λ qs g. joins_anywhere a (Constant z) (ps ++ qs) refl (w.joins qs g);
+  are = (h, w.are);
+  whole = Word (signed_decimal z) w.whole;
+  tokens = ap (λ t. word (signed_decimal z) ∷ t) w.tokens;
+  without = ap (Word (signed_decimal z)) w.without;
+  in_row = w.in_row;
+  in_groups = w.in_groups;
+}
+
+pub quoted_writes : {b : Edge} {cs : List ℕ} {ps : List Piece} {f : Forest} → scalars cs ≡ true → Writes Bound ps b f → Writes Free (Quoted cs ∷ ps) b (String (encode_utf8_all cs) f)
+quoted_writes {cs = cs} h w = record {
+  joins = w.joins;
+  are = (h, w.are);
+  whole = String (encode_utf8_all cs) w.whole;
+  tokens = ap (λ t. string (encode_utf8_all cs) ∷ t) w.tokens;
+  without = ap (String (encode_utf8_all cs)) w.without;
+  in_row = w.in_row;
+  in_groups = w.in_groups;
+}
+
+-- ---- groups
+
+pub close_tokens : (place : Option ℕ) (nesting : ℕ) (t : Bool) → all_tokens (close place nesting t) ≡ right ∷ []
+close_tokens place nesting true = refl
+close_tokens place nesting false = refl
+
+close_joins : (place : Option ℕ) (nesting : ℕ) (t : Bool) (qs : List Piece) → joined Free qs ≡ true → joined Bound (close place nesting t ++ qs) ≡ true
+close_joins place nesting true qs h = h
+close_joins place nesting false qs h = h
+
+close_are : (place : Option ℕ) (nesting : ℕ) (t : Bool) → ArePieces (close place nesting t)
+close_are place nesting true = (tt, (tt, tt))
+close_are place nesting false = (tt, tt)
+
+-- the beginning of a group, which leaves this edge behind the keyword
+record IsOpening (p : Piece) (a : Edge) (v : List ℕ) : Type 0 where
+  delimits : begins p ≡ true
+  leaves_it : leaves p ≡ a
+  is : ArePieces (p ∷ [])
+  opens : piece_tokens p ≡ left ∷ (word v ∷ [])
+
+opening : (v : List ℕ) → is_word v ≡ true → IsOpening (Open v) Bound v
+opening v h = record { delimits = refl; leaves_it = refl; is = (h, tt); opens = refl }
+
+opening_gap : (v : List ℕ) → is_word v ≡ true → IsOpening (OpenGap v) Free v
+opening_gap v h = record { delimits = refl; leaves_it = refl; is = (h, tt); opens = refl }
+
+-- an opening, what the group holds, and its end
+closed_writes : {b e : Edge} {f : Forest} (p : Piece) (v : List ℕ) (place : Option ℕ) (nesting : ℕ) (t : Bool) (ps : List Piece) (a : Edge) →
+    IsOpening p e v → Writes e ps Bound f → Writes a (p ∷ (ps ++ close place nesting t)) b (Group (Word v f) End)
+closed_writes {b = b} {e = e} {f = f} p v place nesting t ps a i w = record {
+  joins = λ qs g. joins_anywhere a p ((ps ++ close place nesting t) ++ qs) i.delimits
+      (subst (λ x. joined x ((ps ++ close place nesting t) ++ qs) ≡ true) (sym i.leaves_it)
+      (subst (λ x. joined e x ≡ true) (sym (append_assoc ps (close place nesting t) qs))
+      (w.joins (close place nesting t ++ qs) (close_joins place nesting t qs (loosen b qs g)))));
+  are = (i.is.0, ArePieces-append ps (close place nesting t) w.are (close_are place nesting t));
+  whole = Group (Word v w.whole) End;
+  tokens =
+      ap (λ x. x ++ all_tokens (ps ++ close place nesting t)) i.opens
+      ∙ ap (λ x. left ∷ (word v ∷ x)) (all_tokens-append ps (close place nesting t) ∙ ap (λ x. x ++ all_tokens (close place nesting t)) w.tokens ∙ ap (λ x. flat w.whole ++ x) (close_tokens place nesting t));
+  without = ap (λ x. Group (Word v x) End) w.without;
+  in_row = refl;
+  in_groups = append-nil (row_customs w.whole) ∙ w.in_row;
+}
+
+pub group_writes : {a b : Edge} (nesting : ℕ) (v : List ℕ) (ps : List Piece) {f : Forest} → is_word v ≡ true → Writes Bound ps Bound f → Writes a (group nesting v ps) b (Group (Word v f) End)
+unfolding group
+group_writes {a = a} nesting v ps h w = closed_writes (Open v) v None nesting (has_break ps) ps a (opening v h) w
+
+pub group_gap_writes : {a b : Edge} (nesting : ℕ) (v : List ℕ) (ps : List Piece) {f : Forest} → is_word v ≡ true → Writes Free ps Bound f → Writes a (group_gap nesting v ps) b (Group (Word v f) End)
+unfolding group_gap
+group_gap_writes {a = a} nesting v ps h w = closed_writes (OpenGap v) v None nesting (has_break ps) ps a (opening_gap v h) w
+
+pub group_at_writes : {a b : Edge} (offsets : Bool) (place nesting : ℕ) (v : List ℕ) (ps : List Piece) {f : Forest} → is_word v ≡ true → Writes Bound ps Bound f → Writes a (group_at offsets place nesting v ps) b (Group (Word v f) End)
+unfolding group_at
+group_at_writes {a = a} offsets place nesting v ps h w = closed_writes (Open v) v (Some place) nesting (offsets || has_break ps) ps a (opening v h) w
+
+pub group_gap_at_writes : {a b : Edge} (offsets : Bool) (place nesting : ℕ) (v : List ℕ) (ps : List Piece) {f : Forest} → is_word v ≡ true → Writes Free ps Bound f → Writes a (group_gap_at offsets place nesting v ps) b (Group (Word v f) End)
+unfolding group_gap_at
+group_gap_at_writes {a = a} offsets place nesting v ps h w = closed_writes (OpenGap v) v (Some place) nesting (offsets || has_break ps) ps a (opening_gap v h) w
+
+-- ---- the same before others, in forms that a search can apply
+
+pub group_then : {a c : Edge} (nesting : ℕ) (v : List ℕ) (ps qs : List Piece) {f g : Forest} → is_word v ≡ true → Writes Bound ps Bound f → Writes Bound qs c g → Writes a (group nesting v ps ++ qs) c (Group (Word v f) g)
+group_then nesting v ps qs h v' w = both_write (group_writes nesting v ps h v') w
+
+pub group_gap_then : {a c : Edge} (nesting : ℕ) (v : List ℕ) (ps qs : List Piece) {f g : Forest} → is_word v ≡ true → Writes Free ps Bound f → Writes Bound qs c g → Writes a (group_gap nesting v ps ++ qs) c (Group (Word v f) g)
+group_gap_then nesting v ps qs h v' w = both_write (group_gap_writes nesting v ps h v') w
+
+pub group_at_then : {a c : Edge} (offsets : Bool) (place nesting : ℕ) (v : List ℕ) (ps qs : List Piece) {f g : Forest} → is_word v ≡ true → Writes Bound ps Bound f → Writes Bound qs c g → Writes a (group_at offsets place nesting v ps ++ qs) c (Group (Word v f) g)
+group_at_then offsets place nesting v ps qs h v' w = both_write (group_at_writes offsets place nesting v ps h v') w
+
+pub then : {a c : Edge} {ps qs : List Piece} {f g : Forest} → Writes a ps Bound f → Writes Bound qs c g → Writes a (ps ++ qs) c (onto f g)
+then v w = both_write v w
+
+pub ruleset writing = (nothing_writes, free_writes, begin_writes, feed_writes, gap_writes, break_writes, mark_writes, word_writes, type_word_writes, number_writes, constant_writes, quoted_writes, group_writes, group_gap_writes, group_at_writes, group_gap_at_writes, group_then, group_gap_then, group_at_then, then)

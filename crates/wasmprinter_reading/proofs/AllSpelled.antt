@@ -1,0 +1,91 @@
+-- What holds of all values that bytes spell: a predicate goes through each combinator of grammars from the parts to the whole.
+use Rattle.std.proofs.Common.{◌≡◌, ℕ, ◌+◌, List, [], ◌∷◌, ◌++◌, length, Bool, true, false, Option, Some, subst, sym}
+use Rattle.std.specs.List.{AllByRecursion}
+use Rattle.wasmprinter_spec.specs.Grammar.{Grammar, some_is, seq, mapped, as_value, nothing, never, choose, placed}
+use Rattle.wasmprinter_spec.specs.Repeated.{Items, times, Entries}
+use Rattle.wasmprinter_spec.specs.Sized.{alone, exactly}
+use Rattle.wasmprinter_spec.specs.Binary.{AreBytes}
+use Rattle.wasmprinter_spec.specs.Terminated.{BeginsOtherwise, closed}
+
+-- Each value that bytes spell has P.
+pub record AllSpelled {A : Type 0} (g : Grammar A) (P : A → Type 0) : Type 0 where
+  pub has : (p : ℕ) (text : List ℕ) (a : A) → AreBytes text → g.spells p text a → P a
+
+-- Both parts of bytes are bytes.
+pub split_bytes : (t u : List ℕ) → AreBytes (t ++ u) → AreBytes t × AreBytes u
+split_bytes [] u h = (tt, h)
+split_bytes (b ∷ t) u h = let r = split_bytes t u h.1 in ((h.0, r.0), r.1)
+
+-- The values of any grammar, with no claim.
+pub AllSpelled-any : {A : Type 0} (g : Grammar A) → AllSpelled g (λ a. Unit {0})
+AllSpelled-any g = record { has = λ p text a bytes s. tt }
+
+-- A value and then another: what the first part has, and then the second.
+pub AllSpelled-seq : {A B : Type 0} {g : Grammar A} {h : A → Grammar B} {P : A → Type 0} {Q : A → B → Type 0} →
+    AllSpelled g P → ((a : A) → AllSpelled (h a) (Q a)) → AllSpelled (seq g h) (λ x. P x.0 × Q x.0 x.1)
+AllSpelled-seq first second = record {
+  has = λ p text x bytes s.
+      let parts = split_bytes s.0 s.1 (subst AreBytes s.2 bytes) in
+      (first.has p s.0 x.0 parts.0 s.3, (second x.0).has (p + length s.0) s.1 x.1 parts.1 s.4);
+}
+
+-- The values under a function that may refuse.
+pub AllSpelled-mapped : {A B : Type 0} {f : A → Option B} {g : Grammar A} {P : A → Type 0} {Q : B → Type 0} →
+    AllSpelled g P → ((a : A) (b : B) → f a ≡ Some b → P a → Q b) → AllSpelled (mapped f g) Q
+AllSpelled-mapped all keeps = record { has = λ p text b bytes s. keeps s.0 b s.1 (all.has p text s.0 bytes s.2) }
+
+-- The values under a function.
+pub AllSpelled-as_value : {A B : Type 0} {f : A → B} {g : Grammar A} {P : A → Type 0} {Q : B → Type 0} →
+    AllSpelled g P → ((a : A) → P a → Q (f a)) → AllSpelled (as_value f g) Q
+AllSpelled-as_value {f} {Q} all keeps = AllSpelled-mapped all (λ a b e h. subst Q (some_is (f a) b e) (keeps a h))
+
+-- A value that no bytes spell.
+pub AllSpelled-nothing : {A : Type 0} {a : A} {P : A → Type 0} → P a → AllSpelled (nothing a) P
+AllSpelled-nothing {a} {P} h = record { has = λ p text b bytes s. subst P (sym s.1) h }
+
+-- No value at all.
+pub AllSpelled-never : {A : Type 0} {P : A → Type 0} → AllSpelled never P
+AllSpelled-never = record { has = λ p text a bytes s. absurd s }
+
+-- One grammar or another.
+pub AllSpelled-choose : {A : Type 0} {g h : Grammar A} {P : A → Type 0} → (b : Bool) → AllSpelled g P → AllSpelled h P → AllSpelled (choose b g h) P
+AllSpelled-choose true first second = first
+AllSpelled-choose false first second = second
+
+-- A value with its place.
+pub AllSpelled-placed : {A : Type 0} {g : Grammar A} {P : A → Type 0} → AllSpelled g P → AllSpelled (placed g) (λ x. P x.value)
+AllSpelled-placed all = record { has = λ p text x bytes s. all.has p text x.value bytes s.1 }
+
+-- A value that takes exactly n bytes.
+pub AllSpelled-exactly : {A : Type 0} {g : Grammar A} {P : A → Type 0} → AllSpelled g P → (n : ℕ) → AllSpelled (exactly (alone g) n) P
+AllSpelled-exactly all n = record { has = λ p text a bytes s. all.has p text a bytes s.1 }
+
+-- Items that stand one after the other.
+items_have : {A : Type 0} {g : Grammar A} {P : A → Type 0} → AllSpelled g P →
+    (xs : List A) (p : ℕ) (text : List ℕ) → AreBytes text → Items g p text xs → AllByRecursion P xs
+items_have all [] p text bytes s = tt
+items_have all (x ∷ xs) p text bytes s =
+    let parts = split_bytes s.0 s.1 (subst AreBytes s.2 bytes) in
+    (all.has p s.0 x parts.0 s.3, items_have all xs (p + length s.0) s.1 parts.1 s.4)
+
+-- Items up to the end of the bytes.
+pub entries_have : {A : Type 0} {g : Grammar A} {P : A → Type 0} → AllSpelled g P →
+    (xs : List A) (p : ℕ) (text : List ℕ) → AreBytes text → Entries g p text xs → AllByRecursion P xs
+entries_have all [] p text bytes s = tt
+entries_have all (x ∷ xs) p text bytes s =
+    let parts = split_bytes s.0 s.1 (subst AreBytes s.2 bytes) in
+    (all.has p s.0 x parts.0 s.4, entries_have all xs (p + length s.0) s.1 parts.1 s.5)
+
+-- Items up to the byte that closes them.
+pub AllSpelled-closed : {A : Type 0} {closer : ℕ} {g : Grammar A} {P : A → Type 0} →
+    (apart : (p : ℕ) (text : List ℕ) (a : A) → g.spells p text a → BeginsOtherwise closer text) → AllSpelled g P →
+    AllSpelled (closed closer g apart) (λ x. AllByRecursion P x.items)
+AllSpelled-closed {closer} apart all = record {
+  has = λ p text x bytes s.
+      items_have all x.items p s.0 (split_bytes s.0 (closer ∷ []) (subst AreBytes s.1 bytes)).0 s.2;
+}
+
+-- So many items.
+pub AllSpelled-times : {A : Type 0} {g : Grammar A} {P : A → Type 0} → AllSpelled g P →
+    (n : ℕ) → AllSpelled (times g n) (λ xs. (length xs ≡ n) × AllByRecursion P xs)
+AllSpelled-times all n = record { has = λ p text xs bytes s. (s.0, items_have all xs p text bytes s.1) }

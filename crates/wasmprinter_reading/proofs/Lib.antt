@@ -1,0 +1,10 @@
+pub mod Ranged
+pub mod AllSpelled
+pub mod LebRange
+pub mod Ranges
+pub mod Tabled
+pub mod Trees
+pub mod BackParts
+pub mod Back
+pub mod Stays
+pub mod Main

@@ -1,0 +1,59 @@
+-- Worked rows of texts without colour sequences.
+use Rattle.std.specs.Prelude.{◌≡◌, ℕ, List, [], ◌∷◌, ◌++◌, codes, refl}
+use Rattle.std.specs.Fmt.{digits}
+use Rattle.wasmprinter_spec.specs.Colour.{uncolour}
+
+-- ESC, [ and a text
+abbrev escape : List ℕ → List ℕ
+escape s = 27 ∷ 91 ∷ s
+
+no_sequence : uncolour (codes "(module)\n") ≡ codes "(module)\n"
+unfolding digits
+no_sequence = refl
+
+-- what a printer in colours writes of the module without fields
+empty_module : uncolour (codes "(" ++ escape (codes "0m") ++ escape (codes "1m") ++ escape (codes "38;5;11m") ++ codes "module" ++ escape (codes "0m") ++ codes ")\n") ≡ codes "(module)\n"
+unfolding digits
+empty_module = refl
+
+reset_and_bold : uncolour (escape (codes "0m") ++ codes "a" ++ escape (codes "1m")) ≡ codes "a"
+unfolding digits
+reset_and_bold = refl
+
+-- red, green, yellow, magenta, cyan
+five_colours : uncolour (escape (codes "31m") ++ codes "r" ++ escape (codes "32m") ++ codes "g" ++ escape (codes "33m") ++ codes "y" ++ escape (codes "35m") ++ codes "m" ++ escape (codes "36m") ++ codes "c") ≡ codes "rgymc"
+unfolding digits
+five_colours = refl
+
+intense_colours : uncolour (escape (codes "38;5;9m") ++ codes "r" ++ escape (codes "38;5;10m") ++ codes "g" ++ escape (codes "38;5;11m") ++ codes "y" ++ escape (codes "38;5;13m") ++ codes "m" ++ escape (codes "38;5;14m") ++ codes "c") ≡ codes "rgymc"
+unfolding digits
+intense_colours = refl
+
+-- black, blue, white and their intense ones are not among the colours
+other_colours_stay : uncolour (escape (codes "30m") ++ escape (codes "34m") ++ escape (codes "37m") ++ escape (codes "38;5;8m") ++ escape (codes "38;5;12m") ++ escape (codes "38;5;15m"))
+    ≡ escape (codes "30m") ++ escape (codes "34m") ++ escape (codes "37m") ++ escape (codes "38;5;8m") ++ escape (codes "38;5;12m") ++ escape (codes "38;5;15m")
+unfolding digits
+other_colours_stay = refl
+
+other_sequences_stay : uncolour (escape (codes "4m") ++ escape (codes "m") ++ escape (codes "00m") ++ escape (codes "01m") ++ escape (codes "0;1m") ++ escape (codes "38;5;1m"))
+    ≡ escape (codes "4m") ++ escape (codes "m") ++ escape (codes "00m") ++ escape (codes "01m") ++ escape (codes "0;1m") ++ escape (codes "38;5;1m")
+unfolding digits
+other_sequences_stay = refl
+
+cut_sequences_stay : uncolour (codes "a" ++ 27 ∷ codes "b" ++ escape (codes "0 m") ++ escape (codes "0")) ≡ codes "a" ++ 27 ∷ codes "b" ++ escape (codes "0 m") ++ escape (codes "0")
+unfolding digits
+cut_sequences_stay = refl
+
+-- a sequence directly behind what looks like the beginning of one
+after_escape : uncolour (27 ∷ escape (codes "0m") ++ codes "a") ≡ 27 ∷ codes "a"
+unfolding digits
+after_escape = refl
+
+-- what a deletion brings together is not looked at again
+brought_together : uncolour (escape (codes "3") ++ escape (codes "1m") ++ codes "1m") ≡ escape (codes "31m")
+unfolding digits
+brought_together = refl
+
+neighbours : uncolour (escape (codes "0m") ++ escape (codes "0m") ++ escape (codes "31m")) ≡ []
+unfolding digits
+neighbours = refl

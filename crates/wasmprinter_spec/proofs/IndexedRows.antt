@@ -1,0 +1,86 @@
+-- Worked rows of declared indices (section 2.5 of the standard, "Indices"), and of indents.
+use Rattle.std.specs.Prelude.{ℕ, List, [], ◌∷◌, codes, refl}
+use Rattle.std.proofs.Common.{arith, inl, inr}
+use Rattle.wasmprinter_spec.specs.Types.{I32}
+use Rattle.wasmprinter_spec.specs.Operator.{Operator}
+use Rattle.wasmprinter_spec.specs.Table.{table, control_rows, number_rows}
+use Rattle.wasmprinter_spec.specs.Module.{Module}
+use Rattle.wasmprinter_spec.specs.Indexed.{IsIndexed}
+use Rattle.wasmprinter_spec.specs.Options.{defaults, IsBlank}
+use Rattle.wasmprinter_spec.proofs.Samples.{local_get, local_set, call, empty, identity, stored, mixed}
+
+empty_indexed : IsIndexed empty
+empty_indexed = record { functions = tt; exports = tt }
+
+identity_indexed : IsIndexed identity
+unfolding table control_rows number_rows
+identity_indexed = record {
+  functions = (record { type_index = omega arith; operators = (omega arith, tt) }, tt);
+  exports = (omega arith, tt);
+}
+
+stored_indexed : IsIndexed stored
+unfolding table control_rows number_rows
+stored_indexed = record {
+  functions = (record { type_index = omega arith; operators = (tt, (omega arith, (omega arith, tt))) }, tt);
+  exports = tt;
+}
+
+-- two types, and a function with one local under a name
+abbrev calling : ℕ → List Operator → ℕ → Module
+calling type os exported = record {
+  types = record { params = I32 ∷ []; results = [] } ∷ record { params = []; results = [] } ∷ [];
+  functions = record { type_index = type; locals = I32 ∷ []; operators = os } ∷ [];
+  exports = record { name = codes "f"; function = exported } ∷ [];
+}
+
+-- parameters and locals are one space
+last_indices : IsIndexed (calling 0 (local_get 1 ∷ local_set 1 ∷ call 0 ∷ []) 0)
+unfolding table control_rows number_rows
+last_indices = record {
+  functions = (record { type_index = omega arith; operators = (omega arith, (omega arith, (omega arith, tt))) }, tt);
+  exports = (omega arith, tt);
+}
+
+last_type : IsIndexed (calling 1 (local_get 0 ∷ []) 0)
+unfolding table control_rows number_rows
+last_type = record {
+  functions = (record { type_index = omega arith; operators = (omega arith, tt) }, tt);
+  exports = (omega arith, tt);
+}
+
+no_such_type : IsIndexed (calling 2 [] 0) → ⊥
+no_such_type i = omega (arith, i.functions.0.type_index)
+
+no_such_local : IsIndexed (calling 0 (local_get 2 ∷ []) 0) → ⊥
+unfolding table control_rows number_rows
+no_such_local i = omega (arith, i.functions.0.operators.0)
+
+no_parameter : IsIndexed (calling 1 (local_get 1 ∷ []) 0) → ⊥
+unfolding table control_rows number_rows
+no_parameter i = omega (arith, i.functions.0.operators.0)
+
+no_such_local_set : IsIndexed (calling 0 (local_set 2 ∷ []) 0) → ⊥
+unfolding table control_rows number_rows
+no_such_local_set i = omega (arith, i.functions.0.operators.0)
+
+no_such_callee : IsIndexed (calling 0 (call 1 ∷ []) 0) → ⊥
+unfolding table control_rows number_rows
+no_such_callee i = omega (arith, i.functions.0.operators.0)
+
+no_such_function : IsIndexed (calling 0 [] 1) → ⊥
+no_such_function i = omega (arith, i.exports.0)
+
+mixed_not_indexed : IsIndexed mixed → ⊥
+mixed_not_indexed i = omega (arith, i.exports.1.0)
+
+-- ---- indents
+
+default_indent : IsBlank defaults.indent
+default_indent = (inl refl, (inl refl, tt))
+
+tab_and_blank : IsBlank (codes "\t ")
+tab_and_blank = (inr refl, (inl refl, tt))
+
+no_indent : IsBlank []
+no_indent = tt

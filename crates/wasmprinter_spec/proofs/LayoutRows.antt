@@ -1,0 +1,208 @@
+-- Worked rows of the layout: the text and the calls that single modules give.
+use Rattle.std.specs.Prelude.{◌≡◌, ℕ, List, [], ◌∷◌, ◌++◌, true, codes, replicate, Option, Some, None, false, refl}
+use Rattle.std.specs.Fmt.{digits}
+use Rattle.std.specs.Str.{chars}
+use Rattle.wasmprinter_spec.specs.Table.{table, control_rows, number_rows}
+use Rattle.wasmprinter_spec.specs.Placed.{PlacedModule}
+use Rattle.wasmprinter_spec.specs.Call.{Call, Style, Text, Newline, Line, Start, Claim, Literal, Name, Keyword, TypeName, Comment, Reset, text_of, atoms}
+use Rattle.wasmprinter_spec.specs.Options.{Options, Answers, defaults}
+use Rattle.wasmprinter_spec.specs.Quoted.{char_text, byte_text, quoted_text, quoted_bytes}
+use Rattle.wasmprinter_spec.specs.Piece.{Break, repeated, left_in, place_text, text}
+use Rattle.wasmprinter_spec.specs.Layout.{group, group_gap, group_at, group_gap_at, type_list, type_group, signature_pieces, immediate_pieces, operator_pieces, body_pieces, type_pieces, export_pieces, local_group, local_pieces, header_pieces, function_group, function_pieces, numbered, field_pieces, module_pieces, layout}
+use Rattle.wasmprinter_spec.proofs.Samples.{lines, empty_placed, identity_placed, identity_text, identity_text_with_offsets, stored_placed, stored_text, mixed_placed, mixed_text}
+
+abbrev unclaimed : Answers
+unclaimed = λ n. false
+
+abbrev all_calls : Options → PlacedModule → List Call
+all_calls o m = layout o unclaimed m
+
+abbrev printed : Options → PlacedModule → List ℕ
+printed o m = text_of (all_calls o m)
+
+abbrev with_offsets : Options
+with_offsets = record defaults { offsets = true }
+
+abbrev skeleton : Options
+skeleton = record defaults { skeleton = true }
+
+-- the places of the calls that begin lines
+abbrev line_places : List Call → List (Option ℕ)
+line_places [] = []
+line_places (Line place ∷ cs) = place ∷ line_places cs
+line_places (c ∷ cs) = line_places cs
+
+-- ---- the module without fields
+
+empty_plain : printed defaults empty_placed ≡ codes "(module)\n"
+unfolding group_at numbered field_pieces module_pieces layout
+empty_plain = refl
+
+empty_with_offsets : printed with_offsets empty_placed ≡ codes "(module\n(;@8     ;))\n"
+unfolding group_at numbered field_pieces module_pieces layout place_text left_in repeated digits
+empty_with_offsets = refl
+
+empty_calls : atoms (all_calls defaults empty_placed) ≡ atoms (Line (Some 0) ∷ Text (codes "(") ∷ Start Keyword ∷ Text (codes "module") ∷ Start Reset ∷ Text (codes ")") ∷ Newline ∷ [])
+unfolding group_at numbered field_pieces module_pieces layout
+empty_calls = refl
+
+-- ---- a function under a name
+
+identity_plain : printed defaults identity_placed ≡ identity_text
+unfolding group group_gap group_at group_gap_at type_list type_group signature_pieces immediate_pieces operator_pieces body_pieces type_pieces export_pieces local_group local_pieces header_pieces function_group function_pieces numbered field_pieces module_pieces layout repeated digits table control_rows number_rows char_text quoted_text chars
+identity_plain = refl
+
+identity_with_offsets : printed with_offsets identity_placed ≡ identity_text_with_offsets
+unfolding group group_gap group_at group_gap_at type_list type_group signature_pieces immediate_pieces operator_pieces body_pieces type_pieces export_pieces local_group local_pieces header_pieces function_group function_pieces numbered field_pieces module_pieces layout repeated left_in place_text digits table control_rows number_rows char_text quoted_text chars
+identity_with_offsets = refl
+
+identity_skeleton : printed skeleton identity_placed ≡ lines (
+    codes "(module"
+    ∷ codes "  (type (;0;) (func (param i32) (result i32)))"
+    ∷ codes "  (export \"f\" (func 0))"
+    ∷ codes "  (func (;0;) (type 0) (param i32) (result i32) ...)"
+    ∷ codes ")"
+    ∷ [])
+unfolding group group_gap group_at group_gap_at type_list type_group signature_pieces type_pieces export_pieces header_pieces function_group function_pieces numbered field_pieces module_pieces layout repeated digits char_text quoted_text chars
+identity_skeleton = refl
+
+identity_skeleton_with_offsets : printed (record skeleton { offsets = true }) identity_placed ≡ lines (
+    codes "(module"
+    ∷ codes "(;@b     ;)  (type (;0;) (func (param i32) (result i32)))"
+    ∷ codes "(;@17    ;)  (export \"f\" (func 0))"
+    ∷ codes "(;@1f    ;)  (func (;0;) (type 0) (param i32) (result i32) ...)"
+    ∷ codes "(;@23    ;))"
+    ∷ [])
+unfolding group group_gap group_at group_gap_at type_list type_group signature_pieces type_pieces export_pieces header_pieces function_group function_pieces numbered field_pieces module_pieces layout repeated left_in place_text digits char_text quoted_text chars
+identity_skeleton_with_offsets = refl
+
+identity_without_indent : printed (record defaults { indent = [] }) identity_placed ≡ lines (
+    codes "(module"
+    ∷ codes "(type (;0;) (func (param i32) (result i32)))"
+    ∷ codes "(export \"f\" (func 0))"
+    ∷ codes "(func (;0;) (type 0) (param i32) (result i32)"
+    ∷ codes "local.get 0"
+    ∷ codes ")"
+    ∷ codes ")"
+    ∷ [])
+unfolding group group_gap group_at group_gap_at type_list type_group signature_pieces immediate_pieces operator_pieces body_pieces type_pieces export_pieces local_group local_pieces header_pieces function_group function_pieces numbered field_pieces module_pieces layout repeated digits table control_rows number_rows char_text quoted_text chars
+identity_without_indent = refl
+
+identity_line_places : line_places (all_calls defaults identity_placed) ≡ Some 0 ∷ Some 0xb ∷ Some 0x17 ∷ Some 0x1f ∷ Some 0x20 ∷ Some 0x22 ∷ Some 0x23 ∷ []
+unfolding group group_gap group_at group_gap_at type_list type_group signature_pieces immediate_pieces operator_pieces body_pieces type_pieces export_pieces local_group local_pieces header_pieces function_group function_pieces numbered field_pieces module_pieces layout
+identity_line_places = refl
+
+-- ---- a function with a local
+
+stored_plain : printed defaults stored_placed ≡ stored_text
+unfolding group group_gap group_at group_gap_at type_list type_group signature_pieces immediate_pieces operator_pieces body_pieces type_pieces local_group local_pieces header_pieces function_group function_pieces numbered field_pieces module_pieces layout repeated digits table control_rows number_rows
+stored_plain = refl
+
+stored_line_places : line_places (all_calls defaults stored_placed) ≡ Some 0 ∷ Some 0xb ∷ Some 0x17 ∷ Some 0x18 ∷ Some 0x1a ∷ Some 0x1c ∷ Some 0x1e ∷ Some 0x20 ∷ Some 0x21 ∷ []
+unfolding group group_gap group_at group_gap_at type_list type_group signature_pieces immediate_pieces operator_pieces body_pieces type_pieces local_group local_pieces header_pieces function_group function_pieces numbered field_pieces module_pieces layout
+stored_line_places = refl
+
+-- ---- all calls
+
+-- atoms keep each call but how text is cut
+atoms_of_calls : atoms (Text (codes "ab") ∷ Newline ∷ Text [] ∷ Line None ∷ Start Name ∷ Claim (codes "n") 9 (1 ∷ []) true ∷ Text (codes "c") ∷ [])
+    ≡ Text (codes "a") ∷ Text (codes "b") ∷ Newline ∷ Line None ∷ Start Name ∷ Claim (codes "n") 9 (1 ∷ []) true ∷ Text (codes "c") ∷ []
+atoms_of_calls = refl
+
+abbrev plain : List ℕ → List Call
+plain s = Text s ∷ []
+
+abbrev in_style : Style → List ℕ → List Call
+in_style style s = Start style ∷ Text s ∷ Start Reset ∷ []
+
+abbrev stored_calls : List Call
+stored_calls =
+    Line (Some 0) ∷ plain (codes "(") ++ in_style Keyword (codes "module")
+    ++ Newline ∷ Line (Some 0xb) ∷ in_style Comment (codes "(;@b     ;)") ++ plain (codes "  (") ++ in_style Keyword (codes "type ") ++ in_style Name (codes "(;0;)")
+    ++ plain (codes " (") ++ in_style Keyword (codes "func") ++ plain (codes " (") ++ in_style Keyword (codes "result") ++ plain (codes " ") ++ in_style TypeName (codes "i64") ++ plain (codes ")))")
+    ++ Newline ∷ Line (Some 0x17) ∷ in_style Comment (codes "(;@17    ;)") ++ plain (codes "  (") ++ in_style Keyword (codes "func ") ++ in_style Name (codes "(;0;)")
+    ++ plain (codes " (") ++ in_style Keyword (codes "type ") ++ in_style Name (codes "0") ++ plain (codes ") (") ++ in_style Keyword (codes "result") ++ plain (codes " ") ++ in_style TypeName (codes "i64") ++ plain (codes ")")
+    ++ Newline ∷ Line (Some 0x18) ∷ in_style Comment (codes "(;@18    ;)") ++ plain (codes "    (") ++ in_style Keyword (codes "local") ++ plain (codes " ") ++ in_style TypeName (codes "i64") ++ plain (codes ")")
+    ++ Newline ∷ Line (Some 0x1a) ∷ in_style Comment (codes "(;@1a    ;)") ++ plain (codes "    i64.const") ++ in_style Literal (codes " -1")
+    ++ Newline ∷ Line (Some 0x1c) ∷ in_style Comment (codes "(;@1c    ;)") ++ plain (codes "    local.set ") ++ in_style Name (codes "0")
+    ++ Newline ∷ Line (Some 0x1e) ∷ in_style Comment (codes "(;@1e    ;)") ++ plain (codes "    local.get ") ++ in_style Name (codes "0")
+    ++ Newline ∷ Line (Some 0x20) ∷ in_style Comment (codes "(;@20    ;)") ++ plain (codes "  )")
+    ++ Newline ∷ Line (Some 0x21) ∷ in_style Comment (codes "(;@21    ;)") ++ plain (codes ")")
+    ++ Newline ∷ []
+
+identity_skeleton_calls : atoms (all_calls skeleton identity_placed) ≡ atoms (
+    Line (Some 0) ∷ plain (codes "(") ++ in_style Keyword (codes "module")
+    ++ Newline ∷ Line (Some 0xb) ∷ plain (codes "  (") ++ in_style Keyword (codes "type ") ++ in_style Name (codes "(;0;)")
+    ++ plain (codes " (") ++ in_style Keyword (codes "func")
+    ++ plain (codes " (") ++ in_style Keyword (codes "param") ++ plain (codes " ") ++ in_style TypeName (codes "i32") ++ plain (codes ")")
+    ++ plain (codes " (") ++ in_style Keyword (codes "result") ++ plain (codes " ") ++ in_style TypeName (codes "i32") ++ plain (codes ")))")
+    ++ Newline ∷ Line (Some 0x17) ∷ plain (codes "  (") ++ in_style Keyword (codes "export ") ++ in_style Literal (codes "\"f\"")
+    ++ plain (codes " (") ++ in_style Keyword (codes "func ") ++ in_style Name (codes "0") ++ plain (codes "))")
+    ++ Newline ∷ Line (Some 0x1f) ∷ plain (codes "  (") ++ in_style Keyword (codes "func ") ++ in_style Name (codes "(;0;)")
+    ++ plain (codes " (") ++ in_style Keyword (codes "type ") ++ in_style Name (codes "0") ++ plain (codes ")")
+    ++ plain (codes " (") ++ in_style Keyword (codes "param") ++ plain (codes " ") ++ in_style TypeName (codes "i32") ++ plain (codes ")")
+    ++ plain (codes " (") ++ in_style Keyword (codes "result") ++ plain (codes " ") ++ in_style TypeName (codes "i32") ++ plain (codes ") ...)")
+    ++ Newline ∷ Line (Some 0x23) ∷ plain (codes ")")
+    ++ Newline ∷ [])
+unfolding group group_gap group_at group_gap_at type_list type_group signature_pieces type_pieces export_pieces header_pieces function_group function_pieces numbered field_pieces module_pieces layout repeated digits char_text quoted_text chars
+identity_skeleton_calls = refl
+
+stored_all_calls : atoms (all_calls with_offsets stored_placed) ≡ atoms stored_calls
+unfolding group group_gap group_at group_gap_at type_list type_group signature_pieces immediate_pieces operator_pieces body_pieces type_pieces local_group local_pieces header_pieces function_group function_pieces numbered field_pieces module_pieces layout repeated left_in place_text digits table control_rows number_rows
+stored_all_calls = refl
+
+-- ---- several types, functions, locals and results
+
+-- locals of all entries on one line, whose place is that of the first entry that declares one; no signature of a type that isn't there
+mixed_plain : printed defaults mixed_placed ≡ mixed_text
+unfolding group group_gap group_at group_gap_at type_list type_group signature_pieces immediate_pieces operator_pieces body_pieces type_pieces export_pieces local_group local_pieces header_pieces function_group function_pieces numbered field_pieces module_pieces layout repeated digits table control_rows number_rows char_text quoted_text chars
+mixed_plain = refl
+
+-- with offsets the parentheses of functions close on lines of their own
+mixed_line_places : line_places (all_calls with_offsets mixed_placed) ≡
+    Some 0 ∷ Some 0xb ∷ Some 0xe ∷ Some 0x1e ∷ Some 0x24
+    ∷ Some 0x2b ∷ Some 0x2c
+    ∷ Some 0x2e ∷ Some 0x31 ∷ Some 0x37 ∷ Some 0x3d ∷ Some 0x3e ∷ Some 0x49 ∷ Some 0x4f ∷ Some 0x50
+    ∷ Some 0x52 ∷ Some 0x55
+    ∷ Some 0x56 ∷ []
+unfolding group group_gap group_at group_gap_at type_list type_group signature_pieces immediate_pieces operator_pieces body_pieces type_pieces export_pieces local_group local_pieces header_pieces function_group function_pieces numbered field_pieces module_pieces layout
+mixed_line_places = refl
+
+-- ---- beginnings of lines
+
+-- a place of more than six digits
+long_place : place_text (Some 0xabcdef0) ≡ codes "(;@abcdef0;)"
+unfolding place_text left_in digits
+long_place = refl
+
+no_place : text with_offsets (Break None 2) ≡ codes "\n               "
+unfolding place_text repeated
+no_place = refl
+
+-- no more than fifty levels are indented
+deep_line : text defaults (Break (Some 0x10) 60) ≡ 10 ∷ replicate 100 32
+unfolding repeated
+deep_line = refl
+
+other_indent : text (record defaults { indent = codes "\t." }) (Break None 3) ≡ codes "\n\t.\t.\t."
+unfolding repeated
+other_indent = refl
+
+-- ---- quotes
+
+plain_characters : quoted_text (codes " !#$%&'()[]{}~aZ09;@") ≡ codes "\" !#$%&'()[]{}~aZ09;@\""
+unfolding quoted_text char_text
+plain_characters = refl
+
+escaped_characters : quoted_text (0x1b ∷ 0xe9 ∷ 0x22 ∷ 0x5c ∷ 0x1f ∷ 0x7f ∷ 0x0a ∷ 0x00 ∷ 0x1f600 ∷ []) ≡ codes "\"\\u{1b}\\u{e9}\\u{22}\\u{5c}\\u{1f}\\u{7f}\\u{a}\\u{0}\\u{1f600}\""
+unfolding quoted_text char_text digits
+escaped_characters = refl
+
+escaped_bytes : quoted_bytes (0x41 ∷ 0x22 ∷ 0x00 ∷ []) ≡ codes "\"A\\22\\00\""
+unfolding quoted_bytes byte_text
+escaped_bytes = refl
+
+-- bytes are no characters
+escaped_high_bytes : quoted_bytes (0x20 ∷ 0x5c ∷ 0x7e ∷ 0x7f ∷ 0xc3 ∷ 0xa9 ∷ 0xff ∷ []) ≡ codes "\" \\5c~\\7f\\c3\\a9\\ff\""
+unfolding quoted_bytes byte_text
+escaped_high_bytes = refl

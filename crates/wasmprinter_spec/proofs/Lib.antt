@@ -1,0 +1,12 @@
+pub mod Samples
+pub mod LebRows
+pub mod BinaryRows
+pub mod LayoutRows
+pub mod ColourRows
+pub mod NumeralRows
+pub mod TokenRows
+pub mod ForestRows
+pub mod ReadRows
+pub mod UnreadRows
+pub mod IndexedRows
+pub mod TableRows

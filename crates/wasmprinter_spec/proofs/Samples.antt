@@ -1,0 +1,260 @@
+-- Modules that the worked rows share, written by hand: their bytes, what the bytes spell with places, their texts, and what these say.
+use Rattle.std.specs.Prelude.{ℕ, ℤ, pos, negsuc, neg_ℤ, List, [], ◌∷◌, ◌++◌, codes}
+use Rattle.wasmprinter_spec.specs.Types as types
+use Rattle.wasmprinter_spec.specs.Operator.{opcode, NoImmediates, Index, I32, I64, Operator}
+use Rattle.wasmprinter_spec.specs.Placed.{PlacedModule}
+use Rattle.wasmprinter_spec.specs.Module.{Module}
+
+-- the magic and the version
+abbrev pub head_bytes : List ℕ
+head_bytes = 0x00 ∷ 0x61 ∷ 0x73 ∷ 0x6d ∷ 0x01 ∷ 0x00 ∷ 0x00 ∷ 0x00 ∷ []
+
+-- lines, each with its line feed
+abbrev pub lines : List (List ℕ) → List ℕ
+lines [] = []
+lines (l ∷ ls) = l ++ codes "\n" ++ lines ls
+
+-- ---- operators
+
+abbrev pub local_get : ℕ → Operator
+local_get i = record { opcode = opcode 0 0x20; immediates = Index i }
+
+abbrev pub local_set : ℕ → Operator
+local_set i = record { opcode = opcode 0 0x21; immediates = Index i }
+
+abbrev pub call : ℕ → Operator
+call i = record { opcode = opcode 0 0x10; immediates = Index i }
+
+abbrev pub drop : Operator
+drop = record { opcode = opcode 0 0x1a; immediates = NoImmediates }
+
+abbrev pub return : Operator
+return = record { opcode = opcode 0 0x0f; immediates = NoImmediates }
+
+abbrev pub i32_const : ℤ → Operator
+i32_const z = record { opcode = opcode 0 0x41; immediates = I32 z }
+
+abbrev pub i64_const : ℤ → Operator
+i64_const z = record { opcode = opcode 0 0x42; immediates = I64 z }
+
+-- ---- the module without fields
+
+abbrev pub empty_placed : PlacedModule
+empty_placed = record { types = []; functions = []; exports = []; size = 8 }
+
+abbrev pub empty : Module
+empty = record { types = []; functions = []; exports = [] }
+
+-- ---- a function that gives back its parameter, under the name f
+
+abbrev pub identity_bytes : List ℕ
+identity_bytes =
+    head_bytes
+    ++ (0x01 ∷ 0x06 ∷ 0x01 ∷ 0x60 ∷ 0x01 ∷ 0x7f ∷ 0x01 ∷ 0x7f ∷ [])
+    ++ (0x03 ∷ 0x02 ∷ 0x01 ∷ 0x00 ∷ [])
+    ++ (0x07 ∷ 0x05 ∷ 0x01 ∷ 0x01 ∷ 0x66 ∷ 0x00 ∷ 0x00 ∷ [])
+    ++ (0x0a ∷ 0x06 ∷ 0x01 ∷ 0x04 ∷ 0x00 ∷ 0x20 ∷ 0x00 ∷ 0x0b ∷ [])
+
+abbrev pub identity_placed : PlacedModule
+identity_placed = record {
+  types = record { place = 0xb; value = record { params = types.I32 ∷ []; results = types.I32 ∷ [] } } ∷ [];
+  functions =
+      record {
+        type_index = 0;
+        body = record {
+          place = 0x1f;
+          value = record { locals = []; operators = record { place = 0x20; value = local_get 0 } ∷ []; end = 0x22 };
+        };
+      }
+      ∷ [];
+  exports = record { place = 0x17; value = record { name = codes "f"; function = 0 } } ∷ [];
+  size = 35;
+}
+
+abbrev pub identity : Module
+identity = record {
+  types = record { params = types.I32 ∷ []; results = types.I32 ∷ [] } ∷ [];
+  functions = record { type_index = 0; locals = []; operators = local_get 0 ∷ [] } ∷ [];
+  exports = record { name = codes "f"; function = 0 } ∷ [];
+}
+
+abbrev pub identity_text : List ℕ
+identity_text = lines (
+    codes "(module"
+    ∷ codes "  (type (;0;) (func (param i32) (result i32)))"
+    ∷ codes "  (export \"f\" (func 0))"
+    ∷ codes "  (func (;0;) (type 0) (param i32) (result i32)"
+    ∷ codes "    local.get 0"
+    ∷ codes "  )"
+    ∷ codes ")"
+    ∷ [])
+
+abbrev pub identity_text_with_offsets : List ℕ
+identity_text_with_offsets = lines (
+    codes "(module"
+    ∷ codes "(;@b     ;)  (type (;0;) (func (param i32) (result i32)))"
+    ∷ codes "(;@17    ;)  (export \"f\" (func 0))"
+    ∷ codes "(;@1f    ;)  (func (;0;) (type 0) (param i32) (result i32)"
+    ∷ codes "(;@20    ;)    local.get 0"
+    ∷ codes "(;@22    ;)  )"
+    ∷ codes "(;@23    ;))"
+    ∷ [])
+
+-- ---- a function with a local, in which it puts -1
+
+abbrev pub stored_bytes_to_end : List ℕ
+stored_bytes_to_end =
+    head_bytes
+    ++ (0x01 ∷ 0x05 ∷ 0x01 ∷ 0x60 ∷ 0x00 ∷ 0x01 ∷ 0x7e ∷ [])
+    ++ (0x03 ∷ 0x02 ∷ 0x01 ∷ 0x00 ∷ [])
+    ++ (0x0a ∷ 0x0c ∷ 0x01 ∷ 0x0a ∷ 0x01 ∷ 0x01 ∷ 0x7e ∷ 0x42 ∷ 0x7f ∷ 0x21 ∷ 0x00 ∷ 0x20 ∷ 0x00 ∷ [])
+
+abbrev pub stored_bytes : List ℕ
+stored_bytes = stored_bytes_to_end ++ (0x0b ∷ [])
+
+abbrev pub stored_placed : PlacedModule
+stored_placed = record {
+  types = record { place = 0xb; value = record { params = []; results = types.I64 ∷ [] } } ∷ [];
+  functions =
+      record {
+        type_index = 0;
+        body = record {
+          place = 0x17;
+          value = record {
+            locals = record { place = 0x18; value = record { count = 1; type = types.I64 } } ∷ [];
+            operators =
+                record { place = 0x1a; value = i64_const (negsuc 0) }
+                ∷ record { place = 0x1c; value = local_set 0 }
+                ∷ record { place = 0x1e; value = local_get 0 }
+                ∷ [];
+            end = 0x20;
+          };
+        };
+      }
+      ∷ [];
+  exports = [];
+  size = 33;
+}
+
+abbrev pub stored : Module
+stored = record {
+  types = record { params = []; results = types.I64 ∷ [] } ∷ [];
+  functions =
+      record {
+        type_index = 0;
+        locals = types.I64 ∷ [];
+        operators = i64_const (negsuc 0) ∷ local_set 0 ∷ local_get 0 ∷ [];
+      }
+      ∷ [];
+  exports = [];
+}
+
+abbrev pub stored_text : List ℕ
+stored_text = lines (
+    codes "(module"
+    ∷ codes "  (type (;0;) (func (result i64)))"
+    ∷ codes "  (func (;0;) (type 0) (result i64)"
+    ∷ codes "    (local i64)"
+    ∷ codes "    i64.const -1"
+    ∷ codes "    local.set 0"
+    ∷ codes "    local.get 0"
+    ∷ codes "  )"
+    ∷ codes ")"
+    ∷ [])
+
+-- ---- several types, functions, locals and results, and indices of what isn't there
+
+abbrev pub mixed_bytes : List ℕ
+mixed_bytes =
+    head_bytes
+    ++ (0x01 ∷ 0x0b ∷ 0x02 ∷ [])
+    ++ (0x60 ∷ 0x00 ∷ 0x00 ∷ [])
+    ++ (0x60 ∷ 0x02 ∷ 0x7f ∷ 0x7e ∷ 0x02 ∷ 0x7e ∷ 0x7f ∷ [])
+    ++ (0x03 ∷ 0x04 ∷ 0x03 ∷ 0x00 ∷ 0x01 ∷ 0x07 ∷ [])
+    ++ (0x07 ∷ 0x0a ∷ 0x02 ∷ [])
+    ++ (0x03 ∷ 0x1b ∷ 0xc3 ∷ 0xa9 ∷ 0x00 ∷ 0x01 ∷ [])
+    ++ (0x00 ∷ 0x00 ∷ 0x0c ∷ [])
+    ++ (0x0a ∷ 0x2d ∷ 0x03 ∷ [])
+    ++ (0x02 ∷ 0x00 ∷ 0x0b ∷ [])
+    ++ (0x23 ∷ 0x04 ∷ 0x00 ∷ 0x7f ∷ 0x02 ∷ 0x7e ∷ 0x00 ∷ 0x7e ∷ 0x01 ∷ 0x7f ∷ [])
+    ++ (0x41 ∷ 0x80 ∷ 0x80 ∷ 0x80 ∷ 0x80 ∷ 0x78 ∷ 0x1a ∷ [])
+    ++ (0x42 ∷ 0xff ∷ 0xff ∷ 0xff ∷ 0xff ∷ 0xff ∷ 0xff ∷ 0xff ∷ 0xff ∷ 0xff ∷ 0x00 ∷ [])
+    ++ (0x10 ∷ 0xff ∷ 0xff ∷ 0xff ∷ 0xff ∷ 0x0f ∷ 0x0f ∷ 0x0b ∷ [])
+    ++ (0x04 ∷ 0x01 ∷ 0x00 ∷ 0x7f ∷ 0x0b ∷ [])
+
+abbrev pub mixed_placed : PlacedModule
+mixed_placed = record {
+  types =
+      record { place = 0xb; value = record { params = []; results = [] } }
+      ∷ record { place = 0xe; value = record { params = types.I32 ∷ types.I64 ∷ []; results = types.I64 ∷ types.I32 ∷ [] } }
+      ∷ [];
+  functions =
+      record { type_index = 0; body = record { place = 0x2b; value = record { locals = []; operators = []; end = 0x2c } } }
+      ∷ record {
+        type_index = 1;
+        body = record {
+          place = 0x2e;
+          value = record {
+            locals =
+                record { place = 0x2f; value = record { count = 0; type = types.I32 } }
+                ∷ record { place = 0x31; value = record { count = 2; type = types.I64 } }
+                ∷ record { place = 0x33; value = record { count = 0; type = types.I64 } }
+                ∷ record { place = 0x35; value = record { count = 1; type = types.I32 } }
+                ∷ [];
+            operators =
+                record { place = 0x37; value = i32_const (neg_ℤ (pos 2147483648)) }
+                ∷ record { place = 0x3d; value = drop }
+                ∷ record { place = 0x3e; value = i64_const (pos 9223372036854775807) }
+                ∷ record { place = 0x49; value = call 4294967295 }
+                ∷ record { place = 0x4f; value = return }
+                ∷ [];
+            end = 0x50;
+          };
+        };
+      }
+      ∷ record {
+        type_index = 7;
+        body = record { place = 0x52; value = record { locals = record { place = 0x53; value = record { count = 0; type = types.I32 } } ∷ []; operators = []; end = 0x55 } };
+      }
+      ∷ [];
+  exports =
+      record { place = 0x1e; value = record { name = 0x1b ∷ 0xc3 ∷ 0xa9 ∷ []; function = 1 } }
+      ∷ record { place = 0x24; value = record { name = []; function = 12 } }
+      ∷ [];
+  size = 0x56;
+}
+
+abbrev pub mixed : Module
+mixed = record {
+  types = record { params = []; results = [] } ∷ record { params = types.I32 ∷ types.I64 ∷ []; results = types.I64 ∷ types.I32 ∷ [] } ∷ [];
+  functions =
+      record { type_index = 0; locals = []; operators = [] }
+      ∷ record {
+        type_index = 1;
+        locals = types.I64 ∷ types.I64 ∷ types.I32 ∷ [];
+        operators = i32_const (neg_ℤ (pos 2147483648)) ∷ drop ∷ i64_const (pos 9223372036854775807) ∷ call 4294967295 ∷ return ∷ [];
+      }
+      ∷ record { type_index = 7; locals = []; operators = [] }
+      ∷ [];
+  exports = record { name = 0x1b ∷ 0xc3 ∷ 0xa9 ∷ []; function = 1 } ∷ record { name = []; function = 12 } ∷ [];
+}
+
+abbrev pub mixed_text : List ℕ
+mixed_text = lines (
+    codes "(module"
+    ∷ codes "  (type (;0;) (func))"
+    ∷ codes "  (type (;1;) (func (param i32 i64) (result i64 i32)))"
+    ∷ codes "  (export \"\\u{1b}\\u{e9}\" (func 1))"
+    ∷ codes "  (export \"\" (func 12))"
+    ∷ codes "  (func (;0;) (type 0))"
+    ∷ codes "  (func (;1;) (type 1) (param i32 i64) (result i64 i32)"
+    ∷ codes "    (local i64 i64 i32)"
+    ∷ codes "    i32.const -2147483648"
+    ∷ codes "    drop"
+    ∷ codes "    i64.const 9223372036854775807"
+    ∷ codes "    call 4294967295"
+    ∷ codes "    return"
+    ∷ codes "  )"
+    ∷ codes "  (func (;2;) (type 7))"
+    ∷ codes ")"
+    ∷ [])

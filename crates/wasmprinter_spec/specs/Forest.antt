@@ -1,0 +1,108 @@
+-- From tokens to nested groups, and annotations cut out of them (section 6.2 of the standard, "Annotations").
+use Rattle.std.specs.Prelude.{List, [], ◌∷◌, ◌++◌, ℕ, Option, Some, None, bytes_eq, codes, cond}
+use Rattle.wasmprinter_spec.specs.Token as token
+use Rattle.wasmprinter_spec.specs.Token.{Token, tokens}
+
+-- A row of items: each constructor is the first item, and its last field the items behind it.
+pub data Forest : Type 0 where
+  End : Forest
+  Word : List ℕ → Forest → Forest
+  Name : List ℕ → Forest → Forest
+  String : List ℕ → Forest → Forest
+  Reserved : Forest → Forest
+  Group : Forest → Forest → Forest
+  Note : List ℕ → Forest → Forest → Forest  -- an annotation: its name, and what it holds
+
+-- The rows that are open, the innermost first, built from the right: a parenthesis that closes opens a row to its left. There is no
+-- row where parentheses don't match.
+abbrev pub open_group : List Forest → List Forest
+open_group [] = []
+open_group (f ∷ []) = []
+open_group (f ∷ g ∷ rest) = Group f g ∷ rest
+
+abbrev pub open_note : List ℕ → List Forest → List Forest
+open_note id [] = []
+open_note id (f ∷ []) = []
+open_note id (f ∷ g ∷ rest) = Note id f g ∷ rest
+
+abbrev pub close_group : List Forest → List Forest
+close_group [] = []
+close_group (f ∷ rest) = End ∷ (f ∷ rest)
+
+abbrev pub with_item : (Forest → Forest) → List Forest → List Forest
+with_item item [] = []
+with_item item (f ∷ rest) = item f ∷ rest
+
+abbrev pub place : Token → List Forest → List Forest
+place token.left rows = open_group rows
+place (token.left_note id) rows = open_note id rows
+place token.right rows = close_group rows
+place (token.word s) rows = with_item (Word s) rows
+place (token.name s) rows = with_item (Name s) rows
+place (token.string s) rows = with_item (String s) rows
+place token.reserved rows = with_item Reserved rows
+place token.bad rows = []
+
+abbrev pub grow : List Token → List Forest
+grow [] = End ∷ []
+grow (t ∷ ts) = place t (grow ts)
+
+abbrev pub the_one : List Forest → Option Forest
+the_one [] = None
+the_one (f ∷ []) = Some f
+the_one (f ∷ g ∷ rest) = None
+
+-- the nested groups of a text
+abbrev pub forest : List ℕ → Option Forest
+forest text = the_one (grow (tokens text))
+
+-- without annotations
+abbrev pub cut : Forest → Forest
+cut End = End
+cut (Word s f) = Word s (cut f)
+cut (Name s f) = Name s (cut f)
+cut (String s f) = String s (cut f)
+cut (Reserved f) = Reserved (cut f)
+cut (Group g f) = Group (cut g) (cut f)
+cut (Note id g f) = cut f
+
+-- what each annotation `custom` holds that stands directly in this row
+abbrev pub row_customs : Forest → List Forest
+row_customs End = []
+row_customs (Word s f) = row_customs f
+row_customs (Name s f) = row_customs f
+row_customs (String s f) = row_customs f
+row_customs (Reserved f) = row_customs f
+row_customs (Group g f) = row_customs f
+row_customs (Note id g f) = cond (bytes_eq id (codes "custom")) (g ∷ row_customs f) (row_customs f)
+
+-- the custom sections of a text: the annotations `custom` among the fields of its module, and none that stands in another group or
+-- annotation
+abbrev pub customs : Forest → List Forest
+customs End = []
+customs (Word s f) = customs f
+customs (Name s f) = customs f
+customs (String s f) = customs f
+customs (Reserved f) = customs f
+customs (Group g f) = row_customs g ++ customs f
+customs (Note id g f) = customs f
+
+-- the items of a row, and then these
+abbrev pub onto : Forest → Forest → Forest
+onto End f = f
+onto (Word s g) f = Word s (onto g f)
+onto (Name s g) f = Name s (onto g f)
+onto (String s g) f = String s (onto g f)
+onto (Reserved g) f = Reserved (onto g f)
+onto (Group h g) f = Group h (onto g f)
+onto (Note id h g) f = Note id h (onto g f)
+
+-- the tokens of a row
+abbrev pub flat : Forest → List Token
+flat End = []
+flat (Word s f) = token.word s ∷ flat f
+flat (Name s f) = token.name s ∷ flat f
+flat (String s f) = token.string s ∷ flat f
+flat (Reserved f) = token.reserved ∷ flat f
+flat (Group g f) = token.left ∷ (flat g ++ (token.right ∷ flat f))
+flat (Note id g f) = token.left_note id ∷ (flat g ++ (token.right ∷ flat f))

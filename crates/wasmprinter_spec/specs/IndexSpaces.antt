@@ -1,0 +1,51 @@
+-- Indices in the text format: a number means itself, an identifier the place of its declaration (sections 6.3, "Identifiers",
+-- and 6.6, "Indices", of the standard). An index space is given by the identifiers of its declarations, in order.
+use Rattle.std.specs.Prelude.{ℕ, ◌+◌, List, [], ◌∷◌, Bool, true, false, cond, bytes_eq, Option, Some, None, if◌then◌else◌, option_map}
+use Rattle.wasmprinter_spec.specs.Row.{Space, Func, Local}
+use Rattle.wasmprinter_spec.specs.Numeral.{natural, below}
+use Rattle.wasmprinter_spec.specs.Forest.{Forest, End, Word, Name}
+
+-- the identifiers of declarations, of which some have none
+abbrev pub Identifiers : Type 0
+Identifiers = List (Option (List ℕ))
+
+abbrev pub declares : List ℕ → Option (List ℕ) → Bool
+declares id None = false
+declares id (Some s) = bytes_eq s id
+
+abbrev pub is_declared : List ℕ → Identifiers → Bool
+is_declared id [] = false
+is_declared id (d ∷ ds) = cond (declares id d) true (is_declared id ds)
+
+-- the place of the only declaration of an identifier
+abbrev pub resolve : List ℕ → Identifiers → Option ℕ
+resolve id [] = None
+resolve id (d ∷ ds) = if declares id d then (if is_declared id ds then None else Some 0) else option_map (λ n. n + 1) (resolve id ds)
+
+-- an index as it is written
+pub data Reference : Type 0 where
+  ByNumber : ℕ → Reference
+  ByName : List ℕ → Reference
+
+abbrev pub by_number : Option ℕ → Option Reference
+by_number None = None
+by_number (Some n) = option_map ByNumber (below 32 n)
+
+-- one item that is an index
+abbrev pub reference : Forest → Option Reference
+reference (Word w End) = by_number (natural w)
+reference (Name s End) = Some (ByName s)
+reference _ = None
+
+abbrev pub index_in : Identifiers → Reference → Option ℕ
+index_in ids (ByNumber n) = Some n
+index_in ids (ByName s) = resolve s ids
+
+-- the index spaces that operators name
+pub record Spaces : Type 0 where
+  pub functions : Identifiers
+  pub locals : Identifiers
+
+abbrev pub space_in : Spaces → Space → Identifiers
+space_in s Func = s.functions
+space_in s Local = s.locals

@@ -1,0 +1,52 @@
+-- The laws of these definitions. Functions of the crates above have them as their contracts.
+use Rattle.std.specs.Prelude.{◌≡◌, ℕ, List, [], ◌∷◌, false, Some, chars, IsUtf8}
+use Rattle.wasmprinter_spec.specs.Binary.{AreBytes, Spells}
+use Rattle.wasmprinter_spec.specs.Placed.{PlacedModule}
+use Rattle.wasmprinter_spec.specs.Module.{module_of}
+use Rattle.wasmprinter_spec.specs.Indexed.{IsIndexed}
+use Rattle.wasmprinter_spec.specs.Call.{Call, atoms, text_of}
+use Rattle.wasmprinter_spec.specs.Colour.{uncolour}
+use Rattle.wasmprinter_spec.specs.Options.{Options, Answers, AreUnclaimed, IsBlank}
+use Rattle.wasmprinter_spec.specs.Layout.{layout}
+use Rattle.wasmprinter_spec.specs.Quoted.{quoted_text, quoted_bytes}
+use Rattle.wasmprinter_spec.specs.Token.{tokens, string}
+use Rattle.wasmprinter_spec.specs.Read.{read}
+
+-- Given bytes spell at most one module with its places.
+abbrev pub SpellsOne : Type 0
+SpellsOne = (bytes : List ℕ) (m n : PlacedModule) → Spells bytes m → Spells bytes n → m ≡ n
+
+-- Lists of calls that differ only in how text is cut have one text.
+abbrev pub AlikeHaveOneText : Type 0
+AlikeHaveOneText = (k l : List Call) → atoms k ≡ atoms l → text_of k ≡ text_of l
+
+-- Text in quotes reads as that text.
+abbrev pub QuotedTextReads : Type 0
+QuotedTextReads = (s : List ℕ) → IsUtf8 s → tokens (quoted_text (chars s)) ≡ string s ∷ []
+
+-- Bytes in quotes read as those bytes.
+abbrev pub QuotedBytesRead : Type 0
+QuotedBytesRead = (bytes : List ℕ) → AreBytes bytes → tokens (quoted_bytes bytes) ≡ string bytes ∷ []
+
+-- The reading law: printed text reads back as the module that the bytes spell.
+abbrev pub ReadsBack : Type 0
+ReadsBack =
+    (bytes : List ℕ) (m : PlacedModule) (o : Options) (answers : Answers) →
+    Spells bytes m → IsIndexed (module_of m) → o.skeleton ≡ false → IsBlank o.indent → AreUnclaimed answers →
+    read (text_of (layout o answers m)) ≡ Some (module_of m)
+
+-- Places at the beginnings of lines, and an indent of blanks and tabs, change blanks and comments alone.
+abbrev pub TokensStay : Type 0
+TokensStay =
+    (bytes : List ℕ) (m : PlacedModule) (o p : Options) (answers : Answers) →
+    Spells bytes m → o.skeleton ≡ p.skeleton → IsBlank o.indent → IsBlank p.indent →
+    tokens (text_of (layout o answers m)) ≡ tokens (text_of (layout p answers m))
+
+-- Printed text is UTF-8, and deleting colour sequences leaves it as it is.
+abbrev pub IsPlainText : List ℕ → Type 0
+IsPlainText text = IsUtf8 text × (uncolour text ≡ text)
+
+abbrev pub PrintsPlainText : Type 0
+PrintsPlainText =
+    (bytes : List ℕ) (m : PlacedModule) (o : Options) (answers : Answers) →
+    Spells bytes m → IsBlank o.indent → IsPlainText (text_of (layout o answers m))

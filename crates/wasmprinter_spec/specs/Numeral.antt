@@ -1,0 +1,68 @@
+-- Whole numbers in the text format (section 6.3 of the standard, "Integers"): decimal or hexadecimal, with or without a sign, and with an
+-- underscore between digits where one is wanted.
+use Rattle.std.specs.Prelude.{ℕ, ℤ, pos, neg_ℤ, ◌-ℤ◌, ◌-◌, ◌^◌, Bool, true, false, ◌&&◌, ◌||◌, ◌==◌, nat_lt, nat_le, List, [], ◌∷◌, Option, Some, None, if◌then◌else◌, cond}
+use Rattle.std.specs.Char.{digit_value}
+use Rattle.std.specs.Str.Parse.{digits_value}
+
+abbrev pub is_underscore : ℕ → Bool
+is_underscore b = b == 95
+
+abbrev pub is_digit : ℕ → ℕ → Bool
+is_digit base b = nat_lt (digit_value b) base
+
+abbrev pub begins_with_digit : ℕ → List ℕ → Bool
+begins_with_digit base [] = false
+begins_with_digit base (b ∷ bs) = is_digit base b
+
+-- digits and underscores, with a digit behind each underscore
+abbrev pub follows_digit : ℕ → List ℕ → Bool
+follows_digit base [] = true
+follows_digit base (b ∷ bs) = (is_digit base b && follows_digit base bs) || (is_underscore b && begins_with_digit base bs && follows_digit base bs)
+
+-- a digit, and then digits and underscores between digits
+abbrev pub is_numeral : ℕ → List ℕ → Bool
+is_numeral base [] = false
+is_numeral base (b ∷ bs) = is_digit base b && follows_digit base bs
+
+abbrev pub without_underscores : List ℕ → List ℕ
+without_underscores [] = []
+without_underscores (b ∷ bs) = cond (is_underscore b) (without_underscores bs) (b ∷ without_underscores bs)
+
+-- the number that digits of a base write
+unfoldable pub numeral : ℕ → List ℕ → Option ℕ
+numeral base bs = if is_numeral base bs then Some (digits_value base (without_underscores bs)) else None
+
+-- a number without a sign: digits, or 0x and hexadecimal digits
+unfoldable pub natural : List ℕ → Option ℕ
+natural [] = None
+natural (b ∷ []) = numeral 10 (b ∷ [])
+natural (b ∷ c ∷ bs) = if (b == 48) && (c == 120) then numeral 16 bs else numeral 10 (b ∷ c ∷ bs)
+
+-- a number below 2 ^ bits
+abbrev pub below : ℕ → ℕ → Option ℕ
+below bits n = if nat_lt n (2 ^ bits) then Some n else None
+
+-- a number of so many bits as a signed one: the upper half stands for the negative numbers
+abbrev pub as_signed : ℕ → ℕ → ℤ
+as_signed bits n = if nat_lt n (2 ^ (bits - 1)) then pos n else (pos n -ℤ pos (2 ^ bits))
+
+abbrev pub positive : ℕ → ℕ → Option ℤ
+positive bits n = if nat_lt n (2 ^ (bits - 1)) then Some (pos n) else None
+
+abbrev pub negative : ℕ → ℕ → Option ℤ
+negative bits n = if nat_le n (2 ^ (bits - 1)) then Some (neg_ℤ (pos n)) else None
+
+abbrev pub unsigned_integer : ℕ → ℕ → Option ℤ
+unsigned_integer bits n = if nat_lt n (2 ^ bits) then Some (as_signed bits n) else None
+
+abbrev pub with_number : (ℕ → Option ℤ) → Option ℕ → Option ℤ
+with_number f None = None
+with_number f (Some n) = f n
+
+-- a constant of so many bits: with a sign, or without one up to 2 ^ bits
+unfoldable pub integer : ℕ → List ℕ → Option ℤ
+integer bits [] = None
+integer bits (b ∷ bs) =
+    if b == 45 then with_number (negative bits) (natural bs)
+    else (if b == 43 then with_number (positive bits) (natural bs)
+    else with_number (unsigned_integer bits) (natural (b ∷ bs)))

@@ -1,0 +1,26 @@
+-- The options of a layout, and the answers to claims.
+use Rattle.std.specs.Prelude.{◌≡◌, ℕ, List, Bool, false, codes, ◌⊎◌}
+use Rattle.std.specs.List.{AllByRecursion}
+
+pub record Options : Type 0 where
+  -- each line begins with the place of what stands on it
+  pub offsets : Bool
+  -- bodies are left out
+  pub skeleton : Bool
+  -- the text that stands once for each level of nesting
+  pub indent : List ℕ
+
+abbrev pub defaults : Options
+defaults = record { offsets = false; skeleton = false; indent = codes "  " }
+
+-- the answer to the claim of each custom section, by the number of the section among the custom sections
+abbrev pub Answers : Type 0
+Answers = ℕ → Bool
+
+-- no custom section is claimed
+abbrev pub AreUnclaimed : Answers → Type 0
+AreUnclaimed answers = (n : ℕ) → answers n ≡ false
+
+-- an indent that holds only blanks and tabs
+abbrev pub IsBlank : List ℕ → Type 0
+IsBlank indent = AllByRecursion (λ b. (b ≡ 32) ⊎ (b ≡ 9)) indent

@@ -1,0 +1,86 @@
+-- Pieces: the smallest parts of a layout that read by themselves. Each has its calls on the printer and its tokens.
+use Rattle.std.specs.Prelude.{ℕ, ℤ, zero, suc, ◌-◌, min, List, [], ◌∷◌, ◌++◌, Bool, true, false, codes, decimal, Option, Some, None, replicate, length, encode_utf8_all}
+use Rattle.std.specs.Fmt.{signed_decimal, digits}
+use Rattle.wasmprinter_spec.specs.Call.{Call, Text, Newline, Line, Start, Style, Literal, Name, Keyword, TypeName, Comment, Reset, text_of}
+use Rattle.wasmprinter_spec.specs.Options.{Options}
+use Rattle.wasmprinter_spec.specs.Quoted.{quoted_text}
+use Rattle.wasmprinter_spec.specs.Token as token
+use Rattle.wasmprinter_spec.specs.Token.{Token}
+
+pub data Piece : Type 0 where
+  Begin : ℕ → Piece  -- the first line begins, at this place
+  Feed : Piece  -- the last line ends
+  Break : Option ℕ → ℕ → Piece  -- a new line: its place if it has one, and how deep it is nested
+  Gap : Piece  -- a blank
+  Open : List ℕ → Piece  -- a parenthesis and a keyword
+  OpenGap : List ℕ → Piece  -- the same and a blank
+  Shut : Piece
+  Word : List ℕ → Piece
+  TypeWord : List ℕ → Piece  -- the word of a type
+  Number : ℕ → Piece  -- an index
+  Constant : ℤ → Piece  -- a blank and a number with its sign
+  Mark : ℕ → Piece  -- (;i;), the number of a declaration
+  Quoted : List ℕ → Piece  -- a text in quotes, by its characters
+
+-- the greatest number of levels of which each is indented
+abbrev pub most_indents : ℕ
+most_indents = 50
+
+-- so many times
+unfoldable pub repeated : ℕ → List ℕ → List ℕ
+repeated zero text = []
+repeated (suc n) text = text ++ repeated n text
+
+-- text filled with blanks to a width
+unfoldable pub left_in : ℕ → List ℕ → List ℕ
+left_in width text = text ++ replicate (width - length text) 32
+
+-- the comment with a place in hexadecimal, filled to six digits, or as many blanks
+unfoldable pub place_text : Option ℕ → List ℕ
+place_text (Some p) = codes "(;@" ++ (left_in 6 (digits 16 false p) ++ codes ";)")
+place_text None = replicate 11 32
+
+abbrev pub place_calls : Bool → Option ℕ → List Call
+place_calls false place = []
+place_calls true (Some p) = Start Comment ∷ (Text (place_text (Some p)) ∷ (Start Reset ∷ []))
+place_calls true None = Text (place_text None) ∷ []
+
+abbrev pub styled : Style → List ℕ → List Call
+styled style s = Start style ∷ (Text s ∷ (Start Reset ∷ []))
+
+abbrev pub calls : Options → Piece → List Call
+calls o (Begin place) = Line (Some place) ∷ []
+calls o Feed = Newline ∷ []
+calls o (Break place nesting) = Newline ∷ (Line place ∷ (place_calls o.offsets place ++ (Text (repeated (min nesting most_indents) o.indent) ∷ [])))
+calls o Gap = Text (codes " ") ∷ []
+calls o (Open w) = Text (codes "(") ∷ styled Keyword w
+calls o (OpenGap w) = Text (codes "(") ∷ styled Keyword (w ++ codes " ")
+calls o Shut = Text (codes ")") ∷ []
+calls o (Word w) = Text w ∷ []
+calls o (TypeWord w) = styled TypeName w
+calls o (Number n) = styled Name (decimal n)
+calls o (Constant z) = styled Literal (32 ∷ signed_decimal z)
+calls o (Mark n) = styled Name (codes "(;" ++ (decimal n ++ codes ";)"))
+calls o (Quoted cs) = styled Literal (quoted_text cs)
+
+abbrev pub piece_tokens : Piece → List Token
+piece_tokens (Open w) = token.left ∷ (token.word w ∷ [])
+piece_tokens (OpenGap w) = token.left ∷ (token.word w ∷ [])
+piece_tokens Shut = token.right ∷ []
+piece_tokens (Word w) = token.word w ∷ []
+piece_tokens (TypeWord w) = token.word w ∷ []
+piece_tokens (Number n) = token.word (decimal n) ∷ []
+piece_tokens (Constant z) = token.word (signed_decimal z) ∷ []
+piece_tokens (Quoted cs) = token.string (encode_utf8_all cs) ∷ []
+piece_tokens _ = []
+
+abbrev pub text : Options → Piece → List ℕ
+text o p = text_of (calls o p)
+
+abbrev pub all_calls : Options → List Piece → List Call
+all_calls o [] = []
+all_calls o (p ∷ ps) = calls o p ++ all_calls o ps
+
+abbrev pub all_tokens : List Piece → List Token
+all_tokens [] = []
+all_tokens (p ∷ ps) = piece_tokens p ++ all_tokens ps

@@ -1,0 +1,248 @@
+-- From the bytes of a text to its tokens (sections 6.2 and 6.3 of the standard). `lex` goes over
+-- the bytes once; its mode says what stands open. Two tokens that touch are one reserved token in the standard: here `reserved`
+-- stands between them. A reserved token may stand in an annotation alone, and what is `bad` nowhere.
+use Rattle.std.specs.Prelude.{ℕ, zero, suc, ◌+◌, ◌*◌, ◌==◌, Bool, true, false, ◌||◌, nat_lt, List, [], ◌∷◌, ◌++◌, Option, Some, None, encode_utf8, if◌then◌else◌}
+use Rattle.std.specs.Char.{digit_value}
+use Rattle.std.specs.Str.{is_utf8}
+use Rattle.std.proofs.Math.Utf8.{scalar}
+use Rattle.wasmprinter_spec.specs.Character.{Class, Space, Tab, Feed, Left, Right, Semicolon, Quote, Backslash, Dollar, At, Plain, Reserved, Control, Foreign, class}
+use Rattle.wasmprinter_spec.specs.Numeral.{numeral}
+
+pub data Token : Type 0 where
+  left : Token
+  left_note : List ℕ → Token  -- the beginning of an annotation: `(@`, and its name
+  right : Token
+  word : List ℕ → Token  -- a keyword or a number, or any run of identifier characters that is neither
+  name : List ℕ → Token  -- an identifier, by its content: $a and $"a" are one
+  string : List ℕ → Token
+  reserved : Token
+  bad : Token
+
+-- what a run of identifier characters or a quoted text makes
+pub data Part : Type 0 where
+  AsWord : Part
+  AsName : Part
+  AsNote : Part
+  AsString : Part
+
+pub data Mode : Type 0 where
+  Clear : Mode  -- a token may begin
+  Tight : Mode  -- behind a quoted text, which a token must not touch
+  InRun : Part → List ℕ → Mode
+  AfterDollar : Mode
+  AfterLeft : Mode
+  AfterLeftAt : Mode
+  AfterSemicolon : Mode
+  InLine : Mode  -- in a comment to the end of the line
+  InBlock : ℕ → Mode  -- in a comment, and how many comments are open around it
+  InBlockLeft : ℕ → Mode
+  InBlockSemicolon : ℕ → Mode
+  InQuoted : Part → List ℕ → Mode
+  InEscape : Part → List ℕ → Mode
+  InHex : Part → List ℕ → ℕ → Mode
+  BeforeBrace : Part → List ℕ → Mode
+  InBrace : Part → List ℕ → List ℕ → Mode
+
+abbrev pub Next : Type 0
+Next = Mode → List Token
+
+-- a run of identifier characters
+abbrev pub run_token : Part → List ℕ → Token
+run_token AsWord s = word s
+run_token AsName s = name s
+run_token AsNote s = left_note s
+run_token AsString s = bad
+
+-- what identifiers and the names of annotations hold in quotes: some UTF-8
+abbrev pub is_name : List ℕ → Bool
+is_name [] = false
+is_name (b ∷ bs) = is_utf8 (b ∷ bs)
+
+abbrev pub quoted_tokens : Part → List ℕ → List Token → List Token
+quoted_tokens AsWord s ts = bad ∷ ts
+quoted_tokens AsName s ts = (if is_name s then name s else reserved) ∷ ts
+quoted_tokens AsNote s ts = if is_name s then left_note s ∷ ts else left ∷ (reserved ∷ ts)
+quoted_tokens AsString s ts = string s ∷ ts
+
+-- ---- between tokens
+
+abbrev pub clear : Class → ℕ → Next → List Token
+clear Space b k = k Clear
+clear Tab b k = k Clear
+clear Feed b k = k Clear
+clear Left b k = k AfterLeft
+clear Right b k = right ∷ k Clear
+clear Semicolon b k = k AfterSemicolon
+clear Quote b k = k (InQuoted AsString [])
+clear Dollar b k = k AfterDollar
+clear Backslash b k = k (InRun AsWord (b ∷ []))
+clear At b k = k (InRun AsWord (b ∷ []))
+clear Plain b k = k (InRun AsWord (b ∷ []))
+clear Reserved b k = reserved ∷ k Tight
+clear Control b k = bad ∷ k Clear
+clear Foreign b k = bad ∷ k Clear
+
+-- a token may end before it
+abbrev pub delimits : Class → Bool
+delimits Space = true
+delimits Tab = true
+delimits Feed = true
+delimits Left = true
+delimits Right = true
+delimits Semicolon = true
+delimits _ = false
+
+-- directly behind another token
+abbrev pub touch : Bool → Class → ℕ → Next → List Token
+touch true c b k = clear c b k
+touch false c b k = reserved ∷ clear c b k
+
+abbrev pub in_run : Part → List ℕ → Class → ℕ → Next → List Token
+in_run p s Backslash b k = k (InRun p (s ++ (b ∷ [])))
+in_run p s Dollar b k = k (InRun p (s ++ (b ∷ [])))
+in_run p s At b k = k (InRun p (s ++ (b ∷ [])))
+in_run p s Plain b k = k (InRun p (s ++ (b ∷ [])))
+in_run p s c b k = run_token p s ∷ touch (delimits c) c b k
+
+-- behind a dollar sign, which stands alone where no identifier follows
+abbrev pub after_dollar : Class → ℕ → Next → List Token
+after_dollar Quote b k = k (InQuoted AsName [])
+after_dollar Backslash b k = k (InRun AsName (b ∷ []))
+after_dollar Dollar b k = k (InRun AsName (b ∷ []))
+after_dollar At b k = k (InRun AsName (b ∷ []))
+after_dollar Plain b k = k (InRun AsName (b ∷ []))
+after_dollar c b k = reserved ∷ clear c b k
+
+abbrev pub after_left : Class → ℕ → Next → List Token
+after_left Semicolon b k = k (InBlock 0)
+after_left At b k = k AfterLeftAt
+after_left c b k = left ∷ clear c b k
+
+-- behind `(@`, which is a parenthesis and a sign that stands alone where no name follows
+abbrev pub after_left_at : Class → ℕ → Next → List Token
+after_left_at Quote b k = k (InQuoted AsNote [])
+after_left_at Backslash b k = k (InRun AsNote (b ∷ []))
+after_left_at Dollar b k = k (InRun AsNote (b ∷ []))
+after_left_at At b k = k (InRun AsNote (b ∷ []))
+after_left_at Plain b k = k (InRun AsNote (b ∷ []))
+after_left_at c b k = left ∷ (reserved ∷ clear c b k)
+
+-- ---- comments
+
+abbrev pub after_semicolon : Class → ℕ → Next → List Token
+after_semicolon Semicolon b k = k InLine
+after_semicolon c b k = reserved ∷ clear c b k
+
+abbrev pub in_line : Class → Next → List Token
+in_line Feed k = k Clear
+in_line _ k = k InLine
+
+abbrev pub close_block : ℕ → Next → List Token
+close_block zero k = k Clear
+close_block (suc n) k = k (InBlock n)
+
+abbrev pub in_block : ℕ → Class → Next → List Token
+in_block n Left k = k (InBlockLeft n)
+in_block n Semicolon k = k (InBlockSemicolon n)
+in_block n _ k = k (InBlock n)
+
+abbrev pub in_block_left : ℕ → Class → Next → List Token
+in_block_left n Semicolon k = k (InBlock (suc n))
+in_block_left n Left k = k (InBlockLeft n)
+in_block_left n _ k = k (InBlock n)
+
+abbrev pub in_block_semicolon : ℕ → Class → Next → List Token
+in_block_semicolon n Right k = close_block n k
+in_block_semicolon n Semicolon k = k (InBlockSemicolon n)
+in_block_semicolon n Left k = k (InBlockLeft n)
+in_block_semicolon n _ k = k (InBlock n)
+
+-- ---- quoted texts
+
+abbrev pub in_quoted : Part → List ℕ → Class → ℕ → Next → List Token
+in_quoted p s Quote b k = quoted_tokens p s (k Tight)
+in_quoted p s Backslash b k = k (InEscape p s)
+in_quoted p s Feed b k = bad ∷ k Clear
+in_quoted p s Control b k = bad ∷ k Clear
+in_quoted p s Tab b k = bad ∷ k Clear
+in_quoted p s _ b k = k (InQuoted p (s ++ (b ∷ [])))
+
+pub data Escape : Type 0 where
+  Char : ℕ → Escape  -- a letter or a sign that stands for a character
+  Digit : ℕ → Escape  -- a hexadecimal digit
+  Braced : Escape  -- a number in braces follows
+  Wrong : Escape
+
+-- what stands behind a backslash
+unfoldable pub escape : ℕ → Escape
+escape b =
+    if b == 117 then Braced else
+    (if b == 116 then Char 9 else (if b == 110 then Char 10 else (if b == 114 then Char 13 else
+    (if (b == 34) || (b == 39) || (b == 92) then Char b else
+    (if nat_lt (digit_value b) 16 then Digit (digit_value b) else Wrong)))))
+
+abbrev pub in_escape : Part → List ℕ → Escape → Next → List Token
+in_escape p s (Char c) k = k (InQuoted p (s ++ (c ∷ [])))
+in_escape p s (Digit h) k = k (InHex p s h)
+in_escape p s Braced k = k (BeforeBrace p s)
+in_escape p s Wrong k = bad ∷ k Clear
+
+-- the second hexadecimal digit of a byte
+abbrev pub in_hex : Part → List ℕ → ℕ → Bool → ℕ → Next → List Token
+in_hex p s h true b k = k (InQuoted p (s ++ ((h * 16 + digit_value b) ∷ [])))
+in_hex p s h false b k = bad ∷ k Clear
+
+abbrev pub before_brace : Part → List ℕ → Bool → Next → List Token
+before_brace p s true k = k (InBrace p s [])
+before_brace p s false k = bad ∷ k Clear
+
+abbrev pub with_char : Part → List ℕ → Bool → ℕ → Next → List Token
+with_char p s true n k = k (InQuoted p (s ++ encode_utf8 n))
+with_char p s false n k = bad ∷ k Clear
+
+abbrev pub end_brace : Part → List ℕ → Option ℕ → Next → List Token
+end_brace p s (Some n) k = with_char p s (scalar n) n k
+end_brace p s None k = bad ∷ k Clear
+
+abbrev pub in_brace : Part → List ℕ → List ℕ → Bool → ℕ → Next → List Token
+in_brace p s d true b k = end_brace p s (numeral 16 d) k
+in_brace p s d false b k = k (InBrace p s (d ++ (b ∷ [])))
+
+-- ---- all modes
+
+abbrev pub step : Mode → ℕ → Next → List Token
+step Clear b k = clear (class b) b k
+step Tight b k = touch (delimits (class b)) (class b) b k
+step (InRun p s) b k = in_run p s (class b) b k
+step AfterDollar b k = after_dollar (class b) b k
+step AfterLeft b k = after_left (class b) b k
+step AfterLeftAt b k = after_left_at (class b) b k
+step AfterSemicolon b k = after_semicolon (class b) b k
+step InLine b k = in_line (class b) k
+step (InBlock n) b k = in_block n (class b) k
+step (InBlockLeft n) b k = in_block_left n (class b) k
+step (InBlockSemicolon n) b k = in_block_semicolon n (class b) k
+step (InQuoted p s) b k = in_quoted p s (class b) b k
+step (InEscape p s) b k = in_escape p s (escape b) k
+step (InHex p s h) b k = in_hex p s h (nat_lt (digit_value b) 16) b k
+step (BeforeBrace p s) b k = before_brace p s (b == 123) k
+step (InBrace p s d) b k = in_brace p s d (b == 125) b k
+
+-- what stands open at the end of the text
+abbrev pub finish : Mode → List Token
+finish Clear = []
+finish Tight = []
+finish (InRun p s) = run_token p s ∷ []
+finish AfterDollar = reserved ∷ []
+finish AfterLeft = left ∷ []
+finish AfterLeftAt = left ∷ (reserved ∷ [])
+finish AfterSemicolon = reserved ∷ []
+finish InLine = []
+finish _ = bad ∷ []
+
+unfoldable pub lex : Mode → List ℕ → List Token
+lex m [] = finish m
+lex m (b ∷ bs) = step m b (λ next. lex next bs)
+
+abbrev pub tokens : List ℕ → List Token
+tokens text = lex Clear text

@@ -1,0 +1,72 @@
+//! Operators, each on a line of its own (section 6.5 of the WebAssembly Core Specification).
+ghost use Rattle.std.specs.Prelude.{◌≡◌, [], ◌∷◌};
+ghost use Rattle.wasmprinter_spec.specs.Options.{Options};
+ghost use Rattle.wasmprinter_spec.specs.Piece.{Gap, Number};
+ghost use Rattle.wasmprinter_spec.specs.Layout.{has_break, immediate_pieces, operator_pieces, body_pieces};
+ghost use Rattle.wasmprinter_bytes.specs.Prints.{Prints};
+ghost use Rattle.wasmprinter_ops.specs.Immediates.{immediates_seen};
+
+use crate::layout::Layout;
+use crate::text::{break_line, constant, gap, number, word};
+use wasmprinter_bytes::Error;
+use wasmprinter_bytes::print::Print;
+use wasmprinter_ops::expression::OperatorsReader;
+use wasmprinter_ops::operator::{Immediates, Operator};
+
+/// How deep the operators of a function's body are nested.
+const BODY_NESTING: u32 = 2;
+
+fn write_index<P: Print>(p: &mut P, index: u32) -> Result<(), Error>
+    ensures { (o : Options) → Prints P.meaning o p.old p.new result (Gap ∷ Number index ∷ []) }
+{
+    gap(p)?;
+    number(p, u64::from(index))
+}
+
+#[tactic(auto, unfolding(wasmprinter_spec::specs::Layout::immediate_pieces))]
+fn write_immediates<P: Print>(p: &mut P, immediates: Immediates) -> Result<(), Error>
+    ensures { (o : Options) → Prints P.meaning o p.old p.new result (immediate_pieces (immediates_seen immediates)) }
+{
+    match immediates {
+        Immediates::None => Ok(()),
+        Immediates::Index(index) => write_index(p, index),
+        Immediates::I32(n) => constant(p, i64::from(n)),
+        Immediates::I64(n) => constant(p, n),
+    }
+}
+
+/// Writes an operator on a line of its own.
+#[tactic(auto, unfolding(wasmprinter_spec::specs::Layout::operator_pieces))]
+pub fn write_operator<P: Print>(
+    p: &mut P,
+    layout: &Layout<'_>,
+    place: u64,
+    operator: &Operator<'_>,
+) -> Result<(), Error>
+    ensures { Prints P.meaning layout.now p.old p.new result (operator_pieces (record { place = place; value = operator.now })) }
+{
+    break_line(p, layout, Some(place), BODY_NESTING)?;
+    word(p, operator.opcode.word())?;
+    write_immediates(p, operator.immediates)
+}
+
+/// Whether there are operators, which begin lines.
+pub fn has_operators(mut operators: OperatorsReader<'_>) -> bool
+    ensures { result ≡ has_break (body_pieces operators.entry) }
+{
+    operators.next().is_some()
+}
+
+/// Writes operators, each on a line of its own.
+pub fn write_operators<P: Print>(
+    p: &mut P,
+    layout: &Layout<'_>,
+    operators: OperatorsReader<'_>,
+) -> Result<(), Error>
+    ensures { Prints P.meaning layout.now p.old p.new result (body_pieces operators.entry) }
+{
+    for (place, operator) in operators {
+        write_operator(p, layout, place, &operator)?;
+    }
+    Ok(())
+}

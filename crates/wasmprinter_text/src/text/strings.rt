@@ -1,0 +1,53 @@
+//! Texts in quotes (section 6.3.3 of the WebAssembly Core Specification).
+ghost use Rattle.std.specs.Prelude.{◌≡◌, [], ◌∷◌, flat_map, chars};
+ghost use Rattle.wasmprinter_spec.specs.Call.{Text, Literal};
+ghost use Rattle.wasmprinter_spec.specs.Options.{Options};
+ghost use Rattle.wasmprinter_spec.specs.Piece.{Quoted, styled};
+ghost use Rattle.wasmprinter_spec.specs.Quoted.{is_plain, char_text, quoted_text};
+ghost use Rattle.wasmprinter_bytes.specs.Emits.{Emits};
+ghost use Rattle.wasmprinter_bytes.specs.Prints.{Prints};
+
+use crate::text::numbers::{HEXADECIMAL, write_digits_between};
+use wasmprinter_bytes::Error;
+use wasmprinter_bytes::print::{Print, Style, reset, start, text};
+
+/// Whether a character stands for itself in quotes.
+fn is_plain(c: char) -> bool
+    ensures { result ≡ is_plain c }
+{
+    matches!(c, ' '..='~') && c != '"' && c != '\\'
+}
+
+#[tactic(auto, unfolding(wasmprinter_spec::specs::Quoted::char_text))]
+fn write_char<P: Print>(p: &mut P, c: char) -> Result<(), Error>
+    ensures { Emits P.meaning p.old p.new result (Text (char_text c) ∷ []) }
+{
+    if is_plain(c) {
+        return text(p, c.encode_utf8(&mut [0; 4]));
+    }
+    write_digits_between(p, "\\u{", HEXADECIMAL, u64::from(u32::from(c)), "}")
+}
+
+fn write_chars<P: Print>(p: &mut P, s: &str) -> Result<(), Error>
+    ensures { Emits P.meaning p.old p.new result (Text (flat_map char_text (chars s.now)) ∷ []) }
+{
+    for c in s.chars() {
+        write_char(p, c)?;
+    }
+    Ok(())
+}
+
+/// Writes a text in quotes, with what isn't printable by its number.
+///
+/// It answers `Printer` where a call on the printer fails, and no other error.
+#[tactic(auto, unfolding(wasmprinter_spec::specs::Quoted::quoted_text))]
+pub fn write_quoted<P: Print>(p: &mut P, s: &str) -> Result<(), Error>
+    ensures calls { Emits P.meaning p.old p.new result (styled Literal (quoted_text (chars s.now))) }
+    ensures pieces { (o : Options) → Prints P.meaning o p.old p.new result (Quoted (chars s.now) ∷ []) }
+{
+    start(p, Style::Literal)?;
+    text(p, "\"")?;
+    write_chars(p, s)?;
+    text(p, "\"")?;
+    reset(p)
+}

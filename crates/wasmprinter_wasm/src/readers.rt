@@ -1,0 +1,72 @@
+//! What a decoded module holds, for those that print it.
+ghost use Rattle.std.specs.Prelude.{◌≡◌, ◌<◌, length, Some, slice_get};
+
+use crate::body::Body;
+use crate::entries::{Export, FuncType};
+use crate::module::Module;
+use std::marker::Model;
+
+/// A defined function.
+#[derive(Drop)]
+pub struct Function<'a> {
+    type_index: u32,
+    body: Body<'a>,
+}
+
+impl<'a> Model for Function<'a> {
+    ghost use Rattle.wasmprinter_spec.specs.Placed.{PlacedFunction};
+
+    ghost Value = { PlacedFunction };
+
+    ghost view = { λ f. record { type_index = f.type_index; body = f.body } };
+}
+
+impl<'a> Function<'a> {
+    /// The index of its type.
+    pub fn type_index(&self) -> u32
+        ensures { result ≡ self.now.type_index }
+    {
+        self.type_index
+    }
+
+    /// Its locals and operators.
+    pub fn body(&self) -> &Body<'a>
+        ensures { result.now ≡ self.now.body }
+    {
+        &self.body
+    }
+}
+
+impl<'a> Module<'a> {
+    /// The types.
+    pub fn types(&self) -> &[FuncType<'a>]
+        ensures { result.now ≡ self.now.types }
+    {
+        &self.types
+    }
+
+    /// The exports.
+    pub fn exports(&self) -> &[Export<'a>]
+        ensures { result.now ≡ self.now.exports }
+    {
+        &self.exports
+    }
+
+    /// How many bytes the module has.
+    pub fn size(&self) -> u64
+        ensures { result ≡ self.now.size }
+    {
+        self.size
+    }
+
+    /// The defined function with the number.
+    pub fn function(&self, number: u32) -> Function<'a>
+        requires { number < length self.now.functions }
+        ensures { slice_get self.now.functions number ≡ Some result }
+    {
+        Function {
+            type_index: self.type_indices[number as usize],
+            body: self.bodies[number as usize].fork(),
+        }
+    }
+}
