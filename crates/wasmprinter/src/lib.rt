@@ -3,7 +3,9 @@
 
 mod config;
 mod sections;
+mod text;
 
 pub use config::Config;
+pub use text::print_bytes;
 pub use wasmprinter_bytes::{Error, print};
 pub use wasmprinter_wasm as wasm;
