@@ -1,5 +1,5 @@
 -- The headline from its three parts: what the decoder read, what the printer made of it, and the reading law.
-use Rattle.std.proofs.Common.{◌≡◌, ℕ, List, false, refl, sym, ap, ◌∙◌, subst}
+use Rattle.std.proofs.Common.{◌≡◌, ℕ, List, refl, sym, ap, ◌∙◌, subst}
 use Rattle.std.specs.Prelude.{IsUtf8}
 use Rattle.wasmprinter_spec.specs.Binary.{Spells}
 use Rattle.wasmprinter_spec.specs.Placed.{PlacedModule}
@@ -7,17 +7,13 @@ use Rattle.wasmprinter_spec.specs.Limits.{IsWithinLimits}
 use Rattle.wasmprinter_spec.specs.Call.{text_of}
 use Rattle.wasmprinter_spec.specs.Colour.{uncolour}
 use Rattle.wasmprinter_spec.specs.Meaning.{Meaning}
-use Rattle.wasmprinter_spec.specs.Options.{Options, Answers}
+use Rattle.wasmprinter_spec.specs.Options.{Options}
 use Rattle.wasmprinter_spec.specs.Layout.{layout}
 use Rattle.wasmprinter_spec.specs.Read.{read}
 use Rattle.wasmprinter_bytes.specs.Emits.{Whole}
 use Rattle.wasmprinter_lexical.proofs.Alike.{alike_texts}
 use Rattle.wasmprinter_reading.proofs.Main.{reads_back, prints_plain_text}
-use Rattle.wasmprinter.specs.Printed.{Printed}
-
--- no custom section is in the grammar yet, so none is claimed
-abbrev pub unclaimed : Answers
-unclaimed = λ n. false
+use Rattle.wasmprinter.specs.Printed.{Printed, unclaimed}
 
 -- What was read from the bytes and printed whole is printed.
 pub printed : {P : Type 0} (m : Meaning P) (o : Options) (bytes : List ℕ) (placed : PlacedModule) {old new : P} →

@@ -1,3 +1,4 @@
 pub mod Fields
 pub mod Headline
 pub mod Outcomes
+pub mod Texts

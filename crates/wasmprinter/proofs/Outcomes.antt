@@ -17,9 +17,9 @@ use Rattle.wasmprinter_bytes.specs.PrintsLaws.{written}
 use Rattle.wasmprinter_bytes.specs.declared.error.Error.{Error}
 use Rattle.wasmprinter_bytes.specs.declared.error.Error.TheVariants.{Malformed, Component, TooManyLocals, TooManyFunctions, EmptyTableInit, FoldLegacy, FoldHint, DylinkSubsection, Unreadable, Printer, Memory}
 use Rattle.wasmprinter_wasm.specs.Decoding.{IsRefusal}
-use Rattle.wasmprinter.specs.Printed.{Printed}
-use Rattle.wasmprinter.specs.Outcome.{IsCause, HasCause, IsTrueOf, Leaves}
-use Rattle.wasmprinter.proofs.Headline.{unclaimed, printed}
+use Rattle.wasmprinter.specs.Printed.{Printed, unclaimed}
+use Rattle.wasmprinter.specs.Outcome.{IsCause, HasCause, HasModuleCause, IsTrueOf, Leaves, as_growth}
+use Rattle.wasmprinter.proofs.Headline.{printed}
 
 -- bytes that spell a module are not marked as a component
 not_component : (bytes : List ℕ) (placed : PlacedModule) → Spells bytes placed → IsComponent bytes → ⊥
@@ -146,3 +146,31 @@ module _ {P : Type 0} (m : Meaning P) (o : Options) (bytes : List ℕ) (placed :
   pub written_left : (r : Result (Unit {0}) Error) → Written m o old new (ended r) (module_pieces o placed) → IfErr r (Leaves m o bytes old new)
   written_left (Ok x) v = tt
   written_left (Err e) v = stop_left e (made (Err e) v).made
+
+-- where a printer that fails only by growth failed, memory was refused
+pub growth_cause : {P : Type 0} (m : Meaning P) (bytes : List ℕ) (old new : P) (e : Error) → HasCause m bytes old new e → HasModuleCause bytes (as_growth e)
+growth_cause m bytes old new (Malformed place) h = h
+growth_cause m bytes old new Component h = h
+growth_cause m bytes old new (TooManyLocals place) h = h
+growth_cause m bytes old new (TooManyFunctions count) h = h
+growth_cause m bytes old new (EmptyTableInit place) h = h
+growth_cause m bytes old new (FoldLegacy place) h = h
+growth_cause m bytes old new (FoldHint place) h = h
+growth_cause m bytes old new (DylinkSubsection id) h = h
+growth_cause m bytes old new Unreadable h = h
+growth_cause m bytes old new (Printer x) h = λ placed s. tt
+growth_cause m bytes old new Memory h = h
+
+-- and the refusal is true of the bytes
+pub growth_true : (bytes : List ℕ) (e : Error) → IsTrueOf bytes e → IsRefusal bytes (as_growth e)
+growth_true bytes (Malformed place) h = h
+growth_true bytes Component h = h
+growth_true bytes (TooManyLocals place) h = h
+growth_true bytes (TooManyFunctions count) h = h
+growth_true bytes (EmptyTableInit place) h = h
+growth_true bytes (FoldLegacy place) h = h
+growth_true bytes (FoldHint place) h = h
+growth_true bytes (DylinkSubsection id) h = h
+growth_true bytes Unreadable h = h
+growth_true bytes (Printer x) h = tt
+growth_true bytes Memory h = h

@@ -22,24 +22,38 @@ pub record PrinterFailed {P : Type 0} (m : Meaning P) (old new : P) : Type 0 whe
   pub call : Call
   pub failed : Failed m before call new
 
--- The cause of a refusal, where bytes spell this module: a function with its body at the place has too many locals; there are so many
--- functions, and that is too many; a call on the printer failed; or memory was refused. No other error is answered.
+-- The cause of a refusal that is none of a printer's, where bytes spell this module: a function with its body at the place has too many
+-- locals; there are so many functions, and that is too many; or memory was refused. No other error is answered.
+abbrev pub IsModuleCause : PlacedModule → Error → Type 0
+IsModuleCause placed (TooManyLocals place) = AnyIsOver place (bodies_of placed.functions)
+IsModuleCause placed (TooManyFunctions count) = (length placed.functions ≡ count) × (most_functions < count)
+IsModuleCause placed Memory = Unit {0}
+IsModuleCause placed (Malformed place) = ⊥
+IsModuleCause placed Component = ⊥
+IsModuleCause placed (EmptyTableInit place) = ⊥
+IsModuleCause placed (FoldLegacy place) = ⊥
+IsModuleCause placed (FoldHint place) = ⊥
+IsModuleCause placed (DylinkSubsection id) = ⊥
+IsModuleCause placed Unreadable = ⊥
+IsModuleCause placed (Printer e) = ⊥
+
+-- the cause of a refusal: such a one, or that a call on the printer failed
 abbrev pub IsCause : {P : Type 0} → Meaning P → P → P → PlacedModule → Error → Type 0
-IsCause m old new placed (Malformed place) = ⊥
-IsCause m old new placed Component = ⊥
-IsCause m old new placed (TooManyLocals place) = AnyIsOver place (bodies_of placed.functions)
-IsCause m old new placed (TooManyFunctions count) = (length placed.functions ≡ count) × (most_functions < count)
-IsCause m old new placed (EmptyTableInit place) = ⊥
-IsCause m old new placed (FoldLegacy place) = ⊥
-IsCause m old new placed (FoldHint place) = ⊥
-IsCause m old new placed (DylinkSubsection id) = ⊥
-IsCause m old new placed Unreadable = ⊥
 IsCause m old new placed (Printer e) = PrinterFailed m old new
-IsCause m old new placed Memory = Unit {0}
+IsCause m old new placed e = IsModuleCause placed e
 
 -- the error is answered for a cause, if bytes spell a module at all
 abbrev pub HasCause : {P : Type 0} → Meaning P → List ℕ → P → P → Error → Type 0
 HasCause m bytes old new e = (placed : PlacedModule) → Spells bytes placed → IsCause m old new placed e
+
+-- the same where no printer but the program's own is called
+abbrev pub HasModuleCause : List ℕ → Error → Type 0
+HasModuleCause bytes e = (placed : PlacedModule) → Spells bytes placed → IsModuleCause placed e
+
+-- an error as a printer gives it that fails only where it can't grow
+abbrev pub as_growth : Error → Error
+as_growth (Printer e) = Memory
+as_growth e = e
 
 -- Of any bytes: the decoder's refusal is true, and the printer's comes only where a module within the limits is spelled.
 abbrev pub IsTrueOf : List ℕ → Error → Type 0

@@ -9,9 +9,13 @@ use Rattle.wasmprinter_spec.specs.Indexed.{IsIndexed}
 use Rattle.wasmprinter_spec.specs.Call.{Call, Claim, atoms, text_of}
 use Rattle.wasmprinter_spec.specs.Colour.{uncolour}
 use Rattle.wasmprinter_spec.specs.Meaning.{Meaning, Run}
-use Rattle.wasmprinter_spec.specs.Options.{Options, Answers, IsBlank}
+use Rattle.wasmprinter_spec.specs.Options.{Options, defaults, Answers, IsBlank}
 use Rattle.wasmprinter_spec.specs.Layout.{layout}
 use Rattle.wasmprinter_spec.specs.Read.{read}
+
+-- no custom section is claimed
+abbrev pub unclaimed : Answers
+unclaimed = λ n. false
 
 -- the printer didn't take a custom section itself
 abbrev pub IsUnclaimed : Call → Type 0
@@ -32,3 +36,12 @@ pub record Printed {P : Type 0} (m : Meaning P) (o : Options) (bytes : List ℕ)
   pub reads : IsIndexed (module_of placed) → o.skeleton ≡ false → IsBlank o.indent → AllByRecursion IsUnclaimed calls →
       read (uncolour (text_of calls)) ≡ Some (module_of placed)
   pub utf8 : IsBlank o.indent → IsUtf8 (text_of calls)
+
+-- The text is that of the layout with the defaults, of the module that the bytes spell, and reads as exactly that module, where every used
+-- index is declared.
+pub record HasText (bytes text : List ℕ) : Type 0 where
+  pub placed : PlacedModule
+  pub spelled : Spells bytes placed
+  pub within : IsWithinLimits placed
+  pub is : text ≡ text_of (layout defaults unclaimed placed)
+  pub reads : IsIndexed (module_of placed) → read text ≡ Some (module_of placed)

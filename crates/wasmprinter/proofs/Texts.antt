@@ -1,0 +1,52 @@
+-- The text that a printer over a writer of text hands over.
+use Rattle.std.specs.Prelude.{◌≡◌, ℕ, List, [], ◌∷◌, ◌++◌, refl}
+use Rattle.std.proofs.Common.{sym, ap, ◌∙◌, append_assoc, append-nil, inl}
+use Rattle.wasmprinter_spec.specs.Call.{Call, Text, Newline, Line, Start, Claim, call_text, text_of}
+use Rattle.wasmprinter_spec.specs.Meaning.{Meaning, Run}
+use Rattle.wasmprinter_spec.specs.Options.{Options, Answers, defaults, IsBlank}
+use Rattle.wasmprinter_spec.specs.Placed.{PlacedModule}
+use Rattle.wasmprinter_spec.specs.Layout.{layout}
+use Rattle.wasmprinter_bytes.specs.Writers.{FmtAfter}
+use Rattle.wasmprinter_lexical.proofs.Alike.{alike_texts}
+use Rattle.wasmprinter_reading.proofs.Main.{reads_back}
+use Rattle.wasmprinter_spec.specs.Read.{read}
+use Rattle.wasmprinter.specs.Printed.{Printed, HasText, unclaimed}
+
+-- a view that each call extends by its text is extended by the text of a run
+run_text : {P : Type 0} (m : Meaning P) (view : P → List ℕ) → ((s : P) (c : Call) (t : P) → m.after s c t → view t ≡ view s ++ call_text c) →
+    (old new : P) (calls : List Call) → Run m old calls new → view new ≡ view old ++ text_of calls
+run_text m view grows old new [] r = sym (ap view r) ∙ sym (append-nil (view old))
+run_text m view grows old new (c ∷ calls) r =
+    run_text m view grows r.0 new calls r.2 ∙ ap (λ t. t ++ text_of calls) (grows old c r.0 r.1.step) ∙ append_assoc (view old) (call_text c) (text_of calls)
+
+-- a writer whose bytes grow by what is written
+pub grows_by : {T : Type 0} (gives : T → List ℕ → T → Type 0) (view : T → List ℕ) → ((s : T) (bytes : List ℕ) (t : T) → gives s bytes t → view t ≡ view s ++ bytes) →
+    (s : T) (c : Call) (t : T) → FmtAfter gives s c t → view t ≡ view s ++ call_text c
+grows_by gives view grows s (Text bytes) t h = grows s bytes t h
+grows_by gives view grows s Newline t h = grows s (10 ∷ []) t h
+grows_by gives view grows s (Line place) t h = ap view h ∙ sym (append-nil (view s))
+grows_by gives view grows s (Start style) t h = ap view h ∙ sym (append-nil (view s))
+grows_by gives view grows s (Claim name place bytes answer) t h = ap view h.1 ∙ sym (append-nil (view s))
+
+-- no custom section is in the grammar yet, so the answers to claims don't matter
+answers_alike : (o : Options) (a b : Answers) (placed : PlacedModule) → layout o a placed ≡ layout o b placed
+unfolding layout
+answers_alike o a b placed = refl
+
+two_blanks : IsBlank defaults.indent
+two_blanks = (inl refl, (inl refl, tt))
+
+-- what was printed with the defaults to a writer that was empty is its text
+pub printed_text : {P : Type 0} (m : Meaning P) (view : P → List ℕ) → ((s : P) (c : Call) (t : P) → m.after s c t → view t ≡ view s ++ call_text c) →
+    (bytes : List ℕ) (old new : P) → view old ≡ [] → Printed m defaults bytes old new → HasText bytes (view new)
+printed_text m view grows bytes old new empty v =
+    let handed : view new ≡ text_of v.calls = run_text m view grows old new v.calls v.run ∙ ap (λ t. t ++ text_of v.calls) empty in
+    let is : view new ≡ text_of (layout defaults unclaimed v.placed) =
+    handed ∙ alike_texts v.calls (layout defaults v.answers v.placed) v.alike ∙ ap text_of (answers_alike defaults v.answers unclaimed v.placed) in
+    record {
+      placed = v.placed;
+      spelled = v.spelled;
+      within = v.within;
+      is = is;
+      reads = λ indexed. ap read is ∙ reads_back bytes v.placed defaults unclaimed v.spelled indexed refl two_blanks (λ n. refl);
+    }

@@ -1,0 +1,5 @@
+//! Modules in the binary format: decoding, and walking over what was decoded.
+pub use wasmprinter_ops::expression::OperatorsReader;
+pub use wasmprinter_ops::opcode::Opcode;
+pub use wasmprinter_ops::operator::{Immediates, Operator};
+pub use wasmprinter_wasm::{Body, Module, decode};
