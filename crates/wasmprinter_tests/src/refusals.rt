@@ -5,12 +5,12 @@ use crate::recorder::Recorder;
 use std::test::Fail;
 use wasmprinter::{Config, Error, print_bytes};
 
-/// A type, a function and a body of these bytes behind its size, which is given too.
-fn with_body(rt: &HostRuntime, size: u8, body: &[u8]) -> Result<Vec<u8>, Fail> {
+/// A type, a function of it, and this code section.
+fn with_code(rt: &HostRuntime, code: &[u8]) -> Result<Vec<u8>, Fail> {
     let mut wasm = Vec::from_slice(rt.alloc(), &PREAMBLE)?;
-    wasm.extend_from_slice(&[0x01, 0x04, 0x01, 0x60, 0x00, 0x00, 0x03, 0x02, 0x01, 0x00])?;
-    wasm.extend_from_slice(&[0x0a, size + 2, 0x01, size])?;
-    wasm.extend_from_slice(body)?;
+    wasm.extend_from_slice(&[0x01, 0x04, 0x01, 0x60, 0x00, 0x00])?;
+    wasm.extend_from_slice(&[0x03, 0x02, 0x01, 0x00])?;
+    wasm.extend_from_slice(code)?;
     Ok(wasm)
 }
 
@@ -55,10 +55,16 @@ fn refuses_a_size_in_too_many_bytes(rt: HostRuntime) -> Result<(), Fail> {
 
 #[test]
 fn takes_fifty_thousand_locals_and_no_more(rt: HostRuntime) -> Result<(), Fail> {
-    let most = with_body(&rt, 6, &[0x01, 0xd0, 0x86, 0x03, 0x7f, 0x0b])?;
+    let most = with_code(
+        &rt,
+        &[0x0a, 0x08, 0x01, 0x06, 0x01, 0xd0, 0x86, 0x03, 0x7f, 0x0b],
+    )?;
     let text = print_bytes(rt.alloc(), &most)?;
     assert_eq!(rt; text.as_str().matches(" i32").count(), 50_000);
-    let more = with_body(&rt, 6, &[0x01, 0xd1, 0x86, 0x03, 0x7f, 0x0b])?;
+    let more = with_code(
+        &rt,
+        &[0x0a, 0x08, 0x01, 0x06, 0x01, 0xd1, 0x86, 0x03, 0x7f, 0x0b],
+    )?;
     let refused = print_bytes(rt.alloc(), &more);
     assert!(rt; matches!(refused, Err(Error::TooManyLocals { place: 22 })));
     Ok(())
@@ -66,12 +72,10 @@ fn takes_fifty_thousand_locals_and_no_more(rt: HostRuntime) -> Result<(), Fail> 
 
 #[test]
 fn refuses_functions_without_bodies(rt: HostRuntime) -> Result<(), Fail> {
-    let mut wasm = with_body(&rt, 2, &[0x00, 0x0b])?;
-    wasm[14] = 0x03;
-    wasm[15] = 0x03;
-    wasm[16] = 0x02;
-    wasm[17] = 0x00;
-    wasm.insert(18, 0x00)?;
+    let mut wasm = Vec::from_slice(rt.alloc(), &PREAMBLE)?;
+    wasm.extend_from_slice(&[0x01, 0x04, 0x01, 0x60, 0x00, 0x00])?;
+    wasm.extend_from_slice(&[0x03, 0x03, 0x02, 0x00, 0x00])?;
+    wasm.extend_from_slice(&[0x0a, 0x04, 0x01, 0x02, 0x00, 0x0b])?;
     let refused = print_bytes(rt.alloc(), &wasm);
     assert!(rt; matches!(refused, Err(Error::Malformed { .. })));
     Ok(())
