@@ -11,6 +11,3 @@ pub use config::Config;
 pub use print::{Print, PrintFmtWrite};
 pub use text::print_bytes;
 pub use wasmprinter_bytes::Error;
-
-#[cfg(test)]
-mod tests;
