@@ -1,4 +1,7 @@
-//! A printer of WebAssembly modules in the binary format as text.
+//! A printer of WebAssembly modules: from the binary format to the text format.
+//!
+//! `print_bytes` gives the text of a module, and `Config::print` hands it to any `Print`. What they promise is in their contracts:
+//! the text reads back as exactly the module that the bytes spell.
 #![tactic(auto)]
 
 mod config;

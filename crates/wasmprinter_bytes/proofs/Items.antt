@@ -11,6 +11,7 @@ abbrev pub with_end : {A : Type 0} → List A → Option At → Option (List A �
 with_end xs None = None
 with_end xs (Some e) = Some (xs, e)
 
+-- one more item in front of those that were passed by
 skip_over : {A : Type 0} (r : Option At) (x : A) (xs : List A) → (with_end xs r >>= λ b. Some (x ∷ b.0, b.1)) ≡ with_end (x ∷ xs) r
 skip_over None x xs = refl
 skip_over (Some e) x xs = refl
@@ -30,6 +31,7 @@ module _ {A : Type 0} (parse : At → Option (A × At)) where
   has_then n None e h s = absurd cc
   has_then n (Some x) e h s = h x s
 
+  -- items that were passed by stand there
   pub HasItems-skip : (n : ℕ) (at e : At) → skip_at parse n at ≡ Some e → HasItems parse n at
   HasItems-skip zero at e s = tt
   HasItems-skip (suc n) at e s = has_then n (parse at) e (λ x t. HasItems-skip n x.1 e t) s
@@ -59,14 +61,17 @@ module _ {A : Type 0} (parse : At → Option (A × At)) where
   length_of n None f h = absurd h
   length_of n (Some x) f h = let e = f x h in omega arith
 
+  -- there are as many as were counted
   pub length-items_of : (n : ℕ) (at : At) → HasItems parse n at → length (items_of parse n at) ≡ n
   length-items_of zero at h = refl
   length-items_of (suc n) at h = length_of n (parse at) (λ x. length-items_of n x.1) h
 
 -- a count and so many items
 module _ {A : Type 0} (parse : At → Option (A × At)) where
+  -- the vector that was passed by
   pub vec_some : (old mid e : At) (n : ℕ) → u32.parse old ≡ Some (n, mid) → skip_at parse n mid ≡ Some e → vec_at parse old ≡ Some (items_of parse n mid, e)
   vec_some old mid e n c s = rw (c, items_at-skip parse n mid, s) refl
 
+  -- no vector stands there
   pub vec_none : (old mid : At) (n : ℕ) → u32.parse old ≡ Some (n, mid) → skip_at parse n mid ≡ None → vec_at parse old ≡ None
   vec_none old mid n c s = rw (c, items_at-skip parse n mid, s) refl

@@ -4,7 +4,8 @@ use Rattle.std.proofs.lemmas.Bool.{ne_eqb, eq-eqb}
 use Rattle.wasmprinter_spec.specs.Grammar.{At, from, Spans, Grammar, ◌>>=◌}
 use Rattle.wasmprinter_spec.specs.Terminated.{Closed, BeginsOtherwise, with_first, closed_of, closed_at}
 
-bind_same : {X Y : Type 0} (r : Option X) (f h : X → Option Y) → ((x : X) → r ≡ Some x → f x ≡ h x) → (r >>= f) ≡ (r >>= h)
+-- what follows a value need only be the same at that value
+pub bind_same : {X Y : Type 0} (r : Option X) (f h : X → Option Y) → ((x : X) → r ≡ Some x → f x ≡ h x) → (r >>= f) ≡ (r >>= h)
 bind_same None f h e = refl
 bind_same (Some x) f h e = e x refl
 

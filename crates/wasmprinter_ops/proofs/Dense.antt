@@ -16,6 +16,7 @@ module _ {A : Type 0} (f : ℕ → A) (d : A) where
       let e : i + 1 + k ≡ i + suc k = omega arith in
       get_or-each_from (i + 1) n k (omega arith) ∙ ap f e
 
+  -- there are so many of them
   length-each_from : (i n : ℕ) → length (each_from f i n) ≡ n
   length-each_from i zero = refl
   length-each_from i (suc n) = let h = length-each_from (i + 1) n in omega arith
@@ -33,6 +34,7 @@ abbrev fits : List Row → Bool
 fits [] = true
 fits (r ∷ rs) = ltb r.number (size_of r.prefix) && fits rs
 
+-- the table is so
 table_fits : fits table ≡ true
 unfolding table control_rows number_rows
 table_fits = refl
@@ -46,10 +48,12 @@ past_row r o lt le e =
     let s : size_of r.prefix ≡ size_of o.prefix = ap size_of p in
     omega arith
 
+-- a row that does not pass is passed by
 no_first : (b : Bool) (r : Row) (x : Option Row) → (b ≡ true → ⊥) → x ≡ None → cond b (Some r) x ≡ None
 no_first true r x h e = absurd (h refl)
 no_first false r x h e = e
 
+-- no row of a list that fits has an opcode past the size
 past_rows : (rs : List Row) (o : Opcode) → fits rs ≡ true → size_of o.prefix ≤ o.number → first (has_opcode o) rs ≡ None
 past_rows [] o f le = refl
 past_rows (r ∷ rs) o f le =
@@ -65,6 +69,7 @@ pub no_words : (prefix : ℕ) → prefix ≢ 0 → [] ≡ each_word prefix
 unfolding each_word
 no_words prefix ne = rw (ne_eqb prefix 0 ne) refl
 
+-- nor shapes of immediates
 pub no_shapes : (prefix : ℕ) → prefix ≢ 0 → [] ≡ each_shape prefix
 unfolding each_shape
 no_shapes prefix ne = rw (ne_eqb prefix 0 ne) refl
@@ -80,18 +85,22 @@ module _ {A : Type 0} (f : ℕ → A) (d : A) (prefix n : ℕ) (xs : List A) (is
   past_is le = omega (arith, ap length is, length-each_from f d 0 (size_of prefix))
 
 module _ (o : Opcode) where
+  -- the word at a position of the table
   pub word_within : (xs : List (List ℕ)) → xs ≡ each_word o.prefix → o.number < length xs → get_or xs o.number [] ≡ word_of o
   unfolding each_word
   word_within xs is lt = within_is (λ n. word_of (opcode o.prefix n)) [] o.prefix o.number xs is lt
 
+  -- past the table there is no word
   pub word_past : (xs : List (List ℕ)) → xs ≡ each_word o.prefix → length xs ≤ o.number → [] ≡ word_of o
   unfolding each_word
   word_past xs is le = rw (not_listed o (past_is (λ n. word_of (opcode o.prefix n)) [] o.prefix o.number xs is le)) refl
 
+  -- the shape at a position of the table
   pub shape_within : (xs : List (Option Shape)) → xs ≡ each_shape o.prefix → o.number < length xs → get_or xs o.number None ≡ shape_of o
   unfolding each_shape
   shape_within xs is lt = within_is (λ n. shape_of (opcode o.prefix n)) None o.prefix o.number xs is lt
 
+  -- past the table there is no shape
   pub shape_past : (xs : List (Option Shape)) → xs ≡ each_shape o.prefix → length xs ≤ o.number → None ≡ shape_of o
   unfolding each_shape
   shape_past xs is le = rw (not_listed o (past_is (λ n. shape_of (opcode o.prefix n)) None o.prefix o.number xs is le)) refl

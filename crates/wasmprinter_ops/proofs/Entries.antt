@@ -41,6 +41,7 @@ module _ {A : Type 0} (g : Grammar A) where
       let more : Entries g (p + length s.0) (s.1 ++ u) (ys ++ x ∷ []) = entries-push ys (p + length s.0) s.1 u x s.5 some (subst (λ (q : ℕ). g.spells q u x) l last) in
       (s.0, s.1 ++ u, ap (λ (r : List ℕ). r ++ u) s.2 ∙ append_assoc s.0 s.1 u, s.3, s.4, more)
 
+  -- the same between two places
   pub spans-push : (start mid after : At) (xs : List A) (x : A) → Spans (Entries g) start (xs, mid) → (s : Spans g.spells mid (x, after)) → 0 < length s.text → Spans (Entries g) start (xs ++ x ∷ [], after)
   spans-push start mid after xs x f s some = record {
     text = f.text ++ s.text;

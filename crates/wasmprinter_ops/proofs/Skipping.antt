@@ -25,6 +25,7 @@ pub record Skipped (start at : At) : Type 0 where
   pub skipped : Spans (Entries (placed operator)) start (items, at)
   pub is : expression.parse start ≡ with_front items (expression.parse at)
 
+-- no operators in front change nothing
 front_nil : (r : Option (Closed (Placed Operator) × At)) → r ≡ with_front [] r
 front_nil None = refl
 front_nil (Some x) = refl
@@ -37,6 +38,7 @@ skipped_none at = record {
   is = front_nil (expression.parse at);
 }
 
+-- an operator behind those in front is one of them
 front_push : (ops : List (Placed Operator)) (o : Placed Operator) (r : Option (Closed (Placed Operator) × At))
     → with_front ops (r >>= λ x. Some (record { items = o ∷ x.0.items; end = x.0.end }, x.1)) ≡ with_front (ops ++ o ∷ []) r
 front_push ops o None = refl
@@ -79,6 +81,7 @@ skipped_all start at rest e k = record {
       ∙ ap (λ (xs : List (Placed Operator)). Some (record { items = xs; end = at.place }, from (at.place + 1) rest)) (append-nil k.items);
 }
 
+-- a test that did not fail
 equal_of : (t : Bool) → false ≡ not t → t ≡ true
 equal_of true e = refl
 equal_of false e = absurd cc
@@ -90,6 +93,7 @@ at_end (b ∷ bs) next e t =
     let f : false ≡ not (eqb b end_byte) = rw e at t in
     (bs, ap (λ (c : ℕ). c ∷ bs) (eqb-true b end_byte (equal_of (eqb b end_byte) f)))
 
+-- where the test goes on, no `end` stands in front
 pub not_at_end : (bytes : List ℕ) (next : Option ℕ) → next ≡ slice_get bytes 0 → true ≡ not (option_eq eqb next (Some end_byte)) → (rest : List ℕ) → bytes ≡ end_byte ∷ rest → ⊥
 not_at_end bytes next e t rest f =
     let g : true ≡ not (eqb end_byte end_byte) = rw (e, f) at t in
@@ -114,17 +118,21 @@ read_as ops end new = Some (record { items = ops; end = end }, new)
 
 module _ (old mid part new : At) (b : ℕ) (s : OperatorsAndEnd old mid) (e : byte.parse mid ≡ Some (b, new))
     (cut : part ≡ from old.place (take (mid.place - old.place) old.bytes)) where
+  -- the part that was cut out spells the operators
   there : operators.parse part ≡ Some s.items
   there = ap operators.parse cut ∙ front_of old mid s.items s.skipped
 
+  -- it ends where the `end` stands
   part_end : end_of part ≡ mid.place
   part_end =
       let within : mid.place - old.place ≤ length old.bytes = omega (arith, s.skipped.ends, ap length s.skipped.parts, length-append s.skipped.text mid.bytes) in
       omega (arith, s.skipped.ends, ap end_of cut, length-take-le (mid.place - old.place) old.bytes within)
 
+  -- reading goes on behind the `end`
   behind : from (mid.place + 1) s.rest ≡ new
   behind = ap (λ (x : ℕ × At). x.1) (some_is (end_byte, from (mid.place + 1) s.rest) (b, new) (sym (ap (byte_of mid.place) s.stops) ∙ e))
 
+  -- an expression was read
   read_all : expression.parse old ≡ read_as (operators_in part) (end_of part) new
   read_all =
       let ops : operators_in part ≡ s.items = operators_are part s.items there in

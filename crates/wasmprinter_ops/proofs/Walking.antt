@@ -9,6 +9,7 @@ use Rattle.wasmprinter_spec.specs.Instructions.{operator}
 use Rattle.wasmprinter_ops.specs.Operators.{operators, operators_in, HasOperators, pairs, placed_seen}
 use Rattle.wasmprinter_ops.proofs.Entries.{first_entry}
 
+-- the same of what was read
 stand_of : (r : Option (List (Placed Operator))) → MatchOption r ⊥ (λ ops. Unit {0}) → r ≡ Some (some_or r [] (λ ops. ops))
 stand_of None h = absurd h
 stand_of (Some ops) h = refl
@@ -21,6 +22,7 @@ stand_there at h = stand_of (operators.parse at) h
 pub has_operators : (at : At) (ops : List (Placed Operator)) → operators.parse at ≡ Some ops → HasOperators at
 has_operators at ops e = rw e tt
 
+-- and they are those that were read
 pub operators_are : (at : At) (ops : List (Placed Operator)) → operators.parse at ≡ Some ops → operators_in at ≡ ops
 operators_are at ops e = rw e refl
 
@@ -30,6 +32,7 @@ pub record NextOperator (at after : At) (o : ℕ × Operator) : Type 0 where
   pub steps : pairs (operators_in at) ≡ o ∷ pairs (operators_in after)
   pub fewer : length (pairs (operators_in after)) < length (pairs (operators_in at))
 
+-- the operator that was read is the first of those that stand there
 pub next_operator : (at after : At) (o : ℕ × Operator) → (at.bytes ≡ [] → IsTrue false) → HasOperators at → (placed operator).parse at ≡ Some (placed_seen o, after) → NextOperator at after o
 next_operator at after o some h e =
     let f = first_entry (placed operator) at (operators_in at) (λ z. let t = some z in cc) (stand_there at h) in

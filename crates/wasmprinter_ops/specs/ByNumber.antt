@@ -17,6 +17,7 @@ size_of prefix = if prefix == 0 then 256 else 0
 unfoldable pub each_word : ℕ → List (List ℕ)
 each_word prefix = each_from (λ n. word_of (opcode prefix n)) 0 (size_of prefix)
 
+-- the shape in a row
 abbrev pub shape_of_row : Option Row → Option Shape
 shape_of_row None = None
 shape_of_row (Some r) = Some r.shape

@@ -21,5 +21,6 @@ type_made defined.I64 = t.I64
 abbrev pub type_at : At → Option (ValType × At)
 type_at at = val_type.parse at >>= λ x. Some (type_made x.0, x.1)
 
+-- the value types of the definitions
 abbrev pub types_seen : List ValType → List DefinedType
 types_seen ts = map type_seen ts

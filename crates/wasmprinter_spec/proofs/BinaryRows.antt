@@ -6,12 +6,10 @@ use Rattle.std.specs.List.{list_all}
 use Rattle.std.specs.Char.{encode_utf8}
 use Rattle.std.specs.Str.{is_utf8, chars}
 use Rattle.wasmprinter_spec.specs.Grammar.{from, Placed}
-
-
 use Rattle.wasmprinter_spec.specs.Types.{I32}
 use Rattle.wasmprinter_spec.specs.Placed.{LocalEntry, PlacedModule}
 use Rattle.wasmprinter_spec.specs.Binary.{binary, AreBytes, Spells, IsComponent}
-use Rattle.wasmprinter_spec.specs.Limits.{IsWithinLimits}
+use Rattle.wasmprinter_spec.specs.Limits.{most_functions, IsWithinLimits}
 use Rattle.wasmprinter_spec.specs.Table.{table, control_rows, number_rows}
 use Rattle.wasmprinter_spec.proofs.Samples.{head_bytes, local_get, empty_placed, identity_bytes, identity_placed, stored_bytes_to_end, stored_bytes, stored_placed, mixed_bytes, mixed_placed}
 
@@ -155,6 +153,15 @@ body_unlisted : parsed (with_body 3 (0x00 ∷ 0xff ∷ 0x0b ∷ [])) ≡ None
 unfolding table control_rows number_rows
 body_unlisted = refl
 
+-- constants of 32 and 64 bits, one bit too long
+body_long_constant : parsed (with_body 8 (0x00 ∷ 0x41 ∷ 0x80 ∷ 0x80 ∷ 0x80 ∷ 0x80 ∷ 0x08 ∷ 0x0b ∷ [])) ≡ None
+unfolding table control_rows number_rows
+body_long_constant = refl
+
+body_longer_constant : parsed (with_body 13 (0x00 ∷ 0x42 ∷ 0x80 ∷ 0x80 ∷ 0x80 ∷ 0x80 ∷ 0x80 ∷ 0x80 ∷ 0x80 ∷ 0x80 ∷ 0x80 ∷ 0x01 ∷ 0x0b ∷ [])) ≡ None
+unfolding table control_rows number_rows
+body_longer_constant = refl
+
 -- ---- locals
 
 abbrev many_locals : ℕ → PlacedModule
@@ -173,6 +180,13 @@ most_locals_within = record { locals = (omega arith, tt); functions = omega arit
 
 too_many_beyond : IsWithinLimits (many_locals 50001) → ⊥
 too_many_beyond w = omega (arith, w.locals.0)
+
+-- those of all entries count together
+too_many_in_two_entries : IsWithinLimits (with_locals (record { place = 0x17; value = record { count = 25000; type = I32 } } ∷ record { place = 0x1b; value = record { count = 25001; type = I32 } } ∷ []) 0x1f 0x20) → ⊥
+too_many_in_two_entries w = omega (arith, w.locals.0)
+
+function_limit : most_functions ≡ 1000000
+function_limit = refl
 
 -- no value type
 local_of_no_type : parsed (with_body 4 (0x01 ∷ 0x01 ∷ 0x40 ∷ 0x0b ∷ [])) ≡ None

@@ -1,4 +1,4 @@
--- Worked rows of annotations and groups (section 6.2.5 of the standard), and of texts that have no groups at all.
+-- Worked rows of annotations and groups (section 6.2 of the standard, "Annotations"), and of texts that have no groups at all.
 use Rattle.std.specs.Prelude.{◌≡◌, ℕ, List, [], ◌∷◌, ◌++◌, codes, Option, Some, None, option_map, refl}
 use Rattle.std.specs.Char.{encode_utf8}
 use Rattle.std.specs.Str.{is_utf8, chars}
@@ -132,6 +132,10 @@ delete_in_string = refl
 wrong_escape : forest (codes "\"\\x\"") ≡ None
 unfolding lex class escape
 wrong_escape = refl
+
+letter_behind_hexadecimal : forest (codes "\"\\g0\"") ≡ None
+unfolding lex class escape
+letter_behind_hexadecimal = refl
 
 half_byte : forest (codes "\"\\6\"") ≡ None
 unfolding lex class escape

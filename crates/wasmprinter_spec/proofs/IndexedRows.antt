@@ -1,5 +1,5 @@
--- Worked rows of declared indices (section 2.5.1 of the standard), and of indents.
-use Rattle.std.specs.Prelude.{◌≡◌, ℕ, List, [], ◌∷◌, codes, refl}
+-- Worked rows of declared indices (section 2.5 of the standard, "Indices"), and of indents.
+use Rattle.std.specs.Prelude.{ℕ, List, [], ◌∷◌, codes, refl}
 use Rattle.std.proofs.Common.{arith, inl, inr}
 use Rattle.wasmprinter_spec.specs.Types.{I32}
 use Rattle.wasmprinter_spec.specs.Operator.{Operator}
@@ -26,10 +26,10 @@ stored_indexed = record {
   exports = tt;
 }
 
--- a function of one parameter and one local that calls itself, and an export
+-- two types, and a function with one local under a name
 abbrev calling : ℕ → List Operator → ℕ → Module
 calling type os exported = record {
-  types = record { params = I32 ∷ []; results = [] } ∷ [];
+  types = record { params = I32 ∷ []; results = [] } ∷ record { params = []; results = [] } ∷ [];
   functions = record { type_index = type; locals = I32 ∷ []; operators = os } ∷ [];
   exports = record { name = codes "f"; function = exported } ∷ [];
 }
@@ -42,12 +42,23 @@ last_indices = record {
   exports = (omega arith, tt);
 }
 
-no_such_type : IsIndexed (calling 1 [] 0) → ⊥
+last_type : IsIndexed (calling 1 (local_get 0 ∷ []) 0)
+unfolding table control_rows number_rows
+last_type = record {
+  functions = (record { type_index = omega arith; operators = (omega arith, tt) }, tt);
+  exports = (omega arith, tt);
+}
+
+no_such_type : IsIndexed (calling 2 [] 0) → ⊥
 no_such_type i = omega (arith, i.functions.0.type_index)
 
 no_such_local : IsIndexed (calling 0 (local_get 2 ∷ []) 0) → ⊥
 unfolding table control_rows number_rows
 no_such_local i = omega (arith, i.functions.0.operators.0)
+
+no_parameter : IsIndexed (calling 1 (local_get 1 ∷ []) 0) → ⊥
+unfolding table control_rows number_rows
+no_parameter i = omega (arith, i.functions.0.operators.0)
 
 no_such_local_set : IsIndexed (calling 0 (local_set 2 ∷ []) 0) → ⊥
 unfolding table control_rows number_rows

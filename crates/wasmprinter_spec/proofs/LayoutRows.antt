@@ -1,11 +1,10 @@
 -- Worked rows of the layout: the text and the calls that single modules give.
-use Rattle.std.specs.Prelude.{◌≡◌, ℕ, pos, neg_ℤ, List, [], ◌∷◌, ◌++◌, true, codes, replicate, Option, Some, None, false, refl}
+use Rattle.std.specs.Prelude.{◌≡◌, ℕ, List, [], ◌∷◌, ◌++◌, true, codes, replicate, Option, Some, None, false, refl}
 use Rattle.std.specs.Fmt.{digits}
 use Rattle.std.specs.Str.{chars}
-use Rattle.wasmprinter_spec.specs.Types.{I32, I64}
 use Rattle.wasmprinter_spec.specs.Table.{table, control_rows, number_rows}
 use Rattle.wasmprinter_spec.specs.Placed.{PlacedModule}
-use Rattle.wasmprinter_spec.specs.Call.{Call, Style, Text, Newline, Line, Start, Literal, Name, Keyword, TypeName, Comment, Reset, text_of, atoms}
+use Rattle.wasmprinter_spec.specs.Call.{Call, Style, Text, Newline, Line, Start, Claim, Literal, Name, Keyword, TypeName, Comment, Reset, text_of, atoms}
 use Rattle.wasmprinter_spec.specs.Options.{Options, Answers, defaults}
 use Rattle.wasmprinter_spec.specs.Quoted.{char_text, byte_text, quoted_text, quoted_bytes}
 use Rattle.wasmprinter_spec.specs.Piece.{Break, repeated, left_in, place_text, text}
@@ -58,34 +57,34 @@ unfolding group group_gap group_at group_gap_at type_list type_group signature_p
 identity_with_offsets = refl
 
 identity_skeleton : printed skeleton identity_placed ≡ lines (
-  codes "(module"
-  ∷ codes "  (type (;0;) (func (param i32) (result i32)))"
-  ∷ codes "  (export \"f\" (func 0))"
-  ∷ codes "  (func (;0;) (type 0) (param i32) (result i32) ...)"
-  ∷ codes ")"
-  ∷ [])
+    codes "(module"
+    ∷ codes "  (type (;0;) (func (param i32) (result i32)))"
+    ∷ codes "  (export \"f\" (func 0))"
+    ∷ codes "  (func (;0;) (type 0) (param i32) (result i32) ...)"
+    ∷ codes ")"
+    ∷ [])
 unfolding group group_gap group_at group_gap_at type_list type_group signature_pieces type_pieces export_pieces header_pieces function_group function_pieces numbered field_pieces module_pieces layout repeated digits char_text quoted_text chars
 identity_skeleton = refl
 
 identity_skeleton_with_offsets : printed (record skeleton { offsets = true }) identity_placed ≡ lines (
-  codes "(module"
-  ∷ codes "(;@b     ;)  (type (;0;) (func (param i32) (result i32)))"
-  ∷ codes "(;@17    ;)  (export \"f\" (func 0))"
-  ∷ codes "(;@1f    ;)  (func (;0;) (type 0) (param i32) (result i32) ...)"
-  ∷ codes "(;@23    ;))"
-  ∷ [])
+    codes "(module"
+    ∷ codes "(;@b     ;)  (type (;0;) (func (param i32) (result i32)))"
+    ∷ codes "(;@17    ;)  (export \"f\" (func 0))"
+    ∷ codes "(;@1f    ;)  (func (;0;) (type 0) (param i32) (result i32) ...)"
+    ∷ codes "(;@23    ;))"
+    ∷ [])
 unfolding group group_gap group_at group_gap_at type_list type_group signature_pieces type_pieces export_pieces header_pieces function_group function_pieces numbered field_pieces module_pieces layout repeated left_in place_text digits char_text quoted_text chars
 identity_skeleton_with_offsets = refl
 
 identity_without_indent : printed (record defaults { indent = [] }) identity_placed ≡ lines (
-  codes "(module"
-  ∷ codes "(type (;0;) (func (param i32) (result i32)))"
-  ∷ codes "(export \"f\" (func 0))"
-  ∷ codes "(func (;0;) (type 0) (param i32) (result i32)"
-  ∷ codes "local.get 0"
-  ∷ codes ")"
-  ∷ codes ")"
-  ∷ [])
+    codes "(module"
+    ∷ codes "(type (;0;) (func (param i32) (result i32)))"
+    ∷ codes "(export \"f\" (func 0))"
+    ∷ codes "(func (;0;) (type 0) (param i32) (result i32)"
+    ∷ codes "local.get 0"
+    ∷ codes ")"
+    ∷ codes ")"
+    ∷ [])
 unfolding group group_gap group_at group_gap_at type_list type_group signature_pieces immediate_pieces operator_pieces body_pieces type_pieces export_pieces local_group local_pieces header_pieces function_group function_pieces numbered field_pieces module_pieces layout repeated digits table control_rows number_rows char_text quoted_text chars
 identity_without_indent = refl
 
@@ -103,7 +102,12 @@ stored_line_places : line_places (all_calls defaults stored_placed) ≡ Some 0 �
 unfolding group group_gap group_at group_gap_at type_list type_group signature_pieces immediate_pieces operator_pieces body_pieces type_pieces local_group local_pieces header_pieces function_group function_pieces numbered field_pieces module_pieces layout
 stored_line_places = refl
 
--- ---- all calls, with offsets
+-- ---- all calls
+
+-- atoms keep each call but how text is cut
+atoms_of_calls : atoms (Text (codes "ab") ∷ Newline ∷ Text [] ∷ Line None ∷ Start Name ∷ Claim (codes "n") 9 (1 ∷ []) true ∷ Text (codes "c") ∷ [])
+    ≡ Text (codes "a") ∷ Text (codes "b") ∷ Newline ∷ Line None ∷ Start Name ∷ Claim (codes "n") 9 (1 ∷ []) true ∷ Text (codes "c") ∷ []
+atoms_of_calls = refl
 
 abbrev plain : List ℕ → List Call
 plain s = Text s ∷ []
@@ -125,6 +129,23 @@ stored_calls =
     ++ Newline ∷ Line (Some 0x20) ∷ in_style Comment (codes "(;@20    ;)") ++ plain (codes "  )")
     ++ Newline ∷ Line (Some 0x21) ∷ in_style Comment (codes "(;@21    ;)") ++ plain (codes ")")
     ++ Newline ∷ []
+
+identity_skeleton_calls : atoms (all_calls skeleton identity_placed) ≡ atoms (
+    Line (Some 0) ∷ plain (codes "(") ++ in_style Keyword (codes "module")
+    ++ Newline ∷ Line (Some 0xb) ∷ plain (codes "  (") ++ in_style Keyword (codes "type ") ++ in_style Name (codes "(;0;)")
+    ++ plain (codes " (") ++ in_style Keyword (codes "func")
+    ++ plain (codes " (") ++ in_style Keyword (codes "param") ++ plain (codes " ") ++ in_style TypeName (codes "i32") ++ plain (codes ")")
+    ++ plain (codes " (") ++ in_style Keyword (codes "result") ++ plain (codes " ") ++ in_style TypeName (codes "i32") ++ plain (codes ")))")
+    ++ Newline ∷ Line (Some 0x17) ∷ plain (codes "  (") ++ in_style Keyword (codes "export ") ++ in_style Literal (codes "\"f\"")
+    ++ plain (codes " (") ++ in_style Keyword (codes "func ") ++ in_style Name (codes "0") ++ plain (codes "))")
+    ++ Newline ∷ Line (Some 0x1f) ∷ plain (codes "  (") ++ in_style Keyword (codes "func ") ++ in_style Name (codes "(;0;)")
+    ++ plain (codes " (") ++ in_style Keyword (codes "type ") ++ in_style Name (codes "0") ++ plain (codes ")")
+    ++ plain (codes " (") ++ in_style Keyword (codes "param") ++ plain (codes " ") ++ in_style TypeName (codes "i32") ++ plain (codes ")")
+    ++ plain (codes " (") ++ in_style Keyword (codes "result") ++ plain (codes " ") ++ in_style TypeName (codes "i32") ++ plain (codes ") ...)")
+    ++ Newline ∷ Line (Some 0x23) ∷ plain (codes ")")
+    ++ Newline ∷ [])
+unfolding group group_gap group_at group_gap_at type_list type_group signature_pieces type_pieces export_pieces header_pieces function_group function_pieces numbered field_pieces module_pieces layout repeated digits char_text quoted_text chars
+identity_skeleton_calls = refl
 
 stored_all_calls : atoms (all_calls with_offsets stored_placed) ≡ atoms stored_calls
 unfolding group group_gap group_at group_gap_at type_list type_group signature_pieces immediate_pieces operator_pieces body_pieces type_pieces local_group local_pieces header_pieces function_group function_pieces numbered field_pieces module_pieces layout repeated left_in place_text digits table control_rows number_rows

@@ -1,4 +1,4 @@
--- Worked rows of LEB128 (section 5.2.2 of the standard): what single lists of bytes spell, and which spell no number.
+-- Worked rows of LEB128 (section 5.2 of the standard, "Integers"): what single lists of bytes spell, and which spell no number.
 use Rattle.std.specs.Prelude.{◌≡◌, ℕ, ℤ, pos, neg_ℤ, List, [], ◌∷◌, ◌++◌, replicate, Option, Some, None, refl}
 use Rattle.wasmprinter_spec.specs.Grammar.{At, from}
 use Rattle.wasmprinter_spec.specs.Leb.{unsigned, signed}

@@ -9,3 +9,4 @@ pub mod ForestRows
 pub mod ReadRows
 pub mod UnreadRows
 pub mod IndexedRows
+pub mod TableRows

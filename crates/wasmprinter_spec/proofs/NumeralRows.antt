@@ -1,4 +1,4 @@
--- Worked rows of whole numbers in the text format (section 6.3.1 of the standard).
+-- Worked rows of whole numbers in the text format (section 6.3 of the standard, "Integers").
 use Rattle.std.specs.Prelude.{◌≡◌, pos, neg_ℤ, codes, Some, None, refl}
 use Rattle.wasmprinter_spec.specs.Numeral.{numeral, natural, integer}
 

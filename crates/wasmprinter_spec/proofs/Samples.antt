@@ -80,25 +80,25 @@ identity = record {
 
 abbrev pub identity_text : List ℕ
 identity_text = lines (
-  codes "(module"
-  ∷ codes "  (type (;0;) (func (param i32) (result i32)))"
-  ∷ codes "  (export \"f\" (func 0))"
-  ∷ codes "  (func (;0;) (type 0) (param i32) (result i32)"
-  ∷ codes "    local.get 0"
-  ∷ codes "  )"
-  ∷ codes ")"
-  ∷ [])
+    codes "(module"
+    ∷ codes "  (type (;0;) (func (param i32) (result i32)))"
+    ∷ codes "  (export \"f\" (func 0))"
+    ∷ codes "  (func (;0;) (type 0) (param i32) (result i32)"
+    ∷ codes "    local.get 0"
+    ∷ codes "  )"
+    ∷ codes ")"
+    ∷ [])
 
 abbrev pub identity_text_with_offsets : List ℕ
 identity_text_with_offsets = lines (
-  codes "(module"
-  ∷ codes "(;@b     ;)  (type (;0;) (func (param i32) (result i32)))"
-  ∷ codes "(;@17    ;)  (export \"f\" (func 0))"
-  ∷ codes "(;@1f    ;)  (func (;0;) (type 0) (param i32) (result i32)"
-  ∷ codes "(;@20    ;)    local.get 0"
-  ∷ codes "(;@22    ;)  )"
-  ∷ codes "(;@23    ;))"
-  ∷ [])
+    codes "(module"
+    ∷ codes "(;@b     ;)  (type (;0;) (func (param i32) (result i32)))"
+    ∷ codes "(;@17    ;)  (export \"f\" (func 0))"
+    ∷ codes "(;@1f    ;)  (func (;0;) (type 0) (param i32) (result i32)"
+    ∷ codes "(;@20    ;)    local.get 0"
+    ∷ codes "(;@22    ;)  )"
+    ∷ codes "(;@23    ;))"
+    ∷ [])
 
 -- ---- a function with a local, in which it puts -1
 
@@ -151,16 +151,16 @@ stored = record {
 
 abbrev pub stored_text : List ℕ
 stored_text = lines (
-  codes "(module"
-  ∷ codes "  (type (;0;) (func (result i64)))"
-  ∷ codes "  (func (;0;) (type 0) (result i64)"
-  ∷ codes "    (local i64)"
-  ∷ codes "    i64.const -1"
-  ∷ codes "    local.set 0"
-  ∷ codes "    local.get 0"
-  ∷ codes "  )"
-  ∷ codes ")"
-  ∷ [])
+    codes "(module"
+    ∷ codes "  (type (;0;) (func (result i64)))"
+    ∷ codes "  (func (;0;) (type 0) (result i64)"
+    ∷ codes "    (local i64)"
+    ∷ codes "    i64.const -1"
+    ∷ codes "    local.set 0"
+    ∷ codes "    local.get 0"
+    ∷ codes "  )"
+    ∷ codes ")"
+    ∷ [])
 
 -- ---- several types, functions, locals and results, and indices of what isn't there
 
@@ -241,20 +241,20 @@ mixed = record {
 
 abbrev pub mixed_text : List ℕ
 mixed_text = lines (
-  codes "(module"
-  ∷ codes "  (type (;0;) (func))"
-  ∷ codes "  (type (;1;) (func (param i32 i64) (result i64 i32)))"
-  ∷ codes "  (export \"\\u{1b}\\u{e9}\" (func 1))"
-  ∷ codes "  (export \"\" (func 12))"
-  ∷ codes "  (func (;0;) (type 0))"
-  ∷ codes "  (func (;1;) (type 1) (param i32 i64) (result i64 i32)"
-  ∷ codes "    (local i64 i64 i32)"
-  ∷ codes "    i32.const -2147483648"
-  ∷ codes "    drop"
-  ∷ codes "    i64.const 9223372036854775807"
-  ∷ codes "    call 4294967295"
-  ∷ codes "    return"
-  ∷ codes "  )"
-  ∷ codes "  (func (;2;) (type 7))"
-  ∷ codes ")"
-  ∷ [])
+    codes "(module"
+    ∷ codes "  (type (;0;) (func))"
+    ∷ codes "  (type (;1;) (func (param i32 i64) (result i64 i32)))"
+    ∷ codes "  (export \"\\u{1b}\\u{e9}\" (func 1))"
+    ∷ codes "  (export \"\" (func 12))"
+    ∷ codes "  (func (;0;) (type 0))"
+    ∷ codes "  (func (;1;) (type 1) (param i32 i64) (result i64 i32)"
+    ∷ codes "    (local i64 i64 i32)"
+    ∷ codes "    i32.const -2147483648"
+    ∷ codes "    drop"
+    ∷ codes "    i64.const 9223372036854775807"
+    ∷ codes "    call 4294967295"
+    ∷ codes "    return"
+    ∷ codes "  )"
+    ∷ codes "  (func (;2;) (type 7))"
+    ∷ codes ")"
+    ∷ [])

@@ -1,10 +1,10 @@
 -- Worked rows of the lexical format (sections 6.2 and 6.3 of the standard): the tokens of single texts.
-use Rattle.std.specs.Prelude.{◌≡◌, ℕ, List, [], ◌∷◌, ◌++◌, codes, Option, Some, None, option_map, refl}
+use Rattle.std.specs.Prelude.{◌≡◌, [], ◌∷◌, ◌++◌, codes, refl}
 use Rattle.std.specs.Char.{encode_utf8}
 use Rattle.std.specs.Str.{is_utf8, chars}
 use Rattle.wasmprinter_spec.specs.Character.{class}
 use Rattle.wasmprinter_spec.specs.Numeral.{numeral}
-use Rattle.wasmprinter_spec.specs.Token.{Token, left, left_note, right, word, name, string, reserved, bad, escape, lex, tokens}
+use Rattle.wasmprinter_spec.specs.Token.{left, left_note, right, word, name, string, reserved, bad, escape, lex, tokens}
 
 -- ---- words, names and parentheses
 
@@ -22,6 +22,12 @@ one_word : tokens (codes "i32$x @a") ≡ word (codes "i32$x") ∷ word (codes "@
 unfolding lex class
 one_word = refl
 
+-- they may begin one too, the dollar aside
+first_signs : tokens (codes "\\a $\\a (@\\a @ @@ # $# (@#")
+    ≡ word (codes "\\a") ∷ name (codes "\\a") ∷ left_note (codes "\\a") ∷ word (codes "@") ∷ word (codes "@@") ∷ word (codes "#") ∷ name (codes "#") ∷ left_note (codes "#") ∷ []
+unfolding lex class
+first_signs = refl
+
 same_name : tokens (codes "$f $\"f\" $\"\\66\" $\"\\u{66}\"") ≡ name (codes "f") ∷ name (codes "f") ∷ name (codes "f") ∷ name (codes "f") ∷ []
 unfolding lex class escape numeral encode_utf8 is_utf8 chars
 same_name = refl
@@ -34,6 +40,17 @@ name_with_blank = refl
 no_names : tokens (codes "$ $\"\" $\"\\ff\" ($)") ≡ reserved ∷ reserved ∷ reserved ∷ left ∷ reserved ∷ right ∷ []
 unfolding lex class escape encode_utf8 is_utf8 chars
 no_names = refl
+
+-- each of these is a token by itself that stands in annotations alone
+reserved_signs : tokens (codes ", ; [ ] { }") ≡ reserved ∷ reserved ∷ reserved ∷ reserved ∷ reserved ∷ reserved ∷ []
+unfolding lex class
+reserved_signs = refl
+
+-- what the end of the text cuts off
+cut_tokens : tokens (codes "a") ++ tokens (codes "$a") ++ tokens (codes "$") ++ tokens (codes ";") ++ tokens (codes "(") ++ tokens (codes "(@") ++ tokens (codes "(@a") ++ tokens (codes "\"a\"")
+    ≡ word (codes "a") ∷ name (codes "a") ∷ reserved ∷ reserved ∷ left ∷ left ∷ reserved ∷ left_note (codes "a") ∷ string (codes "a") ∷ []
+unfolding lex class
+cut_tokens = refl
 
 -- ---- tokens that touch
 
@@ -61,6 +78,11 @@ line_comments = refl
 block_comments : tokens (codes "a(; b (; c ;) d ;)e (;;) (;(;;);) (;;;) (;();) (; ;; ;) f") ≡ word (codes "a") ∷ word (codes "e") ∷ word (codes "f") ∷ []
 unfolding lex class
 block_comments = refl
+
+-- one opens behind a parenthesis, a semicolon or another opening
+nested_comments : tokens (codes "(; ((; ;) ;) a (; ;(; ;) ;) b (; (;) ;) ;) c (;(;;)(;;);) d") ≡ word (codes "a") ∷ word (codes "b") ∷ word (codes "c") ∷ word (codes "d") ∷ []
+unfolding lex class
+nested_comments = refl
 
 -- characters that stand in no token stand in comments
 in_comments : tokens (codes "(; " ++ 0x00 ∷ 0x7f ∷ 0xc3 ∷ 0xa9 ∷ codes " \" ;) ;; " ++ 0x01 ∷ 0xc3 ∷ 0xa9 ∷ codes "\" (;") ≡ []
@@ -100,4 +122,3 @@ character_escapes = refl
 plain_string : tokens (34 ∷ 0xc3 ∷ 0xa9 ∷ codes " (; ;; )'\"") ≡ string (0xc3 ∷ 0xa9 ∷ codes " (; ;; )'") ∷ []
 unfolding lex class
 plain_string = refl
-

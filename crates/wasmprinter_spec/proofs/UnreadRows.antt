@@ -28,53 +28,54 @@ read_among = refl
 
 -- parentheses that don't match, more than one module or none
 unread_groups : numbers_read (
-  codes "module"
-  ∷ codes "()"
-  ∷ codes "(module"
-  ∷ codes "(module))"
-  ∷ codes "(module ()"
-  ∷ codes "(module ())"
-  ∷ codes "(module) (type (func)))"
-  ∷ codes "(module)(module)"
-  ∷ codes "(module) module"
-  ∷ codes "((module))"
-  ∷ []) ≡ []
+    codes "module"
+    ∷ codes "()"
+    ∷ codes "(module"
+    ∷ codes "(module))"
+    ∷ codes "(module ()"
+    ∷ codes "(module ())"
+    ∷ codes "(module) (type (func)))"
+    ∷ codes "(module)(module)"
+    ∷ codes "(module) module"
+    ∷ codes "((module))"
+    ∷ codes "(modules)"
+    ∷ []) ≡ []
 unfolding lex class escape numeral natural integer groups table control_rows number_rows is_utf8 chars encode_utf8
 unread_groups = refl
 
 -- texts and comments that stay open, signs that mean nothing outside annotations, and characters that stand in comments alone
 unread_tokens : numbers_read (
-  codes "(module (export \"f (func 0)))"
-  ∷ codes "(module (; )"
-  ∷ codes "(module (; (; ;) )"
-  ∷ codes "(module ;; )"
-  ∷ codes "(module (@a)"
-  ∷ codes "(module $)"
-  ∷ codes "(module $\"\")"
-  ∷ codes "(module $\"\\ff\")"
-  ∷ codes "(module ,)"
-  ∷ codes "(module ;)"
-  ∷ codes "(module [])"
-  ∷ codes "(module {})"
-  ∷ codes "(module (@))"
-  ∷ codes "(module (@ a))"
-  ∷ (codes "(module" ++ 0x0c ∷ codes ")")
-  ∷ (codes "(module" ++ 0x00 ∷ codes ")")
-  ∷ (codes "(module " ++ 0xc3 ∷ 0xa9 ∷ codes ")")
-  ∷ (codes "(module (; " ++ 0xff ∷ codes " ;))")
-  ∷ []) ≡ []
+    codes "(module (export \"f (func 0)))"
+    ∷ codes "(module (; )"
+    ∷ codes "(module (; (; ;) )"
+    ∷ codes "(module ;; )"
+    ∷ codes "(module (@a)"
+    ∷ codes "(module $)"
+    ∷ codes "(module $\"\")"
+    ∷ codes "(module $\"\\ff\")"
+    ∷ codes "(module ,)"
+    ∷ codes "(module ;)"
+    ∷ codes "(module [])"
+    ∷ codes "(module {})"
+    ∷ codes "(module (@))"
+    ∷ codes "(module (@ a))"
+    ∷ (codes "(module" ++ 0x0c ∷ codes ")")
+    ∷ (codes "(module" ++ 0x00 ∷ codes ")")
+    ∷ (codes "(module " ++ 0xc3 ∷ 0xa9 ∷ codes ")")
+    ∷ (codes "(module (; " ++ 0xff ∷ codes " ;))")
+    ∷ []) ≡ []
 unfolding lex class escape numeral natural integer groups table control_rows number_rows is_utf8 chars encode_utf8
 unread_tokens = refl
 
 -- two tokens that touch
 unread_touching : numbers_read (
-  codes "(module (export \"a\"\"b\" (func 0)))"
-  ∷ codes "(module (export\"a\" (func 0)))"
-  ∷ codes "(module $\"a\"(export $a\"a\" (func 0)))"
-  ∷ codes "(module (type (func)) (func (type 0) (param i32$x)))"
-  ∷ codes "(module (type (func (param i32))) (func (type 0) (param $x i32) local.get$x))"
-  ∷ codes "(module (type (func)) (func (type 0) (local $\"x\"i32)))"
-  ∷ []) ≡ []
+    codes "(module (export \"a\"\"b\" (func 0)))"
+    ∷ codes "(module (export\"a\" (func 0)))"
+    ∷ codes "(module $\"a\"(export $a\"a\" (func 0)))"
+    ∷ codes "(module (type (func)) (func (type 0) (param i32$x)))"
+    ∷ codes "(module (type (func (param i32))) (func (type 0) (param $x i32) local.get$x))"
+    ∷ codes "(module (type (func)) (func (type 0) (local $\"x\"i32)))"
+    ∷ []) ≡ []
 unfolding lex class escape numeral natural integer groups table control_rows number_rows is_utf8 chars encode_utf8
 unread_touching = refl
 
@@ -84,64 +85,64 @@ unfolding lex class escape numeral natural integer groups table control_rows num
 unread_customs = refl
 
 unread_fields : numbers_read (
-  codes "(module (functions 1))"
-  ∷ codes "(module type)"
-  ∷ codes "(module \"m\")"
-  ∷ codes "(module $m $n)"
-  ∷ codes "(module (type))"
-  ∷ codes "(module (type (func) (func)))"
-  ∷ codes "(module (type $a $b (func)))"
-  ∷ codes "(module (type (func (result i32) (param i32))))"
-  ∷ codes "(module (type (func (param i33))))"
-  ∷ codes "(module (type (func (param $a i32 i32))))"
-  ∷ codes "(module (type (func (param $a))))"
-  ∷ codes "(module (type (func (result $a i32))))"
-  ∷ codes "(module (type (func i32)))"
-  ∷ codes "(module (export (func 0)))"
-  ∷ codes "(module (export \"f\"))"
-  ∷ codes "(module (export \"f\" (func 0) (func 0)))"
-  ∷ codes "(module (export \"f\" (type 0)))"
-  ∷ codes "(module (export \"\\ff\" (func 0)))"
-  ∷ []) ≡ []
+    codes "(module (functions 1))"
+    ∷ codes "(module type)"
+    ∷ codes "(module \"m\")"
+    ∷ codes "(module $m $n)"
+    ∷ codes "(module (type))"
+    ∷ codes "(module (type (func) (func)))"
+    ∷ codes "(module (type $a $b (func)))"
+    ∷ codes "(module (type (func (result i32) (param i32))))"
+    ∷ codes "(module (type (func (param i33))))"
+    ∷ codes "(module (type (func (param $a i32 i32))))"
+    ∷ codes "(module (type (func (param $a))))"
+    ∷ codes "(module (type (func (result $a i32))))"
+    ∷ codes "(module (type (func i32)))"
+    ∷ codes "(module (export (func 0)))"
+    ∷ codes "(module (export \"f\"))"
+    ∷ codes "(module (export \"f\" (func 0) (func 0)))"
+    ∷ codes "(module (export \"f\" (type 0)))"
+    ∷ codes "(module (export \"\\ff\" (func 0)))"
+    ∷ []) ≡ []
 unfolding lex class escape numeral natural integer groups table control_rows number_rows is_utf8 chars encode_utf8
 unread_fields = refl
 
 -- numbers beyond 32 bits, and identifiers without one declaration in their space
 unread_indices : numbers_read (
-  codes "(module (export \"f\" (func 4294967296)))"
-  ∷ codes "(module (export \"f\" (func +0)))"
-  ∷ codes "(module (export \"f\" (func -0)))"
-  ∷ codes "(module (export \"f\" (func 0 0)))"
-  ∷ codes "(module (export \"f\" (func \"0\")))"
-  ∷ codes "(module (export \"f\" (func)))"
-  ∷ codes "(module (export \"f\" (func $f)))"
-  ∷ codes "(module (type (func)) (func $f (type 0)) (export \"f\" (func $ f)))"
-  ∷ codes "(module (type (func)) (func $f (type 0)) (func $f (type 0)) (export \"f\" (func $f)))"
-  ∷ codes "(module (type (func)) (func $f (type 0)) (func $\"f\" (type 0)) (export \"f\" (func $f)))"
-  ∷ codes "(module (type (func (param i32))) (func (type 0) (param $x i32) (local $x i32) local.get $x))"
-  ∷ codes "(module (type (func (param i32))) (func (type 0) (param $x i32)) (func (type 0) local.get $x))"
-  ∷ codes "(module (type (func (param $x i32))) (func (type 0) local.get $x))"
-  ∷ codes "(module (type (func)) (func $f (type 0)) (func (type $f)))"
-  ∷ codes "(module (type (func)) (func $f (type 0) (local $l i32) call $l))"
-  ∷ []) ≡ []
+    codes "(module (export \"f\" (func 4294967296)))"
+    ∷ codes "(module (export \"f\" (func +0)))"
+    ∷ codes "(module (export \"f\" (func -0)))"
+    ∷ codes "(module (export \"f\" (func 0 0)))"
+    ∷ codes "(module (export \"f\" (func \"0\")))"
+    ∷ codes "(module (export \"f\" (func)))"
+    ∷ codes "(module (export \"f\" (func $f)))"
+    ∷ codes "(module (type (func)) (func $f (type 0)) (export \"f\" (func $ f)))"
+    ∷ codes "(module (type (func)) (func $f (type 0)) (func $f (type 0)) (export \"f\" (func $f)))"
+    ∷ codes "(module (type (func)) (func $f (type 0)) (func $\"f\" (type 0)) (export \"f\" (func $f)))"
+    ∷ codes "(module (type (func (param i32))) (func (type 0) (param $x i32) (local $x i32) local.get $x))"
+    ∷ codes "(module (type (func (param i32))) (func (type 0) (param $x i32)) (func (type 0) local.get $x))"
+    ∷ codes "(module (type (func (param $x i32))) (func (type 0) local.get $x))"
+    ∷ codes "(module (type (func)) (func $f (type 0)) (func (type $f)))"
+    ∷ codes "(module (type (func)) (func $f (type 0) (local $l i32) call $l))"
+    ∷ []) ≡ []
 unfolding lex class escape numeral natural integer groups table control_rows number_rows is_utf8 chars encode_utf8
 unread_indices = refl
 
 -- a signature beside a type's index is whole and in order
 unread_signatures : numbers_read (
-  codes "(module (type (func (param i32))) (func (type 0) (param i64)))"
-  ∷ codes "(module (type (func)) (func (type 0) (param i32)))"
-  ∷ codes "(module (type (func (param i32 i32))) (func (type 0) (param i32)))"
-  ∷ codes "(module (type (func (param i32 i64))) (func (type 0) (param i64 i32)))"
-  ∷ codes "(module (type (func (param i32) (result i32))) (func (type 0) (param i32)))"
-  ∷ codes "(module (type (func (param i32) (result i32))) (func (type 0) (result i32)))"
-  ∷ codes "(module (type (func (param i32) (result i32))) (func (type 0) (result i32) (param i32)))"
-  ∷ codes "(module (type (func (param i32))) (func (type 0) (local i32) (param i32)))"
-  ∷ codes "(module (type (func (param i32))) (func (param i32) (type 0)))"
-  ∷ codes "(module (func (type 0) (param i32)))"
-  ∷ codes "(module (type (func)) (func (type 0) $f))"
-  ∷ codes "(module (type (func)) (func (type 0 0)))"
-  ∷ []) ≡ []
+    codes "(module (type (func (param i32))) (func (type 0) (param i64)))"
+    ∷ codes "(module (type (func)) (func (type 0) (param i32)))"
+    ∷ codes "(module (type (func (param i32 i32))) (func (type 0) (param i32)))"
+    ∷ codes "(module (type (func (param i32 i64))) (func (type 0) (param i64 i32)))"
+    ∷ codes "(module (type (func (param i32) (result i32))) (func (type 0) (param i32)))"
+    ∷ codes "(module (type (func (param i32) (result i32))) (func (type 0) (result i32)))"
+    ∷ codes "(module (type (func (param i32) (result i32))) (func (type 0) (result i32) (param i32)))"
+    ∷ codes "(module (type (func (param i32))) (func (type 0) (local i32) (param i32)))"
+    ∷ codes "(module (type (func (param i32))) (func (param i32) (type 0)))"
+    ∷ codes "(module (func (type 0) (param i32)))"
+    ∷ codes "(module (type (func)) (func (type 0) $f))"
+    ∷ codes "(module (type (func)) (func (type 0 0)))"
+    ∷ []) ≡ []
 unfolding lex class escape numeral natural integer groups table control_rows number_rows is_utf8 chars encode_utf8
 unread_signatures = refl
 
@@ -150,38 +151,38 @@ abbrev procedure : List ℕ → List ℕ
 procedure code = codes "(module (type (func)) (func (type 0) (local i32) " ++ code ++ codes "))"
 
 unread_code : numbers_read (map procedure (
-  codes "i32.constant 1"
-  ∷ codes "1"
-  ∷ codes "\"drop\""
-  ∷ codes "i32.const"
-  ∷ codes "i32.const 1 2"
-  ∷ codes "i32.const $x"
-  ∷ codes "i32.const (1)"
-  ∷ codes "i32.const - 1"
-  ∷ codes "i32.const 1_"
-  ∷ codes "i32.const 4294967296"
-  ∷ codes "i32.const -2147483649"
-  ∷ codes "i32.const +2147483648"
-  ∷ codes "i64.const 18446744073709551616"
-  ∷ codes "drop 0"
-  ∷ codes "local.get drop"
-  ∷ codes "local.get 4294967296"
-  ∷ codes "end"
-  ∷ [])) ≡ []
+    codes "i32.constant 1"
+    ∷ codes "1"
+    ∷ codes "\"drop\""
+    ∷ codes "i32.const"
+    ∷ codes "i32.const 1 2"
+    ∷ codes "i32.const $x"
+    ∷ codes "i32.const (1)"
+    ∷ codes "i32.const - 1"
+    ∷ codes "i32.const 1_"
+    ∷ codes "i32.const 4294967296"
+    ∷ codes "i32.const -2147483649"
+    ∷ codes "i32.const +2147483648"
+    ∷ codes "i64.const 18446744073709551616"
+    ∷ codes "drop 0"
+    ∷ codes "local.get drop"
+    ∷ codes "local.get 4294967296"
+    ∷ codes "end"
+    ∷ [])) ≡ []
 unfolding lex class escape numeral natural integer groups table control_rows number_rows is_utf8 chars encode_utf8
 unread_code = refl
 
 -- operands stand behind what the operator's word takes, and are folded themselves
 unread_folded : numbers_read (map procedure (
-  codes "(local.set 0 i32.const 1)"
-  ∷ codes "(local.set (i32.const 1) 0)"
-  ∷ codes "(drop drop)"
-  ∷ codes "(drop) 1"
-  ∷ codes "((drop))"
-  ∷ codes "()"
-  ∷ codes "(0)"
-  ∷ codes "drop (local i32)"
-  ∷ codes "(drop (local i32))"
-  ∷ [])) ≡ []
+    codes "(local.set 0 i32.const 1)"
+    ∷ codes "(local.set (i32.const 1) 0)"
+    ∷ codes "(drop drop)"
+    ∷ codes "(drop) 1"
+    ∷ codes "((drop))"
+    ∷ codes "()"
+    ∷ codes "(0)"
+    ∷ codes "drop (local i32)"
+    ∷ codes "(drop (local i32))"
+    ∷ [])) ≡ []
 unfolding lex class escape numeral natural integer groups table control_rows number_rows is_utf8 chars encode_utf8
 unread_folded = refl

@@ -37,20 +37,24 @@ alike : (ts ts' : List (Placed FuncType)) (fs fs' : List PlacedFunction) (es es'
     → ◌≡◌ {A = PlacedModule} (record { types = ts; functions = fs; exports = es; size = n }) (record { types = ts'; functions = fs'; exports = es'; size = n' })
 alike ts ts' fs fs' es es' n n' a b c d = rw (a, b, c, d) refl
 
+-- functions whose bodies have few locals have few
 few_functions : (fs : List PlacedFunction) → AllByRecursion HasFew (bodies_of fs) → AllByRecursion HasFewLocals fs
 few_functions [] all = tt
 few_functions (f ∷ fs) all = (all.0, few_functions fs all.1)
 
 module _ (bytes pre : List ℕ) (at : At) (first : preamble.parse (from 0 bytes) ≡ Some (pre, at)) where
+  -- the number of bytes, as the definitions count it
   abbrev size : ℕ
   size = 0 + length bytes
 
+  -- what was put together
   assembled_of : (ss : List Section) (m : PlacedModule) → sections_at at ≡ Some ss → assembled size ss ≡ Some m → Spelled at m size
   assembled_of ss m read e =
       let t = tested (are_above 0 ss) (paired (type_indices_in ss) (bodies_in ss) >>= λ fs. Some (module_from size ss fs)) m e in
       let p = bind_some (paired (type_indices_in ss) (bodies_in ss)) (λ fs. Some (module_from size ss fs)) m t.1 in
       record { sections = ss; read = read; rise = t.0; functions = p.0; pairs = p.1; is = some_is (module_from size ss p.0) m p.2 }
 
+  -- what the bytes of a module are
   spelled_of : (m : PlacedModule) → Spells bytes m → Spelled at m size
   spelled_of m s =
       let read = binary.complete (from 0 bytes) m s.spelled in
@@ -61,9 +65,11 @@ module _ (bytes pre : List ℕ) (at : At) (first : preamble.parse (from 0 bytes)
       let same : c.0 ≡ a.0.1 = ap (λ (x : List ℕ × List Section). x.1) (some_is (b.0.0, c.0) a.0 c.2) in
       assembled_of c.0 m (ap sections_at (sym there) ∙ c.1) (ap (assembled size) same ∙ a.2)
 
+  -- the sections stand behind the preamble
   later : Later (from 0 bytes) at
   later = later_more preamble (from 0 bytes) (from 0 bytes) at pre first (later_none (from 0 bytes))
 
+  -- the functions are those of its sections
   functions_are : (m : PlacedModule) (s : Spelled at m size) → Paired (type_indices_in s.sections) (bodies_in s.sections) m.functions
   functions_are m s = subst (Paired (type_indices_in s.sections) (bodies_in s.sections)) (ap (λ (x : PlacedModule). x.functions) s.is)
       (paired_of (type_indices_in s.sections) (bodies_in s.sections) s.functions s.pairs)
@@ -84,9 +90,11 @@ module _ (bytes pre : List ℕ) (at : At) (first : preamble.parse (from 0 bytes)
 
   -- the sections stand there
   module _ (g : Gathered) (h : HoldsSections at g) where
+    -- what was gathered is what the sections hold
     held : HoldsAll none_gathered h.sections g
     held = subst (HoldsAll none_gathered h.sections) (sym h.gathered) (holds_all h.sections h.rise)
 
+    -- and it keeps the limits
     few : HoldsFew g
     few = subst HoldsFew (sym h.gathered) (few_all h.sections h.small)
 
@@ -103,29 +111,37 @@ module _ (bytes pre : List ℕ) (at : At) (first : preamble.parse (from 0 bytes)
 
     -- and the numbers of type indices and bodies are the same
     module _ (same : length g.type_indices ≡ length g.bodies) where
+      -- so they can be paired
       pub paired_few : IsPaired g.type_indices g.bodies
       paired_few = record { same = same; few = few.functions }
 
+      -- the module that is put together
       abbrev seen : PlacedModule
       seen = module_seen g.types g.type_indices g.exports g.bodies (length bytes)
 
+      -- the functions that are paired
       made : Pairs g.type_indices g.bodies
       made = pairs_of g.type_indices g.bodies same
 
+      -- they are those of the module
       functions_made : functions_of g.type_indices g.bodies ≡ made.functions
       functions_made = rw made.are refl
 
+      -- and those of the sections
       pairs : paired (type_indices_in h.sections) (bodies_in h.sections) ≡ Some made.functions
       pairs = ap (λ (is : List ℕ). paired is (bodies_in h.sections)) (sym held.type_indices) ∙ ap (paired g.type_indices) (sym held.bodies) ∙ made.are
 
+      -- the definitions read a module of them
       read : binary.parse (from 0 bytes) ≡ Some (module_from size h.sections made.functions)
       read = rw (first, h.read, h.rise, pairs) refl
 
+      -- the bytes spell the module
       pub module_spelled : AreBytes bytes → Spells bytes seen
       module_spelled all =
           let same_module : module_from size h.sections made.functions ≡ seen = alike _ _ _ _ _ _ _ _ (sym held.types) (sym functions_made) (sym held.exports) (omega arith) in
           record { are_bytes = all; spelled = binary.sound (from 0 bytes) seen (read ∙ ap (λ (m : PlacedModule). Some m) same_module) }
 
+      -- the module is within the limits
       pub module_within : IsWithinLimits seen
       module_within =
           let p = paired_of g.type_indices g.bodies made.functions made.are in
@@ -149,6 +165,7 @@ memory_fault bytes (e.TooManyFunctions count) h m s w = let l = h.2 m s in absur
 memory_fault bytes e.Memory h m s w = refl
 memory_fault bytes _ h m s w = absurd h
 
+-- the same of a result
 pub memory_alone : (bytes : List ℕ) (r : Result PlacedModule Error) → TakesModule bytes r → (m : PlacedModule) → Spells bytes m → IsWithinLimits m → IsOkUnless r e.Memory
 memory_alone bytes (Ok x) h m s w = tt
 memory_alone bytes (Err f) h m s w = memory_fault bytes f h m s w

@@ -21,41 +21,51 @@ split t u text bytes after new e f =
 -- an id and a size were read, and so many bytes cut out
 module _ (old behind mid part new : At) (id size : ℕ) (id_read : byte.parse old ≡ Some (id, behind)) (size_read : u32.parse behind ≡ Some (size, mid))
     (cut : front_at size mid ≡ Some (part.bytes, new)) (begins : part.place ≡ mid.place) where
+  -- the size stands behind the id
   later : Later old behind
   later = later_more byte old old behind id id_read (later_none old)
 
+  -- the id in front of what was read
   abbrev behind_id : Option ((ℕ × Section) × At) → Option ((ℕ × (ℕ × Section)) × At)
   behind_id r = r >>= λ b. Some ((id, b.0), b.1)
 
+  -- the section alone
   abbrev without_id : Option ((ℕ × (ℕ × Section)) × At) → Option (Section × At)
   without_id r = r >>= λ x. Some (x.0.1.1, x.1)
 
+  -- the same at once
   abbrev with_id : Option ((ℕ × Section) × At) → Option (Section × At)
   with_id r = r >>= λ a. Some (a.0.1, a.1)
 
+  -- to put the id in front and to take it off is nothing
   regroup : (r : Option ((ℕ × Section) × At)) → without_id (behind_id r) ≡ with_id r
   regroup None = refl
   regroup (Some a) = refl
 
+  -- a section is read as its part is
   into : section.parse old ≡ with_id ((sized (content id)).parse behind)
   into = rw id_read (regroup ((sized (content id)).parse behind))
 
+  -- the section that stands there is read of the part
   section_content : (x : Section × At) → section.parse old ≡ Some x → (after : At) × ((content id).parse part ≡ Some (x.0, after))
   section_content x r =
       let a = bind_some ((sized (content id)).parse behind) (λ a. Some (a.0.1, a.1)) x (sym into ∙ r) in
       let s = sized_some (content id) behind mid part new size size_read cut begins a.0 a.1 in
       (s.0, s.1 ∙ ap (λ (c : Section). Some (c, s.0)) (ap (λ (y : Section × At). y.0) (some_is (a.0.0.1, a.0.1) x a.2)))
 
+  -- a place in the part is one in the whole
   within : (place : ℕ) → place ≤ end_of part → place ≤ end_of old
   within place le =
       let p = part_within (content id) behind mid part new size size_read cut begins in
       omega (arith, ap length later.parts, later.begins, length-append later.text behind.bytes)
 
+  -- a body of the part has too many locals
   locals_fault : (place : ℕ) → IsContentFault id part (e.TooManyLocals place) → IsSectionFault old (e.TooManyLocals place)
   locals_fault place h =
       let p = old_parts (content id) behind mid part new size size_read cut begins in
       (many_later old behind place later (many_in_part behind part p.0 new.bytes place p.1 p.2 h.0), λ x r. let c = section_content x r in h.1 (x.0, c.0) c.1)
 
+  -- the section that stands there has so many type indices
   counted : (count : ℕ) → id ≡ 3 → AreTooMany part count → (x : Section × At) → section.parse old ≡ Some x → HasCount count x.0
   counted count three many x r =
       let c = section_content x r in
@@ -64,6 +74,7 @@ module _ (old behind mid part new : At) (id size : ℕ) (id_read : byte.parse ol
       let same : FunctionSection many.indices ≡ x.0 = ap (λ (y : Section × At). y.0) (some_is (FunctionSection many.indices, many.after) (x.0, c.0) (sym read ∙ functions)) in
       subst (λ (s : Section). HasCount count s) same many.counted
 
+  -- a function section with the count begins there
   begun : (count : ℕ) → id ≡ 3 → AreTooMany part count → HasFunctionSection old count
   begun count three many =
       let first = byte.sound old (id, behind) id_read in
@@ -85,6 +96,7 @@ module _ (old behind mid part new : At) (id size : ℕ) (id_read : byte.parse ol
         counted = subst (λ (n : ℕ). u32.spells part.place t n) same v.spelled.2.3;
       }
 
+  -- a fault of the content is one of the section
   pub section_fault : (f : Error) → IsContentFault id part f → IsSectionFault old f
   section_fault (e.Malformed place) h = (rw (id_read, sized_none (content id) behind mid part new size size_read cut begins h.0) refl, within place h.1)
   section_fault (e.TooManyLocals place) h = locals_fault place h

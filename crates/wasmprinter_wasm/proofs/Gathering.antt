@@ -32,10 +32,12 @@ pub record Gathering (start at : At) (g : Gathered) : Type 0 where
   pub later : Later start at
   pub ends : end_of at ≡ end_of start
 
+-- no sections in front change nothing
 front_nil : (r : Option (List Section)) → r ≡ in_front [] r
 front_nil None = refl
 front_nil (Some ss) = refl
 
+-- before the loop none was read
 pub gathering_none : (at : At) (g : Gathered) → g ≡ none_gathered → Gathering at at g
 gathering_none at g same = record {
   sections = [];
@@ -47,20 +49,24 @@ gathering_none at g same = record {
   ends = refl;
 }
 
+-- a section behind those in front is one of them
 front_front : (xs : List Section) (s : Section) (r : Option (List Section)) → in_front xs (in_front (s ∷ []) r) ≡ in_front (xs ++ s ∷ []) r
 front_front xs s None = refl
 front_front xs s (Some ss) = ap (λ (ys : List Section). Some ys) (sym (append_assoc xs (s ∷ []) ss))
 
+-- the last section is added last
 added-push : (g : Gathered) (ss : List Section) (s : Section) → added_all g (ss ++ s ∷ []) ≡ added (added_all g ss) s
 added-push g [] s = refl
 added-push g (x ∷ xs) s = added-push (added g x) xs s
 
+-- one more section within the limits
 small-push : (ss : List Section) (s : Section) → AllByRecursion IsSmall ss → IsSmall s → AllByRecursion IsSmall (ss ++ s ∷ [])
 small-push [] s all small = (small, tt)
 small-push (x ∷ xs) s all small = (all.0, small-push xs s all.1 small)
 
 -- a section was read
 module _ (start at after : At) (g : Gathered) (s : Section) (read : section.parse at ≡ Some (s, after)) (k : Gathering start at g) where
+  -- what is read behind it
   one_more : sections_at start ≡ in_front (k.sections ++ s ∷ []) (sections_at after)
   one_more = k.is ∙ ap (in_front k.sections) (until_item section takes_byte at after s read) ∙ front_front k.sections s (sections_at after)
 
@@ -86,6 +92,7 @@ module _ (start at after : At) (g : Gathered) (s : Section) (read : section.pars
       let same : g.rank ≡ (added_all none_gathered k.sections).rank = ap (λ (x : Gathered). x.rank) k.gathered in
       absurd (omega arith)
 
+-- one of the first is one of all
 over_left : (place : ℕ) (xs ys : List (Placed Body)) → AnyIsOver place xs → AnyIsOver place (xs ++ ys)
 over_left place [] ys over = absurd over
 over_left place (x ∷ xs) ys (inl here) = inl here
@@ -98,10 +105,12 @@ over_first place (TypeSection ts) ss over = absurd over
 over_first place (FunctionSection is) ss over = absurd over
 over_first place (ExportSection es) ss over = absurd over
 
+-- one of the last is one of all
 over_right : (place : ℕ) (xs ys : List (Placed Body)) → AnyIsOver place ys → AnyIsOver place (xs ++ ys)
 over_right place [] ys over = over
 over_right place (x ∷ xs) ys over = inr (over_right place xs ys over)
 
+-- the same behind other sections
 over_behind : (place : ℕ) (xs ys : List Section) → AnyIsOver place (bodies_in ys) → AnyIsOver place (bodies_in (xs ++ ys))
 over_behind place [] ys over = over
 over_behind place (CodeSection bs ∷ xs) ys over = over_right place bs (bodies_in (xs ++ ys)) (over_behind place xs ys over)
@@ -119,6 +128,7 @@ module _ (start at : At) (g : Gathered) (some : at.bytes ≡ [] → ⊥) (k : Ga
     first : section.parse at ≡ Some (item, after)
     all : k.sections ++ item ∷ rest ≡ ss
 
+  -- there is one where sections up to the end were read
   next_of : (r : Option (Section × At)) → section.parse at ≡ r → (ss : List Section) → sections_at start ≡ Some ss → Next ss
   next_of None e ss read =
       let none : sections_at start ≡ None = k.is ∙ ap (in_front k.sections) (until_fault section takes_byte at some e) in
@@ -127,6 +137,7 @@ module _ (start at : At) (g : Gathered) (some : at.bytes ≡ [] → ⊥) (k : Ga
       let y = bind_some (sections_at x.1) (λ ys. Some ((k.sections ++ x.0 ∷ []) ++ ys)) ss (sym (one_more start at x.1 g x.0 e k) ∙ read) in
       record { item = x.0; after = x.1; rest = y.0; first = e; all = sym (append_assoc k.sections (x.0 ∷ []) y.0) ∙ some_is ((k.sections ++ x.0 ∷ []) ++ y.0) ss y.2 }
 
+  -- it has too many locals
   locals_fault : (place : ℕ) → IsSectionFault at (e.TooManyLocals place) → IsSectionsFault start (e.TooManyLocals place)
   locals_fault place h = (
     many_later start at place k.later h.0,
@@ -136,6 +147,7 @@ module _ (start at : At) (g : Gathered) (some : at.bytes ≡ [] → ⊥) (k : Ga
         subst (λ (xs : List Section). AnyIsOver place (bodies_in xs)) n.all (over_behind place k.sections (n.item ∷ n.rest) over),
   )
 
+  -- it has too many type indices
   functions_fault : (count : ℕ) → IsSectionFault at (e.TooManyFunctions count) → IsSectionsFault start (e.TooManyFunctions count)
   functions_fault count h = (
     functions_later start at count k.later h.0,
@@ -146,6 +158,7 @@ module _ (start at : At) (g : Gathered) (some : at.bytes ≡ [] → ⊥) (k : Ga
         subst (λ (xs : List Section). length (type_indices_in xs) ≡ count) n.all (count_of count 0 k.sections n.item n.rest (h.2 (n.item, n.after) n.first) rise),
   )
 
+  -- none is spelled there
   malformed_fault : (place : ℕ) → IsSectionFault at (e.Malformed place) → IsSectionsFault start (e.Malformed place)
   malformed_fault place h = (
     λ ss read up.
@@ -155,6 +168,7 @@ module _ (start at : At) (g : Gathered) (some : at.bytes ≡ [] → ⊥) (k : Ga
     omega (arith, h.1, k.ends),
   )
 
+  -- a fault of a section is one of all sections
   pub gathering_fault : (f : Error) → IsSectionFault at f → IsSectionsFault start f
   gathering_fault (e.Malformed place) h = malformed_fault place h
   gathering_fault (e.TooManyLocals place) h = locals_fault place h

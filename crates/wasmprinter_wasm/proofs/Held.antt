@@ -16,9 +16,11 @@ record IsFresh (g : Gathered) : Type 0 where
   exports : g.rank < 8 → g.exports ≡ []
   bodies : g.rank < 12 → g.bodies ≡ []
 
+-- before any section it is so
 fresh_none : IsFresh none_gathered
 fresh_none = record { types = λ _. refl; type_indices = λ _. refl; exports = λ _. refl; bodies = λ _. refl }
 
+-- and behind each section in order
 fresh_added : (g : Gathered) (s : Section) → g.rank < rank s → IsFresh g → IsFresh (added g s)
 fresh_added g (TypeSection ts) lt f = record {
   types = λ h. absurd (omega arith);
@@ -56,6 +58,7 @@ pub record HoldsAll (g : Gathered) (ss : List Section) (all : Gathered) : Type 0
 behind_none : {A : Type 0} (old xs ys : List A) → old ≡ [] → xs ++ ys ≡ old ++ (xs ++ ys)
 behind_none {A = A} old xs ys none = ap (λ (zs : List A). zs ++ (xs ++ ys)) (sym none)
 
+-- one more section in front
 holds_first : (g : Gathered) (s : Section) (ss : List Section) (all : Gathered) → g.rank < rank s → IsFresh g → HoldsAll (added g s) ss all → HoldsAll g (s ∷ ss) all
 holds_first g (TypeSection ts) ss all lt f h =
     record { types = h.types ∙ behind_none g.types ts (types_in ss) (f.types lt); type_indices = h.type_indices; exports = h.exports; bodies = h.bodies }
@@ -66,6 +69,7 @@ holds_first g (ExportSection es) ss all lt f h =
 holds_first g (CodeSection bs) ss all lt f h =
     record { types = h.types; type_indices = h.type_indices; exports = h.exports; bodies = h.bodies ∙ behind_none g.bodies bs (bodies_in ss) (f.bodies lt) }
 
+-- what sections hold behind others
 holds_behind : (g : Gathered) (ss : List Section) → are_above g.rank ss ≡ true → IsFresh g → HoldsAll g ss (added_all g ss)
 holds_behind g [] up f =
     record { types = sym (append-nil g.types); type_indices = sym (append-nil g.type_indices); exports = sym (append-nil g.exports); bodies = sym (append-nil g.bodies) }
@@ -83,15 +87,18 @@ pub record HoldsFew (g : Gathered) : Type 0 where
   pub functions : length g.type_indices ≤ most_functions
   pub locals : AllByRecursion HasFew g.bodies
 
+-- one more section within the limits
 few_added : (g : Gathered) (s : Section) → HoldsFew g → IsSmall s → HoldsFew (added g s)
 few_added g (TypeSection ts) h small = record { functions = h.functions; locals = h.locals }
 few_added g (FunctionSection is) h small = record { functions = small; locals = h.locals }
 few_added g (ExportSection es) h small = record { functions = h.functions; locals = h.locals }
 few_added g (CodeSection bs) h small = record { functions = h.functions; locals = small }
 
+-- more sections within the limits
 few_behind : (g : Gathered) (ss : List Section) → HoldsFew g → AllByRecursion IsSmall ss → HoldsFew (added_all g ss)
 few_behind g [] h all = h
 few_behind g (s ∷ ss) h all = few_behind (added g s) ss (few_added g s h all.0) all.1
 
+-- all sections within the limits
 pub few_all : (ss : List Section) → AllByRecursion IsSmall ss → HoldsFew (added_all none_gathered ss)
 few_all ss all = few_behind none_gathered ss (record { functions = lit≤ tt; locals = tt }) all

@@ -10,6 +10,7 @@ pub record Later (start at : At) : Type 0 where
   pub parts : start.bytes ≡ text ++ at.bytes
   pub begins : at.place ≡ start.place + length text
 
+-- where nothing was read
 pub later_none : (at : At) → Later at at
 later_none at = record { text = []; parts = refl; begins = omega arith }
 
@@ -27,6 +28,7 @@ later_more g start at after x e l =
 pub many_later : (start at : At) (place : ℕ) → Later start at → HasManyLocals at place → HasManyLocals start place
 many_later start at place l m = many_in_part start at l.text [] place (l.parts ∙ ap (λ (bs : List ℕ). l.text ++ bs) (sym (append-nil at.bytes))) l.begins m
 
+-- the same of a function section
 pub functions_later : (start at : At) (count : ℕ) → Later start at → HasFunctionSection at count → HasFunctionSection start count
 functions_later start at count l h = record {
   before = l.text ++ h.before;

@@ -26,12 +26,15 @@ any_behind place [] rest b over = inl over
 any_behind place (x ∷ xs) rest b over = inr (any_behind place xs rest b over)
 
 module _ {A : Type 0} (g : Grammar A) where
+  -- the count kept beside the items
   abbrev with_count : ℕ → Option (List A × At) → Option ((ℕ × List A) × At)
   with_count n r = r >>= λ xs. Some ((n, xs.0), xs.1)
 
+  -- the items alone
   abbrev uncounted : ℕ → Option (List A × At) → Option (List A × At)
   uncounted n r = with_count n r >>= λ x. Some (x.0.1, x.1)
 
+  -- the count changes nothing
   uncount : (n : ℕ) (r : Option (List A × At)) → uncounted n r ≡ r
   uncount n None = refl
   uncount n (Some x) = refl
@@ -40,6 +43,7 @@ module _ {A : Type 0} (g : Grammar A) where
   pub vec_is : (old start : At) (count : ℕ) → u32.parse old ≡ Some (count, start) → (vec g).parse old ≡ items_at g.parse count start
   vec_is old start count e = rw e (uncount count (items_at g.parse count start))
 
+-- no bodies in front change nothing
 front_nil : {A : Type 0} (r : Option (List A × At)) → with_front [] r ≡ r
 front_nil None = refl
 front_nil (Some x) = refl
@@ -50,16 +54,19 @@ front_start count start at e =
     let k : count - 0 ≡ count = omega arith in
     front_nil (items_at code_entry.parse (count - 0) at) ∙ ap (λ (n : ℕ). items_at code_entry.parse n at) k ∙ ap (items_at code_entry.parse count) (sym e)
 
+-- reading an entry
 abbrev P : At → Option (Placed Body × At)
 P = code_entry.parse
 
 module _ (old start at : At) (count i : ℕ) (front : List (Placed Body)) (counted : u32.parse old ≡ Some (count, start)) (lt : i < count)
     (so_far : with_front front (items_at P (count - i) at) ≡ items_at P count start) (later : Later start at) (ends : end_of at ≡ end_of old) where
+  -- what is read of the entry that comes next
   one_more : (vec code_entry).parse old ≡ with_front front (items_at P (suc (count - (i + 1))) at)
   one_more =
       let k : count - i ≡ suc (count - (i + 1)) = omega arith in
       vec_is code_entry old start count counted ∙ sym so_far ∙ ap (λ (n : ℕ). with_front front (items_at P n at)) k
 
+  -- an entry with too many locals is one of all
   any_over : (place : ℕ) → ((x : Placed Body × At) → P at ≡ Some x → IsOver place x.0) → (x : List (Placed Body) × At) → (vec code_entry).parse old ≡ Some x → AnyIsOver place x.0
   any_over place over x r =
       let m : ℕ = count - (i + 1) in

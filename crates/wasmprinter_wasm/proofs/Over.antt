@@ -30,11 +30,13 @@ many_in_part at part t r place parts begins m = record {
   many = m.many;
 }
 
+-- entries of locals
 abbrev Entries : Type 0
 Entries = List (Placed LocalEntry)
 
 -- the locals that were read are those of the body, if one stands there
 module _ (at mid : At) (locals : Entries) (read : (vec (placed local_entry)).parse at ≡ Some (locals, mid)) where
+  -- the locals of the body
   body_locals : (x : Body × At) → body.parse at ≡ Some x → x.0.locals ≡ locals
   body_locals x e =
       let a = bind_some ((seq (vec (placed local_entry)) (λ _. expression)).parse at) (λ a. Some (body_from a.0.0 a.0.1, a.1)) x e in
@@ -45,6 +47,7 @@ module _ (at mid : At) (locals : Entries) (read : (vec (placed local_entry)).par
       let made : a.0.0.0 ≡ x.0.locals = ap (λ (y : Body × At). y.0.locals) (some_is (body_from a.0.0.0 a.0.0.1, a.0.1) x a.2) in
       sym made ∙ sym first ∙ same
 
+  -- the body has too many locals
   is_over : (place : ℕ) → place ≡ at.place → most_locals < local_count locals → (x : Placed Body × At) → (placed body).parse at ≡ Some x → IsOver place x.0
   is_over place begins many x e =
       let with_place : Body × At → Placed Body × At = λ a. (record { place = at.place; value = a.0 }, a.1) in
@@ -71,6 +74,7 @@ module _ (at mid : At) (locals : Entries) (read : (vec (placed local_entry)).par
 
 -- a fault of a body is one of the entry
 module _ (old mid part new : At) (size : ℕ) (size_read : u32.parse old ≡ Some (size, mid)) (cut : front_at size mid ≡ Some (part.bytes, new)) (begins : part.place ≡ mid.place) where
+  -- the body that stands in the entry is read of the part
   entry_body : (x : Placed Body × At) → code_entry.parse old ≡ Some x → (after : At) × ((placed body).parse part ≡ Some (x.0, after))
   entry_body x e =
       let a = bind_some ((sized (placed body)).parse old) (λ a. Some (a.0.1, a.1)) x e in
@@ -78,17 +82,20 @@ module _ (old mid part new : At) (size : ℕ) (size_read : u32.parse old ≡ Som
       let same : a.0.0.1 ≡ x.0 = ap (λ (y : Placed Body × At). y.0) (some_is (a.0.0.1, a.0.1) x a.2) in
       (s.0, s.1 ∙ ap (λ (b : Placed Body). Some (b, s.0)) same)
 
+  -- it has too many locals
   entry_over : (place : ℕ) → IsBodyFault (placed body).parse part (e.TooManyLocals place) → IsBodyFault code_entry.parse old (e.TooManyLocals place)
   entry_over place h =
       let p = old_parts (placed body) old mid part new size size_read cut begins in
       (many_in_part old part p.0 new.bytes place p.1 p.2 h.0, λ x f. let b = entry_body x f in h.1 (x.0, b.0) b.1)
 
+  -- none is spelled there
   entry_malformed : (place : ℕ) → IsBodyFault (placed body).parse part (e.Malformed place) → IsBodyFault code_entry.parse old (e.Malformed place)
   entry_malformed place h =
       let none : code_entry.parse old ≡ None = rw (sized_none (placed body) old mid part new size size_read cut begins h.0) refl in
       let within = part_within (placed body) old mid part new size size_read cut begins in
       (none, omega (arith, h.1, within))
 
+  -- each fault is one of the entry
   pub entry_fault : (f : Error) → IsBodyFault (placed body).parse part f → IsBodyFault code_entry.parse old f
   entry_fault (e.Malformed place) h = entry_malformed place h
   entry_fault (e.TooManyLocals place) h = entry_over place h

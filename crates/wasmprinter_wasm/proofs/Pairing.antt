@@ -8,6 +8,7 @@ use Rattle.wasmprinter_spec.specs.Placed.{Body, PlacedFunction}
 use Rattle.wasmprinter_spec.specs.Binary.{paired}
 use Rattle.wasmprinter_wasm.specs.Modules.{functions_of, bodies_of, body_at}
 
+-- a function's body
 abbrev body_of : PlacedFunction → Placed Body
 body_of f = f.body
 
@@ -17,6 +18,7 @@ pub record Pairs (is : List ℕ) (bs : List (Placed Body)) : Type 0 where
   pub are : paired is bs ≡ Some functions
   pub bodies : bodies_of functions ≡ bs
 
+-- where the numbers are the same there are functions
 pub pairs_of : (is : List ℕ) (bs : List (Placed Body)) → length is ≡ length bs → Pairs is bs
 pairs_of [] [] e = record { functions = []; are = refl; bodies = refl }
 pairs_of [] (b ∷ bs) e = absurd (omega arith)
@@ -29,15 +31,18 @@ pairs_of (i ∷ is) (b ∷ bs) e =
 pub bodies-functions_of : (is : List ℕ) (bs : List (Placed Body)) → length is ≡ length bs → bodies_of (functions_of is bs) ≡ bs
 bodies-functions_of is bs e = let p = pairs_of is bs e in rw p.are p.bodies
 
+-- there are as many functions
 pub length-functions_of : (is : List ℕ) (bs : List (Placed Body)) → length is ≡ length bs → length (functions_of is bs) ≡ length bs
 length-functions_of is bs e = let l : length (bodies_of (functions_of is bs)) ≡ length bs = ap length (bodies-functions_of is bs e) in sym (length-map (functions_of is bs) body_of) ∙ l
 
 -- the body with a number, from the list of the bodies
 module _ (fs : List PlacedFunction) (bs : List (Placed Body)) (i : ℕ) where
+  -- within the list
   pub body_within : (b c : Placed Body) → bodies_of fs ≡ bs → i < length bs → b ≡ get_or bs i b → c ≡ b → Some c ≡ body_at fs i
   body_within b c e lt is same =
       ap (λ (x : Placed Body). Some x) (same ∙ is) ∙ sym (slice_get-get_or bs i b lt) ∙ ap (λ (xs : List (Placed Body)). slice_get xs i) (sym e)
 
+  -- past the list
   pub body_past : bodies_of fs ≡ bs → length bs ≤ i → None ≡ body_at fs i
   body_past e le = sym (slice_get_past bs i le) ∙ ap (λ (xs : List (Placed Body)). slice_get xs i) (sym e)
 
@@ -46,6 +51,7 @@ pub record Paired (is : List ℕ) (bs : List (Placed Body)) (fs : List PlacedFun
   pub bodies : bodies_of fs ≡ bs
   pub count : length fs ≡ length is
 
+-- what was paired is so
 pub paired_of : (is : List ℕ) (bs : List (Placed Body)) (fs : List PlacedFunction) → paired is bs ≡ Some fs → Paired is bs fs
 paired_of [] [] fs e = subst (Paired [] []) (some_is [] fs e) (record { bodies = refl; count = refl })
 paired_of [] (b ∷ bs) fs e = absurd cc

@@ -6,28 +6,35 @@ use Rattle.wasmprinter_spec.specs.Name.{u32}
 use Rattle.wasmprinter_bytes.specs.Reads.{end_of}
 
 module _ {A : Type 0} (g : Grammar A) where
+  -- a size and a value of so many bytes
   abbrev pub sized : Grammar (ℕ × A)
   sized = seq u32 (λ size. exactly (alone g) size)
 
+  -- a value with nothing behind it
   ended_is : (bytes : List ℕ) (a b : A) → ended g bytes a ≡ Some b → a ≡ b
   ended_is [] a b e = some_is a b e
   ended_is (c ∷ cs) a b e = absurd cc
 
   -- what was cut out: the size, and where reading goes on behind the part
   module _ (old mid part new : At) (size : ℕ) (size_read : u32.parse old ≡ Some (size, mid)) (cut : front_at size mid ≡ Some (part.bytes, new)) (begins : part.place ≡ mid.place) where
+    -- the size in front of what was read of the part
     abbrev with_size : Option A → Option ((ℕ × A) × At)
     with_size r = r >>= λ a. Some ((size, a), new)
 
+    -- reading goes on behind the part
     abbrev cut_out : Option A → Option (A × At)
     cut_out r = r >>= λ a. Some (a, new)
 
+    -- the size in front of what was read
     abbrev behind_size : Option (A × At) → Option ((ℕ × A) × At)
     behind_size r = r >>= λ b. Some ((size, b.0), b.1)
 
+    -- the same in two steps
     regroup : (r : Option A) → behind_size (cut_out r) ≡ with_size r
     regroup None = refl
     regroup (Some a) = refl
 
+    -- the part is read from its own place
     there : from mid.place part.bytes ≡ part
     there = ap (λ (p : ℕ). from p part.bytes) (sym begins)
 
@@ -56,5 +63,6 @@ module _ {A : Type 0} (g : Grammar A) where
         let same : f.text ≡ part.bytes = sym f.spelled.1 in
         (s.text, s.parts ∙ ap (λ (bs : List ℕ). s.text ++ bs) (f.parts ∙ ap (λ (bs : List ℕ). bs ++ new.bytes) same), begins ∙ s.ends, s.spelled)
 
+    -- the part ends within the whole
     pub part_within : end_of part ≤ end_of old
     part_within = omega (arith, ap length old_parts.1, old_parts.2, length-append old_parts.0 (part.bytes ++ new.bytes), length-append part.bytes new.bytes)

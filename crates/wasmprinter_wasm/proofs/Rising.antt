@@ -6,6 +6,7 @@ use Rattle.wasmprinter_spec.specs.Binary.{rank, are_above, type_indices_in}
 use Rattle.wasmprinter_wasm.specs.Contents.{HasCount}
 use Rattle.wasmprinter_wasm.specs.Gathering.{Gathered, added, added_all}
 
+-- the rank that is kept is that of the last section
 pub rank_added : (g : Gathered) (s : Section) → (added g s).rank ≡ rank s
 rank_added g (TypeSection ts) = refl
 rank_added g (FunctionSection is) = refl
@@ -60,6 +61,7 @@ indices_of low (TypeSection ts ∷ xs) is rest up = indices_of 1 xs is rest (and
 indices_of low (ExportSection es ∷ xs) is rest up = indices_of 8 xs is rest (and_parts (ltb low 8) (are_above 8 (xs ++ FunctionSection is ∷ rest)) up).1
 indices_of low (CodeSection bs ∷ xs) is rest up = indices_of 12 xs is rest (and_parts (ltb low 12) (are_above 12 (xs ++ FunctionSection is ∷ rest)) up).1
 
+-- the same of a section that holds so many
 pub count_of : (count low : ℕ) (xs : List Section) (s : Section) (rest : List Section) → HasCount count s → are_above low (xs ++ s ∷ rest) ≡ true → length (type_indices_in (xs ++ s ∷ rest)) ≡ count
 count_of count low xs (FunctionSection is) rest h up = ap length (indices_of low xs is rest up) ∙ h
 count_of count low xs (TypeSection ts) rest h up = absurd h

@@ -3,16 +3,14 @@ use Rattle.std.proofs.Common.{◌≡◌, ℕ, zero, suc, ◌<◌, ◌≤◌, con
 use Rattle.std.proofs.lemmas.Bool.{ne_eqb, eq-eqb, lt-ltb}
 use Rattle.wasmprinter_spec.specs.Grammar.{At, Grammar, ◌>>=◌}
 use Rattle.wasmprinter_spec.specs.Repeated.{entries_at, until_end}
+use Rattle.wasmprinter_ops.proofs.Closing.{bind_same}
 
 -- what is read, behind other items
 abbrev pub in_front : {A : Type 0} → List A → Option (List A) → Option (List A)
 in_front xs r = r >>= λ ys. Some (xs ++ ys)
 
-bind_same : {X Y : Type 0} (r : Option X) (f h : X → Option Y) → ((x : X) → r ≡ Some x → f x ≡ h x) → (r >>= f) ≡ (r >>= h)
-bind_same None f h e = refl
-bind_same (Some x) f h e = e x refl
-
 module _ {A : Type 0} (g : Grammar A) (takes_byte : (at : At) (x : A × At) → g.parse at ≡ Some x → length x.1.bytes < length at.bytes) where
+  -- items up to the end
   abbrev items : At → Option (List A)
   items at = (until_end g).parse at
 
@@ -31,6 +29,7 @@ module _ {A : Type 0} (g : Grammar A) (takes_byte : (at : At) (x : A × At) → 
       let lt : length x.1.bytes < length at.bytes = takes_byte at x e in
       ap (λ (r : Option (List A)). cond (ltb (length x.1.bytes) (length at.bytes)) (in_front (x.0 ∷ []) r) None) (enough n m x.1 (omega arith) (omega arith))))
 
+  -- where a byte is left an item is read
   more : (n : ℕ) (at : At) → length at.bytes ≡ suc n → items at ≡ (g.parse at >>= λ x. item_and items at x)
   more n at l =
       ap (λ (k : ℕ). entries_at g k at) l
@@ -39,6 +38,7 @@ module _ {A : Type 0} (g : Grammar A) (takes_byte : (at : At) (x : A × At) → 
       let lt : length x.1.bytes < length at.bytes = takes_byte at x e in
       ap (λ (r : Option (List A)). cond (ltb (length x.1.bytes) (length at.bytes)) (in_front (x.0 ∷ []) r) None) (enough n (length x.1.bytes) x.1 (omega arith) (omega arith))))
 
+  -- some bytes have a length above 0
   some_length : (bytes : List ℕ) → (bytes ≡ [] → ⊥) → (n : ℕ) × (length bytes ≡ suc n)
   some_length [] some = absurd (some refl)
   some_length (b ∷ bs) some = (length bs, omega arith)

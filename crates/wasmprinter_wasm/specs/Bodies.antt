@@ -15,6 +15,7 @@ IsBodyFault parse at (Malformed place) = (parse at ≡ None) × (place ≤ end_o
 IsBodyFault parse at (TooManyLocals place) = HasManyLocals at place × ((x : Placed Body × At) → parse at ≡ Some x → IsOver place x.0)
 IsBodyFault parse at _ = ⊥
 
+-- a body of few locals is read, or the refusal is true
 abbrev pub TakesBodyBy : (At → Option (Placed Body × At)) → At → Result (Placed Body) Error → At → Type 0
 TakesBodyBy parse old (Ok b) new = (parse old ≡ Some (b, new)) × (local_count b.value.locals ≤ most_locals)
 TakesBodyBy parse old (Err e) new = IsBodyFault parse old e

@@ -22,6 +22,7 @@ section_seen (s.Functions is) = FunctionSection is.items
 section_seen (s.Exports es) = ExportSection es.items
 section_seen (s.Code bs) = CodeSection bs.items
 
+-- a body of no more locals than are allowed
 abbrev pub HasFew : Placed Body → Type 0
 HasFew b = local_count b.value.locals ≤ most_locals
 
@@ -39,6 +40,7 @@ IsBodiesFault at (TooManyLocals place) = HasManyLocals at place × ((x : List (P
 IsBodiesFault at Memory = Unit {0}
 IsBodiesFault at _ = ⊥
 
+-- bodies of few locals are read, or the refusal is true
 abbrev pub TakesBodies : {X : Type 0} → (X → List (Placed Body)) → At → Result X Error → At → Type 0
 TakesBodies items old (Ok v) new = ((vec code_entry).parse old ≡ Some (items v, new)) × AllByRecursion HasFew (items v)
 TakesBodies items old (Err e) new = IsBodiesFault old e
@@ -58,6 +60,7 @@ IsIndicesFault at (TooManyFunctions count) = AreTooMany at count
 IsIndicesFault at Memory = Unit {0}
 IsIndicesFault at _ = ⊥
 
+-- no more type indices than are allowed are read, or the refusal is true
 abbrev pub TakesIndices : {X : Type 0} → (X → List ℕ) → At → Result X Error → At → Type 0
 TakesIndices items old (Ok v) new = ((vec u32).parse old ≡ Some (items v, new)) × (length (items v) ≤ most_functions)
 TakesIndices items old (Err e) new = IsIndicesFault old e
@@ -71,6 +74,7 @@ IsContentFault id at (TooManyFunctions count) = (id ≡ 3) × AreTooMany at coun
 IsContentFault id at Memory = Unit {0}
 IsContentFault id at _ = ⊥
 
+-- content within the limits is read, or the refusal is true
 abbrev pub TakesContent : ℕ → At → Result Section Error → At → Type 0
 TakesContent id old (Ok s) new = ((content id).parse old ≡ Some (section_seen s, new)) × IsSmall (section_seen s)
 TakesContent id old (Err e) new = IsContentFault id old e
@@ -90,6 +94,7 @@ IsSectionFault at (TooManyFunctions count) =
 IsSectionFault at Memory = Unit {0}
 IsSectionFault at _ = ⊥
 
+-- a section within the limits is read, or the refusal is true
 abbrev pub TakesSection : At → Result Section Error → At → Type 0
 TakesSection old (Ok s) new = (section.parse old ≡ Some (section_seen s, new)) × IsSmall (section_seen s)
 TakesSection old (Err e) new = IsSectionFault old e

@@ -24,6 +24,7 @@ abbrev pub IsRefusal : List ℕ → Error → Type 0
 IsRefusal bytes Component = IsComponent bytes
 IsRefusal bytes e = IsFaultOf bytes e
 
+-- the module that the bytes spell, within the limits, or a true refusal
 abbrev pub TakesModule : List ℕ → Result PlacedModule Error → Type 0
 TakesModule bytes (Ok m) = Spells bytes m × IsWithinLimits m
 TakesModule bytes (Err e) = IsFaultOf bytes e

@@ -22,6 +22,7 @@ pub record Gathered : Type 0 where
   pub exports : List (Placed Export)
   pub bodies : List (Placed Body)
 
+-- before any section
 abbrev pub none_gathered : Gathered
 none_gathered = record { rank = 0; types = []; type_indices = []; exports = []; bodies = [] }
 
@@ -32,10 +33,12 @@ added g (FunctionSection is) = record g { rank = rank (FunctionSection is); type
 added g (ExportSection es) = record g { rank = rank (ExportSection es); exports = es }
 added g (CodeSection bs) = record g { rank = rank (CodeSection bs); bodies = bs }
 
+-- with what more sections hold
 abbrev pub added_all : Gathered → List Section → Gathered
 added_all g [] = g
 added_all g (s ∷ ss) = added_all (added g s) ss
 
+-- sections up to the end of the bytes
 abbrev pub sections_at : At → Option (List Section)
 sections_at at = (until_end section).parse at
 
@@ -57,6 +60,7 @@ IsSectionsFault at (TooManyFunctions count) =
 IsSectionsFault at Memory = Unit {0}
 IsSectionsFault at _ = ⊥
 
+-- sections in order and within the limits are read, or the refusal is true
 abbrev pub TakesSections : At → Result Gathered Error → Type 0
 TakesSections at (Ok g) = HoldsSections at g
 TakesSections at (Err e) = IsSectionsFault at e

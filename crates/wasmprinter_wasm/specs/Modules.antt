@@ -11,6 +11,7 @@ use Rattle.wasmprinter_spec.specs.Limits.{most_functions}
 abbrev pub functions_of : List ℕ → List (Placed Body) → List PlacedFunction
 functions_of is bs = some_or (paired is bs) [] (λ fs. fs)
 
+-- the module of the definitions
 abbrev pub module_seen : List (Placed FuncType) → List ℕ → List (Placed Export) → List (Placed Body) → ℕ → PlacedModule
 module_seen ts is es bs size = record { types = ts; functions = functions_of is bs; exports = es; size = size }
 

@@ -135,9 +135,9 @@ fn read_module<'a>(alloc: Global, wasm: &'a [u8]) -> Result<Module<'a>, Error>
 ///
 /// # Errors
 ///
-/// `Component` where the bytes are marked as a component, else `Malformed` where they are outside the binary format, else
-/// `TooManyLocals` or `TooManyFunctions` where a limit of this printer is passed; `Memory` may come in place of any but
-/// `Component`.
+/// `Component` where the bytes are marked as a component; `Malformed` where they are outside the binary format;
+/// `TooManyLocals` and `TooManyFunctions` where a limit of this printer is passed; `Memory` where a growth is refused. `Component`
+/// goes before the others; where several of these hold, any may be answered.
 pub fn decode<'a>(alloc: Global, wasm: &'a [u8]) -> Result<Module<'a>, Error>
     ensures ok { IfOk result (λ m. Spells wasm.now m × IsWithinLimits m) }
     ensures refused { IfErr result (IsRefusal wasm.now) }
