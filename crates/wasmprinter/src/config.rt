@@ -96,3 +96,60 @@ impl Default for Config {
         Config::new()
     }
 }
+
+#[cfg(test)]
+mod tests {
+    use super::*;
+    use std::test::Fail;
+    use wasmprinter_bytes::print::PrintFmtWrite;
+
+    /// A function that answers its parameter, exported.
+    const EXPORTED: [u8; 35] = [
+        0x00, 0x61, 0x73, 0x6d, 0x01, 0x00, 0x00, 0x00, 0x01, 0x06, 0x01, 0x60, 0x01, 0x7f, 0x01,
+        0x7f, 0x03, 0x02, 0x01, 0x00, 0x07, 0x05, 0x01, 0x01, 0x66, 0x00, 0x00, 0x0a, 0x06, 0x01,
+        0x04, 0x00, 0x20, 0x00, 0x0b,
+    ];
+
+    fn printed(alloc: Global, config: &Config, wasm: &[u8]) -> Result<String, Error> {
+        let mut printer = PrintFmtWrite(String::new(alloc));
+        config.print(alloc, wasm, &mut printer)?;
+        Ok(printer.0)
+    }
+
+    #[test]
+    fn prints_places(rt: HostRuntime) -> Result<(), Fail> {
+        let mut config = Config::new();
+        config.print_offsets = true;
+        let empty = printed(rt.alloc(), &config, &EXPORTED[..8])?;
+        assert_eq!(rt; empty.as_str(), "(module\n(;@8     ;))\n");
+        let text = printed(rt.alloc(), &config, &EXPORTED)?;
+        assert_eq!(rt;
+            text.as_str(),
+            "(module\n(;@b     ;)  (type (;0;) (func (param i32) (result i32)))\n(;@17    ;)  (export \"f\" (func 0))\n(;@1f    ;)  (func (;0;) (type 0) (param i32) (result i32)\n(;@20    ;)    local.get 0\n(;@22    ;)  )\n(;@23    ;))\n"
+        );
+        Ok(())
+    }
+
+    #[test]
+    fn leaves_bodies_out(rt: HostRuntime) -> Result<(), Fail> {
+        let mut config = Config::new();
+        config.print_skeleton = true;
+        let text = printed(rt.alloc(), &config, &EXPORTED)?;
+        assert_eq!(rt;
+            text.as_str(),
+            "(module\n  (type (;0;) (func (param i32) (result i32)))\n  (export \"f\" (func 0))\n  (func (;0;) (type 0) (param i32) (result i32) ...)\n)\n"
+        );
+        Ok(())
+    }
+
+    #[test]
+    fn shows_debug(rt: HostRuntime) -> Result<(), Fail> {
+        let config = Config::default();
+        let shown = format!(in rt.alloc(); "{config:?}")?;
+        assert_eq!(rt;
+            shown.as_str(),
+            "Config { print_offsets: false, print_skeleton: false, indent: TwoBlanks }"
+        );
+        Ok(())
+    }
+}
