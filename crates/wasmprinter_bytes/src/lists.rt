@@ -1,4 +1,4 @@
-//! Vectors (section 5.1.3 of the WebAssembly Core Specification): a count, and so many items one after the other.
+//! Vectors (section 5.1 of the WebAssembly Core Specification, "Lists"): a count, and so many items one after the other.
 ghost use Rattle.std.specs.Prelude.{◌≡◌, length};
 ghost use Rattle.wasmprinter_bytes.specs.Reads.{Reads, IsWithin, end_of};
 ghost use Rattle.wasmprinter_bytes.specs.Lists.{Takes, vec_at};

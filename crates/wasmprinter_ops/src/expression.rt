@@ -1,4 +1,4 @@
-//! Expressions (section 5.4.9): operators up to the `end` that closes them. The operators aren't kept: they are read again from
+//! Expressions (section 5.4, "Expressions"): operators up to the `end` that closes them. The operators aren't kept: they are read again from
 //! the bytes as they are asked for.
 ghost use Rattle.std.specs.Prelude.{◌≡◌, OnOk};
 ghost use Rattle.wasmprinter_spec.specs.Instructions.{expression};

@@ -11,7 +11,7 @@ use std::marker::Model;
 use wasmprinter_bytes::Malformed;
 use wasmprinter_bytes::bytes::Cursor;
 
-/// The index spaces that immediates name (section 2.5.1).
+/// The index spaces that immediates name (section 2.5, "Indices").
 #[derive(Clone, Copy, Debug, PartialEq, Eq)]
 pub enum Space {
     /// Functions, imported ones first.

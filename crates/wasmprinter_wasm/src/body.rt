@@ -1,4 +1,4 @@
-//! Bodies of functions (section 5.5.13): locals, and an expression.
+//! Bodies of functions (section 5.5, "Code Section"): locals, and an expression.
 ghost use Rattle.std.specs.Prelude.{◌≡◌, ◌<◌, ◌↔◌, IsTrue};
 ghost use Rattle.wasmprinter_spec.specs.Grammar.{placed};
 ghost use Rattle.wasmprinter_spec.specs.Sections.{local_entry};

@@ -1,4 +1,4 @@
-//! Decoding: a preamble, and sections up to the end (section 5.5.16).
+//! Decoding: a preamble, and sections up to the end (section 5.5, "Modules").
 ghost use Rattle.std.specs.Prelude.{◌≡◌, ◌↔◌, IsTrue, IfOk, IfErr, IsErrOf, IsOkUnless};
 ghost use Rattle.wasmprinter_spec.specs.Placed.{PlacedModule};
 ghost use Rattle.wasmprinter_spec.specs.Binary.{Spells, IsComponent, preamble, preamble_bytes};

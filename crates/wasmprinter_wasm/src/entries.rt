@@ -1,4 +1,4 @@
-//! What type and export sections hold (sections 5.5.4 and 5.5.10).
+//! What type and export sections hold (section 5.5, "Type Section" and "Export Section").
 ghost use Rattle.std.specs.Prelude.{◌≡◌};
 ghost use Rattle.wasmprinter_spec.specs.Grammar.{placed};
 ghost use Rattle.wasmprinter_spec.specs.Types.{func_type, only};

@@ -1,4 +1,4 @@
-//! Sections (section 5.5.2): an id, a size, and content of exactly so many bytes.
+//! Sections (section 5.5, "Sections"): an id, a size, and content of exactly so many bytes.
 ghost use Rattle.std.specs.Prelude.{◌≡◌};
 ghost use Rattle.wasmprinter_spec.specs.Binary.{rank};
 ghost use Rattle.wasmprinter_bytes.specs.Reads.{end_of};

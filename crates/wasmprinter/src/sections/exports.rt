@@ -1,4 +1,4 @@
-//! Exports (section 6.6.8 of the WebAssembly Core Specification).
+//! Exports (section 6.6 of the WebAssembly Core Specification, "Exports").
 ghost use Rattle.std.specs.Prelude.{[], ◌∷◌, ◌++◌, chars, codes};
 ghost use Rattle.wasmprinter_spec.specs.Options.{Options};
 ghost use Rattle.wasmprinter_spec.specs.Piece.{Gap, OpenGap, Shut, Number, Quoted};

@@ -1,4 +1,4 @@
-//! Functions (section 6.6.3 of the WebAssembly Core Specification).
+//! Functions (section 6.6 of the WebAssembly Core Specification, "Functions").
 ghost use Rattle.std.specs.Prelude.{◌≡◌, [], ◌∷◌, ◌++◌, ◌||◌, Some, codes, slice_get};
 ghost use Rattle.wasmprinter_spec.specs.Options.{Options};
 ghost use Rattle.wasmprinter_spec.specs.Piece.{Gap, OpenGap, Shut, Word};

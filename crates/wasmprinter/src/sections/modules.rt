@@ -1,4 +1,4 @@
-//! Modules (section 6.6.13 of the WebAssembly Core Specification).
+//! Modules (section 6.6 of the WebAssembly Core Specification, "Modules").
 ghost use Rattle.std.specs.Prelude.{◌≡◌, [], ◌∷◌, ◌++◌, ◌||◌, Some, codes};
 ghost use Rattle.wasmprinter_spec.specs.Options.{Options};
 ghost use Rattle.wasmprinter_spec.specs.Piece.{Begin, Feed, Open};

@@ -1,4 +1,4 @@
-//! Types (section 6.6.1 of the WebAssembly Core Specification).
+//! Types (section 6.6 of the WebAssembly Core Specification, "Types").
 ghost use Rattle.std.specs.Prelude.{[], ◌∷◌, ◌++◌, codes};
 ghost use Rattle.wasmprinter_spec.specs.Options.{Options};
 ghost use Rattle.wasmprinter_spec.specs.Piece.{Gap, Open, OpenGap, Shut, Mark};

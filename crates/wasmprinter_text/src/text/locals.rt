@@ -1,4 +1,4 @@
-//! Locals (section 6.6.3 of the WebAssembly Core Specification, "Functions").
+//! Locals (section 6.6 of the WebAssembly Core Specification, "Functions").
 ghost use Rattle.std.specs.Prelude.{◌≡◌, [], ◌∷◌, ◌++◌, Some, codes, replicate};
 ghost use Rattle.wasmprinter_spec.specs.Options.{Options};
 ghost use Rattle.wasmprinter_spec.specs.Module.{expanded};

@@ -1,4 +1,4 @@
-//! Whole numbers (section 6.3.1 of the WebAssembly Core Specification).
+//! Whole numbers (section 6.3 of the WebAssembly Core Specification, "Integers").
 ghost use Rattle.std.specs.Prelude.{◌≡◌, ◌<◌, ◌≤◌, false, [], ◌∷◌, ◌++◌, decimal, length};
 ghost use Rattle.std.specs.Fmt.{digits, digit_glyph, signed_decimal};
 ghost use Rattle.wasmprinter_spec.specs.Call.{Text};

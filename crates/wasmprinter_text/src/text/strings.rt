@@ -1,4 +1,4 @@
-//! Texts in quotes (section 6.3.3 of the WebAssembly Core Specification).
+//! Texts in quotes (section 6.3 of the WebAssembly Core Specification, "Strings").
 ghost use Rattle.std.specs.Prelude.{◌≡◌, [], ◌∷◌, flat_map, chars};
 ghost use Rattle.wasmprinter_spec.specs.Call.{Text, Literal};
 ghost use Rattle.wasmprinter_spec.specs.Options.{Options};
