@@ -57,12 +57,10 @@ pub fn read_list<'a, T: SpelledIn<'a>>(
     ensures end { end_of cursor.new ≡ end_of cursor.old }
 {
     let count = cursor.u32()?;
-    let start = cursor.fork();
     let mut values = Vec::new(alloc);
     for _ in 0..count {
         values.push(T::read(cursor)?)?;
     }
-    let _ = start;
     Ok(values)
 }
 

@@ -41,12 +41,10 @@ fn read_bodies<'a>(alloc: Global, cursor: &mut Cursor<'a>) -> Result<Vec<Body<'a
     ensures end { end_of cursor.new ≡ end_of cursor.old }
 {
     let count = cursor.u32()?;
-    let start = cursor.fork();
     let mut bodies = Vec::new(alloc);
     for _ in 0..count {
         bodies.push(Body::read_entry(cursor)?)?;
     }
-    let _ = start;
     Ok(bodies)
 }
 

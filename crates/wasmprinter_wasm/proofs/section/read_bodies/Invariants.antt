@@ -10,8 +10,8 @@ use Rattle.wasmprinter_wasm.proofs.section.read_bodies.Given as goal
 
 abbrev pub invariant-loop : goal.invariant-loop
 invariant-loop l = record {
-  rest : with_front l.bodies.items (items_at code_entry.parse (l.count - l.counter) l.cursor) ≡ items_at code_entry.parse l.count l.start;
-  end : end_of l.cursor ≡ end_of l.start;
+  rest : with_front l.bodies.items (items_at code_entry.parse (l.count - l.counter) l.cursor) ≡ items_at code_entry.parse l.count l.initial.cursor;
+  end : end_of l.cursor ≡ end_of l.initial.cursor;
   few : AllByRecursion HasFew l.bodies.items;
-  later : Later l.start l.cursor;
+  later : Later l.initial.cursor l.cursor;
 }
