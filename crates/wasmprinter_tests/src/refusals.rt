@@ -82,6 +82,23 @@ fn refuses_functions_without_bodies(rt: HostRuntime) -> Result<(), Fail> {
 }
 
 #[test]
+fn refuses_counts_that_no_bytes_follow(rt: HostRuntime) -> Result<(), Fail> {
+    let alloc = rt.alloc();
+    // sections of types, functions, exports and code that hold a count of 2^32 - 1 alone
+    for id in [0x01, 0x03, 0x07, 0x0a] {
+        let mut wasm = Vec::from_slice(alloc, &PREAMBLE)?;
+        wasm.extend_from_slice(&[id, 0x05, 0xff, 0xff, 0xff, 0xff, 0x0f])?;
+        let refused = print_bytes(alloc, &wasm);
+        assert!(rt; matches!(refused, Err(Error::Malformed { .. })), "at {id}");
+    }
+    // a body with as many entries of locals, and none behind the count
+    let wasm = with_code(&rt, &[0x0a, 0x07, 0x01, 0x05, 0xff, 0xff, 0xff, 0xff, 0x0f])?;
+    let refused = print_bytes(alloc, &wasm);
+    assert!(rt; matches!(refused, Err(Error::Malformed { .. })));
+    Ok(())
+}
+
+#[test]
 fn refuses_components(rt: HostRuntime) -> Result<(), Fail> {
     let component = [0x00, 0x61, 0x73, 0x6d, 0x0d, 0x00, 0x01, 0x00];
     let refused = print_bytes(rt.alloc(), &component);
