@@ -1,5 +1,5 @@
 -- What follows from `Written`, for any printer: how pieces go together.
-use Rattle.std.specs.Prelude.{◌≡◌, false, List, [], ◌∷◌, ◌++◌, Result, Ok, Err, IsErrAnd}
+use Rattle.std.specs.Prelude.{◌≡◌, List, [], ◌∷◌, ◌++◌, Result, Ok, Err, IsErrAnd}
 use Rattle.std.proofs.Common.{refl, sym, ap, ◌∙◌, subst, append_assoc, append-nil}
 use Rattle.wasmprinter_spec.specs.Call.{Call}
 use Rattle.wasmprinter_spec.specs.Options.{Options}
