@@ -154,11 +154,7 @@ pub alike : {P : Type 0} (m : Meaning P) {a t : P} {r : Result (Unit {0}) Error}
     atoms l ≡ atoms k → Made m a t r l → Made m a t r k
 alike m {a} {t} {r} {l} k e v = record { made = alike_calls m a t r l k e v.made }
 
--- at first all is owed
-pub owes_all : {P : Type 0} (m : Meaning P) (a : P) (whole : List Call) → Owes m a a whole whole
-owes_all m a whole = record { layout = []; made = nothing m a; alike = refl }
-
--- in the end nothing is
+-- in the end nothing is owed
 pub owes_none : {P : Type 0} (m : Meaning P) {a t : P} (whole : List Call) → Owes m a t whole [] → Made m a t (Ok tt) whole
 owes_none m whole o = alike m whole (sym (append-nil (atoms o.layout)) ∙ o.alike) o.made
 

@@ -1,5 +1,5 @@
 -- What follows from `Written`, for any printer: how pieces go together.
-use Rattle.std.specs.Prelude.{◌≡◌, false, List, [], ◌∷◌, ◌++◌, Result, Ok, Err, IsErrAnd}
+use Rattle.std.specs.Prelude.{◌≡◌, List, [], ◌∷◌, ◌++◌, Result, Ok, Err, IsErrAnd}
 use Rattle.std.proofs.Common.{refl, sym, ap, ◌∙◌, subst, append_assoc, append-nil}
 use Rattle.wasmprinter_spec.specs.Call.{Call}
 use Rattle.wasmprinter_spec.specs.Options.{Options}
@@ -60,11 +60,7 @@ pub no_pieces_end : {P U : Type 0} (m : Meaning P) (o : Options) (a : P) (r : Re
     IsErrAnd r (λ y. y ≡ e) → moment_of e ≡ Amid → Prints m o a a r xs
 no_pieces_end m o a r e xs f h = writes m o xs (gives_up m a r e (all_calls o xs) f h)
 
--- at first all is lacking
-pub lacks_all : {P : Type 0} (m : Meaning P) (o : Options) (a : P) (whole : List Piece) → Lacks m o a a whole whole
-lacks_all m o a whole = record { front = []; written = no_piece m o a; joined = refl }
-
--- in the end nothing is
+-- in the end nothing is lacking
 pub lacks_none : {P : Type 0} (m : Meaning P) {o : Options} {a t : P} (whole : List Piece) → Lacks m o a t whole [] → Written m o a t (Ok tt) whole
 lacks_none m {o} {a} {t} whole l =
     subst (λ (xs : List Piece). Written m o a t (Ok tt) xs) (sym (append-nil l.front) ∙ l.joined) l.written
