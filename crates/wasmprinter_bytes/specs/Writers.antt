@@ -9,3 +9,9 @@ FmtAfter gives old Newline new = gives old (10 ∷ []) new
 FmtAfter gives old (Line place) new = new ≡ old
 FmtAfter gives old (Start style) new = new ≡ old
 FmtAfter gives old (Claim name place bytes answer) new = (answer ≡ false) × (new ≡ old)
+
+-- a printer over a writer of text fails only where the writer is asked to write
+abbrev pub FmtMayFail : Call → Type 0
+FmtMayFail (Text bs) = Unit {0}
+FmtMayFail Newline = Unit {0}
+FmtMayFail _ = ⊥

@@ -1,6 +1,6 @@
 //! A printer over a writer of text.
 ghost use Rattle.std.specs.Prelude.{◌≡◌, None};
-ghost use Rattle.wasmprinter_bytes.specs.Writers.{FmtAfter};
+ghost use Rattle.wasmprinter_bytes.specs.Writers.{FmtAfter, FmtMayFail};
 
 use crate::print::Print;
 use std::io::ErrorKind;
@@ -18,7 +18,7 @@ fn refused(_e: fmt::Error) -> io::Error {
 impl<T: fmt::Write> Print for PrintFmtWrite<T> {
     ghost meaning = { record {
       after = λ s c t. FmtAfter T.write_str_gives s.0 c t.0;
-      may_fail = λ _ _. Unit {0};
+      may_fail = λ _ c. FmtMayFail c;
       partly = λ _ _ _. Unit {0};
       faults = λ _. None;
     } };
