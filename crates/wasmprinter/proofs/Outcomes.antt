@@ -1,17 +1,15 @@
 -- What a printing function's end comes to, from what the decoder and the writer of modules promise.
-use Rattle.std.specs.Prelude.{◌≡◌, ℕ, List, [], ◌∷◌, ◌++◌, true, bytes_eq, Some, Result, Ok, Err, OnOk, IfErr, IsErrAnd, refl}
-use Rattle.std.proofs.Common.{sym, ap, ◌∙◌, subst}
+use Rattle.std.specs.Prelude.{◌≡◌, ℕ, List, ◌∷◌, ◌++◌, true, bytes_eq, Some, Result, Ok, Err, OnOk, IfErr, IsErrAnd, refl}
+use Rattle.std.proofs.Common.{sym, ap, ◌∙◌, subst, inl, inr}
 use Rattle.std.proofs.lemmas.Slice.Eq.{bytes_eq-Decides}
 use Rattle.wasmprinter_spec.specs.Choices.{tested}
-use Rattle.wasmprinter_spec.specs.Grammar.{from, some_is}
-use Rattle.wasmprinter_spec.specs.Binary.{Spells, IsComponent, binary, magic, preamble_bytes}
+use Rattle.wasmprinter_spec.specs.Binary.{Spells, IsComponent, magic, preamble_bytes}
 use Rattle.wasmprinter_spec.specs.Placed.{PlacedModule}
 use Rattle.wasmprinter_spec.specs.Limits.{IsWithinLimits}
-use Rattle.wasmprinter_spec.specs.Call.{atoms}
 use Rattle.wasmprinter_spec.specs.Meaning.{Meaning}
 use Rattle.wasmprinter_spec.specs.Options.{Options}
 use Rattle.wasmprinter_spec.specs.Layout.{module_pieces, layout}
-use Rattle.wasmprinter_bytes.specs.Emits.{Made, Stops, Broken, moment_of, ended}
+use Rattle.wasmprinter_bytes.specs.Emits.{Made, Stops, moment_of, ended}
 use Rattle.wasmprinter_bytes.specs.Prints.{Written}
 use Rattle.wasmprinter_bytes.specs.PrintsLaws.{written}
 use Rattle.wasmprinter_bytes.specs.declared.error.Error.{Error}
@@ -58,8 +56,7 @@ refusal_left m o bytes old (FoldHint place) h = refl
 refusal_left m o bytes old (DylinkSubsection id) h = refl
 refusal_left m o bytes old Unreadable h = refl
 refusal_left m o bytes old (Printer x) h = absurd h
-refusal_left m o bytes old Memory h =
-    record { calls = []; run = refl; begins = λ placed s. (unclaimed, atoms (layout o unclaimed placed), refl) }
+refusal_left m o bytes old Memory h = inl refl
 
 -- the same of a result that hands the refusal on
 pub refused_caused : {P : Type 0} (m : Meaning P) (bytes : List ℕ) (old : P) (r : Result (Unit {0}) Error) (e : Error) → IsErrAnd r (λ y. y ≡ e) → IsRefusal bytes e →
@@ -71,11 +68,6 @@ pub refused_left : {P : Type 0} (m : Meaning P) (o : Options) (bytes : List ℕ)
     IfErr r (Leaves m o bytes old old)
 refused_left m o bytes old (Ok x) e f h = tt
 refused_left m o bytes old (Err y) e f h = refusal_left m o bytes old y (subst (IsRefusal bytes) (sym f) h)
-
--- given bytes spell at most one module
-spells_one : (bytes : List ℕ) (placed other : PlacedModule) → Spells bytes placed → Spells bytes other → placed ≡ other
-spells_one bytes placed other s t =
-    some_is placed other (sym (binary.complete (from 0 bytes) placed s.spelled) ∙ binary.complete (from 0 bytes) other t.spelled)
 
 module _ {P : Type 0} (m : Meaning P) (o : Options) (bytes : List ℕ) (placed : PlacedModule) (spelled : Spells bytes placed) (within : IsWithinLimits placed) (old new : P) where
   -- an error amid printing has its cause
@@ -117,13 +109,8 @@ module _ {P : Type 0} (m : Meaning P) (o : Options) (bytes : List ℕ) (placed :
   stop_left (FoldHint place) v = absurd v
   stop_left (DylinkSubsection id) v = absurd v
   stop_left Unreadable v = absurd v
-  stop_left (Printer x) v =
-      λ other s. (unclaimed, subst (λ (p : PlacedModule). Broken m old new (layout o unclaimed p)) (spells_one bytes placed other spelled s) v)
-  stop_left Memory v = record {
-    calls = v.calls;
-    run = v.run;
-    begins = λ other s. (unclaimed, v.rest, subst (λ (p : PlacedModule). atoms v.calls ++ v.rest ≡ atoms (layout o unclaimed p)) (spells_one bytes placed other spelled s) v.alike);
-  }
+  stop_left (Printer x) v = record { placed = placed; spelled = spelled; within = within; answers = unclaimed; left = v }
+  stop_left Memory v = inr (record { placed = placed; spelled = spelled; within = within; answers = unclaimed; left = v })
 
   made : (r : Result (Unit {0}) Error) → Written m o old new r (module_pieces o placed) → Made m old new r (layout o unclaimed placed)
   unfolding layout

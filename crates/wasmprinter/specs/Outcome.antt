@@ -1,13 +1,13 @@
 -- Why printing is refused, and what a refusal leaves of the printer.
-use Rattle.std.specs.Prelude.{◌≡◌, ℕ, ◌<◌, List, ◌++◌, length}
+use Rattle.std.specs.Prelude.{◌≡◌, ℕ, ◌<◌, ◌⊎◌, List, length}
 use Rattle.wasmprinter_spec.specs.Binary.{Spells}
 use Rattle.wasmprinter_spec.specs.Placed.{PlacedModule}
 use Rattle.wasmprinter_spec.specs.Limits.{IsWithinLimits, most_functions}
-use Rattle.wasmprinter_spec.specs.Call.{Call, atoms}
+use Rattle.wasmprinter_spec.specs.Call.{Call}
 use Rattle.wasmprinter_spec.specs.Meaning.{Meaning, Run, Failed}
 use Rattle.wasmprinter_spec.specs.Options.{Options, Answers}
 use Rattle.wasmprinter_spec.specs.Layout.{layout}
-use Rattle.wasmprinter_bytes.specs.Emits.{Broken}
+use Rattle.wasmprinter_bytes.specs.Emits.{Begun, Broken}
 use Rattle.wasmprinter_bytes.specs.declared.error.Error.{Error}
 use Rattle.wasmprinter_bytes.specs.declared.error.Error.TheVariants.{Malformed, Component, TooManyLocals, TooManyFunctions, EmptyTableInit, FoldLegacy, FoldHint, DylinkSubsection, Unreadable, Printer, Memory}
 use Rattle.wasmprinter_wasm.specs.Modules.{bodies_of}
@@ -60,15 +60,18 @@ abbrev pub IsTrueOf : List ℕ → Error → Type 0
 IsTrueOf bytes (Printer e) = (placed : PlacedModule) × Spells bytes placed × IsWithinLimits placed
 IsTrueOf bytes e = IsRefusal bytes e
 
--- the calls that were made are a beginning of the layout, if bytes spell a module at all
-pub record HasBegun {P : Type 0} (m : Meaning P) (o : Options) (bytes : List ℕ) (old new : P) : Type 0 where
-  pub calls : List Call
-  pub run : Run m old calls new
-  pub begins : (placed : PlacedModule) → Spells bytes placed → (answers : Answers) × (rest : List Call) × (atoms calls ++ rest ≡ atoms (layout o answers placed))
+-- A module within the limits, which the bytes spell, was being printed, and this is so of its layout.
+pub record WhilePrinting (o : Options) (bytes : List ℕ) (Left : List Call → Type 0) : Type 0 where
+  pub placed : PlacedModule
+  pub spelled : Spells bytes placed
+  pub within : IsWithinLimits placed
+  pub answers : Answers
+  pub left : Left (layout o answers placed)
 
--- What a refusal leaves. Where a call on the printer failed, the calls before it, followed by it, are a beginning of the layout, up to
--- cutting; where memory was refused, the calls are one; after any other refusal no call was made.
+-- What a refusal leaves. Where a call on the printer failed, a module was being printed: the calls before it, followed by it, are a
+-- beginning of the layout, up to cutting. Where memory was refused, no call was made, or a module was being printed and the calls are
+-- such a beginning. After any other refusal no call was made.
 abbrev pub Leaves : {P : Type 0} → Meaning P → Options → List ℕ → P → P → Error → Type 0
-Leaves m o bytes old new (Printer e) = (placed : PlacedModule) → Spells bytes placed → (answers : Answers) × Broken m old new (layout o answers placed)
-Leaves m o bytes old new Memory = HasBegun m o bytes old new
+Leaves m o bytes old new (Printer e) = WhilePrinting o bytes (Broken m old new)
+Leaves m o bytes old new Memory = (new ≡ old) ⊎ WhilePrinting o bytes (Begun m old new)
 Leaves m o bytes old new e = new ≡ old
