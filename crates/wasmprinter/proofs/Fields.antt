@@ -11,7 +11,8 @@ use Rattle.wasmprinter_spec.specs.Options.{Options}
 use Rattle.wasmprinter_spec.specs.Piece.{Piece, Begin, Feed, Break, Gap, Open, OpenGap, Shut, Word, Number, Mark, Quoted}
 use Rattle.wasmprinter_spec.specs.Layout.{has_break, close, group, group_gap, group_at, group_gap_at, type_group, signature_of, signature_pieces, type_pieces, export_pieces, header_pieces, local_pieces, body_pieces, function_group, function_pieces, numbered, field_pieces, module_pieces}
 use Rattle.wasmprinter.specs.Header.{header}
-use Rattle.wasmprinter_text.proofs.Lines.{has_break-append, line-append, group-line, group_gap-line, line-group, line-group_gap, signature-line, signature-nesting}
+use Rattle.wasmprinter_lines.proofs.Groups.{has_break-append, line-append, group-line, group_gap-line, line-group, line-group_gap}
+use Rattle.wasmprinter_text.proofs.Signatures.{signature-line, signature-nesting}
 
 -- a function type as a group
 func-line : (t : FuncType) → group 2 (codes "func") (signature_pieces 3 t) ≡ Open (codes "func") ∷ (signature_pieces 2 t ++ (Shut ∷ []))

@@ -1,4 +1,3 @@
 pub mod Header
-pub mod Indents
 pub mod Outcome
 pub mod Printed

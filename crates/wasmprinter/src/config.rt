@@ -8,21 +8,13 @@ use std::alloc::Global;
 use std::marker::Model;
 use wasmprinter_bytes::Error;
 use wasmprinter_bytes::print::Print;
-use wasmprinter_text::layout::Layout;
+use wasmprinter_lines::options::PrintOptions;
 use wasmprinter_wasm::decode;
-
-/// The text of one level of nesting. The default of two blanks owns no memory.
-#[derive(Debug, Drop)]
-enum Indent {
-    TwoBlanks,
-}
 
 /// What is printed of a module, and how.
 #[derive(Debug, Drop)]
 pub struct Config {
-    print_offsets: bool,
-    print_skeleton: bool,
-    indent: Indent,
+    options: PrintOptions,
 }
 
 impl Model for Config {
@@ -30,9 +22,7 @@ impl Model for Config {
 
     ghost Value = { Options };
 
-    ghost use Rattle.wasmprinter.specs.Indents.{text_of};
-
-    ghost view = { λ c. record { offsets = c.print_offsets; skeleton = c.print_skeleton; indent = text_of c.indent } };
+    ghost view = { λ c. c.options };
 }
 
 impl Config {
@@ -43,27 +33,7 @@ impl Config {
         ensures { result ≡ defaults }
     {
         Config {
-            print_offsets: false,
-            print_skeleton: false,
-            indent: Indent::TwoBlanks,
-        }
-    }
-
-    fn indent(&self) -> &str
-        ensures { result.now ≡ self.now.indent }
-    {
-        match &self.indent {
-            Indent::TwoBlanks => "  ",
-        }
-    }
-
-    fn layout(&self) -> Layout<'_>
-        ensures { result ≡ self.now }
-    {
-        Layout {
-            offsets: self.print_offsets,
-            skeleton: self.print_skeleton,
-            indent: self.indent(),
+            options: PrintOptions::new(),
         }
     }
 
@@ -82,7 +52,8 @@ impl Config {
         ensures left { IfErr result (Leaves P.meaning self.now wasm.now printer.old printer.new) }
     {
         let module = decode(alloc, wasm)?;
-        write_module(printer, &self.layout(), &module)
+        write_module(printer, &self.options, &module)?;
+        Ok(())
     }
 }
 
@@ -119,7 +90,7 @@ mod tests {
     #[test]
     fn prints_places(rt: HostRuntime) -> Result<(), Fail> {
         let mut config = Config::new();
-        config.print_offsets = true;
+        config.options.offsets = true;
         let empty = printed(rt.alloc(), &config, &EXPORTED[..8])?;
         assert_eq!(rt; empty.as_str(), "(module\n(;@8     ;))\n");
         let text = printed(rt.alloc(), &config, &EXPORTED)?;
@@ -133,7 +104,7 @@ mod tests {
     #[test]
     fn leaves_bodies_out(rt: HostRuntime) -> Result<(), Fail> {
         let mut config = Config::new();
-        config.print_skeleton = true;
+        config.options.skeleton = true;
         let text = printed(rt.alloc(), &config, &EXPORTED)?;
         assert_eq!(rt;
             text.as_str(),
@@ -148,7 +119,7 @@ mod tests {
         let shown = format!(in rt.alloc(); "{config:?}")?;
         assert_eq!(rt;
             shown.as_str(),
-            "Config { print_offsets: false, print_skeleton: false, indent: TwoBlanks }"
+            "Config { options: PrintOptions { offsets: false, skeleton: false, indent: TwoBlanks } }"
         );
         Ok(())
     }

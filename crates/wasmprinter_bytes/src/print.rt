@@ -1,21 +1,19 @@
 //! Printers: what a layout hands its text, lines and styles to.
-ghost use Rattle.std.specs.Prelude.{◌≡◌, ℕ, List, [], ◌∷◌, ◌++◌, Bool, false, Result, Ok, Err, IsErrAnd, IsTrue, refl};
+ghost use Rattle.std.specs.Prelude.{◌≡◌, ℕ, List, [], ◌∷◌, ◌++◌, Bool, false, Result, IsErrAnd, IsTrue, refl};
 ghost use Rattle.std.specs.declared.io.Error.{Error as IoError};
 ghost use Rattle.wasmprinter_spec.specs.Call.{Call, Text, Newline, Line, Start, Literal, Name, Keyword, TypeName, Comment, Reset};
 ghost use Rattle.wasmprinter_spec.specs.Meaning.{Meaning, Succeeded, Failed};
-ghost use Rattle.wasmprinter_bytes.specs.Emits.{Does, Claims, Emits, Made, Amid, moment_of};
-ghost use Rattle.wasmprinter_bytes.specs.EmitsLaws.{then, ends, fails, called, call_fails, nothing, gives_up, then_text, ends_text};
+ghost use Rattle.wasmprinter_bytes.specs.Emits.{Does, Claims, Emits, Made, Ending, Through, AtCall};
+ghost use Rattle.wasmprinter_bytes.specs.EmitsLaws.{then, ends, fails, called, call_fails, nothing, then_text, ends_text};
 ghost use Rattle.wasmprinter_bytes.specs.Prints.{Written, Prints};
-ghost use Rattle.wasmprinter_bytes.specs.PrintsLaws.{no_piece, one_piece, both_pieces, pieces_end, last_pieces_end, no_pieces_end};
+ghost use Rattle.wasmprinter_bytes.specs.PrintsLaws.{no_piece, one_piece, both_pieces, pieces_end, last_pieces_end};
 ghost use Rattle.wasmprinter_spec.specs.Options.{Options};
 ghost use Rattle.wasmprinter_spec.specs.Piece.{Piece, calls};
-ghost use Rattle.wasmprinter_bytes.specs.declared.error.Error.{Error};
-ghost use Rattle.wasmprinter_bytes.specs.declared.error.Error.TheVariants.{Printer};
 
 mod calls;
 mod fmt_write;
 
-pub use calls::{Style, begin_line, feed, reset, start, styled, text};
+pub use calls::{Style, feed, reset, start, styled, text};
 pub use fmt_write::PrintFmtWrite;
 use std::io;
 
@@ -84,64 +82,58 @@ pub trait Print {
     // The laws follow from `meaning` alone. They stand here so that the proofs of generic code find them.
 
     // a part of a layout, and then the rest
-    ghost goes_on: { (a s t : Self) (r : Result (Unit {0}) Error) (l k : List Call) → Made meaning a s (Ok tt) l → Made meaning s t r k → Made meaning a t r (l ++ k) } = { λ a s t r l k x y. then meaning x y };
+    ghost goes_on: { (a s t : Self) (r : Ending) (l k : List Call) → Made meaning a s Through l → Made meaning s t r k → Made meaning a t r (l ++ k) } = { λ a s t r l k x y. then meaning x y };
 
     // a part that failed, whatever would have come after it
-    ghost breaks_off: { (a t : Self) (r : Result (Unit {0}) Error) (e : Error) (l k : List Call) → IsErrAnd r (λ y. y ≡ e) → Made meaning a t (Err e) l → Emits meaning a t r (l ++ k) } = { λ a t r e l k f x. ends meaning r k f x };
+    ghost breaks_off: { (a t : Self) (r : Result (Unit {0}) IoError) (e : IoError) (l k : List Call) → Made meaning a t (AtCall e) l → IsErrAnd r (λ y. y ≡ e) → Emits meaning a t r (l ++ k) } = { λ a t r e l k x f. ends meaning r k f x };
 
     // the last part failed
-    ghost fails_at_last: { (a t : Self) (r : Result (Unit {0}) Error) (e : Error) (l : List Call) → IsErrAnd r (λ y. y ≡ e) → Made meaning a t (Err e) l → Emits meaning a t r l } = { λ a t r e l f x. fails meaning r f x };
+    ghost fails_at_last: { (a t : Self) (r : Result (Unit {0}) IoError) (e : IoError) (l : List Call) → Made meaning a t (AtCall e) l → IsErrAnd r (λ y. y ≡ e) → Emits meaning a t r l } = { λ a t r e l x f. fails meaning r f x };
 
     // one call, and then the rest
-    ghost call_then: { (a s t : Self) (r : Result (Unit {0}) Error) (c : Call) (k : List Call) → Made meaning a s (Ok tt) (c ∷ []) → Made meaning s t r k → Made meaning a t r (c ∷ k) } = { λ a s t r c k x y. then meaning x y };
+    ghost call_then: { (a s t : Self) (r : Ending) (c : Call) (k : List Call) → Made meaning a s Through (c ∷ []) → Made meaning s t r k → Made meaning a t r (c ∷ k) } = { λ a s t r c k x y. then meaning x y };
 
     // one call that failed, whatever would have come after it
-    ghost call_breaks_off: { (a t : Self) (r : Result (Unit {0}) Error) (e : Error) (c : Call) (k : List Call) → IsErrAnd r (λ y. y ≡ e) → Made meaning a t (Err e) (c ∷ []) → Emits meaning a t r (c ∷ k) } = { λ a t r e c k f x. ends meaning r k f x };
+    ghost call_breaks_off: { (a t : Self) (r : Result (Unit {0}) IoError) (e : IoError) (c : Call) (k : List Call) → Made meaning a t (AtCall e) (c ∷ []) → IsErrAnd r (λ y. y ≡ e) → Emits meaning a t r (c ∷ k) } = { λ a t r e c k x f. ends meaning r k f x };
 
     // the first part of a text, and then the rest
-    ghost text_then: { (a s t : Self) (r : Result (Unit {0}) Error) (x y : List ℕ) (k : List Call) → Made meaning a s (Ok tt) (Text x ∷ []) → Made meaning s t r (Text y ∷ k) → Made meaning a t r (Text (x ++ y) ∷ k) } = { λ a s t r x y k v w. then_text meaning v w };
+    ghost text_then: { (a s t : Self) (r : Ending) (x y : List ℕ) (k : List Call) → Made meaning a s Through (Text x ∷ []) → Made meaning s t r (Text y ∷ k) → Made meaning a t r (Text (x ++ y) ∷ k) } = { λ a s t r x y k v w. then_text meaning v w };
 
     // the first part of a text that failed, whatever would have come after it
-    ghost text_breaks_off: { (a t : Self) (r : Result (Unit {0}) Error) (e : Error) (x y : List ℕ) (k : List Call) → IsErrAnd r (λ z. z ≡ e) → Made meaning a t (Err e) (Text x ∷ []) → Emits meaning a t r (Text (x ++ y) ∷ k) } = { λ a t r e x y k f v. ends_text meaning r y k f v };
+    ghost text_breaks_off: { (a t : Self) (r : Result (Unit {0}) IoError) (e : IoError) (x y : List ℕ) (k : List Call) → Made meaning a t (AtCall e) (Text x ∷ []) → IsErrAnd r (λ z. z ≡ e) → Emits meaning a t r (Text (x ++ y) ∷ k) } = { λ a t r e x y k v f. ends_text meaning r y k f v };
 
     // the first byte of a text, and then the rest
-    ghost byte_then: { (a s t : Self) (r : Result (Unit {0}) Error) (x : ℕ) (y : List ℕ) (k : List Call) → Made meaning a s (Ok tt) (Text (x ∷ []) ∷ []) → Made meaning s t r (Text y ∷ k) → Made meaning a t r (Text (x ∷ y) ∷ k) } = { λ a s t r x y k v w. then_text meaning v w };
+    ghost byte_then: { (a s t : Self) (r : Ending) (x : ℕ) (y : List ℕ) (k : List Call) → Made meaning a s Through (Text (x ∷ []) ∷ []) → Made meaning s t r (Text y ∷ k) → Made meaning a t r (Text (x ∷ y) ∷ k) } = { λ a s t r x y k v w. then_text meaning v w };
 
     // the first byte of a text that failed, whatever would have come after it
-    ghost byte_breaks_off: { (a t : Self) (r : Result (Unit {0}) Error) (e : Error) (x : ℕ) (y : List ℕ) (k : List Call) → IsErrAnd r (λ z. z ≡ e) → Made meaning a t (Err e) (Text (x ∷ []) ∷ []) → Emits meaning a t r (Text (x ∷ y) ∷ k) } = { λ a t r e x y k f v. ends_text meaning r y k f v };
+    ghost byte_breaks_off: { (a t : Self) (r : Result (Unit {0}) IoError) (e : IoError) (x : ℕ) (y : List ℕ) (k : List Call) → Made meaning a t (AtCall e) (Text (x ∷ []) ∷ []) → IsErrAnd r (λ z. z ≡ e) → Emits meaning a t r (Text (x ∷ y) ∷ k) } = { λ a t r e x y k v f. ends_text meaning r y k f v };
 
     // a call on the printer
-    ghost call_done: { (a t : Self) (c : Call) → Succeeded meaning a c t → Made meaning a t (Ok tt) (c ∷ []) } = { λ a t c s. called meaning s };
+    ghost call_done: { (a t : Self) (c : Call) → Succeeded meaning a c t → Made meaning a t Through (c ∷ []) } = { λ a t c s. called meaning s };
 
-    ghost call_failed: { (a t : Self) (r : Result (Unit {0}) Error) (e : IoError) (c : Call) → IsErrAnd r (λ y. y ≡ Printer e) → Failed meaning a c t → Emits meaning a t r (c ∷ []) } = { λ a t r e c f v. call_fails meaning r e f v };
-
-    // an error amid printing, whatever was to come
-    ghost stops: { (a : Self) (r : Result (Unit {0}) Error) (e : Error) (l : List Call) → IsErrAnd r (λ y. y ≡ e) → moment_of e ≡ Amid → Emits meaning a a r l } = { λ a r e l f h. gives_up meaning a r e l f h };
+    ghost call_failed: { (a t : Self) (r : Result (Unit {0}) IoError) (e : IoError) (c : Call) → Failed meaning a c e t → IsErrAnd r (λ y. y ≡ e) → Emits meaning a t r (c ∷ []) } = { λ a t r e c v f. call_fails meaning r e f v };
 
     // no call
-    ghost idle: { (a : Self) → Made meaning a a (Ok tt) [] } = { λ a. nothing meaning a };
+    ghost idle: { (a : Self) → Made meaning a a Through [] } = { λ a. nothing meaning a };
 
     // a piece, and then the rest
-    ghost piece_then: { (o : Options) (a s t : Self) (r : Result (Unit {0}) Error) (x : Piece) (xs : List Piece) → Written meaning o a s (Ok tt) (x ∷ []) → Written meaning o s t r xs → Written meaning o a t r (x ∷ xs) } = { λ o a s t r x xs v w. both_pieces meaning v w };
+    ghost piece_then: { (o : Options) (a s t : Self) (r : Ending) (x : Piece) (xs : List Piece) → Written meaning o a s Through (x ∷ []) → Written meaning o s t r xs → Written meaning o a t r (x ∷ xs) } = { λ o a s t r x xs v w. both_pieces meaning v w };
 
     // a piece that failed, whatever would have come after it
-    ghost piece_breaks_off: { (o : Options) (a t : Self) (r : Result (Unit {0}) Error) (e : Error) (x : Piece) (xs : List Piece) → IsErrAnd r (λ y. y ≡ e) → Written meaning o a t (Err e) (x ∷ []) → Prints meaning o a t r (x ∷ xs) } = { λ o a t r e x xs f v. pieces_end meaning r xs f v };
+    ghost piece_breaks_off: { (o : Options) (a t : Self) (r : Result (Unit {0}) IoError) (e : IoError) (x : Piece) (xs : List Piece) → Written meaning o a t (AtCall e) (x ∷ []) → IsErrAnd r (λ y. y ≡ e) → Prints meaning o a t r (x ∷ xs) } = { λ o a t r e x xs v f. pieces_end meaning r xs f v };
 
     // the last piece
-    ghost piece_done: { (o : Options) (a t : Self) (r : Result (Unit {0}) Error) (x : Piece) → Made meaning a t r (calls o x) → Written meaning o a t r (x ∷ []) } = { λ o a t r x v. one_piece meaning o x v };
+    ghost piece_done: { (o : Options) (a t : Self) (r : Ending) (x : Piece) → Made meaning a t r (calls o x) → Written meaning o a t r (x ∷ []) } = { λ o a t r x v. one_piece meaning o x v };
 
     // pieces, and then the rest
-    ghost pieces_then: { (o : Options) (a s t : Self) (r : Result (Unit {0}) Error) (xs ys : List Piece) → Written meaning o a s (Ok tt) xs → Written meaning o s t r ys → Written meaning o a t r (xs ++ ys) } = { λ o a s t r xs ys v w. both_pieces meaning v w };
+    ghost pieces_then: { (o : Options) (a s t : Self) (r : Ending) (xs ys : List Piece) → Written meaning o a s Through xs → Written meaning o s t r ys → Written meaning o a t r (xs ++ ys) } = { λ o a s t r xs ys v w. both_pieces meaning v w };
 
     // pieces of which one failed, whatever would have come after them
-    ghost pieces_break_off: { (o : Options) (a t : Self) (r : Result (Unit {0}) Error) (e : Error) (xs ys : List Piece) → IsErrAnd r (λ y. y ≡ e) → Written meaning o a t (Err e) xs → Prints meaning o a t r (xs ++ ys) } = { λ o a t r e xs ys f v. pieces_end meaning r ys f v };
+    ghost pieces_break_off: { (o : Options) (a t : Self) (r : Result (Unit {0}) IoError) (e : IoError) (xs ys : List Piece) → Written meaning o a t (AtCall e) xs → IsErrAnd r (λ y. y ≡ e) → Prints meaning o a t r (xs ++ ys) } = { λ o a t r e xs ys v f. pieces_end meaning r ys f v };
 
     // the last pieces, of which one failed
-    ghost pieces_fail_at_last: { (o : Options) (a t : Self) (r : Result (Unit {0}) Error) (e : Error) (xs : List Piece) → IsErrAnd r (λ y. y ≡ e) → Written meaning o a t (Err e) xs → Prints meaning o a t r xs } = { λ o a t r e xs f v. last_pieces_end meaning r f v };
-
-    // an error amid printing, whatever was to come
-    ghost pieces_stop: { (o : Options) (a : Self) (r : Result (Unit {0}) Error) (e : Error) (xs : List Piece) → IsErrAnd r (λ y. y ≡ e) → moment_of e ≡ Amid → Prints meaning o a a r xs } = { λ o a r e xs f h. no_pieces_end meaning o a r e xs f h };
+    ghost pieces_fail_at_last: { (o : Options) (a t : Self) (r : Result (Unit {0}) IoError) (e : IoError) (xs : List Piece) → Written meaning o a t (AtCall e) xs → IsErrAnd r (λ y. y ≡ e) → Prints meaning o a t r xs } = { λ o a t r e xs v f. last_pieces_end meaning r f v };
 
     // no piece
-    ghost no_pieces: { (o : Options) (a : Self) → Written meaning o a a (Ok tt) [] } = { λ o a. no_piece meaning o a };
+    ghost no_pieces: { (o : Options) (a : Self) → Written meaning o a a Through [] } = { λ o a. no_piece meaning o a };
 }

@@ -1,6 +1,7 @@
 -- What calls on a printer mean: the state that each leaves, when it may fail, and what a failed call leaves. An implementation
 -- of the trait `Print` states its meaning; code over any printer is proved against it.
 use Rattle.std.specs.Prelude.{◌≡◌, ℕ, ◌+◌, ◌-◌, ◌^◌, nat_lt, if◌then◌else◌, List, [], ◌∷◌, Option, Some, None}
+use Rattle.std.specs.declared.io.Error.{Error as IoError}
 use Rattle.wasmprinter_spec.specs.Call.{Call}
 
 pub record Meaning (P : Type 0) : Type 1 where
@@ -8,8 +9,8 @@ pub record Meaning (P : Type 0) : Type 1 where
   pub after : P → Call → P → Type 0
   -- a call that may answer an error in this state
   pub may_fail : P → Call → Type 0
-  -- what a failed call may leave
-  pub partly : P → Call → P → Type 0
+  -- the errors with which a call may fail, and what it then may leave
+  pub partly : P → Call → IoError → P → Type 0
   -- the number of failed calls so far, of a printer that counts them
   pub faults : P → Option ℕ
 
@@ -26,10 +27,10 @@ pub record Succeeded {P : Type 0} (m : Meaning P) (old : P) (call : Call) (new :
   pub step : m.after old call new
   pub kept : m.faults new ≡ m.faults old
 
--- a call that failed
-pub record Failed {P : Type 0} (m : Meaning P) (old : P) (call : Call) (new : P) : Type 0 where
+-- a call that failed with this error
+pub record Failed {P : Type 0} (m : Meaning P) (old : P) (call : Call) (error : IoError) (new : P) : Type 0 where
   pub may : m.may_fail old call
-  pub left : m.partly old call new
+  pub left : m.partly old call error new
   pub counted : m.faults new ≡ one_more (m.faults old)
 
 -- `new` is what a list of calls leaves, each of which succeeded

@@ -9,7 +9,8 @@ use Rattle.wasmprinter_spec.specs.Module.{expanded}
 use Rattle.wasmprinter_spec.specs.Piece.{Break, Gap, TypeWord, Open, Shut}
 use Rattle.wasmprinter_spec.specs.Layout.{has_break, type_word, type_list, locals_place, local_group, local_pieces}
 use Rattle.wasmprinter_text.specs.Declaring.{declaring_place}
-use Rattle.wasmprinter_text.proofs.Lines.{group-line, types-line}
+use Rattle.wasmprinter_lines.proofs.Groups.{group-line}
+use Rattle.wasmprinter_text.proofs.Signatures.{types-line}
 
 -- types, in two parts
 type_list-append : (ts us : List ValType) → type_list (ts ++ us) ≡ type_list ts ++ type_list us

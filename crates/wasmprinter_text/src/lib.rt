@@ -1,6 +1,5 @@
-//! The text of the parts of a module, over any printer.
+//! Types and locals (sections 6.4 and 6.6 of the WebAssembly Core Specification), over any printer.
 #![tactic(auto)]
 
-pub mod flat;
-pub mod layout;
-pub mod text;
+pub mod locals;
+pub mod types;

@@ -6,31 +6,34 @@ ghost use Rattle.wasmprinter_spec.specs.Layout.{group_gap, export_pieces};
 ghost use Rattle.wasmprinter_bytes.specs.Prints.{Prints};
 
 use crate::sections::FIELD_NESTING;
-use wasmprinter_bytes::Error;
+use std::io;
 use wasmprinter_bytes::print::Print;
-use wasmprinter_text::layout::Layout;
-use wasmprinter_text::text::{break_line, gap, open_gap, shut, write_index, write_quoted};
+use wasmprinter_lines::options::PrintOptions;
+use wasmprinter_lines::lines::break_line;
+use wasmprinter_words::numbers::write_index_group;
+use wasmprinter_words::strings::write_string;
+use wasmprinter_words::words::{gap, open_gap, shut};
 use wasmprinter_wasm::Export;
 
-fn write_export_group<P: Print>(p: &mut P, export: &Export<'_>) -> Result<(), Error>
+fn write_export_group<P: Print>(p: &mut P, export: &Export<'_>) -> io::Result<()>
     ensures { (o : Options) → Prints P.meaning o p.old p.new result
         (OpenGap (codes "export") ∷ (Quoted (chars export.now.value.name) ∷ (Gap ∷ (group_gap 2 (codes "func") (Number export.now.value.function ∷ []) ++ (Shut ∷ []))))) }
 {
     open_gap(p, "export")?;
-    write_quoted(p, export.name())?;
+    write_string(p, export.name())?;
     gap(p)?;
-    write_index(p, "func", export.function())?;
+    write_index_group(p, "func", export.function())?;
     shut(p)
 }
 
 /// Writes an export.
 pub(crate) fn write_export<P: Print>(
     p: &mut P,
-    layout: &Layout<'_>,
+    options: &PrintOptions,
     export: &Export<'_>,
-) -> Result<(), Error>
-    ensures { Prints P.meaning layout.now p.old p.new result (export_pieces export.now) }
+) -> io::Result<()>
+    ensures { Prints P.meaning options.now p.old p.new result (export_pieces export.now) }
 {
-    break_line(p, layout, Some(export.place()), FIELD_NESTING)?;
+    break_line(p, options, Some(export.place()), FIELD_NESTING)?;
     write_export_group(p, export)
 }

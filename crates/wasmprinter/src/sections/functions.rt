@@ -7,14 +7,15 @@ ghost use Rattle.wasmprinter_bytes.specs.Prints.{Prints};
 ghost use Rattle.wasmprinter.specs.Header.{header};
 
 use crate::sections::FIELD_NESTING;
-use wasmprinter_bytes::Error;
+use std::io;
 use wasmprinter_bytes::print::Print;
-use wasmprinter_text::flat::{has_operators, write_operators};
-use wasmprinter_text::layout::Layout;
-use wasmprinter_text::text::{
-    break_line, close_at, gap, has_locals, mark, open_gap, shut, signature, word, write_index,
-    write_locals,
-};
+use wasmprinter_flat::operators::{has_operators, write_operators};
+use wasmprinter_lines::options::PrintOptions;
+use wasmprinter_lines::lines::{break_line, close_at};
+use wasmprinter_text::locals::{has_locals, write_locals};
+use wasmprinter_text::types::signature;
+use wasmprinter_words::numbers::{mark, write_index_group};
+use wasmprinter_words::words::{gap, open_gap, shut, word};
 use wasmprinter_wasm::{Body, FuncType, Function};
 
 /// Writes the signature of a type, and nothing where there is no such type.
@@ -22,7 +23,7 @@ fn write_signature<P: Print>(
     p: &mut P,
     types: &[FuncType<'_>],
     type_index: u32,
-) -> Result<(), Error>
+) -> io::Result<()>
     ensures { (o : Options) → Prints P.meaning o p.old p.new result (signature_pieces 2 (signature_of (slice_get types.now type_index))) }
 {
     match types.get(type_index as usize) {
@@ -38,12 +39,12 @@ fn write_header<P: Print>(
     types: &[FuncType<'_>],
     number: u32,
     type_index: u32,
-) -> Result<(), Error>
+) -> io::Result<()>
     ensures { (o : Options) → Prints P.meaning o p.old p.new result (header number type_index (signature_of (slice_get types.now type_index))) }
 {
     mark(p, u64::from(number))?;
     gap(p)?;
-    write_index(p, "type", type_index)?;
+    write_index_group(p, "type", type_index)?;
     write_signature(p, types, type_index)
 }
 
@@ -53,7 +54,7 @@ fn write_outline<P: Print>(
     types: &[FuncType<'_>],
     number: u32,
     function: &Function<'_>,
-) -> Result<(), Error>
+) -> io::Result<()>
     ensures { (o : Options) → Prints P.meaning o p.old p.new result
         (OpenGap (codes "func") ∷ (header number function.now.type_index (signature_of (slice_get types.now function.now.type_index)) ++ (Gap ∷ (Word (codes "...") ∷ (Shut ∷ []))))) }
 {
@@ -74,38 +75,38 @@ fn has_lines(body: &Body<'_>) -> bool
 /// Writes a function with its body.
 fn write_whole<P: Print>(
     p: &mut P,
-    layout: &Layout<'_>,
+    options: &PrintOptions,
     types: &[FuncType<'_>],
     number: u32,
     function: &Function<'_>,
-) -> Result<(), Error>
-    ensures { Prints P.meaning layout.now p.old p.new result
+) -> io::Result<()>
+    ensures { Prints P.meaning options.now p.old p.new result
         (OpenGap (codes "func") ∷ (header number function.now.type_index (signature_of (slice_get types.now function.now.type_index))
         ++ (local_pieces function.now.body.value.locals ++ (body_pieces function.now.body.value.operators
-        ++ close (Some function.now.body.value.end) 1 (layout.now.offsets || (has_break (local_pieces function.now.body.value.locals) || has_break (body_pieces function.now.body.value.operators))))))) }
+        ++ close (Some function.now.body.value.end) 1 (options.now.offsets || (has_break (local_pieces function.now.body.value.locals) || has_break (body_pieces function.now.body.value.operators))))))) }
 {
     let body = function.body();
     open_gap(p, "func")?;
     write_header(p, types, number, function.type_index())?;
-    write_locals(p, layout, &body.locals())?;
-    write_operators(p, layout, body.operators())?;
-    close_at(p, layout, body.end(), FIELD_NESTING, has_lines(body))
+    write_locals(p, options, &body.locals())?;
+    write_operators(p, options, body.operators())?;
+    close_at(p, options, body.end(), FIELD_NESTING, has_lines(body))
 }
 
 /// Writes the function with the number.
 pub(crate) fn write_function<P: Print>(
     p: &mut P,
-    layout: &Layout<'_>,
+    options: &PrintOptions,
     types: &[FuncType<'_>],
     number: u32,
     function: &Function<'_>,
-) -> Result<(), Error>
-    ensures { Prints P.meaning layout.now p.old p.new result (function_pieces layout.now types.now number function.now) }
+) -> io::Result<()>
+    ensures { Prints P.meaning options.now p.old p.new result (function_pieces options.now types.now number function.now) }
 {
-    break_line(p, layout, Some(function.body().place()), FIELD_NESTING)?;
-    if layout.skeleton {
+    break_line(p, options, Some(function.body().place()), FIELD_NESTING)?;
+    if options.skeleton {
         write_outline(p, types, number, function)
     } else {
-        write_whole(p, layout, types, number, function)
+        write_whole(p, options, types, number, function)
     }
 }

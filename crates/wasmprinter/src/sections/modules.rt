@@ -8,60 +8,61 @@ ghost use Rattle.wasmprinter_bytes.specs.Prints.{Prints};
 use crate::sections::exports::write_export;
 use crate::sections::functions::write_function;
 use crate::sections::types::write_type;
-use wasmprinter_bytes::Error;
+use std::io;
 use wasmprinter_bytes::print::Print;
-use wasmprinter_text::layout::Layout;
-use wasmprinter_text::text::{begin, close_at, end, open};
+use wasmprinter_lines::options::PrintOptions;
+use wasmprinter_lines::lines::{begin, close_at, end};
+use wasmprinter_words::words::open;
 use wasmprinter_wasm::{Export, FuncType, Module};
 
 fn write_types<P: Print>(
     p: &mut P,
-    layout: &Layout<'_>,
+    options: &PrintOptions,
     types: &[FuncType<'_>],
-) -> Result<(), Error>
-    ensures { Prints P.meaning layout.now p.old p.new result (numbered type_pieces 0 types.now) }
+) -> io::Result<()>
+    ensures { Prints P.meaning options.now p.old p.new result (numbered type_pieces 0 types.now) }
 {
     for (number, func_type) in types.iter().enumerate() {
-        write_type(p, layout, number as u64, func_type)?;
+        write_type(p, options, number as u64, func_type)?;
     }
     Ok(())
 }
 
 fn write_exports<P: Print>(
     p: &mut P,
-    layout: &Layout<'_>,
+    options: &PrintOptions,
     exports: &[Export<'_>],
-) -> Result<(), Error>
-    ensures { Prints P.meaning layout.now p.old p.new result (numbered (λ i e. export_pieces e) 0 exports.now) }
+) -> io::Result<()>
+    ensures { Prints P.meaning options.now p.old p.new result (numbered (λ i e. export_pieces e) 0 exports.now) }
 {
     for export in exports {
-        write_export(p, layout, export)?;
+        write_export(p, options, export)?;
     }
     Ok(())
 }
 
 fn write_functions<P: Print>(
     p: &mut P,
-    layout: &Layout<'_>,
+    options: &PrintOptions,
     module: &Module<'_>,
-) -> Result<(), Error>
-    ensures { Prints P.meaning layout.now p.old p.new result (numbered (function_pieces layout.now module.now.types) 0 module.now.functions) }
+) -> io::Result<()>
+    ensures { Prints P.meaning options.now p.old p.new result (numbered (function_pieces options.now module.now.types) 0 module.now.functions) }
 {
     for number in 0..module.function_count() {
         let function = module.function(number);
-        write_function(p, layout, module.types(), number, &function)?;
+        write_function(p, options, module.types(), number, &function)?;
     }
     Ok(())
 }
 
 /// Writes the fields in the order of their sections.
 #[tactic(auto, unfolding(wasmprinter_spec::specs::Layout::field_pieces))]
-fn write_fields<P: Print>(p: &mut P, layout: &Layout<'_>, module: &Module<'_>) -> Result<(), Error>
-    ensures { Prints P.meaning layout.now p.old p.new result (field_pieces layout.now module.now) }
+fn write_fields<P: Print>(p: &mut P, options: &PrintOptions, module: &Module<'_>) -> io::Result<()>
+    ensures { Prints P.meaning options.now p.old p.new result (field_pieces options.now module.now) }
 {
-    write_types(p, layout, module.types())?;
-    write_exports(p, layout, module.exports())?;
-    write_functions(p, layout, module)
+    write_types(p, options, module.types())?;
+    write_exports(p, options, module.exports())?;
+    write_functions(p, options, module)
 }
 
 /// Whether the module has a field, each of which begins a line.
@@ -77,25 +78,25 @@ fn has_fields(module: &Module<'_>) -> bool
     module.function_count() != 0
 }
 
-fn write_lines<P: Print>(p: &mut P, layout: &Layout<'_>, module: &Module<'_>) -> Result<(), Error>
-    ensures { Prints P.meaning layout.now p.old p.new result
-        (Begin 0 ∷ (Open (codes "module") ∷ (field_pieces layout.now module.now
-        ++ (close (Some module.now.size) 0 (layout.now.offsets || has_break (field_pieces layout.now module.now)) ++ (Feed ∷ []))))) }
+fn write_lines<P: Print>(p: &mut P, options: &PrintOptions, module: &Module<'_>) -> io::Result<()>
+    ensures { Prints P.meaning options.now p.old p.new result
+        (Begin 0 ∷ (Open (codes "module") ∷ (field_pieces options.now module.now
+        ++ (close (Some module.now.size) 0 (options.now.offsets || has_break (field_pieces options.now module.now)) ++ (Feed ∷ []))))) }
 {
     begin(p, 0)?;
     open(p, "module")?;
-    write_fields(p, layout, module)?;
-    close_at(p, layout, module.size(), 0, has_fields(module))?;
+    write_fields(p, options, module)?;
+    close_at(p, options, module.size(), 0, has_fields(module))?;
     end(p)
 }
 
 /// Writes a module.
 pub(crate) fn write_module<P: Print>(
     p: &mut P,
-    layout: &Layout<'_>,
+    options: &PrintOptions,
     module: &Module<'_>,
-) -> Result<(), Error>
-    ensures { Prints P.meaning layout.now p.old p.new result (module_pieces layout.now module.now) }
+) -> io::Result<()>
+    ensures { Prints P.meaning options.now p.old p.new result (module_pieces options.now module.now) }
 {
-    write_lines(p, layout, module)
+    write_lines(p, options, module)
 }

@@ -6,13 +6,16 @@ ghost use Rattle.wasmprinter_spec.specs.Layout.{signature_pieces, type_pieces};
 ghost use Rattle.wasmprinter_bytes.specs.Prints.{Prints};
 
 use crate::sections::FIELD_NESTING;
-use wasmprinter_bytes::Error;
+use std::io;
 use wasmprinter_bytes::print::Print;
-use wasmprinter_text::layout::Layout;
-use wasmprinter_text::text::{break_line, gap, mark, open, open_gap, shut, signature};
+use wasmprinter_lines::options::PrintOptions;
+use wasmprinter_lines::lines::break_line;
+use wasmprinter_text::types::signature;
+use wasmprinter_words::numbers::mark;
+use wasmprinter_words::words::{gap, open, open_gap, shut};
 use wasmprinter_wasm::FuncType;
 
-fn write_type_group<P: Print>(p: &mut P, number: u64, func_type: &FuncType<'_>) -> Result<(), Error>
+fn write_type_group<P: Print>(p: &mut P, number: u64, func_type: &FuncType<'_>) -> io::Result<()>
     ensures { (o : Options) → Prints P.meaning o p.old p.new result
         (OpenGap (codes "type") ∷ (Mark number ∷ (Gap ∷ (Open (codes "func") ∷ (signature_pieces 2 func_type.now.value ++ (Shut ∷ (Shut ∷ []))))))) }
 {
@@ -28,12 +31,12 @@ fn write_type_group<P: Print>(p: &mut P, number: u64, func_type: &FuncType<'_>) 
 /// Writes the type with the number.
 pub(crate) fn write_type<P: Print>(
     p: &mut P,
-    layout: &Layout<'_>,
+    options: &PrintOptions,
     number: u64,
     func_type: &FuncType<'_>,
-) -> Result<(), Error>
-    ensures { Prints P.meaning layout.now p.old p.new result (type_pieces number func_type.now) }
+) -> io::Result<()>
+    ensures { Prints P.meaning options.now p.old p.new result (type_pieces number func_type.now) }
 {
-    break_line(p, layout, Some(func_type.place()), FIELD_NESTING)?;
+    break_line(p, options, Some(func_type.place()), FIELD_NESTING)?;
     write_type_group(p, number, func_type)
 }

@@ -1,12 +1,12 @@
-//! The calls of a printer, with this crate's errors.
-ghost use Rattle.std.specs.Prelude.{[], ◌∷◌, Option};
-ghost use Rattle.wasmprinter_spec.specs.Call.{Text, Newline, Line, Start, Reset};
+//! The calls of a printer, each with what it makes of a layout.
+ghost use Rattle.std.specs.Prelude.{[], ◌∷◌};
+ghost use Rattle.wasmprinter_spec.specs.Call.{Text, Newline, Start, Reset};
 ghost use Rattle.wasmprinter_bytes.specs.Emits.{Emits};
 ghost use Rattle.wasmprinter_bytes.specs.Styles.{style_of};
 ghost use Rattle.wasmprinter_spec.specs.Piece.{styled};
 
-use crate::error::Error;
 use crate::print::Print;
+use std::io;
 
 /// What a style call chooses, `reset_color` apart.
 #[derive(Clone, Copy)]
@@ -19,7 +19,7 @@ pub enum Style {
 }
 
 /// Writes a piece of text.
-pub fn text<P: Print>(p: &mut P, s: &str) -> Result<(), Error>
+pub fn text<P: Print>(p: &mut P, s: &str) -> io::Result<()>
     ensures { Emits P.meaning p.old p.new result (Text s.now ∷ []) }
 {
     p.write_str(s)?;
@@ -27,23 +27,15 @@ pub fn text<P: Print>(p: &mut P, s: &str) -> Result<(), Error>
 }
 
 /// Ends a line.
-pub fn feed<P: Print>(p: &mut P) -> Result<(), Error>
+pub fn feed<P: Print>(p: &mut P) -> io::Result<()>
     ensures { Emits P.meaning p.old p.new result (Newline ∷ []) }
 {
     p.newline()?;
     Ok(())
 }
 
-/// Begins a line, with the place of what stands on it.
-pub fn begin_line<P: Print>(p: &mut P, place: Option<u64>) -> Result<(), Error>
-    ensures { Emits P.meaning p.old p.new result (Line place ∷ []) }
-{
-    p.start_line(place);
-    Ok(())
-}
-
 /// Chooses a style.
-pub fn start<P: Print>(p: &mut P, style: Style) -> Result<(), Error>
+pub fn start<P: Print>(p: &mut P, style: Style) -> io::Result<()>
     ensures { Emits P.meaning p.old p.new result (Start (style_of style) ∷ []) }
 {
     match style {
@@ -57,7 +49,7 @@ pub fn start<P: Print>(p: &mut P, style: Style) -> Result<(), Error>
 }
 
 /// Goes back to text without a style.
-pub fn reset<P: Print>(p: &mut P) -> Result<(), Error>
+pub fn reset<P: Print>(p: &mut P) -> io::Result<()>
     ensures { Emits P.meaning p.old p.new result (Start Reset ∷ []) }
 {
     p.reset_color()?;
@@ -65,7 +57,7 @@ pub fn reset<P: Print>(p: &mut P) -> Result<(), Error>
 }
 
 /// Writes a piece of text in a style.
-pub fn styled<P: Print>(p: &mut P, style: Style, s: &str) -> Result<(), Error>
+pub fn styled<P: Print>(p: &mut P, style: Style, s: &str) -> io::Result<()>
     ensures { Emits P.meaning p.old p.new result (styled (style_of style) s.now) }
 {
     start(p, style)?;

@@ -1,5 +1,7 @@
 //! A printer over a writer of text.
 ghost use Rattle.std.specs.Prelude.{◌≡◌, None};
+ghost use Rattle.std.specs.IoError.{error_kind};
+ghost use Rattle.std.specs.declared.io.ErrorKind.TheVariants.{Other};
 ghost use Rattle.wasmprinter_bytes.specs.Writers.{FmtAfter, FmtMayFail};
 
 use crate::print::Print;
@@ -11,7 +13,9 @@ use std::{fmt, io};
 pub struct PrintFmtWrite<T>(pub T);
 
 // What the writer refuses tells no cause.
-fn refused(_e: fmt::Error) -> io::Error {
+fn refused(_e: fmt::Error) -> io::Error
+    ensures { error_kind result ≡ Other }
+{
     io::Error::from(ErrorKind::Other)
 }
 
@@ -19,7 +23,7 @@ impl<T: fmt::Write> Print for PrintFmtWrite<T> {
     ghost meaning = { record {
       after = λ s c t. FmtAfter T.write_str_gives s.0 c t.0;
       may_fail = λ _ c. FmtMayFail c;
-      partly = λ _ _ _. Unit {0};
+      partly = λ _ _ e _. error_kind e ≡ Other;
       faults = λ _. None;
     } };
 

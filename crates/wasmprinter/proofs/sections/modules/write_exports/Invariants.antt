@@ -5,4 +5,4 @@ use Rattle.wasmprinter.proofs.sections.modules.write_exports.Given as goal
 
 abbrev pub invariant-loop-export : goal.invariant-loop-export
 invariant-loop-export g l =
-    Lacks g.P.Print.meaning l.layout l.fn.p l.p (numbered (λ i e. export_pieces e) 0 l.exports) (numbered (λ i e. export_pieces e) l.export-index (drop l.export-index l.exports))
+    Lacks g.P.Print.meaning l.options l.fn.p l.p (numbered (λ i e. export_pieces e) 0 l.exports) (numbered (λ i e. export_pieces e) l.export-index (drop l.export-index l.exports))

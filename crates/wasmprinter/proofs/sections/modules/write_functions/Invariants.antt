@@ -5,4 +5,4 @@ use Rattle.wasmprinter.proofs.sections.modules.write_functions.Given as goal
 
 abbrev pub invariant-loop-number : goal.invariant-loop-number
 invariant-loop-number g l =
-    Lacks g.P.Print.meaning l.layout l.fn.p l.p (numbered (function_pieces l.layout l.module.types) 0 l.module.functions) (numbered (function_pieces l.layout l.module.types) l.number (drop l.number l.module.functions))
+    Lacks g.P.Print.meaning l.options l.fn.p l.p (numbered (function_pieces l.options l.module.types) 0 l.module.functions) (numbered (function_pieces l.options l.module.types) l.number (drop l.number l.module.functions))

@@ -10,4 +10,4 @@ returns-in_err-break_line g c =
 pub returns : goal.returns
 returns g c =
     rw (type-out c.args.number c.args.func_type.now)
-    (both_pieces g.P.Print.meaning (rw c.place.ensures at c.in_ok-break_line.ensures) (c.write_type_group.ensures c.args.layout.now))
+    (both_pieces g.P.Print.meaning (rw c.place.ensures at c.in_ok-break_line.ensures) (c.write_type_group.ensures c.args.options.now))

@@ -1,0 +1,4 @@
+//! Operators as flat text (section 6.5 of the WebAssembly Core Specification), over any printer.
+#![tactic(auto)]
+
+pub mod operators;

@@ -1,0 +1,8 @@
+-- The text of an indent.
+use Rattle.std.specs.Prelude.{ℕ, List, codes}
+use Rattle.wasmprinter_lines.specs.declared.options.Indent.{Indent}
+use Rattle.wasmprinter_lines.specs.declared.options.Indent.TheVariants.{TwoBlanks}
+
+-- the text of an indent
+abbrev pub text_of : Indent → List ℕ
+text_of TwoBlanks = codes "  "

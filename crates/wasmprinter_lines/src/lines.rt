@@ -1,0 +1,161 @@
+//! Lines, their places and their indents, and groups that close on a line of their own.
+ghost use Rattle.std.specs.Prelude.{[], ◌∷◌, ◌++◌, ◌||◌, true, false, Some};
+ghost use Rattle.std.specs.Fmt.{digits};
+ghost use Rattle.wasmprinter_spec.specs.Call.{Text};
+ghost use Rattle.wasmprinter_spec.specs.Options.{Options};
+ghost use Rattle.wasmprinter_spec.specs.Piece.{Begin, Feed, Break, repeated, left_in, place_calls};
+ghost use Rattle.wasmprinter_spec.specs.Layout.{close};
+ghost use Rattle.wasmprinter_bytes.specs.Emits.{Emits};
+ghost use Rattle.wasmprinter_bytes.specs.Prints.{Prints};
+
+use crate::options::PrintOptions;
+use std::io;
+use wasmprinter_bytes::print::{Print, Style, feed, reset, start, text};
+use wasmprinter_words::numbers::{HEXADECIMAL, hexadecimal_len, write_digits};
+use wasmprinter_words::words::shut;
+
+/// The digits to which a place is filled up.
+const PLACE_WIDTH: usize = 6;
+
+/// The characters of a place filled up, with its parentheses.
+const COMMENT_WIDTH: usize = 11;
+
+/// The levels of nesting of which each is indented.
+const MOST_INDENTS: u32 = 50;
+
+/// Writes a text so many times.
+fn write_repeated<P: Print>(p: &mut P, s: &str, count: usize) -> io::Result<()>
+    ensures { Emits P.meaning p.old p.new result (Text (repeated count s.now) ∷ []) }
+{
+    for _ in 0..count {
+        text(p, s)?;
+    }
+    Ok(())
+}
+
+/// Writes a place in hexadecimal, filled up with blanks.
+#[tactic(auto, unfolding(wasmprinter_spec::specs::Piece::left_in), using(crate::proofs::Repeats::repeated_blank))]
+fn write_filled<P: Print>(p: &mut P, place: u64) -> io::Result<()>
+    ensures { Emits P.meaning p.old p.new result (Text (left_in 6 (digits 16 false place)) ∷ []) }
+{
+    write_digits(p, HEXADECIMAL, place)?;
+    write_repeated(p, " ", PLACE_WIDTH.saturating_sub(hexadecimal_len(place)))
+}
+
+fn write_filled_between<P: Print>(
+    p: &mut P,
+    before: &str,
+    place: u64,
+    after: &str,
+) -> io::Result<()>
+    ensures { Emits P.meaning p.old p.new result (Text (before.now ++ (left_in 6 (digits 16 false place) ++ after.now)) ∷ []) }
+{
+    text(p, before)?;
+    write_filled(p, place)?;
+    text(p, after)
+}
+
+#[tactic(auto, unfolding(wasmprinter_spec::specs::Piece::place_text))]
+fn write_place<P: Print>(p: &mut P, place: u64) -> io::Result<()>
+    ensures { Emits P.meaning p.old p.new result (place_calls true (Some place)) }
+{
+    start(p, Style::Comment)?;
+    write_filled_between(p, "(;@", place, ";)")?;
+    reset(p)
+}
+
+#[tactic(auto, unfolding(wasmprinter_spec::specs::Piece::place_text, wasmprinter_spec::specs::Piece::repeated))]
+fn write_offset<P: Print>(p: &mut P, place: Option<u64>) -> io::Result<()>
+    ensures { Emits P.meaning p.old p.new result (place_calls true place) }
+{
+    match place {
+        Some(place) => write_place(p, place),
+        None => write_repeated(p, " ", COMMENT_WIDTH),
+    }
+}
+
+fn write_wanted_offset<P: Print>(
+    p: &mut P,
+    options: &PrintOptions,
+    place: Option<u64>,
+) -> io::Result<()>
+    ensures { Emits P.meaning p.old p.new result (place_calls options.now.offsets place) }
+{
+    if options.offsets {
+        write_offset(p, place)
+    } else {
+        Ok(())
+    }
+}
+
+/// Begins the first line, at this place.
+pub fn begin<P: Print>(p: &mut P, place: u64) -> io::Result<()>
+    ensures { (o : Options) → Prints P.meaning o p.old p.new result (Begin place ∷ []) }
+{
+    p.start_line(Some(place));
+    Ok(())
+}
+
+/// Ends the last line.
+pub fn end<P: Print>(p: &mut P) -> io::Result<()>
+    ensures { (o : Options) → Prints P.meaning o p.old p.new result (Feed ∷ []) }
+{
+    feed(p)
+}
+
+/// Begins a line: what stands on it has this place in the module's bytes, if any, and is nested so deep.
+pub fn break_line<P: Print>(
+    p: &mut P,
+    options: &PrintOptions,
+    place: Option<u64>,
+    nesting: u32,
+) -> io::Result<()>
+    ensures { Prints P.meaning options.now p.old p.new result (Break place nesting ∷ []) }
+{
+    feed(p)?;
+    p.start_line(place);
+    write_wanted_offset(p, options, place)?;
+    write_repeated(p, options.indent(), nesting.min(MOST_INDENTS) as usize)
+}
+
+fn shut_below<P: Print>(
+    p: &mut P,
+    options: &PrintOptions,
+    place: u64,
+    nesting: u32,
+) -> io::Result<()>
+    ensures { Prints P.meaning options.now p.old p.new result (close (Some place) nesting true) }
+{
+    break_line(p, options, Some(place), nesting)?;
+    shut(p)
+}
+
+fn shut_if<P: Print>(
+    p: &mut P,
+    options: &PrintOptions,
+    place: u64,
+    nesting: u32,
+    on_new_line: bool,
+) -> io::Result<()>
+    ensures { Prints P.meaning options.now p.old p.new result (close (Some place) nesting on_new_line) }
+{
+    if on_new_line {
+        shut_below(p, options, place, nesting)
+    } else {
+        shut(p)
+    }
+}
+
+/// Closes a group at a place: where the line has changed since the group began, or lines begin with their places, on a line of its
+/// own.
+pub fn close_at<P: Print>(
+    p: &mut P,
+    options: &PrintOptions,
+    place: u64,
+    nesting: u32,
+    changed: bool,
+) -> io::Result<()>
+    ensures { Prints P.meaning options.now p.old p.new result (close (Some place) nesting (options.now.offsets || changed)) }
+{
+    shut_if(p, options, place, nesting, options.offsets || changed)
+}

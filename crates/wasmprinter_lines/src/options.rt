@@ -1,0 +1,53 @@
+//! How a module is printed.
+use std::marker::Model;
+
+/// The text of one level of nesting. The default of two blanks owns no memory.
+#[derive(Debug, Drop)]
+enum Indent {
+    TwoBlanks,
+}
+
+/// How a module is printed: what each part of its layout sees.
+#[derive(Debug, Drop)]
+pub struct PrintOptions {
+    /// Each line begins with the place of what stands on it.
+    pub offsets: bool,
+    /// Bodies are left out.
+    pub skeleton: bool,
+    /// The text that stands once for each level of nesting.
+    indent: Indent,
+}
+
+impl Model for PrintOptions {
+    ghost use Rattle.wasmprinter_spec.specs.Options.{Options};
+    ghost use Rattle.wasmprinter_lines.specs.Indents.{text_of};
+
+    ghost Value = { Options };
+
+    ghost view = { λ o. record { offsets = o.offsets; skeleton = o.skeleton; indent = text_of o.indent } };
+}
+
+impl PrintOptions {
+    ghost use Rattle.std.specs.Prelude.{◌≡◌};
+    ghost use Rattle.wasmprinter_spec.specs.Options.{defaults};
+
+    /// No places in front of lines, bodies in full, and an indent of two blanks. Takes no memory.
+    pub fn new() -> PrintOptions
+        ensures { result ≡ defaults }
+    {
+        PrintOptions {
+            offsets: false,
+            skeleton: false,
+            indent: Indent::TwoBlanks,
+        }
+    }
+
+    /// The text that stands once for each level of nesting.
+    pub fn indent(&self) -> &str
+        ensures { result.now ≡ self.now.indent }
+    {
+        match &self.indent {
+            Indent::TwoBlanks => "  ",
+        }
+    }
+}

@@ -1,4 +1,0 @@
-use Rattle.wasmprinter_text.proofs.text.numbers.+write_digits.Given as goal
-
-abbrev pub decreases-write_digits : goal.decreases-write_digits
-decreases-write_digits g l = l.n

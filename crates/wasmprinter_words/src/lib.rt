@@ -1,0 +1,7 @@
+//! Words, numbers and strings of the text format (sections 6.2 and 6.3 of the WebAssembly Core Specification), each in its style,
+//! over any printer.
+#![tactic(auto)]
+
+pub mod numbers;
+pub mod strings;
+pub mod words;

@@ -1,0 +1,133 @@
+//! Whole numbers (section 6.3 of the WebAssembly Core Specification, "Integers").
+ghost use Rattle.std.specs.Prelude.{◌≡◌, ◌<◌, ◌≤◌, false, [], ◌∷◌, ◌++◌, decimal, length};
+ghost use Rattle.std.specs.Fmt.{digits, digit_glyph, signed_decimal};
+ghost use Rattle.wasmprinter_spec.specs.Call.{Text};
+ghost use Rattle.wasmprinter_spec.specs.Options.{Options};
+ghost use Rattle.wasmprinter_spec.specs.Piece.{Number, Mark, Constant};
+ghost use Rattle.wasmprinter_spec.specs.Layout.{group_gap};
+ghost use Rattle.wasmprinter_bytes.specs.Emits.{Emits};
+ghost use Rattle.wasmprinter_bytes.specs.Prints.{Prints};
+
+use crate::words::{open_gap, shut};
+use std::io;
+use wasmprinter_bytes::print::{Print, Style, reset, start, text};
+
+/// The base of decimal numbers.
+const DECIMAL: u64 = 10;
+
+/// The base of hexadecimal numbers.
+pub const HEXADECIMAL: u64 = 16;
+
+/// The character of a digit.
+fn glyph_of(digit: u8) -> u8
+    requires { digit < 16 }
+    ensures { result ≡ digit_glyph false digit }
+{
+    if digit < 10 {
+        b'0' + digit
+    } else {
+        b'a' + (digit - 10)
+    }
+}
+
+fn write_digit<P: Print>(p: &mut P, digit: u8) -> io::Result<()>
+    requires { digit < 16 }
+    ensures { Emits P.meaning p.old p.new result (Text (digit_glyph false digit ∷ []) ∷ []) }
+{
+    text(p, char::from(glyph_of(digit)).encode_utf8(&mut [0; 4]))
+}
+
+/// Writes a number in a base up to sixteen.
+pub fn write_digits<P: Print>(p: &mut P, base: u64, n: u64) -> io::Result<()>
+    requires two { 2 ≤ base }
+    requires sixteen { base ≤ 16 }
+    ensures { Emits P.meaning p.old p.new result (Text (digits base false n) ∷ []) }
+{
+    if n < base {
+        return write_digit(p, n as u8);
+    }
+    write_digits(p, base, n / base)?;
+    write_digit(p, (n % base) as u8)
+}
+
+/// How many digits a number has in hexadecimal.
+pub fn hexadecimal_len(n: u64) -> usize
+    ensures { result ≡ length (digits 16 false n) }
+{
+    if n < HEXADECIMAL {
+        return 1;
+    }
+    hexadecimal_len(n / HEXADECIMAL) + 1
+}
+
+/// Writes a number between two texts.
+pub fn write_digits_between<P: Print>(
+    p: &mut P,
+    before: &str,
+    base: u64,
+    n: u64,
+    after: &str,
+) -> io::Result<()>
+    requires two { 2 ≤ base }
+    requires sixteen { base ≤ 16 }
+    ensures { Emits P.meaning p.old p.new result (Text (before.now ++ (digits base false n ++ after.now)) ∷ []) }
+{
+    text(p, before)?;
+    write_digits(p, base, n)?;
+    text(p, after)
+}
+
+/// Writes an index.
+pub fn number<P: Print>(p: &mut P, n: u64) -> io::Result<()>
+    ensures { (o : Options) → Prints P.meaning o p.old p.new result (Number n ∷ []) }
+{
+    start(p, Style::Name)?;
+    write_digits(p, DECIMAL, n)?;
+    reset(p)
+}
+
+/// Writes an index as a group behind a keyword.
+#[tactic(auto, unfolding(wasmprinter_spec::specs::Layout::group_gap))]
+pub fn write_index_group<P: Print>(p: &mut P, keyword: &str, index: u32) -> io::Result<()>
+    ensures { (o : Options) → Prints P.meaning o p.old p.new result (group_gap 2 keyword.now (Number index ∷ [])) }
+{
+    open_gap(p, keyword)?;
+    number(p, u64::from(index))?;
+    shut(p)
+}
+
+/// Writes the number of a declaration, as a comment.
+pub fn mark<P: Print>(p: &mut P, n: u64) -> io::Result<()>
+    ensures { (o : Options) → Prints P.meaning o p.old p.new result (Mark n ∷ []) }
+{
+    start(p, Style::Name)?;
+    write_digits_between(p, "(;", DECIMAL, n, ";)")?;
+    reset(p)
+}
+
+fn write_negative<P: Print>(p: &mut P, magnitude: u64) -> io::Result<()>
+    ensures { Emits P.meaning p.old p.new result (Text (45 ∷ decimal magnitude) ∷ []) }
+{
+    text(p, "-")?;
+    write_digits(p, DECIMAL, magnitude)
+}
+
+fn write_signed<P: Print>(p: &mut P, n: i64) -> io::Result<()>
+    ensures { Emits P.meaning p.old p.new result (Text (signed_decimal n) ∷ []) }
+{
+    if n < 0 {
+        write_negative(p, n.unsigned_abs())
+    } else {
+        write_digits(p, DECIMAL, n.unsigned_abs())
+    }
+}
+
+/// Writes a blank and a number with its sign.
+pub fn constant<P: Print>(p: &mut P, n: i64) -> io::Result<()>
+    ensures { (o : Options) → Prints P.meaning o p.old p.new result (Constant n ∷ []) }
+{
+    start(p, Style::Literal)?;
+    text(p, " ")?;
+    write_signed(p, n)?;
+    reset(p)
+}

@@ -1,0 +1,65 @@
+//! Texts in quotes (section 6.3 of the WebAssembly Core Specification, "Strings").
+ghost use Rattle.std.specs.Prelude.{◌≡◌, [], ◌∷◌, flat_map, chars};
+ghost use Rattle.wasmprinter_spec.specs.Call.{Text, Literal};
+ghost use Rattle.wasmprinter_spec.specs.Options.{Options};
+ghost use Rattle.wasmprinter_spec.specs.Piece.{Quoted, styled};
+ghost use Rattle.wasmprinter_spec.specs.Quoted.{is_plain, char_text, quoted_text};
+ghost use Rattle.wasmprinter_bytes.specs.Emits.{Emits, EmitsOrFails};
+ghost use Rattle.wasmprinter_bytes.specs.Prints.{Prints};
+
+use crate::numbers::{HEXADECIMAL, write_digits_between};
+use std::io;
+use wasmprinter_bytes::Error;
+use wasmprinter_bytes::print::{Print, Style, reset, start, text};
+
+/// Whether a character stands for itself in quotes.
+fn is_plain(c: char) -> bool
+    ensures { result ≡ is_plain c }
+{
+    matches!(c, ' '..='~') && c != '"' && c != '\\'
+}
+
+#[tactic(auto, unfolding(wasmprinter_spec::specs::Quoted::char_text))]
+fn write_char<P: Print>(p: &mut P, c: char) -> io::Result<()>
+    ensures { Emits P.meaning p.old p.new result (Text (char_text c) ∷ []) }
+{
+    if is_plain(c) {
+        return text(p, c.encode_utf8(&mut [0; 4]));
+    }
+    write_digits_between(p, "\\u{", HEXADECIMAL, u64::from(u32::from(c)), "}")
+}
+
+fn write_chars<P: Print>(p: &mut P, s: &str) -> io::Result<()>
+    ensures { Emits P.meaning p.old p.new result (Text (flat_map char_text (chars s.now)) ∷ []) }
+{
+    for c in s.chars() {
+        write_char(p, c)?;
+    }
+    Ok(())
+}
+
+/// Writes a text in quotes, with what isn't printable by its number.
+#[tactic(auto, unfolding(wasmprinter_spec::specs::Quoted::quoted_text))]
+pub fn write_string<P: Print>(p: &mut P, s: &str) -> io::Result<()>
+    ensures calls { Emits P.meaning p.old p.new result (styled Literal (quoted_text (chars s.now))) }
+    ensures pieces { (o : Options) → Prints P.meaning o p.old p.new result (Quoted (chars s.now) ∷ []) }
+{
+    start(p, Style::Literal)?;
+    text(p, "\"")?;
+    write_chars(p, s)?;
+    text(p, "\"")?;
+    reset(p)
+}
+
+/// Writes a text in quotes, as the text of a module writes it: printable ASCII as it is but for `"` and `\`, any other character as
+/// `\u{..}` with its number in hexadecimal (section 6.3 of the standard, "Strings").
+///
+/// # Errors
+///
+/// `Printer` where a call on the printer failed, with that call's error, and no other.
+pub fn write_quoted<P: Print>(p: &mut P, s: &str) -> Result<(), Error>
+    ensures { EmitsOrFails P.meaning p.old p.new result (styled Literal (quoted_text (chars s.now))) }
+{
+    write_string(p, s)?;
+    Ok(())
+}

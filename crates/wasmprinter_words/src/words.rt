@@ -1,0 +1,55 @@
+//! Parentheses, blanks and words.
+ghost use Rattle.std.specs.Prelude.{[], ◌∷◌};
+ghost use Rattle.wasmprinter_spec.specs.Options.{Options};
+ghost use Rattle.wasmprinter_spec.specs.Piece.{Gap, Open, OpenGap, Shut, Word, TypeWord};
+ghost use Rattle.wasmprinter_bytes.specs.Prints.{Prints};
+
+use std::io;
+use wasmprinter_bytes::print::{Print, Style, reset, start, styled, text};
+
+/// Opens a group: a parenthesis and a keyword.
+pub fn open<P: Print>(p: &mut P, keyword: &str) -> io::Result<()>
+    ensures { (o : Options) → Prints P.meaning o p.old p.new result (Open keyword.now ∷ []) }
+{
+    text(p, "(")?;
+    styled(p, Style::Keyword, keyword)
+}
+
+/// Opens a group with a blank behind its keyword.
+pub fn open_gap<P: Print>(p: &mut P, keyword: &str) -> io::Result<()>
+    ensures { (o : Options) → Prints P.meaning o p.old p.new result (OpenGap keyword.now ∷ []) }
+{
+    text(p, "(")?;
+    start(p, Style::Keyword)?;
+    text(p, keyword)?;
+    text(p, " ")?;
+    reset(p)
+}
+
+/// Closes a group on the line where it ends.
+pub fn shut<P: Print>(p: &mut P) -> io::Result<()>
+    ensures { (o : Options) → Prints P.meaning o p.old p.new result (Shut ∷ []) }
+{
+    text(p, ")")
+}
+
+/// Writes a blank.
+pub fn gap<P: Print>(p: &mut P) -> io::Result<()>
+    ensures { (o : Options) → Prints P.meaning o p.old p.new result (Gap ∷ []) }
+{
+    text(p, " ")
+}
+
+/// Writes a word without a style.
+pub fn word<P: Print>(p: &mut P, word: &str) -> io::Result<()>
+    ensures { (o : Options) → Prints P.meaning o p.old p.new result (Word word.now ∷ []) }
+{
+    text(p, word)
+}
+
+/// Writes the word of a type.
+pub fn type_word<P: Print>(p: &mut P, word: &str) -> io::Result<()>
+    ensures { (o : Options) → Prints P.meaning o p.old p.new result (TypeWord word.now ∷ []) }
+{
+    styled(p, Style::TypeName, word)
+}
