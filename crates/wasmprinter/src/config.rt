@@ -1,5 +1,6 @@
 //! How a module is printed.
-ghost use Rattle.std.specs.Prelude.{◌≡◌, false, OnOk, IfErr};
+ghost use Rattle.std.specs.Prelude.{◌≡◌, ◌↔◌, OnOk, IfErr, IsErrOf};
+ghost use Rattle.wasmprinter_spec.specs.Binary.{IsComponent};
 ghost use Rattle.wasmprinter.specs.Printed.{Printed};
 ghost use Rattle.wasmprinter.specs.Outcome.{HasCause, IsTrueOf, Leaves};
 
@@ -43,13 +44,15 @@ impl Config {
     ///
     /// # Errors
     ///
-    /// `Component`, `Malformed`, `TooManyLocals` and `TooManyFunctions` as `decode` answers them; `Printer` where a call on the
-    /// printer failed; `Memory` where a growth was refused.
+    /// `Component`, `Malformed`, `TooManyLocals` and `TooManyFunctions` as `decode` answers them, `Component` before all others;
+    /// `Printer` where a call on the printer failed, with that call's error; `Memory` where a growth was refused to the decoder. The
+    /// printer took no call before an error other than `Printer`.
     pub fn print<P: Print>(&self, alloc: Global, wasm: &[u8], printer: &mut P) -> Result<(), Error>
         ensures printed { OnOk result (Printed P.meaning self.now wasm.now printer.old printer.new) }
         ensures caused { IfErr result (HasCause P.meaning wasm.now printer.old printer.new) }
         ensures refused { IfErr result (IsTrueOf wasm.now) }
         ensures left { IfErr result (Leaves P.meaning self.now wasm.now printer.old printer.new) }
+        ensures component { IsErrOf result Error.Component ↔ IsComponent wasm.now }
     {
         let module = decode(alloc, wasm)?;
         write_module(printer, &self.options, &module)?;

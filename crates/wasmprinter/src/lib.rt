@@ -5,12 +5,13 @@
 #![tactic(auto)]
 
 mod config;
+mod in_memory;
 pub mod print;
 mod sections;
-mod text;
+pub mod text;
 pub mod wasm;
 
 pub use config::Config;
+pub use in_memory::print_bytes;
 pub use print::{Print, PrintFmtWrite};
-pub use text::print_bytes;
 pub use wasmprinter_bytes::Error;

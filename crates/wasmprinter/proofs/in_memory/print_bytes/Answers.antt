@@ -1,9 +1,8 @@
 use Rattle.std.proofs.Common.{string_bytes, sym, subst}
-use Rattle.wasmprinter_wasm.specs.Decoding.{IsRefusal}
-use Rattle.wasmprinter.specs.Outcome.{HasModuleCause}
+use Rattle.wasmprinter.specs.Outcome.{HasTextCause, IsTrueOfText}
 use Rattle.wasmprinter.proofs.Outcomes.{growth_cause, growth_true}
 use Rattle.wasmprinter.proofs.Texts.{grows_by, printed_text}
-use Rattle.wasmprinter.proofs.text.print_bytes.Goals as goal
+use Rattle.wasmprinter.proofs.in_memory.print_bytes.Goals as goal
 
 pub returns-in-Ok-clause-printed : goal.returns-in-Ok-clause-printed
 returns-in-Ok-clause-printed c =
@@ -12,8 +11,8 @@ returns-in-Ok-clause-printed c =
 
 pub returns-in-Err-clause-caused : goal.returns-in-Err-clause-caused
 returns-in-Err-clause-caused c =
-    subst (HasModuleCause c.args.wasm.now) (sym c.without_printer.ensures) (growth_cause _ c.args.wasm.now _ c.print.new.printer c.in-Err.error c.in-Err.ensures.caused)
+    subst (HasTextCause c.args.wasm.now) (sym c.without_printer.ensures) (growth_cause _ c.args.wasm.now _ c.print.new.printer c.in-Err.error c.in-Err.ensures.caused)
 
 pub returns-in-Err-clause-refused : goal.returns-in-Err-clause-refused
 returns-in-Err-clause-refused c =
-    subst (IsRefusal c.args.wasm.now) (sym c.without_printer.ensures) (growth_true c.args.wasm.now c.in-Err.error c.in-Err.ensures.refused)
+    subst (IsTrueOfText c.args.wasm.now) (sym c.without_printer.ensures) (growth_true c.args.wasm.now c.in-Err.error c.in-Err.ensures.refused)

@@ -1,0 +1,38 @@
+//! The text of a module as a string.
+ghost use Rattle.std.specs.Prelude.{◌≡◌, ◌↔◌, IfOk, IfErr, IsErrOf, string_bytes};
+ghost use Rattle.wasmprinter_spec.specs.Binary.{IsComponent};
+ghost use Rattle.wasmprinter.specs.Printed.{HasText};
+ghost use Rattle.wasmprinter.specs.Outcome.{as_growth, HasTextCause, IsTrueOfText};
+
+use crate::config::Config;
+use std::alloc::Global;
+use wasmprinter_bytes::Error;
+use wasmprinter_bytes::print::PrintFmtWrite;
+
+/// A string that is printed to fails only where it can't grow.
+fn without_printer(error: Error) -> Error
+    ensures { result ≡ as_growth error }
+{
+    match error {
+        Error::Printer(_) => Error::Memory,
+        error => error,
+    }
+}
+
+/// The text of a module in the binary format, with the defaults of `Config`.
+///
+/// # Errors
+///
+/// As `Config::print`, with `Memory` where the text can't grow, and never `Printer`.
+pub fn print_bytes(alloc: Global, wasm: &[u8]) -> Result<String, Error>
+    ensures printed { IfOk result (λ text. HasText wasm.now (string_bytes text)) }
+    ensures caused { IfErr result (HasTextCause wasm.now) }
+    ensures refused { IfErr result (IsTrueOfText wasm.now) }
+    ensures component { IsErrOf result Error.Component ↔ IsComponent wasm.now }
+{
+    let mut printer = PrintFmtWrite(String::new(alloc));
+    match Config::new().print(alloc, wasm, &mut printer) {
+        Ok(()) => Ok(printer.0),
+        Err(error) => Err(without_printer(error)),
+    }
+}
