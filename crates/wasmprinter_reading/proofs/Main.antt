@@ -76,7 +76,7 @@ reads_back bytes m o answers spelled indexed whole blank unclaimed =
     let h : IsRanged m = ranged bytes m spelled in
     read_layout o m h blank
     ∙ ap (λ s. read_forest (Group (Word (codes "module") (module_items m s)) End)) whole
-    ∙ module_reads m h
+    ∙ module_reads m indexed h
 
 pub prints_plain_text : PrintsPlainText
 unfolding layout

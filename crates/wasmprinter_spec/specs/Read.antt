@@ -165,9 +165,10 @@ same_func_type s t = same_types s.params t.params && same_types s.results t.resu
 abbrev pub no_type : FuncType
 no_type = record { params = []; results = [] }
 
--- The identifiers of a function's parameters. A signature beside the type's index is absent, or it is that type's.
+-- The identifiers of a function's parameters. The type that a function uses is declared, and a signature beside its index is absent, or it is
+-- that type's (sections 6.4 and 6.6 of the standard, "Type Uses").
 abbrev pub parameters : Signature → Option FuncType → Option Identifiers
-parameters s None = if same_func_type (type_of s) no_type then Some [] else None
+parameters s None = None
 parameters s (Some t) =
     if same_func_type (type_of s) t then Some (ids_of s.params)
     else (if same_func_type (type_of s) no_type then Some (replicate (length t.params) None) else None)
