@@ -101,6 +101,29 @@ unwritten_parameters : read (codes "(module (type (func (param i32 i64))) (type 
 unfolding lex class numeral natural groups table control_rows number_rows is_utf8 chars encode_utf8
 unwritten_parameters = refl
 
+-- one identifier in spaces of different kinds, and in two functions
+shared_identifiers : read (codes "(module $a (type $a (func)) (func $a (type $a) (local $a i32) local.get $a) (func $b (type $a) (local i32) (local $a i32) local.get $a call $a) (export \"a\" (func $a)))")
+    ≡ Some (record {
+      types = record { params = []; results = [] } ∷ [];
+      functions =
+          record { type_index = 0; locals = I32 ∷ []; operators = local_get 0 ∷ [] }
+          ∷ record { type_index = 0; locals = I32 ∷ I32 ∷ []; operators = local_get 1 ∷ call 0 ∷ [] }
+          ∷ [];
+      exports = record { name = codes "a"; function = 0 } ∷ [];
+    })
+unfolding lex class numeral natural groups table control_rows number_rows is_utf8 chars encode_utf8
+shared_identifiers = refl
+
+-- identifiers in a type declare nothing
+identifiers_in_type : read (codes "(module (type (func (param $x i32) (param $x i32))) (func (type 0) (local $x i32) local.get $x))")
+    ≡ Some (record {
+      types = record { params = I32 ∷ I32 ∷ []; results = [] } ∷ [];
+      functions = record { type_index = 0; locals = I32 ∷ []; operators = local_get 2 ∷ [] } ∷ [];
+      exports = [];
+    })
+unfolding lex class numeral natural groups table control_rows number_rows is_utf8 chars encode_utf8
+identifiers_in_type = refl
+
 -- the signature stands beside a type that is declared, which may stand behind its use
 signature_beside : read (codes "(module (func (type 1) (param $x i32) (result i32) local.get $x) (type (func)) (type (func (param i32) (result i32))))")
     ≡ Some (record {
