@@ -1,6 +1,5 @@
 -- The headline from its three parts: what the decoder read, what the printer made of it, and the reading law.
 use Rattle.std.proofs.Common.{◌≡◌, ℕ, List, refl, sym, ap, ◌∙◌, subst}
-use Rattle.std.specs.Prelude.{IsUtf8}
 use Rattle.wasmprinter_spec.specs.Binary.{Spells}
 use Rattle.wasmprinter_spec.specs.Placed.{PlacedModule}
 use Rattle.wasmprinter_spec.specs.Limits.{IsWithinLimits}
@@ -8,10 +7,12 @@ use Rattle.wasmprinter_spec.specs.Call.{text_of}
 use Rattle.wasmprinter_spec.specs.Colour.{uncolour}
 use Rattle.wasmprinter_spec.specs.Meaning.{Meaning}
 use Rattle.wasmprinter_spec.specs.Options.{Options}
+use Rattle.wasmprinter_spec.specs.Plain.{IsPlainText}
 use Rattle.wasmprinter_spec.specs.Layout.{layout}
 use Rattle.wasmprinter_spec.specs.Read.{read}
 use Rattle.wasmprinter_bytes.specs.Emits.{Whole}
 use Rattle.wasmprinter_lexical.proofs.Alike.{alike_texts}
+use Rattle.wasmprinter_lexical.proofs.Plain.{uncolour-plain}
 use Rattle.wasmprinter_reading.proofs.Main.{reads_back, prints_plain_text}
 use Rattle.wasmprinter.specs.Printed.{Printed, unclaimed}
 
@@ -30,7 +31,7 @@ printed m o bytes placed spelled within made =
       alike = made.alike;
       reads = λ indexed whole blank asked.
           ap (λ t. read (uncolour t)) same
-          ∙ ap read (prints_plain_text bytes placed o unclaimed spelled blank).1
+          ∙ ap read (uncolour-plain _ (prints_plain_text bytes placed o unclaimed spelled blank))
           ∙ reads_back bytes placed o unclaimed spelled indexed whole blank (λ n. refl);
-      utf8 = λ blank. subst IsUtf8 (sym same) (prints_plain_text bytes placed o unclaimed spelled blank).0;
+      plain = λ blank. subst IsPlainText (sym same) (prints_plain_text bytes placed o unclaimed spelled blank);
     }

@@ -1,14 +1,15 @@
 -- The text that a printer over a writer of text hands over.
 use Rattle.std.specs.Prelude.{◌≡◌, ℕ, List, [], ◌∷◌, ◌++◌, refl}
-use Rattle.std.proofs.Common.{sym, ap, ◌∙◌, append_assoc, append-nil, inl}
+use Rattle.std.proofs.Common.{sym, ap, subst, ◌∙◌, append_assoc, append-nil, inl}
 use Rattle.wasmprinter_spec.specs.Call.{Call, Text, Newline, Line, Start, Claim, call_text, text_of}
 use Rattle.wasmprinter_spec.specs.Meaning.{Meaning, Run}
 use Rattle.wasmprinter_spec.specs.Options.{Options, Answers, defaults, IsBlank}
 use Rattle.wasmprinter_spec.specs.Placed.{PlacedModule}
+use Rattle.wasmprinter_spec.specs.Plain.{IsPlainText}
 use Rattle.wasmprinter_spec.specs.Layout.{layout}
 use Rattle.wasmprinter_bytes.specs.Writers.{FmtAfter}
 use Rattle.wasmprinter_lexical.proofs.Alike.{alike_texts}
-use Rattle.wasmprinter_reading.proofs.Main.{reads_back}
+use Rattle.wasmprinter_reading.proofs.Main.{reads_back, prints_plain_text}
 use Rattle.wasmprinter_spec.specs.Read.{read}
 use Rattle.wasmprinter.specs.Printed.{Printed, HasText, unclaimed}
 
@@ -48,5 +49,6 @@ printed_text m view grows bytes old new empty v =
       spelled = v.spelled;
       within = v.within;
       is = is;
+      plain = subst IsPlainText (sym is) (prints_plain_text bytes v.placed defaults unclaimed v.spelled two_blanks);
       reads = λ indexed. ap read is ∙ reads_back bytes v.placed defaults unclaimed v.spelled indexed refl two_blanks (λ n. refl);
     }

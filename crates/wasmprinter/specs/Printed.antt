@@ -1,5 +1,5 @@
 -- What it is that a module was printed: the headline.
-use Rattle.std.specs.Prelude.{◌≡◌, ℕ, List, false, Some, IsUtf8}
+use Rattle.std.specs.Prelude.{◌≡◌, ℕ, List, false, Some}
 use Rattle.std.specs.List.{AllByRecursion}
 use Rattle.wasmprinter_spec.specs.Binary.{Spells}
 use Rattle.wasmprinter_spec.specs.Placed.{PlacedModule}
@@ -10,6 +10,7 @@ use Rattle.wasmprinter_spec.specs.Call.{Call, Claim, atoms, text_of}
 use Rattle.wasmprinter_spec.specs.Colour.{uncolour}
 use Rattle.wasmprinter_spec.specs.Meaning.{Meaning, Run}
 use Rattle.wasmprinter_spec.specs.Options.{Options, defaults, Answers, IsBlank}
+use Rattle.wasmprinter_spec.specs.Plain.{IsPlainText}
 use Rattle.wasmprinter_spec.specs.Layout.{layout}
 use Rattle.wasmprinter_spec.specs.Read.{read}
 
@@ -24,7 +25,7 @@ IsUnclaimed _ = Unit {0}
 
 -- The printer's state is a run from the old one over calls that are alike the layout of the module that the bytes spell. Their text, colour
 -- sequences deleted, reads as exactly that module, where every used index is declared, bodies are printed, the indent is blank and
--- no custom section was claimed.
+-- no custom section was claimed. Where the indent is blank, their text is plain.
 pub record Printed {P : Type 0} (m : Meaning P) (o : Options) (bytes : List ℕ) (old new : P) : Type 0 where
   pub placed : PlacedModule
   pub spelled : Spells bytes placed
@@ -35,13 +36,14 @@ pub record Printed {P : Type 0} (m : Meaning P) (o : Options) (bytes : List ℕ)
   pub alike : atoms calls ≡ atoms (layout o answers placed)
   pub reads : IsIndexed (module_of placed) → o.skeleton ≡ false → IsBlank o.indent → AllByRecursion IsUnclaimed calls →
       read (uncolour (text_of calls)) ≡ Some (module_of placed)
-  pub utf8 : IsBlank o.indent → IsUtf8 (text_of calls)
+  pub plain : IsBlank o.indent → IsPlainText (text_of calls)
 
--- The text is that of the layout with the defaults, of the module that the bytes spell, and reads as exactly that module, where every used
--- index is declared.
+-- The text is that of the layout with the defaults, of the module that the bytes spell. It is plain, and reads as exactly that module, where
+-- every used index is declared.
 pub record HasText (bytes text : List ℕ) : Type 0 where
   pub placed : PlacedModule
   pub spelled : Spells bytes placed
   pub within : IsWithinLimits placed
   pub is : text ≡ text_of (layout defaults unclaimed placed)
+  pub plain : IsPlainText text
   pub reads : IsIndexed (module_of placed) → read text ≡ Some (module_of placed)

@@ -3,6 +3,7 @@ pub mod Numbers
 pub mod Quotes
 pub mod Grown
 pub mod Printed
+pub mod Plain
 pub mod Pieces
 pub mod Writes
 pub mod PrintedPieces

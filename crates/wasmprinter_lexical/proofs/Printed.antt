@@ -1,4 +1,4 @@
--- Printed bytes: a line feed, a tab, or from the blank to the tilde. So printed text is UTF-8, and no byte in it begins a colour sequence.
+-- Plain bytes by a test, which is computed for the bytes of each class: a line feed, a tab, or from the blank to the tilde.
 use Rattle.std.proofs.Common.{◌≡◌, ℕ, zero, suc, ◌<◌, ◌≤◌, ◌/◌, ◌%◌, Bool, true, false, ◌&&◌, ◌||◌, not, cond, leb, ltb, eqb, List, [], ◌∷◌, ◌++◌, refl, sym, ap, ◌∙◌, arith, true≢false}
 use Rattle.std.proofs.lemmas.Bool.{and_parts, and_from, agree_below, agree_below_at, ltb-true, ltb-false, le-ltb, le-leb, ne_eqb}
 use Rattle.std.specs.Fmt.{digits, digits_onto, digit_glyph}

@@ -1,19 +1,17 @@
--- The text of pieces holds printed bytes alone, so it is UTF-8 and holds no colour sequence.
-use Rattle.std.proofs.Common.{◌≡◌, ℕ, zero, suc, ◌-◌, Bool, true, false, ◌&&◌, ◌||◌, not, min, cond, leb, eqb, List, [], ◌∷◌, ◌++◌, Option, Some, None, refl, sym, ap, ◌∙◌, true≢false, append_assoc, ◌<◌, ◌≤◌, slice_index, codes, decimal, flat_map, replicate, length, arith, nat_eq}
-use Rattle.std.specs.Prelude.{IsUtf8}
-use Rattle.std.proofs.lemmas.Bool.{and_parts, and_from, false_from_ne_true, eqb-true, eq-eqb, leb-true, or_right}
+-- The text of pieces is plain.
+use Rattle.std.proofs.Common.{◌≡◌, ℕ, zero, suc, ◌-◌, Bool, true, false, ◌&&◌, ◌||◌, not, min, cond, leb, eqb, List, [], ◌∷◌, ◌++◌, Option, Some, None, refl, sym, ap, ◌∙◌, true≢false, append_assoc, codes, decimal, flat_map, replicate, length}
+use Rattle.std.proofs.lemmas.Bool.{and_parts, and_from, or_right}
 use Rattle.std.specs.Fmt.{signed_decimal, digits}
-use Rattle.std.specs.List.{starts_with}
-use Rattle.std.proofs.lemmas.Str.{IsUtf8-from_ascii}
 use Rattle.wasmprinter_spec.specs.Call.{Text, text_of}
 use Rattle.wasmprinter_spec.specs.Options.{Options, IsBlank}
+use Rattle.wasmprinter_spec.specs.Plain.{IsPlainText}
 use Rattle.wasmprinter_spec.specs.Quoted.{char_text, is_plain, quoted_text}
 use Rattle.wasmprinter_spec.specs.Piece.{Piece, Begin, Feed, Break, Gap, Open, OpenGap, Shut, Word, TypeWord, Number, Constant, Mark, Quoted, repeated, left_in, place_text, place_calls, most_indents, text, all_calls}
 use Rattle.wasmprinter_lexical.proofs.Runs.{is_word, is_plain_class, runs, all_run}
 use Rattle.wasmprinter_spec.specs.Character.{class}
-use Rattle.wasmprinter_spec.specs.Colour.{sequences, sequence_length_in, uncolour_step, uncolour_after, uncolour}
 use Rattle.wasmprinter_lexical.proofs.Numbers.{plain_runs, is_word-decimal, is_word-signed_decimal}
 use Rattle.wasmprinter_lexical.proofs.Printed.{is_printed, all_printed, all_printed-append, all_printed-run, all_printed-blank, hex_digits_are_good}
+use Rattle.wasmprinter_lexical.proofs.Plain.{plain_text}
 use Rattle.wasmprinter_lexical.proofs.Pieces.{IsPiece, ArePieces, all_text, text_of-all_calls, text_of-append, all_blank-IsBlank, all_blank-repeated}
 
 -- ---- parts of texts
@@ -98,63 +96,8 @@ module _ (o : Options) (blank : IsBlank o.indent) where
   printed_pieces [] h = refl
   printed_pieces (p ∷ ps) h = all_printed-append (text o p) (all_text o ps) (printed_piece p h.0) (printed_pieces ps h.1)
 
-  pub text_is_printed : (ps : List Piece) → ArePieces ps → all_printed (text_of (all_calls o ps)) ≡ true
+  text_is_printed : (ps : List Piece) → ArePieces ps → all_printed (text_of (all_calls o ps)) ≡ true
   text_is_printed ps h = ap all_printed (text_of-all_calls o ps) ∙ printed_pieces ps h
 
--- ---- printed text
-
-is_low : (b : ℕ) → is_printed b ≡ true → b < 128
-is_low b h = by (eqb b 10) refl (eqb b 9) refl (leb b 126) refl h
-  where
-    by : (t : Bool) → eqb b 10 ≡ t → (u : Bool) → eqb b 9 ≡ u → (v : Bool) → leb b 126 ≡ v → (t || u || (leb 32 b && v)) ≡ true → b < 128
-    by true e u f v g k = let same : b ≡ 10 = eqb-true b 10 e in omega arith
-    by false e true f v g k = let same : b ≡ 9 = eqb-true b 9 f in omega arith
-    by false e false f true g k = let le : b ≤ 126 = leb-true b 126 g in omega arith
-    by false e false f false g k = absurd (true≢false (sym (and_parts (leb 32 b) false k).1))
-
-ascii_at : (text : List ℕ) → all_printed text ≡ true → (i : ℕ) → slice_index text i < 128
-ascii_at [] h i = omega arith
-ascii_at (b ∷ bs) h zero = is_low b (and_parts (is_printed b) (all_printed bs) h).0
-ascii_at (b ∷ bs) h (suc i) = ascii_at bs (and_parts (is_printed b) (all_printed bs) h).1 i
-
-pub printed_is_utf8 : (text : List ℕ) → all_printed text ≡ true → IsUtf8 text
-printed_is_utf8 text h = IsUtf8-from_ascii text (ascii_at text h)
-
--- ---- no colour sequence
-
-begins_with_escape : List ℕ → Bool
-begins_with_escape [] = false
-begins_with_escape (b ∷ bs) = eqb b 27
-
-all_escape : List (List ℕ) → Bool
-all_escape [] = true
-all_escape (s ∷ ss) = begins_with_escape s && all_escape ss
-
-sequences_escape : all_escape sequences ≡ true
-unfolding all_escape begins_with_escape digits
-sequences_escape = refl
-
-not_begun : (s : List ℕ) (b : ℕ) (bs : List ℕ) → begins_with_escape s ≡ true → eqb b 27 ≡ false → starts_with nat_eq (b ∷ bs) s ≡ false
-unfolding begins_with_escape
-not_begun [] b bs h n = absurd (true≢false (sym h))
-not_begun (c ∷ cs) b bs h n =
-    let escape : c ≡ 27 = eqb-true c 27 h in
-    let other : eqb c b ≡ false = false_from_ne_true (eqb c b) (λ e. true≢false (sym (eq-eqb b 27 (sym (eqb-true c b e) ∙ escape)) ∙ n)) in
-    rw other
-
-no_sequence : (ss : List (List ℕ)) (b : ℕ) (bs : List ℕ) → all_escape ss ≡ true → eqb b 27 ≡ false → sequence_length_in ss (b ∷ bs) ≡ 0
-unfolding all_escape
-no_sequence [] b bs h n = refl
-no_sequence (s ∷ ss) b bs h n =
-    let parts : (begins_with_escape s ≡ true) × (all_escape ss ≡ true) = and_parts (begins_with_escape s) (all_escape ss) h in
-    ap (λ t. cond t (length s) (sequence_length_in ss (b ∷ bs))) (not_begun s b bs parts.0 n) ∙ no_sequence ss b bs parts.1 n
-
-not_escape : (b : ℕ) → is_printed b ≡ true → eqb b 27 ≡ false
-not_escape b h = false_from_ne_true (eqb b 27) (λ e. true≢false (sym (ap is_printed (sym (eqb-true b 27 e)) ∙ h)))
-
-pub uncolour-printed : (text : List ℕ) → all_printed text ≡ true → uncolour text ≡ text
-uncolour-printed [] h = refl
-uncolour-printed (b ∷ bs) h =
-    let parts : (is_printed b ≡ true) × (all_printed bs ≡ true) = and_parts (is_printed b) (all_printed bs) h in
-    ap (λ n. uncolour_step n b (λ k. uncolour_after k bs)) (no_sequence sequences b bs sequences_escape (not_escape b parts.0))
-    ∙ ap (λ t. b ∷ t) (uncolour-printed bs parts.1)
+  pub text_is_plain : (ps : List Piece) → ArePieces ps → IsPlainText (text_of (all_calls o ps))
+  text_is_plain ps h = plain_text _ (text_is_printed ps h)

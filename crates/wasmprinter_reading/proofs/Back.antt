@@ -1,17 +1,19 @@
 -- The items of a module read back as that module.
-use Rattle.std.proofs.Common.{◌≡◌, ℕ, Bool, true, false, List, [], ◌∷◌, ◌++◌, Option, Some, None, refl, ap, ◌∙◌, codes, slice_get, map, option_map, append-nil}
+use Rattle.std.proofs.Common.{◌≡◌, ◌⊎◌, inl, inr, ℕ, ◌<◌, ◌≤◌, arith, Bool, true, false, List, [], ◌∷◌, ◌++◌, length, Option, Some, None, refl, ap, ◌∙◌, codes, slice_get, get_or, map, option_map, append-nil}
 use Rattle.std.specs.List.{AllByRecursion}
 use Rattle.std.proofs.lemmas.Bool.{and_from}
-use Rattle.std.proofs.lemmas.Option.{slice_get-map}
+use Rattle.std.proofs.lemmas.List.{length-map}
+use Rattle.std.proofs.lemmas.Option.{slice_get-map, slice_get_cases}
 use Rattle.wasmprinter_spec.specs.Grammar.{Placed}
 use Rattle.wasmprinter_spec.specs.Forest.{Forest, End, Word, Group, onto}
 use Rattle.wasmprinter_spec.specs.Types as types
 use Rattle.wasmprinter_spec.specs.Types.{ValType, FuncType}
 use Rattle.wasmprinter_spec.specs.Placed.{Export, PlacedFunction, PlacedModule}
 use Rattle.wasmprinter_spec.specs.Module.{without_places, expanded, function_of, module_of}
+use Rattle.wasmprinter_spec.specs.Indexed.{IsIndexed, IsIndexedFunction}
 use Rattle.wasmprinter_spec.specs.Layout.{signature_of}
-use Rattle.wasmprinter_spec.specs.IndexSpaces.{Identifiers, ByNumber}
-use Rattle.wasmprinter_spec.specs.Read.{ids_of, identified, TypeText, ExportText, FunctionText, Field, TypeField, ExportField, FunctionField, field, Fields, add, no_fields, fields, each, same_type, same_types, same_func_type, parameters, read_function, read_export, resolved, read_forest}
+use Rattle.wasmprinter_spec.specs.IndexSpaces.{Identifiers, are_distinct, index_space, Spaces, ByNumber}
+use Rattle.wasmprinter_spec.specs.Read.{variable, ids_of, identified, TypeText, ExportText, FunctionText, Field, TypeField, ExportField, FunctionField, field, Fields, add, no_fields, fields, each, same_type, same_types, same_func_type, parameters, module_spaces, read_function, read_export, resolved, read_forest}
 use Rattle.wasmprinter_lexical.proofs.Grown.{onto-End}
 use Rattle.wasmprinter_reading.proofs.Ranged.{IsRanged, IsRangedExport, IsRangedFunction}
 use Rattle.wasmprinter_reading.proofs.Trees.{type_items, export_items, function_items}
@@ -75,16 +77,33 @@ same_func_type_refl : (t : FuncType) → same_func_type t t ≡ true
 same_func_type_refl t = and_from (same_types t.params t.params) (same_types t.results t.results) (same_types_refl t.params) (same_types_refl t.results)
 
 -- the signature that stands beside the index of a type is the type's
-record HasParameters (t : FuncType) (o : Option FuncType) : Type 0 where
-  ids : Identifiers
-  found : parameters (printed_signature t) o ≡ Some ids
+own_parameters : (o : Option (Placed FuncType)) (d : Placed FuncType) → o ≡ Some d → parameters (printed_signature (signature_of o)) (option_map (λ t. t.value) o) ≡ Some (ids_of (unnamed (signature_of o).params))
+own_parameters None d e = absurd (cc)
+own_parameters (Some t) d e = rw (types_of-unnamed t.value.params, same_func_type_refl t.value)
 
-own_parameters : (o : Option (Placed FuncType)) → HasParameters (signature_of o) (option_map (λ t. t.value) o)
-own_parameters None = record { ids = []; found = refl }
-own_parameters (Some t) = record {
-  ids = ids_of (unnamed t.value.params);
-  found = rw (types_of-unnamed t.value.params, same_func_type_refl t.value);
-}
+-- ---- index spaces
+
+-- declarations without identifiers, before others
+unnamed_are_distinct : {A B : Type 0} (id : B → Option (List ℕ)) (make : A → B) → ((x : A) → id (make x) ≡ None) → (xs : List A) (ids : Identifiers) →
+    are_distinct ids ≡ true → are_distinct (map id (map make xs) ++ ids) ≡ true
+unnamed_are_distinct id make none [] ids h = h
+unnamed_are_distinct id make none (x ∷ xs) ids h = rw (none x) (unnamed_are_distinct id make none xs ids h)
+
+-- declarations without identifiers are an index space
+unnamed_space : {A B : Type 0} (id : B → Option (List ℕ)) (make : A → B) → ((x : A) → id (make x) ≡ None) → (xs : List A) →
+    index_space (map id (map make xs)) ≡ Some (map id (map make xs))
+unnamed_space id make none xs =
+    let h : are_distinct (map id (map make xs) ++ []) ≡ true = unnamed_are_distinct id make none xs [] refl in
+    let k : are_distinct (map id (map make xs)) ≡ true = rw append-nil at h in
+    rw k
+
+-- so are parameters and locals
+local_space : (ps ls : List ValType) → index_space (ids_of (unnamed ps) ++ ids_of (unnamed ls)) ≡ Some (ids_of (unnamed ps) ++ ids_of (unnamed ls))
+local_space ps ls =
+    let locals : are_distinct (ids_of (unnamed ls) ++ []) ≡ true = unnamed_are_distinct (λ v. v.id) (variable None) (λ t. refl) ls [] refl in
+    let h : are_distinct (ids_of (unnamed ps) ++ ids_of (unnamed ls)) ≡ true =
+    unnamed_are_distinct (λ v. v.id) (variable None) (λ t. refl) ps (ids_of (unnamed ls)) (rw append-nil at locals) in
+    rw h
 
 -- ---- the module
 
@@ -142,24 +161,45 @@ module _ (m : PlacedModule) where
   declared_at : (i : ℕ) → slice_get (map (λ t. t.type) (map type_text m.types)) i ≡ option_map (λ t. t.value) (slice_get m.types i)
   declared_at i = ap (λ ts. slice_get ts i) (declared m.types) ∙ slice_get-map (λ t. t.value) m.types i
 
-  read_function-text : (f : PlacedFunction) → IsRangedFunction f → read_function all_fields (function_text f) ≡ Some (function_of f)
-  unfolding all_fields function_text own_type
-  read_function-text f h =
-      let own = own_parameters (slice_get m.types f.type_index) in
-      rw (declared_at f.type_index, own.found, operators-read _ (without_places f.body.value.operators) (listed_values f.body.value.operators h.operators), types_of-unnamed (expanded f.body.value.locals))
+  -- a declared type
+  declared_type : (ts : List (Placed FuncType)) (i : ℕ) → i < length (without_places ts) → (d : Placed FuncType) × (slice_get ts i ≡ Some d)
+  declared_type ts i h = by (slice_get_cases ts i).1
+    where
+      by : (((x : Placed FuncType) × (i < length ts) × (slice_get ts i ≡ Some x) × (get_or ts i x ≡ x)) ⊎ ((length ts ≤ i) × (slice_get ts i ≡ None))) → (d : Placed FuncType) × (slice_get ts i ≡ Some d)
+      by (inl a) = (a.0, a.2)
+      by (inr a) = absurd (omega (arith, h, a.0, length-map ts (λ (t : Placed FuncType). t.value)))
 
-  read_functions : (fs : List PlacedFunction) → AllByRecursion IsRangedFunction fs → each (read_function all_fields) (map function_text fs) ≡ Some (map function_of fs)
-  read_functions [] h = refl
-  read_functions (f ∷ fs) h = rw (read_function-text f h.0, read_functions fs h.1)
+  all_spaces : Spaces
+  all_spaces = record { types = map (λ t. t.id) (map type_text m.types); functions = map (λ f. f.id) (map function_text m.functions); locals = [] }
 
-  read_exports : (es : List (Placed Export)) → each (read_export all_fields) (map export_text es) ≡ Some (without_places es)
+  module_spaces-all_fields : module_spaces all_fields ≡ Some all_spaces
+  unfolding all_fields all_spaces type_text function_text
+  module_spaces-all_fields = rw (unnamed_space (λ t. t.id) type_text (λ t. refl) m.types, unnamed_space (λ f. f.id) function_text (λ f. refl) m.functions)
+
+  read_function-text : (f : PlacedFunction) → f.type_index < length (without_places m.types) → IsRangedFunction f → read_function all_fields all_spaces (function_text f) ≡ Some (function_of f)
+  unfolding all_fields all_spaces function_text own_type
+  read_function-text f k h =
+      let d = declared_type m.types f.type_index k in
+      rw (
+        declared_at f.type_index,
+        own_parameters (slice_get m.types f.type_index) d.0 d.1,
+        local_space (signature_of (slice_get m.types f.type_index)).params (expanded f.body.value.locals),
+        operators-read _ (without_places f.body.value.operators) (listed_values f.body.value.operators h.operators),
+        types_of-unnamed (expanded f.body.value.locals),
+      )
+
+  read_functions : (fs : List PlacedFunction) → AllByRecursion (IsIndexedFunction (module_of m)) (map function_of fs) → AllByRecursion IsRangedFunction fs → each (read_function all_fields all_spaces) (map function_text fs) ≡ Some (map function_of fs)
+  read_functions [] k h = refl
+  read_functions (f ∷ fs) k h = rw (read_function-text f k.0.type_index h.0, read_functions fs k.1 h.1)
+
+  read_exports : (es : List (Placed Export)) → each (read_export all_fields all_spaces) (map export_text es) ≡ Some (without_places es)
   unfolding export_text
   read_exports [] = refl
   read_exports (e ∷ es) = rw (read_exports es)
 
-  resolved-all_fields : IsRanged m → resolved all_fields ≡ Some (module_of m)
+  resolved-all_fields : IsIndexed (module_of m) → IsRanged m → resolved all_fields ≡ Some (module_of m)
   unfolding all_fields
-  resolved-all_fields h = rw (read_functions m.functions h.each_function, read_exports m.exports, declared m.types)
+  resolved-all_fields k h = rw (module_spaces-all_fields, read_functions m.functions k.functions h.each_function, read_exports m.exports, declared m.types)
 
   -- no identifier stands before the fields
   no_identifier : (identified (module_items false)).1 ≡ module_items false
@@ -169,5 +209,5 @@ module _ (m : PlacedModule) where
       (group_first (map (λ e. export_items e.value) m.exports) _
       (no_identifier_in (map (λ f. function_items false (own_type f) f) m.functions)))
 
-  pub module_reads : IsRanged m → read_forest (Group (Word (codes "module") (module_items false)) End) ≡ Some (module_of m)
-  module_reads h = rw (no_identifier, fields-module_items h, resolved-all_fields h)
+  pub module_reads : IsIndexed (module_of m) → IsRanged m → read_forest (Group (Word (codes "module") (module_items false)) End) ≡ Some (module_of m)
+  module_reads k h = rw (no_identifier, fields-module_items h, resolved-all_fields k h)

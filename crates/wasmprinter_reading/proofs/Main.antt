@@ -9,14 +9,16 @@ use Rattle.wasmprinter_spec.specs.Forest.{Forest, End, Word, Group, forest, cut}
 use Rattle.wasmprinter_spec.specs.Token.{tokens}
 use Rattle.wasmprinter_spec.specs.Call.{text_of}
 use Rattle.wasmprinter_spec.specs.Options.{Options, IsBlank}
+use Rattle.wasmprinter_spec.specs.Plain.{IsPlainText}
 use Rattle.wasmprinter_spec.specs.Piece.{Piece, Feed, all_calls, all_tokens}
 use Rattle.wasmprinter_spec.specs.Placed.{PlacedModule, PlacedFunction}
 use Rattle.wasmprinter_spec.specs.Layout.{numbered, type_pieces, export_pieces, function_pieces, field_pieces, module_pieces, layout}
-use Rattle.wasmprinter_spec.specs.Laws.{ReadsBack, TokensStay, IsPlainText, PrintsPlainText}
+use Rattle.wasmprinter_spec.specs.Laws.{ReadsBack, TokensStay, PrintsPlainText}
 use Rattle.wasmprinter_spec.specs.Read.{read, read_groups, read_forest, without_customs}
 use Rattle.wasmprinter_lexical.proofs.Pieces.{Free, Bound}
 use Rattle.wasmprinter_lexical.proofs.Writes.{Writes, both_write, nothing_writes, break_writes, writes_forest, writes_tokens, begin_writes, group_at_then, feed_writes}
-use Rattle.wasmprinter_lexical.proofs.PrintedPieces.{text_is_printed, printed_is_utf8, uncolour-printed}
+use Rattle.wasmprinter_lexical.proofs.Plain.{plain_is_utf8}
+use Rattle.wasmprinter_lexical.proofs.PrintedPieces.{text_is_plain}
 use Rattle.wasmprinter_reading.proofs.Ranged.{IsRanged, IsRangedExport, IsRangedFunction}
 use Rattle.wasmprinter_reading.proofs.Ranges.{ranged}
 use Rattle.wasmprinter_reading.proofs.Trees.{type_items, export_items, function_items, type_writes, export_writes, function_writes}
@@ -58,14 +60,12 @@ module _ (o : Options) (m : PlacedModule) (h : IsRanged m) where
   layout_tokens blank = writes_tokens o blank (module_pieces o m) module_writes
 
   pub layout_is_plain : IsBlank o.indent → IsPlainText (text_of (all_calls o (module_pieces o m)))
-  layout_is_plain blank =
-      let printed = text_is_printed o blank (module_pieces o m) module_writes.are in
-      (printed_is_utf8 _ printed, uncolour-printed _ printed)
+  layout_is_plain blank = text_is_plain o blank (module_pieces o m) module_writes.are
 
   read_layout : IsBlank o.indent → read (text_of (all_calls o (module_pieces o m))) ≡ read_forest (Group (Word (codes "module") (module_items m o.skeleton)) End)
   read_layout blank =
       let w = module_writes in
-      ap (λ t. cond t (forest (text_of (all_calls o (module_pieces o m))) >>= read_groups) None) (is_utf8-from_IsUtf8 _ (layout_is_plain blank).0)
+      ap (λ t. cond t (forest (text_of (all_calls o (module_pieces o m))) >>= read_groups) None) (is_utf8-from_IsUtf8 _ (plain_is_utf8 _ (layout_is_plain blank)))
       ∙ ap (λ f. f >>= read_groups) (writes_forest o blank (module_pieces o m) w)
       ∙ ap (λ c. without_customs c (read_forest (cut w.whole))) w.in_groups
       ∙ ap read_forest w.without
@@ -76,7 +76,7 @@ reads_back bytes m o answers spelled indexed whole blank unclaimed =
     let h : IsRanged m = ranged bytes m spelled in
     read_layout o m h blank
     ∙ ap (λ s. read_forest (Group (Word (codes "module") (module_items m s)) End)) whole
-    ∙ module_reads m h
+    ∙ module_reads m indexed h
 
 pub prints_plain_text : PrintsPlainText
 unfolding layout

@@ -2,7 +2,7 @@
 //! with an empty body. No code of the printer is in them: they relate the grammar, the layout and the reader of text.
 #![tactic(auto)]
 
-ghost use Rattle.wasmprinter_spec.specs.Laws.{SpellsOne, ReadsBack, TokensStay, PrintsPlainText};
+ghost use Rattle.wasmprinter_spec.specs.Laws.{SpellsOne, ReadsBack, TokensStay, PrintsPlainText, PlainTextIsUtf8, PlainTextHasNoColour, PlainTextsJoin};
 
 /// Given bytes spell at most one module with its places (section 5.5 of the standard, "Modules").
 pub fn bytes_spell_one_module()
@@ -19,7 +19,22 @@ pub fn places_and_indent_keep_tokens()
     ensures { TokensStay }
 {}
 
-/// Printed text is UTF-8 and holds no colour sequence.
+/// Printed text is made of tabs, line feeds and the characters from the blank to the tilde alone.
 pub fn printed_text_is_plain()
     ensures { PrintsPlainText }
+{}
+
+/// Such text is UTF-8.
+pub fn plain_text_is_utf8()
+    ensures { PlainTextIsUtf8 }
+{}
+
+/// Deleting colour sequences leaves such text as it is.
+pub fn plain_text_has_no_colour()
+    ensures { PlainTextHasNoColour }
+{}
+
+/// Two such texts, one behind the other, are such a text.
+pub fn plain_texts_join()
+    ensures { PlainTextsJoin }
 {}

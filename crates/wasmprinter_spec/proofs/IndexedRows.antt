@@ -1,13 +1,14 @@
 -- Worked rows of declared indices (section 2.5 of the standard, "Indices"), and of indents.
-use Rattle.std.specs.Prelude.{ℕ, List, [], ◌∷◌, codes, refl}
+use Rattle.std.specs.Prelude.{ℕ, pos, negsuc, List, [], ◌∷◌, codes, refl}
 use Rattle.std.proofs.Common.{arith, inl, inr}
 use Rattle.wasmprinter_spec.specs.Types.{I32}
-use Rattle.wasmprinter_spec.specs.Operator.{Operator}
+use Rattle.wasmprinter_spec.specs.Operator as operator
+use Rattle.wasmprinter_spec.specs.Operator.{Opcode, opcode, Immediates, NoImmediates, Index, Operator}
 use Rattle.wasmprinter_spec.specs.Table.{table, control_rows, number_rows}
 use Rattle.wasmprinter_spec.specs.Module.{Module}
 use Rattle.wasmprinter_spec.specs.Indexed.{IsIndexed}
 use Rattle.wasmprinter_spec.specs.Options.{defaults, IsBlank}
-use Rattle.wasmprinter_spec.proofs.Samples.{local_get, local_set, call, empty, identity, stored, mixed}
+use Rattle.wasmprinter_spec.proofs.Samples.{local_get, local_set, call, drop, return, i32_const, i64_const, empty, identity, stored, mixed}
 
 empty_indexed : IsIndexed empty
 empty_indexed = record { functions = tt; exports = tt }
@@ -70,6 +71,55 @@ no_such_callee i = omega (arith, i.functions.0.operators.0)
 
 no_such_function : IsIndexed (calling 0 [] 1) → ⊥
 no_such_function i = omega (arith, i.exports.0)
+
+-- ---- immediates of each shape, and others
+
+-- a function over i32 with a local whose body is one operator
+abbrev one_operator : Opcode → Immediates → Module
+one_operator o i = calling 0 (record { opcode = o; immediates = i } ∷ []) 0
+
+every_shape : IsIndexed (calling 0 (return ∷ call 0 ∷ drop ∷ local_get 1 ∷ i32_const (negsuc 0) ∷ i64_const (pos 5) ∷ []) 0)
+unfolding table control_rows number_rows
+every_shape = record {
+  functions = (record { type_index = omega arith; operators = (tt, (omega arith, (tt, (omega arith, (tt, (tt, tt)))))) }, tt);
+  exports = (omega arith, tt);
+}
+
+index_of_drop : IsIndexed (one_operator (opcode 0 0x1a) (Index 0)) → ⊥
+unfolding table control_rows number_rows
+index_of_drop i = i.functions.0.operators.0
+
+no_index_of_local : IsIndexed (one_operator (opcode 0 0x20) NoImmediates) → ⊥
+unfolding table control_rows number_rows
+no_index_of_local i = i.functions.0.operators.0
+
+constant_of_local : IsIndexed (one_operator (opcode 0 0x20) (operator.I32 (pos 0))) → ⊥
+unfolding table control_rows number_rows
+constant_of_local i = i.functions.0.operators.0
+
+long_constant : IsIndexed (one_operator (opcode 0 0x41) (operator.I64 (pos 0))) → ⊥
+unfolding table control_rows number_rows
+long_constant i = i.functions.0.operators.0
+
+short_constant : IsIndexed (one_operator (opcode 0 0x42) (operator.I32 (pos 0))) → ⊥
+unfolding table control_rows number_rows
+short_constant i = i.functions.0.operators.0
+
+no_constant : IsIndexed (one_operator (opcode 0 0x42) NoImmediates) → ⊥
+unfolding table control_rows number_rows
+no_constant i = i.functions.0.operators.0
+
+unlisted_opcode : IsIndexed (one_operator (opcode 0 0x01) NoImmediates) → ⊥
+unfolding table control_rows number_rows
+unlisted_opcode i = i.functions.0.operators.0
+
+end_opcode : IsIndexed (one_operator (opcode 0 0x0b) NoImmediates) → ⊥
+unfolding table control_rows number_rows
+end_opcode i = i.functions.0.operators.0
+
+unlisted_prefix : IsIndexed (one_operator (opcode 0xfc 0x1a) NoImmediates) → ⊥
+unfolding table control_rows number_rows
+unlisted_prefix i = i.functions.0.operators.0
 
 mixed_not_indexed : IsIndexed mixed → ⊥
 mixed_not_indexed i = omega (arith, i.exports.1.0)

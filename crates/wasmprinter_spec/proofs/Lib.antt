@@ -3,6 +3,7 @@ pub mod LebRows
 pub mod BinaryRows
 pub mod LayoutRows
 pub mod ColourRows
+pub mod PlainRows
 pub mod NumeralRows
 pub mod TokenRows
 pub mod ForestRows

@@ -10,7 +10,7 @@ use Rattle.wasmprinter_spec.specs.Character.{class}
 use Rattle.wasmprinter_spec.specs.Numeral.{numeral, natural, integer}
 use Rattle.wasmprinter_spec.specs.Token.{escape, lex}
 use Rattle.wasmprinter_spec.specs.Read.{groups, read}
-use Rattle.wasmprinter_spec.proofs.Samples.{local_get, local_set, call, drop, return, i32_const, i64_const, empty_placed, empty, identity_placed, identity, identity_text, identity_text_with_offsets, stored_placed, stored, stored_text, mixed_placed, mixed, mixed_text}
+use Rattle.wasmprinter_spec.proofs.Samples.{local_get, local_set, call, drop, return, i32_const, i64_const, empty_placed, empty, identity_placed, identity, identity_text, identity_text_with_offsets, stored_placed, stored, stored_text, mixed_placed, mixed, mixed_using, mixed_text_using}
 
 -- ---- what is left of a module without its places
 
@@ -48,7 +48,8 @@ reads_stored : read stored_text ≡ Some stored
 unfolding lex class numeral natural integer groups table control_rows number_rows is_utf8 chars encode_utf8
 reads_stored = refl
 
-reads_mixed : read mixed_text ≡ Some mixed
+-- a function that is called or exported need not be there to be read, a type that is used must
+reads_mixed : read (mixed_text_using (codes "0")) ≡ Some (mixed_using 0)
 unfolding lex class escape numeral natural integer groups table control_rows number_rows is_utf8 chars encode_utf8
 reads_mixed = refl
 
@@ -99,6 +100,39 @@ parameter_names = refl
 unwritten_parameters : read (codes "(module (type (func (param i32 i64))) (type (func)) (func $f (type 0) (local i64) (local $l i32) (local i32) local.get 0 local.get $l local.set 1 local.set 4 call 1) (func $g (type 1) call $f call $g) (export \"a\" (func 1)) (export \"b\" (func 0)))") ≡ Some two_functions
 unfolding lex class numeral natural groups table control_rows number_rows is_utf8 chars encode_utf8
 unwritten_parameters = refl
+
+-- one identifier in spaces of different kinds, and in two functions
+shared_identifiers : read (codes "(module $a (type $a (func)) (func $a (type $a) (local $a i32) local.get $a) (func $b (type $a) (local i32) (local $a i32) local.get $a call $a) (export \"a\" (func $a)))")
+    ≡ Some (record {
+      types = record { params = []; results = [] } ∷ [];
+      functions =
+          record { type_index = 0; locals = I32 ∷ []; operators = local_get 0 ∷ [] }
+          ∷ record { type_index = 0; locals = I32 ∷ I32 ∷ []; operators = local_get 1 ∷ call 0 ∷ [] }
+          ∷ [];
+      exports = record { name = codes "a"; function = 0 } ∷ [];
+    })
+unfolding lex class numeral natural groups table control_rows number_rows is_utf8 chars encode_utf8
+shared_identifiers = refl
+
+-- identifiers in a type declare nothing
+identifiers_in_type : read (codes "(module (type (func (param $x i32) (param $x i32))) (func (type 0) (local $x i32) local.get $x))")
+    ≡ Some (record {
+      types = record { params = I32 ∷ I32 ∷ []; results = [] } ∷ [];
+      functions = record { type_index = 0; locals = I32 ∷ []; operators = local_get 2 ∷ [] } ∷ [];
+      exports = [];
+    })
+unfolding lex class numeral natural groups table control_rows number_rows is_utf8 chars encode_utf8
+identifiers_in_type = refl
+
+-- the signature stands beside a type that is declared, which may stand behind its use
+signature_beside : read (codes "(module (func (type 1) (param $x i32) (result i32) local.get $x) (type (func)) (type (func (param i32) (result i32))))")
+    ≡ Some (record {
+      types = record { params = []; results = [] } ∷ record { params = I32 ∷ []; results = I32 ∷ [] } ∷ [];
+      functions = record { type_index = 1; locals = []; operators = local_get 0 ∷ [] } ∷ [];
+      exports = [];
+    })
+unfolding lex class numeral natural groups table control_rows number_rows is_utf8 chars encode_utf8
+signature_beside = refl
 
 -- ---- operators
 

@@ -224,8 +224,9 @@ mixed_placed = record {
   size = 0x56;
 }
 
-abbrev pub mixed : Module
-mixed = record {
+-- what it is without places, where its last function uses this type
+abbrev pub mixed_using : ℕ → Module
+mixed_using type = record {
   types = record { params = []; results = [] } ∷ record { params = types.I32 ∷ types.I64 ∷ []; results = types.I64 ∷ types.I32 ∷ [] } ∷ [];
   functions =
       record { type_index = 0; locals = []; operators = [] }
@@ -234,13 +235,16 @@ mixed = record {
         locals = types.I64 ∷ types.I64 ∷ types.I32 ∷ [];
         operators = i32_const (neg_ℤ (pos 2147483648)) ∷ drop ∷ i64_const (pos 9223372036854775807) ∷ call 4294967295 ∷ return ∷ [];
       }
-      ∷ record { type_index = 7; locals = []; operators = [] }
+      ∷ record { type_index = type; locals = []; operators = [] }
       ∷ [];
   exports = record { name = 0x1b ∷ 0xc3 ∷ 0xa9 ∷ []; function = 1 } ∷ record { name = []; function = 12 } ∷ [];
 }
 
-abbrev pub mixed_text : List ℕ
-mixed_text = lines (
+abbrev pub mixed : Module
+mixed = mixed_using 7
+
+abbrev pub mixed_text_using : List ℕ → List ℕ
+mixed_text_using type = lines (
     codes "(module"
     ∷ codes "  (type (;0;) (func))"
     ∷ codes "  (type (;1;) (func (param i32 i64) (result i64 i32)))"
@@ -255,6 +259,9 @@ mixed_text = lines (
     ∷ codes "    call 4294967295"
     ∷ codes "    return"
     ∷ codes "  )"
-    ∷ codes "  (func (;2;) (type 7))"
+    ∷ (codes "  (func (;2;) (type " ++ type ++ codes "))")
     ∷ codes ")"
     ∷ [])
+
+abbrev pub mixed_text : List ℕ
+mixed_text = mixed_text_using (codes "7")

@@ -8,6 +8,7 @@ use Rattle.wasmprinter_spec.specs.Character.{class}
 use Rattle.wasmprinter_spec.specs.Numeral.{numeral, natural, integer}
 use Rattle.wasmprinter_spec.specs.Token.{escape, lex}
 use Rattle.wasmprinter_spec.specs.Read.{groups, read}
+use Rattle.wasmprinter_spec.proofs.Samples.{mixed_text}
 
 abbrev number_if : Option Module → ℕ → List ℕ
 number_if None n = []
@@ -128,6 +129,19 @@ unread_indices : numbers_read (
 unfolding lex class escape numeral natural integer groups table control_rows number_rows is_utf8 chars encode_utf8
 unread_indices = refl
 
+-- an identifier declared twice in one space, which nothing uses
+unread_identifiers : numbers_read (
+    codes "(module (type $t (func)) (type $t (func)))"
+    ∷ codes "(module (type $t (func)) (type (func)) (type $u (func)) (type $\"t\" (func (param i32))))"
+    ∷ codes "(module (type (func)) (func $f (type 0)) (func $f (type 0)))"
+    ∷ codes "(module (type (func)) (func $f (type 0)) (func (type 0)) (func $g (type 0)) (func $\"\\66\" (type 0)))"
+    ∷ codes "(module (type (func (param i32))) (func (type 0) (param $x i32) (local $x i64)))"
+    ∷ codes "(module (type (func (param i32 i32))) (func (type 0) (param $x i32) (param $x i32)))"
+    ∷ codes "(module (type (func)) (func (type 0) (local $x i32) (local i32) (local $x i32)))"
+    ∷ []) ≡ []
+unfolding lex class escape numeral natural integer groups table control_rows number_rows is_utf8 chars encode_utf8
+unread_identifiers = refl
+
 -- a signature beside a type's index is whole and in order
 unread_signatures : numbers_read (
     codes "(module (type (func (param i32))) (func (type 0) (param i64)))"
@@ -139,12 +153,25 @@ unread_signatures : numbers_read (
     ∷ codes "(module (type (func (param i32) (result i32))) (func (type 0) (result i32) (param i32)))"
     ∷ codes "(module (type (func (param i32))) (func (type 0) (local i32) (param i32)))"
     ∷ codes "(module (type (func (param i32))) (func (param i32) (type 0)))"
-    ∷ codes "(module (func (type 0) (param i32)))"
     ∷ codes "(module (type (func)) (func (type 0) $f))"
     ∷ codes "(module (type (func)) (func (type 0 0)))"
     ∷ []) ≡ []
 unfolding lex class escape numeral natural integer groups table control_rows number_rows is_utf8 chars encode_utf8
 unread_signatures = refl
+
+-- a function whose type isn't declared, with a signature beside it and without one
+unread_type_uses : numbers_read (
+    codes "(module (func (type 0)))"
+    ∷ codes "(module (func (type 0) (param i32)))"
+    ∷ codes "(module (func (type 0) (param $x i32) (result i32) local.get $x))"
+    ∷ codes "(module (type (func)) (func (type 1)))"
+    ∷ codes "(module (type (func)) (type (func (param i32))) (func (type 2) (param i32)))"
+    ∷ codes "(module (type (func)) (func (type 4294967295)))"
+    ∷ codes "(module (type $t (func)) (func (type $u)))"
+    ∷ mixed_text
+    ∷ []) ≡ []
+unfolding lex class escape numeral natural integer groups table control_rows number_rows is_utf8 chars encode_utf8
+unread_type_uses = refl
 
 -- a text of one function with this code
 abbrev procedure : List ℕ → List ℕ

@@ -3,8 +3,8 @@
 use Rattle.std.specs.Prelude.{ℕ, ◌+◌, ◌<◌, length, Option, Some, None, slice_get}
 use Rattle.std.specs.List.{AllByRecursion}
 use Rattle.wasmprinter_spec.specs.Types.{FuncType}
-use Rattle.wasmprinter_spec.specs.Operator.{Immediates, Index, Operator}
-use Rattle.wasmprinter_spec.specs.Row.{Row, Space, Func, Local, Shape, IndexShape}
+use Rattle.wasmprinter_spec.specs.Operator.{Immediates, NoImmediates, Index, I32, I64, Operator}
+use Rattle.wasmprinter_spec.specs.Row.{Row, Space, Func, Local, Shape, NoneShape, IndexShape, I32Shape, I64Shape}
 use Rattle.wasmprinter_spec.specs.Table.{by_opcode}
 use Rattle.wasmprinter_spec.specs.Module.{Function, Module}
 
@@ -17,12 +17,17 @@ abbrev pub count_of : Counts → Space → ℕ
 count_of c Func = c.functions
 count_of c Local = c.locals
 
+-- A line for each shape, with the immediates that fit it. No other immediates are an operator's.
 abbrev pub AreDeclared : Counts → Shape → Immediates → Type 0
+AreDeclared c NoneShape NoImmediates = Unit {0}
 AreDeclared c (IndexShape space) (Index n) = n < count_of c space
-AreDeclared c _ _ = Unit {0}
+AreDeclared c I32Shape (I32 z) = Unit {0}
+AreDeclared c I64Shape (I64 z) = Unit {0}
+AreDeclared c _ _ = ⊥
 
+-- an opcode that isn't listed has no immediates
 abbrev pub AreDeclaredBy : Counts → Option Row → Immediates → Type 0
-AreDeclaredBy c None i = Unit {0}
+AreDeclaredBy c None i = ⊥
 AreDeclaredBy c (Some r) i = AreDeclared c r.shape i
 
 abbrev pub IsIndexedOperator : Counts → Operator → Type 0

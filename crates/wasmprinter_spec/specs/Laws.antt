@@ -1,11 +1,12 @@
 -- The laws of these definitions. Functions of the crates above have them as their contracts.
-use Rattle.std.specs.Prelude.{◌≡◌, ℕ, List, [], ◌∷◌, false, Some, chars, IsUtf8}
+use Rattle.std.specs.Prelude.{◌≡◌, ℕ, List, [], ◌∷◌, ◌++◌, false, Some, chars, IsUtf8}
 use Rattle.wasmprinter_spec.specs.Binary.{AreBytes, Spells}
 use Rattle.wasmprinter_spec.specs.Placed.{PlacedModule}
 use Rattle.wasmprinter_spec.specs.Module.{module_of}
 use Rattle.wasmprinter_spec.specs.Indexed.{IsIndexed}
 use Rattle.wasmprinter_spec.specs.Call.{Call, atoms, text_of}
 use Rattle.wasmprinter_spec.specs.Colour.{uncolour}
+use Rattle.wasmprinter_spec.specs.Plain.{IsPlainText}
 use Rattle.wasmprinter_spec.specs.Options.{Options, Answers, AreUnclaimed, IsBlank}
 use Rattle.wasmprinter_spec.specs.Layout.{layout}
 use Rattle.wasmprinter_spec.specs.Quoted.{quoted_text, quoted_bytes}
@@ -42,11 +43,20 @@ TokensStay =
     Spells bytes m → o.skeleton ≡ p.skeleton → IsBlank o.indent → IsBlank p.indent →
     tokens (text_of (layout o answers m)) ≡ tokens (text_of (layout p answers m))
 
--- Printed text is UTF-8, and deleting colour sequences leaves it as it is.
-abbrev pub IsPlainText : List ℕ → Type 0
-IsPlainText text = IsUtf8 text × (uncolour text ≡ text)
-
+-- Printed text is plain.
 abbrev pub PrintsPlainText : Type 0
 PrintsPlainText =
     (bytes : List ℕ) (m : PlacedModule) (o : Options) (answers : Answers) →
     Spells bytes m → IsBlank o.indent → IsPlainText (text_of (layout o answers m))
+
+-- Plain text is UTF-8.
+abbrev pub PlainTextIsUtf8 : Type 0
+PlainTextIsUtf8 = (text : List ℕ) → IsPlainText text → IsUtf8 text
+
+-- Plain text has no colour sequence: deleting them leaves it as it is.
+abbrev pub PlainTextHasNoColour : Type 0
+PlainTextHasNoColour = (text : List ℕ) → IsPlainText text → uncolour text ≡ text
+
+-- A plain text behind a plain text is plain.
+abbrev pub PlainTextsJoin : Type 0
+PlainTextsJoin = (a b : List ℕ) → IsPlainText a → IsPlainText b → IsPlainText (a ++ b)

@@ -18,6 +18,7 @@ pub mod Limits
 pub mod Indexed
 pub mod Call
 pub mod Colour
+pub mod Plain
 pub mod Meaning
 pub mod Options
 pub mod Quoted

@@ -8,7 +8,7 @@ use Rattle.wasmprinter_spec.specs.Forest.{Forest, End, Word, Name, String, Group
 use Rattle.wasmprinter_spec.specs.Types.{ValType, I32, I64, FuncType}
 use Rattle.wasmprinter_spec.specs.Placed.{Export}
 use Rattle.wasmprinter_spec.specs.Module.{Function, Module}
-use Rattle.wasmprinter_spec.specs.IndexSpaces.{Identifiers, Reference, reference, index_in}
+use Rattle.wasmprinter_spec.specs.IndexSpaces.{Identifiers, index_space, Reference, reference, Spaces, index_in}
 use Rattle.wasmprinter_spec.specs.Code.{Chunk, unfolded}
 use Rattle.wasmprinter_spec.specs.OperatorText.{operator}
 
@@ -165,9 +165,10 @@ same_func_type s t = same_types s.params t.params && same_types s.results t.resu
 abbrev pub no_type : FuncType
 no_type = record { params = []; results = [] }
 
--- The identifiers of a function's parameters. A signature beside the type's index is absent, or it is that type's.
+-- The identifiers of a function's parameters. The type that a function uses is declared. A signature beside its index is that type's, or it
+-- is absent, and then the parameters have no identifiers, whatever the type says (sections 6.4 and 6.6 of the standard, "Type Uses").
 abbrev pub parameters : Signature → Option FuncType → Option Identifiers
-parameters s None = if same_func_type (type_of s) no_type then Some [] else None
+parameters s None = None
 parameters s (Some t) =
     if same_func_type (type_of s) t then Some (ids_of s.params)
     else (if same_func_type (type_of s) no_type then Some (replicate (length t.params) None) else None)
@@ -176,26 +177,30 @@ module _ (m : Fields) where
   abbrev pub declared_types : List FuncType
   declared_types = map (λ t. t.type) m.types
 
-  abbrev pub type_ids : Identifiers
-  type_ids = map (λ t. t.id) m.types
+  -- the index spaces outside functions
+  abbrev pub module_spaces : Option Spaces
+  module_spaces = do
+    types ← index_space (map (λ t. t.id) m.types)
+    functions ← index_space (map (λ f. f.id) m.functions)
+    Some (record { types = types; functions = functions; locals = [] })
 
-  abbrev pub function_ids : Identifiers
-  function_ids = map (λ f. f.id) m.functions
-
-  abbrev pub read_function : FunctionText → Option Function
-  read_function f = do
-    i ← index_in type_ids f.type
+  -- a function's parameters and its locals are one space
+  abbrev pub read_function : Spaces → FunctionText → Option Function
+  read_function s f = do
+    i ← index_in s.types f.type
     params ← parameters f.signature (slice_get declared_types i)
-    operators ← each (operator (record { functions = function_ids; locals = params ++ ids_of f.locals })) f.code
+    locals ← index_space (params ++ ids_of f.locals)
+    operators ← each (operator (record s { locals = locals })) f.code
     Some (record { type_index = i; locals = types_of f.locals; operators = operators })
 
-  abbrev pub read_export : ExportText → Option Export
-  read_export e = index_in function_ids e.function >>= λ i. Some (record { name = e.name; function = i })
+  abbrev pub read_export : Spaces → ExportText → Option Export
+  read_export s e = index_in s.functions e.function >>= λ i. Some (record { name = e.name; function = i })
 
   abbrev pub resolved : Option Module
   resolved = do
-    functions ← each read_function m.functions
-    exports ← each read_export m.exports
+    spaces ← module_spaces
+    functions ← each (read_function spaces) m.functions
+    exports ← each (read_export spaces) m.exports
     Some (record { types = declared_types; functions = functions; exports = exports })
 
 -- ---- the module
