@@ -1,3 +1,3 @@
-pub mod Locals
+pub mod LocalLines
 pub mod Signatures
-pub mod Types
+pub mod TypeLists

@@ -1,5 +1,5 @@
 use Rattle.std.proofs.Common.{sym, ap, ◌∙◌, is_some}
-use Rattle.wasmprinter_text.proofs.Locals.{locals-break}
+use Rattle.wasmprinter_text.proofs.LocalLines.{locals-break}
 use Rattle.wasmprinter_text.proofs.locals.has_locals.Goals as goal
 
 pub returns : goal.returns

@@ -1,5 +1,5 @@
 use Rattle.wasmprinter_bytes.specs.PrintsLaws.{lacks_none, next_written, next_fails}
-use Rattle.wasmprinter_text.proofs.Locals.{entries-next, entries-none}
+use Rattle.wasmprinter_text.proofs.LocalLines.{entries-next, entries-none}
 use Rattle.wasmprinter_text.proofs.locals.write_entries.Goals as goal
 
 pub returns-in_err-write_times : goal.returns-in_err-write_times

@@ -1,6 +1,6 @@
 use Rattle.std.proofs.Common.{sym}
 use Rattle.wasmprinter_bytes.specs.PrintsLaws.{no_piece}
-use Rattle.wasmprinter_text.proofs.Locals.{locals-none, locals-some}
+use Rattle.wasmprinter_text.proofs.LocalLines.{locals-none, locals-some}
 use Rattle.wasmprinter_text.proofs.locals.write_locals.Goals as goal
 
 pub returns-in-None : goal.returns-in-None

@@ -1,6 +1,6 @@
 use Rattle.wasmprinter_bytes.specs.PrintsLaws.{lacks_none, next_written, next_fails}
 use Rattle.wasmprinter_ops.specs.ValTypes.{type_seen}
-use Rattle.wasmprinter_text.proofs.Locals.{times-next, times-none}
+use Rattle.wasmprinter_text.proofs.LocalLines.{times-next, times-none}
 use Rattle.wasmprinter_text.proofs.locals.write_times.Goals as goal
 
 pub returns-in_err-write_type : goal.returns-in_err-write_type

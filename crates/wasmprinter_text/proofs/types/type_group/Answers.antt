@@ -1,6 +1,6 @@
 use Rattle.std.proofs.Common.{sym, ◌∙◌}
 use Rattle.wasmprinter_bytes.specs.PrintsLaws.{no_piece}
-use Rattle.wasmprinter_text.proofs.Types.{type_group-none, type_group-some}
+use Rattle.wasmprinter_text.proofs.TypeLists.{type_group-none, type_group-some}
 use Rattle.wasmprinter_text.proofs.types.type_group.Goals as goal
 
 pub returns-in-None : goal.returns-in-None

@@ -1,5 +1,5 @@
 use Rattle.wasmprinter_bytes.specs.PrintsLaws.{lacks_none, next_written, next_fails}
-use Rattle.wasmprinter_text.proofs.Types.{types-none, types-next}
+use Rattle.wasmprinter_text.proofs.TypeLists.{types-none, types-next}
 use Rattle.wasmprinter_text.proofs.types.type_list.Goals as goal
 
 pub returns-in_err-write_type : goal.returns-in_err-write_type
