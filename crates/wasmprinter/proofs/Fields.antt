@@ -10,7 +10,6 @@ use Rattle.wasmprinter_spec.specs.Placed.{Export, PlacedFunction, PlacedModule}
 use Rattle.wasmprinter_spec.specs.Options.{Options}
 use Rattle.wasmprinter_spec.specs.Piece.{Piece, Begin, Feed, Break, Gap, Open, OpenGap, Shut, Word, Number, Mark, Quoted}
 use Rattle.wasmprinter_spec.specs.Layout.{has_break, close, group, group_gap, group_at, group_gap_at, type_group, signature_of, signature_pieces, type_pieces, export_pieces, header_pieces, local_pieces, body_pieces, function_group, function_pieces, numbered, field_pieces, module_pieces}
-use Rattle.wasmprinter.specs.Header.{header}
 use Rattle.wasmprinter_lines.proofs.Groups.{has_break-append, line-append, group-line, group_gap-line, line-group, line-group_gap}
 use Rattle.wasmprinter_text.proofs.Signatures.{signature-line, signature-nesting}
 
@@ -29,31 +28,31 @@ type-out i t =
     ∙ ap (λ ps. OpenGap (codes "type") ∷ (Mark i ∷ (Gap ∷ (ps ++ (Shut ∷ []))))) (func-line t.value)
     ∙ ap (λ ps. OpenGap (codes "type") ∷ (Mark i ∷ (Gap ∷ (Open (codes "func") ∷ ps)))) (append_assoc (signature_pieces 2 t.value) (Shut ∷ []) (Shut ∷ [])))
 
-header-line : (t : FuncType) (i : ℕ) (f : PlacedFunction) → has_break (header_pieces t i f) ≡ false
+header-line : (i n : ℕ) (t : FuncType) → has_break (header_pieces i n t) ≡ false
 unfolding header_pieces
-header-line t i f =
-    line-append (group_gap 2 (codes "type") (Number f.type_index ∷ [])) (signature_pieces 2 t) (line-group_gap 2 (codes "type") (Number f.type_index ∷ []) refl) (signature-line 2 t)
+header-line i n t =
+    line-append (group_gap 2 (codes "type") (Number n ∷ [])) (signature_pieces 2 t) (line-group_gap 2 (codes "type") (Number n ∷ []) refl) (signature-line 2 t)
 
 -- a function without its body, written out
 pub skeleton-out : (offsets : Bool) (t : FuncType) (i : ℕ) (f : PlacedFunction) →
-    function_group true offsets t i f ≡ OpenGap (codes "func") ∷ (header_pieces t i f ++ (Gap ∷ (Word (codes "...") ∷ (Shut ∷ []))))
+    function_group true offsets t i f ≡ OpenGap (codes "func") ∷ (header_pieces i f.type_index t ++ (Gap ∷ (Word (codes "...") ∷ (Shut ∷ []))))
 unfolding function_group
 skeleton-out offsets t i f =
-    group_gap-line 1 (codes "func") (header_pieces t i f ++ (Gap ∷ (Word (codes "...") ∷ []))) (line-append (header_pieces t i f) (Gap ∷ (Word (codes "...") ∷ [])) (header-line t i f) refl)
-    ∙ ap (λ ps. OpenGap (codes "func") ∷ ps) (append_assoc (header_pieces t i f) (Gap ∷ (Word (codes "...") ∷ [])) (Shut ∷ []))
+    group_gap-line 1 (codes "func") (header_pieces i f.type_index t ++ (Gap ∷ (Word (codes "...") ∷ []))) (line-append (header_pieces i f.type_index t) (Gap ∷ (Word (codes "...") ∷ [])) (header-line i f.type_index t) refl)
+    ∙ ap (λ ps. OpenGap (codes "func") ∷ ps) (append_assoc (header_pieces i f.type_index t) (Gap ∷ (Word (codes "...") ∷ [])) (Shut ∷ []))
 
 -- a function, written out
 pub function-out : (offsets : Bool) (t : FuncType) (i : ℕ) (f : PlacedFunction) →
     function_group false offsets t i f
-    ≡ OpenGap (codes "func") ∷ (header_pieces t i f ++ (local_pieces f.body.value.locals ++ (body_pieces f.body.value.operators
+    ≡ OpenGap (codes "func") ∷ (header_pieces i f.type_index t ++ (local_pieces f.body.value.locals ++ (body_pieces f.body.value.operators
     ++ close (Some f.body.value.end) 1 (offsets || (has_break (local_pieces f.body.value.locals) || has_break (body_pieces f.body.value.operators))))))
 unfolding function_group group_gap_at
 function-out offsets t i f =
-    let head : List Piece = header_pieces t i f in
+    let head : List Piece = header_pieces i f.type_index t in
     let locals : List Piece = local_pieces f.body.value.locals in
     let body : List Piece = body_pieces f.body.value.operators in
     let changed : has_break (head ++ (locals ++ body)) ≡ (has_break locals || has_break body) =
-    has_break-append head (locals ++ body) ∙ ap (λ b. b || has_break (locals ++ body)) (header-line t i f) ∙ has_break-append locals body in
+    has_break-append head (locals ++ body) ∙ ap (λ b. b || has_break (locals ++ body)) (header-line i f.type_index t) ∙ has_break-append locals body in
     ap (λ b. OpenGap (codes "func") ∷ ((head ++ (locals ++ body)) ++ close (Some f.body.value.end) 1 (offsets || b))) changed
     ∙ ap (λ ps. OpenGap (codes "func") ∷ ps)
     (append_assoc head (locals ++ body) (close (Some f.body.value.end) 1 (offsets || (has_break locals || has_break body)))
@@ -83,32 +82,24 @@ no_signature = refl
 pub signature-past : (ts : List (Placed FuncType)) (i : ℕ) → length ts ≤ i → signature_pieces 2 (signature_of (slice_get ts i)) ≡ []
 signature-past ts i h = ap (λ t. signature_pieces 2 (signature_of t)) (slice_get_past ts i h) ∙ no_signature
 
--- a function's number, type and signature
-header-same : (t : FuncType) (i : ℕ) (f : PlacedFunction) → header_pieces t i f ≡ header i f.type_index t
-unfolding header_pieces header
-header-same t i f = refl
-
 -- a function without its body, with the line that it begins
 pub outline-out : (o : Options) (ts : List (Placed FuncType)) (i : ℕ) (f : PlacedFunction) → o.skeleton ≡ true →
-    function_pieces o ts i f ≡ Break (Some f.body.place) 1 ∷ (OpenGap (codes "func") ∷ (header i f.type_index (signature_of (slice_get ts f.type_index)) ++ (Gap ∷ (Word (codes "...") ∷ (Shut ∷ [])))))
+    function_pieces o ts i f ≡ Break (Some f.body.place) 1 ∷ (OpenGap (codes "func") ∷ (header_pieces i f.type_index (signature_of (slice_get ts f.type_index)) ++ (Gap ∷ (Word (codes "...") ∷ (Shut ∷ [])))))
 unfolding function_pieces
 outline-out o ts i f e =
     let t : FuncType = signature_of (slice_get ts f.type_index) in
     ap (λ b. Break (Some f.body.place) 1 ∷ function_group b o.offsets t i f) e ∙ ap (λ ps. Break (Some f.body.place) 1 ∷ ps) (skeleton-out o.offsets t i f)
-    ∙ ap (λ ps. Break (Some f.body.place) 1 ∷ (OpenGap (codes "func") ∷ (ps ++ (Gap ∷ (Word (codes "...") ∷ (Shut ∷ [])))))) (header-same t i f)
 
 -- a function with its body, with the line that it begins
 pub whole-out : (o : Options) (ts : List (Placed FuncType)) (i : ℕ) (f : PlacedFunction) → o.skeleton ≡ false →
     function_pieces o ts i f
-    ≡ Break (Some f.body.place) 1 ∷ (OpenGap (codes "func") ∷ (header i f.type_index (signature_of (slice_get ts f.type_index))
+    ≡ Break (Some f.body.place) 1 ∷ (OpenGap (codes "func") ∷ (header_pieces i f.type_index (signature_of (slice_get ts f.type_index))
     ++ (local_pieces f.body.value.locals ++ (body_pieces f.body.value.operators
     ++ close (Some f.body.value.end) 1 (o.offsets || (has_break (local_pieces f.body.value.locals) || has_break (body_pieces f.body.value.operators)))))))
 unfolding function_pieces
 whole-out o ts i f e =
     let t : FuncType = signature_of (slice_get ts f.type_index) in
     ap (λ b. Break (Some f.body.place) 1 ∷ function_group b o.offsets t i f) e ∙ ap (λ ps. Break (Some f.body.place) 1 ∷ ps) (function-out o.offsets t i f)
-    ∙ ap (λ ps. Break (Some f.body.place) 1 ∷ (OpenGap (codes "func") ∷ (ps ++ (local_pieces f.body.value.locals ++ (body_pieces f.body.value.operators
-    ++ close (Some f.body.value.end) 1 (o.offsets || (has_break (local_pieces f.body.value.locals) || has_break (body_pieces f.body.value.operators)))))))) (header-same t i f)
 
 -- the line that a function begins, whatever stands on it
 pub function-line : (o : Options) (ts : List (Placed FuncType)) (i : ℕ) (f : PlacedFunction) →

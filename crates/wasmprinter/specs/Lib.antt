@@ -1,3 +1,2 @@
-pub mod Header
 pub mod Outcome
 pub mod Printed

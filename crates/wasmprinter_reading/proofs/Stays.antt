@@ -30,7 +30,7 @@ function_stays : (skeleton a b : Bool) (t : FuncType) (i : ℕ) (f : PlacedFunct
 unfolding function_group
 function_stays true a b t i f = refl
 function_stays false a b t i f =
-    let ps : List Piece = header_pieces t i f ++ (local_pieces f.body.value.locals ++ body_pieces f.body.value.operators) in
+    let ps : List Piece = header_pieces i f.type_index t ++ (local_pieces f.body.value.locals ++ body_pieces f.body.value.operators) in
     group_gap_at_tokens a f.body.value.end 1 (codes "func") ps ∙ sym (group_gap_at_tokens b f.body.value.end 1 (codes "func") ps)
 
 numbered_stays : {A : Type 0} (f g : ℕ → A → List Piece) → ((i : ℕ) (x : A) → all_tokens (f i x) ≡ all_tokens (g i x)) →

@@ -155,7 +155,7 @@ export_writes e h =
     search writing depth 12 in
     rw (encodes-chars e.value.name h.name) at written
 
-local_group_writes : (place : ℕ) (ts : List ValType) → Writes Bound (local_group place ts) Bound (group_items (codes "local") ts)
+local_group_writes : (place : Option ℕ) (ts : List ValType) → Writes Bound (local_group place ts) Bound (group_items (codes "local") ts)
 unfolding local_group class
 local_group_writes place [] = search writing
 local_group_writes place (t ∷ ts) = search (writing, type_list_writes)
@@ -166,7 +166,7 @@ local_writes es = local_group_writes (locals_place es) (expanded es)
 
 -- a function's number, type and signature before the rest of it
 header_writes : (t : FuncType) (i : ℕ) (f : PlacedFunction) (qs : List Piece) (rest : Forest) → i < 2 ^ 64 → IsRangedFunction f → Writes Bound qs Bound rest →
-    Writes Free (header_pieces t i f ++ qs) Bound (Group (Word (codes "type") (Word (decimal f.type_index) End)) (onto (signature_items t) rest))
+    Writes Free (header_pieces i f.type_index t ++ qs) Bound (Group (Word (codes "type") (Word (decimal f.type_index) End)) (onto (signature_items t) rest))
 unfolding header_pieces class
 header_writes t i f qs rest h r w =
     let small : f.type_index < 2 ^ 64 = omega (arith, r.type_index) in

@@ -86,15 +86,15 @@ unfoldable pub export_pieces : Placed Export → List Piece
 export_pieces e =
     Break (Some e.place) 1 ∷ group_gap 1 (codes "export") (Quoted (chars e.value.name) ∷ (Gap ∷ group_gap 2 (codes "func") (Number e.value.function ∷ [])))
 
--- the place of the first entry that declares a local
-abbrev pub locals_place : List (Placed LocalEntry) → ℕ
-locals_place [] = 0
-locals_place (e ∷ es) = cond (e.value.count == 0) (locals_place es) e.place
+-- the place of the first entry that declares a local, if one does
+abbrev pub locals_place : List (Placed LocalEntry) → Option ℕ
+locals_place [] = None
+locals_place (e ∷ es) = cond (e.value.count == 0) (locals_place es) (Some e.place)
 
 -- all locals on one line
-unfoldable pub local_group : ℕ → List ValType → List Piece
+unfoldable pub local_group : Option ℕ → List ValType → List Piece
 local_group place [] = []
-local_group place (t ∷ ts) = Break (Some place) 2 ∷ group 2 (codes "local") (type_list (t ∷ ts))
+local_group place (t ∷ ts) = Break place 2 ∷ group 2 (codes "local") (type_list (t ∷ ts))
 
 unfoldable pub local_pieces : List (Placed LocalEntry) → List Piece
 local_pieces es = local_group (locals_place es) (expanded es)
@@ -104,16 +104,16 @@ abbrev pub signature_of : Option (Placed FuncType) → FuncType
 signature_of None = record { params = []; results = [] }
 signature_of (Some t) = t.value
 
--- a function's number, type and signature
-unfoldable pub header_pieces : FuncType → ℕ → PlacedFunction → List Piece
-header_pieces t i f = Mark i ∷ (Gap ∷ (group_gap 2 (codes "type") (Number f.type_index ∷ []) ++ signature_pieces 2 t))
+-- a function's number, the index of its type, and its signature
+unfoldable pub header_pieces : ℕ → ℕ → FuncType → List Piece
+header_pieces i type_index t = Mark i ∷ (Gap ∷ (group_gap 2 (codes "type") (Number type_index ∷ []) ++ signature_pieces 2 t))
 
 -- a function, whole or without its locals and operators
 unfoldable pub function_group : Bool → Bool → FuncType → ℕ → PlacedFunction → List Piece
-function_group true offsets t i f = group_gap 1 (codes "func") (header_pieces t i f ++ (Gap ∷ (Word (codes "...") ∷ [])))
+function_group true offsets t i f = group_gap 1 (codes "func") (header_pieces i f.type_index t ++ (Gap ∷ (Word (codes "...") ∷ [])))
 function_group false offsets t i f =
     group_gap_at offsets f.body.value.end 1 (codes "func")
-    (header_pieces t i f ++ (local_pieces f.body.value.locals ++ body_pieces f.body.value.operators))
+    (header_pieces i f.type_index t ++ (local_pieces f.body.value.locals ++ body_pieces f.body.value.operators))
 
 unfoldable pub function_pieces : Options → List (Placed FuncType) → ℕ → PlacedFunction → List Piece
 function_pieces o ts i f =

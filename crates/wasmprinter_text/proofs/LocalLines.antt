@@ -8,7 +8,6 @@ use Rattle.wasmprinter_spec.specs.Placed.{LocalEntry}
 use Rattle.wasmprinter_spec.specs.Module.{expanded}
 use Rattle.wasmprinter_spec.specs.Piece.{Break, Gap, TypeWord, Open, Shut}
 use Rattle.wasmprinter_spec.specs.Layout.{has_break, type_word, type_list, locals_place, local_group, local_pieces}
-use Rattle.wasmprinter_text.specs.Declaring.{declaring_place}
 use Rattle.wasmprinter_lines.proofs.Groups.{group-line}
 use Rattle.wasmprinter_text.proofs.Signatures.{types-line}
 
@@ -43,68 +42,63 @@ unfolding type_list
 entries-none es p = ap (λ xs. type_list (expanded xs)) p
 
 -- where no entry declares a local there is none
-pub declares-none : (es : List (Placed LocalEntry)) → declaring_place es ≡ None → expanded es ≡ []
+pub declares-none : (es : List (Placed LocalEntry)) → locals_place es ≡ None → expanded es ≡ []
 declares-none [] h = refl
 declares-none (e ∷ es) h = by (e.value.count == 0) refl h (declares-none es)
   where
-    by : (b : Bool) → (e.value.count == 0) ≡ b → cond b (declaring_place es) (Some e.place) ≡ None → (declaring_place es ≡ None → expanded es ≡ []) → expanded (e ∷ es) ≡ []
+    by : (b : Bool) → (e.value.count == 0) ≡ b → cond b (locals_place es) (Some e.place) ≡ None → (locals_place es ≡ None → expanded es ≡ []) → expanded (e ∷ es) ≡ []
     by true z g others = ap (λ n. replicate n e.value.type ++ expanded es) (eqb-true e.value.count 0 z) ∙ others g
     by false z g others = absurd cc
 
--- the first entry that declares a local lies at the place, and there are locals
-pub record Declares (es : List (Placed LocalEntry)) (place : ℕ) : Type 0 where
-  pub place_is : locals_place es ≡ place
+-- there are locals
+pub record HasLocals (es : List (Placed LocalEntry)) : Type 0 where
   pub first : ValType
   pub others : List ValType
   pub types : expanded es ≡ first ∷ others
 
-some_here : (e : Placed LocalEntry) (es : List (Placed LocalEntry)) (n : ℕ) → (e.value.count == 0) ≡ false → e.value.count ≡ n → Declares (e ∷ es) e.place
+some_here : (e : Placed LocalEntry) (es : List (Placed LocalEntry)) (n : ℕ) → (e.value.count == 0) ≡ false → e.value.count ≡ n → HasLocals (e ∷ es)
 some_here e es zero z c = absurd (omega (arith, eqb-false e.value.count 0 z))
 some_here e es (suc k) z c = record {
-  place_is = ap (λ b. cond b (locals_place es) e.place) z;
   first = e.value.type;
   others = replicate k e.value.type ++ expanded es;
   types = ap (λ m. replicate m e.value.type ++ expanded es) c;
 }
 
-later : (e : Placed LocalEntry) (es : List (Placed LocalEntry)) (place : ℕ) → (e.value.count == 0) ≡ true → Declares es place → Declares (e ∷ es) place
-later e es place z d = record {
-  place_is = ap (λ b. cond b (locals_place es) e.place) z ∙ d.place_is;
+later : (e : Placed LocalEntry) (es : List (Placed LocalEntry)) → (e.value.count == 0) ≡ true → HasLocals es → HasLocals (e ∷ es)
+later e es z d = record {
   first = d.first;
   others = d.others;
   types = ap (λ m. replicate m e.value.type ++ expanded es) (eqb-true e.value.count 0 z) ∙ d.types;
 }
 
 -- where an entry declares a local
-pub declares-some : (es : List (Placed LocalEntry)) (place : ℕ) → declaring_place es ≡ Some place → Declares es place
+pub declares-some : (es : List (Placed LocalEntry)) (place : ℕ) → locals_place es ≡ Some place → HasLocals es
 declares-some [] place h = absurd cc
 declares-some (e ∷ es) place h = by (e.value.count == 0) refl h (declares-some es place)
   where
-    by : (b : Bool) → (e.value.count == 0) ≡ b → cond b (declaring_place es) (Some e.place) ≡ Some place → (declaring_place es ≡ Some place → Declares es place) → Declares (e ∷ es) place
-    by true z g others = later e es place z (others g)
-    by false z g others =
-        let here : e.place ≡ place = cc in
-        subst (λ (p : ℕ). Declares (e ∷ es) p) here (some_here e es e.value.count z refl)
+    by : (b : Bool) → (e.value.count == 0) ≡ b → cond b (locals_place es) (Some e.place) ≡ Some place → (locals_place es ≡ Some place → HasLocals es) → HasLocals (e ∷ es)
+    by true z g others = later e es z (others g)
+    by false z g others = some_here e es e.value.count z refl
 
 -- no line of locals
-pub locals-none : (es : List (Placed LocalEntry)) → declaring_place es ≡ None → local_pieces es ≡ []
+pub locals-none : (es : List (Placed LocalEntry)) → locals_place es ≡ None → local_pieces es ≡ []
 unfolding local_pieces local_group
 locals-none es h = ap (local_group (locals_place es)) (declares-none es h)
 
 -- the line of locals, written out
-pub locals-some : (es : List (Placed LocalEntry)) (place : ℕ) → declaring_place es ≡ Some place →
+pub locals-some : (es : List (Placed LocalEntry)) (place : ℕ) → locals_place es ≡ Some place →
     local_pieces es ≡ Break (Some place) 2 ∷ (Open (codes "local") ∷ (type_list (expanded es) ++ (Shut ∷ [])))
 unfolding local_pieces local_group
 locals-some es place h =
     let d = declares-some es place h in
     let ts : List ValType = d.first ∷ d.others in
-    ap₂ local_group d.place_is d.types ∙ ap (λ ps. Break (Some place) 2 ∷ ps) (group-line 2 (codes "local") (type_list ts) (types-line ts))
+    ap₂ local_group h d.types ∙ ap (λ ps. Break (Some place) 2 ∷ ps) (group-line 2 (codes "local") (type_list ts) (types-line ts))
     ∙ sym (ap (λ xs. Break (Some place) 2 ∷ (Open (codes "local") ∷ (type_list xs ++ (Shut ∷ [])))) d.types)
 
 -- whether the line changes for locals
-pub locals-break : (es : List (Placed LocalEntry)) → has_break (local_pieces es) ≡ is_some (declaring_place es)
-locals-break es = by (declaring_place es) refl
+pub locals-break : (es : List (Placed LocalEntry)) → has_break (local_pieces es) ≡ is_some (locals_place es)
+locals-break es = by (locals_place es) refl
   where
-    by : (o : Option ℕ) → declaring_place es ≡ o → has_break (local_pieces es) ≡ is_some o
+    by : (o : Option ℕ) → locals_place es ≡ o → has_break (local_pieces es) ≡ is_some o
     by None h = ap has_break (locals-none es h)
     by (Some place) h = ap has_break (locals-some es place h)

@@ -3,10 +3,9 @@ ghost use Rattle.std.specs.Prelude.{◌≡◌, [], ◌∷◌, ◌++◌, Some, co
 ghost use Rattle.wasmprinter_spec.specs.Options.{Options};
 ghost use Rattle.wasmprinter_spec.specs.Module.{expanded};
 ghost use Rattle.wasmprinter_spec.specs.Piece.{Break, Open, Shut};
-ghost use Rattle.wasmprinter_spec.specs.Layout.{has_break, type_list as list_of_types, local_pieces};
+ghost use Rattle.wasmprinter_spec.specs.Layout.{has_break, type_list as list_of_types, locals_place, local_pieces};
 ghost use Rattle.wasmprinter_bytes.specs.Prints.{Prints};
 ghost use Rattle.wasmprinter_ops.specs.ValTypes.{type_seen};
-ghost use Rattle.wasmprinter_text.specs.Declaring.{declaring_place};
 
 use crate::types::write_type;
 use std::io;
@@ -21,8 +20,8 @@ use wasmprinter_words::words::{open, shut};
 const LOCALS_NESTING: u32 = 2;
 
 /// The place of the first entry that declares a local.
-fn declaring_place(locals: &Locals<'_>) -> Option<u64>
-    ensures { result ≡ declaring_place locals.now }
+fn locals_place(locals: &Locals<'_>) -> Option<u64>
+    ensures { result ≡ locals_place locals.now }
 {
     for entry in locals.iter() {
         if entry.count() != 0 {
@@ -36,7 +35,7 @@ fn declaring_place(locals: &Locals<'_>) -> Option<u64>
 pub fn has_locals(locals: &Locals<'_>) -> bool
     ensures { result ≡ has_break (local_pieces locals.now) }
 {
-    declaring_place(locals).is_some()
+    locals_place(locals).is_some()
 }
 
 /// Writes a value type so many times, a blank before each.
@@ -80,7 +79,7 @@ pub fn write_locals<P: Print>(
 ) -> io::Result<()>
     ensures { Prints P.meaning options.now p.old p.new result (local_pieces locals.now) }
 {
-    match declaring_place(locals) {
+    match locals_place(locals) {
         None => Ok(()),
         Some(place) => write_line(p, options, place, locals),
     }

@@ -2,9 +2,8 @@
 ghost use Rattle.std.specs.Prelude.{◌≡◌, [], ◌∷◌, ◌++◌, ◌||◌, Some, codes, slice_get};
 ghost use Rattle.wasmprinter_spec.specs.Options.{Options};
 ghost use Rattle.wasmprinter_spec.specs.Piece.{Gap, OpenGap, Shut, Word};
-ghost use Rattle.wasmprinter_spec.specs.Layout.{has_break, close, signature_of, signature_pieces, local_pieces, body_pieces, function_pieces};
+ghost use Rattle.wasmprinter_spec.specs.Layout.{has_break, close, signature_of, signature_pieces, header_pieces, local_pieces, body_pieces, function_pieces};
 ghost use Rattle.wasmprinter_bytes.specs.Prints.{Prints};
-ghost use Rattle.wasmprinter.specs.Header.{header};
 
 use crate::sections::FIELD_NESTING;
 use std::io;
@@ -33,14 +32,14 @@ fn write_signature<P: Print>(
 }
 
 /// Writes a function's number, the index of its type, and its signature.
-#[tactic(auto, unfolding(crate::specs::Header::header))]
+#[tactic(auto, unfolding(wasmprinter_spec::specs::Layout::header_pieces))]
 fn write_header<P: Print>(
     p: &mut P,
     types: &[FuncType<'_>],
     number: u32,
     type_index: u32,
 ) -> io::Result<()>
-    ensures { (o : Options) → Prints P.meaning o p.old p.new result (header number type_index (signature_of (slice_get types.now type_index))) }
+    ensures { (o : Options) → Prints P.meaning o p.old p.new result (header_pieces number type_index (signature_of (slice_get types.now type_index))) }
 {
     mark(p, u64::from(number))?;
     gap(p)?;
@@ -56,7 +55,7 @@ fn write_outline<P: Print>(
     function: &Function<'_>,
 ) -> io::Result<()>
     ensures { (o : Options) → Prints P.meaning o p.old p.new result
-        (OpenGap (codes "func") ∷ (header number function.now.type_index (signature_of (slice_get types.now function.now.type_index)) ++ (Gap ∷ (Word (codes "...") ∷ (Shut ∷ []))))) }
+        (OpenGap (codes "func") ∷ (header_pieces number function.now.type_index (signature_of (slice_get types.now function.now.type_index)) ++ (Gap ∷ (Word (codes "...") ∷ (Shut ∷ []))))) }
 {
     open_gap(p, "func")?;
     write_header(p, types, number, function.type_index())?;
@@ -81,7 +80,7 @@ fn write_whole<P: Print>(
     function: &Function<'_>,
 ) -> io::Result<()>
     ensures { Prints P.meaning options.now p.old p.new result
-        (OpenGap (codes "func") ∷ (header number function.now.type_index (signature_of (slice_get types.now function.now.type_index))
+        (OpenGap (codes "func") ∷ (header_pieces number function.now.type_index (signature_of (slice_get types.now function.now.type_index))
         ++ (local_pieces function.now.body.value.locals ++ (body_pieces function.now.body.value.operators
         ++ close (Some function.now.body.value.end) 1 (options.now.offsets || (has_break (local_pieces function.now.body.value.locals) || has_break (body_pieces function.now.body.value.operators))))))) }
 {

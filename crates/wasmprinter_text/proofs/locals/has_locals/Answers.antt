@@ -3,4 +3,4 @@ use Rattle.wasmprinter_text.proofs.LocalLines.{locals-break}
 use Rattle.wasmprinter_text.proofs.locals.has_locals.Goals as goal
 
 pub returns : goal.returns
-returns c = c.is_some.ensures ∙ ap is_some c.declaring_place.ensures ∙ sym (locals-break c.args.locals.now)
+returns c = c.is_some.ensures ∙ ap is_some c.locals_place.ensures ∙ sym (locals-break c.args.locals.now)
