@@ -1,7 +1,13 @@
 -- A loop that reads items into a list.
-use Rattle.std.proofs.Common.{◌≡◌, ℕ, suc, ◌+◌, ◌-◌, ◌<◌, List, [], ◌∷◌, ◌++◌, Option, Some, None, refl, sym, ap, ◌∙◌, append_assoc, arith}
+use Rattle.std.proofs.Common.{◌≡◌, ℕ, suc, ◌+◌, ◌-◌, ◌<◌, List, [], ◌∷◌, ◌++◌, Option, Some, None, refl, sym, ap, subst, ◌∙◌, ◌⊎◌, inl, inr, append_assoc, arith}
+use Rattle.std.specs.Prelude.{IsSome}
 use Rattle.wasmprinter_spec.specs.Grammar.{At, ◌>>=◌}
 use Rattle.wasmprinter_spec.specs.Repeated.{items_at}
+
+-- a value was read at a place that is the first, or behind a first one
+pub first_stands : {A : Type 0} (parse : At → Option (A × At)) (start at : At) (x : A × At) → (at ≡ start) ⊎ IsSome (parse start) → parse at ≡ Some x → IsSome (parse start)
+first_stands parse start at x (inl here) e = subst (λ (y : At). IsSome (parse y)) here (rw e refl)
+first_stands parse start at x (inr there) e = there
 
 -- what is read, behind what was read before
 abbrev pub with_front : {A : Type 0} → List A → Option (List A × At) → Option (List A × At)

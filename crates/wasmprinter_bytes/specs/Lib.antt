@@ -1,4 +1,5 @@
 pub mod Reads
+pub mod Reasons
 pub mod Lists
 pub mod Emits
 pub mod EmitsLaws

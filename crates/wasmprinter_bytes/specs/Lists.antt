@@ -1,11 +1,11 @@
 -- Values that are read one after the other.
-use Rattle.std.specs.Prelude.{◌≡◌, ℕ, ◌≤◌, List, Option, Some, None, Result, Ok, Err}
+use Rattle.std.specs.Prelude.{◌≡◌, ℕ, ◌<◌, ◌≤◌, List, Option, Some, None, IsSome, Result, Ok, Err}
 use Rattle.wasmprinter_spec.specs.Grammar.{At, ◌>>=◌}
 use Rattle.wasmprinter_spec.specs.Name.{u32}
 use Rattle.wasmprinter_spec.specs.Repeated.{items_at}
 use Rattle.wasmprinter_bytes.specs.Reads.{end_of}
 use Rattle.wasmprinter_bytes.specs.declared.error.Error.{Error}
-use Rattle.wasmprinter_bytes.specs.declared.error.Error.TheVariants.{Malformed, Memory}
+use Rattle.wasmprinter_bytes.specs.Reasons.{Reasons, HasReason}
 
 -- a count, and so many values
 abbrev pub counted_at : {A : Type 0} → (At → Option (A × At)) → At → Option ((ℕ × List A) × At)
@@ -15,13 +15,30 @@ counted_at parse at = u32.parse at >>= λ n. items_at parse n.0 n.1 >>= λ xs. S
 abbrev pub vec_at : {A : Type 0} → (At → Option (A × At)) → At → Option (List A × At)
 vec_at parse at = counted_at parse at >>= λ x. Some (x.0.1, x.1)
 
--- why a reader that grows something may refuse: nothing of the kind stands there, or memory ran out
-abbrev pub IsFault : Type 0 → At → Error → Type 0
-IsFault nothing at (Malformed place) = nothing × (place ≤ end_of at)
-IsFault nothing at Memory = Unit {0}
-IsFault nothing at _ = ⊥
+-- a count above zero stands there
+pub record CountsItems (at : At) : Type 0 where
+  pub count : ℕ
+  pub after : At
+  pub counted : u32.parse at ≡ Some (count, after)
+  pub some : 0 < count
 
--- the value stands there, and reading goes on behind it; or nothing of the kind stands there; or memory ran out
-abbrev pub Takes : {X A : Type 0} → (X → A) → (At → Option (A × At)) → At → Result X Error → At → Type 0
-Takes view parse old (Ok x) new = parse old ≡ Some (view x, new)
-Takes view parse old (Err e) new = IsFault (parse old ≡ None) old e
+-- a count above zero stands there, and behind it a first value
+pub record BeginsList {A : Type 0} (parse : At → Option (A × At)) (at : At) : Type 0 where
+  pub counts : CountsItems at
+  pub first : IsSome (parse counts.after)
+
+-- why a reader that grows something may refuse: nothing of the kind stands there; or a growth was refused, for which this is so
+abbrev pub reader_reasons : Type 0 → Type 0 → At → Reasons
+reader_reasons nothing grows at = record {
+  malformed = λ place. nothing × (place ≤ end_of at);
+  component = ⊥;
+  locals = λ place. ⊥;
+  functions = λ count. ⊥;
+  memory = grows;
+}
+
+-- The value stands there, and reading goes on behind it; or nothing of the kind stands there; or a growth was refused, and then `Grows` holds
+-- of where reading stood.
+abbrev pub Takes : {X A : Type 0} → (X → A) → (At → Option (A × At)) → (At → Type 0) → At → Result X Error → At → Type 0
+Takes view parse Grows old (Ok x) new = parse old ≡ Some (view x, new)
+Takes view parse Grows old (Err e) new = HasReason (reader_reasons (parse old ≡ None) (Grows old) old) e

@@ -1,7 +1,7 @@
 //! Vectors (section 5.1 of the WebAssembly Core Specification, "Lists"): a count, and so many items one after the other.
 ghost use Rattle.std.specs.Prelude.{◌≡◌, length};
 ghost use Rattle.wasmprinter_bytes.specs.Reads.{Reads, IsWithin, end_of};
-ghost use Rattle.wasmprinter_bytes.specs.Lists.{Takes, vec_at};
+ghost use Rattle.wasmprinter_bytes.specs.Lists.{Takes, BeginsList, vec_at};
 
 use crate::bytes::Cursor;
 use crate::error::{Error, Malformed};
@@ -53,7 +53,7 @@ pub fn read_list<'a, T: SpelledIn<'a>>(
     alloc: Global,
     cursor: &mut Cursor<'a>,
 ) -> Result<Vec<T>, Error>
-    ensures reads { Takes (λ v. v.items) (vec_at T.parse) cursor.old result cursor.new }
+    ensures reads { Takes (λ v. v.items) (vec_at T.parse) (BeginsList T.parse) cursor.old result cursor.new }
     ensures end { end_of cursor.new ≡ end_of cursor.old }
 {
     let count = cursor.u32()?;

@@ -1,6 +1,7 @@
 -- A module is put together from its sections.
-use Rattle.std.proofs.Common.{◌≡◌, ℕ, ◌+◌, true, List, [], ◌∷◌, length, Some, refl, sym, ap, subst, ◌∙◌, arith, inl, inr}
-use Rattle.std.specs.Prelude.{Result, Ok, Err, IsOkUnless}
+use Rattle.std.proofs.Common.{◌≡◌, ℕ, ◌+◌, ◌<◌, ◌≤◌, true, List, [], ◌∷◌, length, Some, refl, sym, ap, subst, ◌∙◌, arith, inl, inr, lit≤}
+use Rattle.std.specs.Prelude.{Result, Ok, Err, IsOk, IsOkUnless}
+use Rattle.std.proofs.lemmas.List.{nil_from_length}
 use Rattle.std.specs.List.{AllByRecursion}
 use Rattle.wasmprinter_spec.specs.Grammar.{At, from, ◌>>=◌, bind_some, some_is, Placed}
 use Rattle.wasmprinter_spec.specs.Choices.{tested}
@@ -9,17 +10,19 @@ use Rattle.wasmprinter_spec.specs.Sized.{headed}
 use Rattle.wasmprinter_spec.specs.Placed.{Export, PlacedFunction, PlacedModule}
 use Rattle.wasmprinter_spec.specs.Types.{FuncType}
 use Rattle.wasmprinter_spec.specs.Sections.{Section, section}
-use Rattle.wasmprinter_spec.specs.Binary.{AreBytes, preamble, are_above, type_indices_in, bodies_in, paired, module_from, assembled, binary, Spells}
-use Rattle.wasmprinter_spec.specs.Limits.{HasFewLocals, IsWithinLimits}
+use Rattle.wasmprinter_spec.specs.Binary.{AreBytes, preamble, are_above, types_in, type_indices_in, exports_in, bodies_in, paired, module_from, assembled, binary, Spells}
+use Rattle.wasmprinter_spec.specs.Limits.{HasFewLocals, IsWithinLimits, most_functions}
 use Rattle.wasmprinter_bytes.specs.Reads.{end_of}
 use Rattle.wasmprinter_bytes.specs.declared.error.Error.{Error}
 use Rattle.wasmprinter_bytes.specs.declared.error.Error.TheVariants as e
+use Rattle.wasmprinter_bytes.specs.Reasons.{HasReason}
+use Rattle.wasmprinter_bytes.proofs.Reasons.{reason_implied, memory_alone}
 use Rattle.wasmprinter_wasm.specs.Refusals.{AnyIsOver}
 use Rattle.wasmprinter_wasm.specs.Contents.{HasFew}
-use Rattle.wasmprinter_wasm.specs.Gathering.{Gathered, none_gathered, sections_at, HoldsSections, IsSectionsFault}
+use Rattle.wasmprinter_wasm.specs.Gathering.{Gathered, none_gathered, sections_at, item_count_in, HoldsSections, sections_reasons}
 use Rattle.wasmprinter_wasm.specs.Modules.{functions_of, module_seen, bodies_of, IsPaired}
-use Rattle.wasmprinter_wasm.specs.Decoding.{IsFaultOf, TakesModule}
-use Rattle.wasmprinter_wasm.proofs.Later.{Later, later_none, later_more, many_later, functions_later}
+use Rattle.wasmprinter_wasm.specs.Decoding.{HoldsSome, HoldsNothing, module_reasons, IsFaultOf, TakesModule}
+use Rattle.wasmprinter_wasm.proofs.Later.{Later, later_none, later_more, many_later, section_later, items_later}
 use Rattle.wasmprinter_wasm.proofs.Pairing.{Paired, Pairs, paired_of, paired_length, pairs_of}
 use Rattle.wasmprinter_wasm.proofs.Held.{HoldsAll, holds_all, HoldsFew, few_all}
 
@@ -74,19 +77,29 @@ module _ (bytes pre : List ℕ) (at : At) (first : preamble.parse (from 0 bytes)
   functions_are m s = subst (Paired (type_indices_in s.sections) (bodies_in s.sections)) (ap (λ (x : PlacedModule). x.functions) s.is)
       (paired_of (type_indices_in s.sections) (bodies_in s.sections) s.functions s.pairs)
 
+  -- what its sections hold it holds
+  holds_some : (m : PlacedModule) (s : Spelled at m size) → 0 < item_count_in s.sections → HoldsSome m
+  holds_some m s some =
+      let types : length m.types ≡ length (types_in s.sections) = ap (λ (x : PlacedModule). length x.types) (sym s.is) in
+      let exports : length m.exports ≡ length (exports_in s.sections) = ap (λ (x : PlacedModule). length x.exports) (sym s.is) in
+      let bodies = paired_length (type_indices_in s.sections) (bodies_in s.sections) s.functions s.pairs in
+      omega (arith, (functions_are m s).count)
+
   -- sections were refused
-  pub module_fault : end_of at ≡ length bytes → (f : Error) → IsSectionsFault at f → IsFaultOf bytes f
-  module_fault ends (e.Malformed place) h = (λ m s. let p = spelled_of m s in h.0 p.sections p.read p.rise, omega (arith, h.1, ends))
-  module_fault ends (e.TooManyLocals place) h = (
-    many_later (from 0 bytes) at place later h.0,
-    λ m s.
-        let p = spelled_of m s in
-        subst (AnyIsOver place) (sym (functions_are m p).bodies) (h.1 p.sections p.read),
-  )
-  module_fault ends (e.TooManyFunctions count) h =
-      (functions_later (from 0 bytes) at count later h.0, h.1, λ m s. let p = spelled_of m s in (functions_are m p).count ∙ h.2 p.sections p.read p.rise)
-  module_fault ends e.Memory h = tt
-  module_fault ends _ h = absurd h
+  pub module_fault : end_of at ≡ length bytes → (f : Error) → HasReason (sections_reasons at) f → IsFaultOf bytes f
+  module_fault ends = reason_implied (sections_reasons at) (module_reasons bytes ⊥) (record {
+    malformed = λ place h. (λ m s. let p = spelled_of m s in h.0 p.sections p.read p.rise, omega (arith, h.1, ends));
+    component = λ h. h;
+    locals = λ place h. (
+      many_later (from 0 bytes) at place later h.0,
+      λ m s.
+          let p = spelled_of m s in
+          subst (AnyIsOver place) (sym (functions_are m p).bodies) (h.1 p.sections p.read),
+    );
+    functions = λ count h.
+        (section_later (from 0 bytes) at 3 count later h.0, h.1, λ m s. let p = spelled_of m s in (functions_are m p).count ∙ h.2 p.sections p.read p.rise);
+    memory = λ h. (items_later (from 0 bytes) at later h.0, λ m s. let p = spelled_of m s in holds_some m p (h.1 p.sections p.read));
+  })
 
   -- the sections stand there
   module _ (g : Gathered) (h : HoldsSections at g) where
@@ -157,15 +170,28 @@ over_few place [] few over = over
 over_few place (f ∷ fs) few (inl here) = absurd (omega (arith, here.1, few.0))
 over_few place (f ∷ fs) few (inr there) = over_few place fs few.1 there
 
--- where a module within the limits is spelled, memory ran out
-pub memory_fault : (bytes : List ℕ) (f : Error) → IsFaultOf bytes f → (m : PlacedModule) → Spells bytes m → IsWithinLimits m → f ≡ e.Memory
-memory_fault bytes (e.Malformed place) h m s w = absurd (h.0 m s)
-memory_fault bytes (e.TooManyLocals place) h m s w = absurd (over_few place m.functions w.locals (h.1 m s))
-memory_fault bytes (e.TooManyFunctions count) h m s w = let l = h.2 m s in absurd (omega (arith, h.1, w.functions))
-memory_fault bytes e.Memory h m s w = refl
-memory_fault bytes _ h m s w = absurd h
+-- where a module within the limits is spelled, and no component, memory was what was wanting, and it holds something
+pub within_fault : (bytes : List ℕ) (f : Error) → IsFaultOf bytes f → (m : PlacedModule) → Spells bytes m → IsWithinLimits m → (f ≡ e.Memory) × HoldsSome m
+within_fault bytes f h m s w =
+    let a = memory_alone (module_reasons bytes ⊥) (λ place r. r.0 m s) (λ r. r) (λ place r. over_few place m.functions w.locals (r.1 m s))
+    (λ count r. let l = r.2 m s in omega (arith, r.1, w.functions)) f h in
+    (a.0, a.1.1 m s)
 
 -- the same of a result
-pub memory_alone : (bytes : List ℕ) (r : Result PlacedModule Error) → TakesModule bytes r → (m : PlacedModule) → Spells bytes m → IsWithinLimits m → IsOkUnless r e.Memory
-memory_alone bytes (Ok x) h m s w = tt
-memory_alone bytes (Err f) h m s w = memory_fault bytes f h m s w
+pub within_alone : (bytes : List ℕ) (r : Result PlacedModule Error) → TakesModule bytes r → (m : PlacedModule) → Spells bytes m → IsWithinLimits m → IsOkUnless r e.Memory
+within_alone bytes (Ok x) h m s w = tt
+within_alone bytes (Err f) h m s w = (within_fault bytes f h m s w).0
+
+-- a module that holds nothing is within the limits
+nothing_within : (m : PlacedModule) → HoldsNothing m → IsWithinLimits m
+nothing_within m none =
+    let nil : m.functions ≡ [] = nil_from_length m.functions (omega arith) in
+    let least : 0 ≤ most_functions = lit≤ tt in
+    record { locals = subst (AllByRecursion HasFewLocals) (sym nil) tt; functions = omega (arith, least) }
+
+-- bytes that spell such a module are never refused
+pub nothing_decoded : (bytes : List ℕ) (r : Result PlacedModule Error) → TakesModule bytes r → (m : PlacedModule) → Spells bytes m → HoldsNothing m → IsOk r
+nothing_decoded bytes (Ok x) h m s none = refl
+nothing_decoded bytes (Err f) h m s none =
+    let some : HoldsSome m = (within_fault bytes f h m s (nothing_within m none)).1 in
+    absurd (omega arith)

@@ -1,22 +1,19 @@
 -- Faults of what a section holds are faults of the section.
 use Rattle.std.proofs.Common.{◌≡◌, ℕ, ◌≤◌, List, [], ◌∷◌, ◌++◌, length, Option, Some, None, refl, sym, ap, subst, ◌∙◌, arith, length-append, append_assoc}
 use Rattle.wasmprinter_spec.specs.Grammar.{At, ◌>>=◌, bind_some, some_is, byte}
-use Rattle.wasmprinter_spec.specs.Name.{u32, vec}
+use Rattle.wasmprinter_spec.specs.Name.{u32}
 use Rattle.wasmprinter_spec.specs.Sized.{front_at}
 use Rattle.wasmprinter_spec.specs.Sections.{Section, FunctionSection, content, section}
 use Rattle.wasmprinter_bytes.specs.Reads.{end_of}
 use Rattle.wasmprinter_bytes.specs.declared.error.Error.{Error}
-use Rattle.wasmprinter_bytes.specs.declared.error.Error.TheVariants as e
-use Rattle.wasmprinter_wasm.specs.Refusals.{HasFunctionSection}
-use Rattle.wasmprinter_wasm.specs.Contents.{AreTooMany, HasCount, IsContentFault, IsSectionFault}
+use Rattle.wasmprinter_bytes.specs.Reasons.{HasReason}
+use Rattle.wasmprinter_bytes.proofs.Reasons.{reason_implied}
+use Rattle.wasmprinter_wasm.specs.Refusals.{BeginsSection}
+use Rattle.wasmprinter_wasm.specs.Contents.{AreTooMany, HasCount, content_reasons, section_reasons}
 use Rattle.wasmprinter_wasm.proofs.Parts.{sized, sized_none, sized_some, old_parts, part_within}
 use Rattle.wasmprinter_wasm.proofs.Over.{many_in_part}
 use Rattle.wasmprinter_wasm.proofs.Later.{Later, later_none, later_more, many_later}
-
--- a text in two parts, with more behind it
-split : (t u text bytes after new : List ℕ) → bytes ≡ text ++ after → text ≡ t ++ u → bytes ++ new ≡ t ++ (u ++ (after ++ new))
-split t u text bytes after new e f =
-    ap (λ (bs : List ℕ). bs ++ new) (e ∙ ap (λ (bs : List ℕ). bs ++ after) f) ∙ append_assoc (t ++ u) after new ∙ append_assoc t u (after ++ new)
+use Rattle.wasmprinter_wasm.proofs.Counting.{Counted, vec_counted, content_some}
 
 -- an id and a size were read, and so many bytes cut out
 module _ (old behind mid part new : At) (id size : ℕ) (id_read : byte.parse old ≡ Some (id, behind)) (size_read : u32.parse behind ≡ Some (size, mid))
@@ -60,7 +57,7 @@ module _ (old behind mid part new : At) (id size : ℕ) (id_read : byte.parse ol
       omega (arith, ap length later.parts, later.begins, length-append later.text behind.bytes)
 
   -- a body of the part has too many locals
-  locals_fault : (place : ℕ) → IsContentFault id part (e.TooManyLocals place) → IsSectionFault old (e.TooManyLocals place)
+  locals_fault : (place : ℕ) → (content_reasons id part).locals place → (section_reasons old).locals place
   locals_fault place h =
       let p = old_parts (content id) behind mid part new size size_read cut begins in
       (many_later old behind place later (many_in_part behind part p.0 new.bytes place p.1 p.2 h.0), λ x r. let c = section_content x r in h.1 (x.0, c.0) c.1)
@@ -74,32 +71,45 @@ module _ (old behind mid part new : At) (id size : ℕ) (id_read : byte.parse ol
       let same : FunctionSection many.indices ≡ x.0 = ap (λ (y : Section × At). y.0) (some_is (FunctionSection many.indices, many.after) (x.0, c.0) (sym read ∙ functions)) in
       subst (λ (s : Section). HasCount count s) same many.counted
 
-  -- a function section with the count begins there
-  begun : (count : ℕ) → id ≡ 3 → AreTooMany part count → HasFunctionSection old count
-  begun count three many =
+  -- a section with the id and a count begins there
+  begun : (count : ℕ) → Counted part count → BeginsSection old id count
+  begun count c =
       let first = byte.sound old (id, behind) id_read in
       let p = old_parts (content id) behind mid part new size size_read cut begins in
-      let v = (vec u32).sound part (many.indices, many.after) many.read in
-      let t : List ℕ = v.spelled.2.0 in
-      let u : List ℕ = v.spelled.2.1 in
-      let head : old.bytes ≡ 0x03 ∷ behind.bytes = first.parts ∙ ap (λ (bs : List ℕ). bs ++ behind.bytes) first.spelled ∙ ap (λ (n : ℕ). n ∷ behind.bytes) three in
-      let front : part.bytes ++ new.bytes ≡ t ++ (u ++ (many.after.bytes ++ new.bytes)) = split t u v.text part.bytes many.after.bytes new.bytes v.parts v.spelled.2.2 in
-      let same : v.spelled.0.0 ≡ count = sym v.spelled.2.4.0 ∙ ap length (some_is v.spelled.0.1 many.indices v.spelled.1) ∙ many.counted in
+      let n = u32.sound part (count, c.after) c.counted in
+      let head : old.bytes ≡ id ∷ behind.bytes = first.parts ∙ ap (λ (bs : List ℕ). bs ++ behind.bytes) first.spelled in
+      let front : part.bytes ++ new.bytes ≡ n.text ++ (c.after.bytes ++ new.bytes) = ap (λ (bs : List ℕ). bs ++ new.bytes) n.parts ∙ append_assoc n.text c.after.bytes new.bytes in
       record {
         before = [];
         size_text = p.0;
-        count_text = t;
-        behind = u ++ (many.after.bytes ++ new.bytes);
-        parts = head ∙ ap (λ (bs : List ℕ). 0x03 ∷ bs) (p.1 ∙ ap (λ (bs : List ℕ). p.0 ++ bs) front);
+        count_text = n.text;
+        behind = c.after.bytes ++ new.bytes;
+        parts = head ∙ ap (λ (bs : List ℕ). id ∷ bs) (p.1 ∙ ap (λ (bs : List ℕ). p.0 ++ bs) front);
         size = size;
         sized = p.3;
-        counted = subst (λ (n : ℕ). u32.spells part.place t n) same v.spelled.2.3;
+        counted = n.spelled;
       }
 
+  -- there are too many type indices
+  functions_fault : (count : ℕ) → (content_reasons id part).functions count → (section_reasons old).functions count
+  functions_fault count h =
+      let v = vec_counted u32 part (h.1.indices, h.1.after) h.1.read in
+      let c : Counted part count = subst (Counted part) h.1.counted v in
+      (subst (λ (n : ℕ). BeginsSection old n count) h.0 (begun count c), h.1.many, counted count h.0 h.1)
+
+  -- a growth was refused
+  memory_fault : (content_reasons id part).memory → (section_reasons old).memory
+  memory_fault h = (
+    record { id = id; kept = h.0; count = h.1.count; some = h.1.some; begins = begun h.1.count (record { after = h.1.after; counted = h.1.counted }) },
+    λ x r. let c = section_content x r in content_some id h.0 part (x.0, c.0) c.1 h.1,
+  )
+
   -- a fault of the content is one of the section
-  pub section_fault : (f : Error) → IsContentFault id part f → IsSectionFault old f
-  section_fault (e.Malformed place) h = (rw (id_read, sized_none (content id) behind mid part new size size_read cut begins h.0) refl, within place h.1)
-  section_fault (e.TooManyLocals place) h = locals_fault place h
-  section_fault (e.TooManyFunctions count) h = (begun count h.0 h.1, h.1.many, counted count h.0 h.1)
-  section_fault e.Memory h = tt
-  section_fault _ h = absurd h
+  pub section_fault : (f : Error) → HasReason (content_reasons id part) f → HasReason (section_reasons old) f
+  section_fault = reason_implied (content_reasons id part) (section_reasons old) (record {
+    malformed = λ place h. (rw (id_read, sized_none (content id) behind mid part new size size_read cut begins h.0) refl, within place h.1);
+    component = λ h. h;
+    locals = locals_fault;
+    functions = functions_fault;
+    memory = memory_fault;
+  })

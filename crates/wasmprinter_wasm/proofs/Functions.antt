@@ -1,9 +1,8 @@
 -- A function with a number, from the list of type indices and that of bodies.
-use Rattle.std.proofs.Common.{◌≡◌, ℕ, zero, suc, ◌<◌, get_or, List, [], ◌∷◌, length, Some, refl, sym, ap, ◌∙◌, arith}
+use Rattle.std.proofs.Common.{◌≡◌, ℕ, zero, suc, ◌<◌, get_or, List, [], ◌∷◌, length, Some, refl, ap, ◌∙◌, arith}
 use Rattle.std.specs.Prelude.{slice_get}
 use Rattle.wasmprinter_spec.specs.Grammar.{Placed}
-use Rattle.wasmprinter_spec.specs.Repeated.{some_or}
-use Rattle.wasmprinter_spec.specs.Placed.{Body, PlacedFunction}
+use Rattle.wasmprinter_spec.specs.Placed.{Body}
 use Rattle.wasmprinter_wasm.specs.Modules.{functions_of}
 use Rattle.wasmprinter_wasm.proofs.Pairing.{pairs_of}
 

@@ -7,11 +7,13 @@ use Rattle.wasmprinter_spec.specs.Sections.{Section, TypeSection, FunctionSectio
 use Rattle.wasmprinter_spec.specs.Binary.{rank, are_above, type_indices_in, bodies_in}
 use Rattle.wasmprinter_bytes.specs.Reads.{end_of}
 use Rattle.wasmprinter_bytes.specs.declared.error.Error.{Error}
-use Rattle.wasmprinter_bytes.specs.declared.error.Error.TheVariants as e
+use Rattle.wasmprinter_bytes.specs.Reasons.{HasReason}
+use Rattle.wasmprinter_bytes.proofs.Reasons.{reason_implied}
 use Rattle.wasmprinter_wasm.specs.Refusals.{AnyIsOver}
-use Rattle.wasmprinter_wasm.specs.Contents.{IsSmall, IsSectionFault}
-use Rattle.wasmprinter_wasm.specs.Gathering.{Gathered, none_gathered, added, added_all, sections_at, HoldsSections, IsSectionsFault}
-use Rattle.wasmprinter_wasm.proofs.Later.{Later, later_none, later_more, many_later, functions_later}
+use Rattle.wasmprinter_wasm.specs.Contents.{IsSmall, section_reasons}
+use Rattle.wasmprinter_wasm.specs.Gathering.{Gathered, none_gathered, added, added_all, sections_at, item_count_in, HoldsSections, sections_reasons}
+use Rattle.wasmprinter_wasm.proofs.Later.{Later, later_none, later_more, many_later, section_later, items_later}
+use Rattle.wasmprinter_wasm.proofs.Counting.{some_among}
 use Rattle.wasmprinter_wasm.proofs.Until.{in_front, until_item, until_fault, until_done}
 use Rattle.wasmprinter_wasm.proofs.Rising.{rise-push, above_front, count_of}
 
@@ -138,7 +140,7 @@ module _ (start at : At) (g : Gathered) (some : at.bytes ≡ [] → ⊥) (k : Ga
       record { item = x.0; after = x.1; rest = y.0; first = e; all = sym (append_assoc k.sections (x.0 ∷ []) y.0) ∙ some_is ((k.sections ++ x.0 ∷ []) ++ y.0) ss y.2 }
 
   -- it has too many locals
-  locals_fault : (place : ℕ) → IsSectionFault at (e.TooManyLocals place) → IsSectionsFault start (e.TooManyLocals place)
+  locals_fault : (place : ℕ) → (section_reasons at).locals place → (sections_reasons start).locals place
   locals_fault place h = (
     many_later start at place k.later h.0,
     λ ss read.
@@ -148,9 +150,9 @@ module _ (start at : At) (g : Gathered) (some : at.bytes ≡ [] → ⊥) (k : Ga
   )
 
   -- it has too many type indices
-  functions_fault : (count : ℕ) → IsSectionFault at (e.TooManyFunctions count) → IsSectionsFault start (e.TooManyFunctions count)
+  functions_fault : (count : ℕ) → (section_reasons at).functions count → (sections_reasons start).functions count
   functions_fault count h = (
-    functions_later start at count k.later h.0,
+    section_later start at 3 count k.later h.0,
     h.1,
     λ ss read up.
         let n = next_of (section.parse at) refl ss read in
@@ -159,7 +161,7 @@ module _ (start at : At) (g : Gathered) (some : at.bytes ≡ [] → ⊥) (k : Ga
   )
 
   -- none is spelled there
-  malformed_fault : (place : ℕ) → IsSectionFault at (e.Malformed place) → IsSectionsFault start (e.Malformed place)
+  malformed_fault : (place : ℕ) → (section_reasons at).malformed place → (sections_reasons start).malformed place
   malformed_fault place h = (
     λ ss read up.
         let n = next_of (section.parse at) refl ss read in
@@ -168,13 +170,24 @@ module _ (start at : At) (g : Gathered) (some : at.bytes ≡ [] → ⊥) (k : Ga
     omega (arith, h.1, k.ends),
   )
 
+  -- a growth was refused
+  memory_fault : (section_reasons at).memory → (sections_reasons start).memory
+  memory_fault h = (
+    items_later start at k.later h.0,
+    λ ss read.
+        let n = next_of (section.parse at) refl ss read in
+        subst (λ (xs : List Section). 0 < item_count_in xs) n.all (some_among k.sections n.item n.rest (h.1 (n.item, n.after) n.first)),
+  )
+
   -- a fault of a section is one of all sections
-  pub gathering_fault : (f : Error) → IsSectionFault at f → IsSectionsFault start f
-  gathering_fault (e.Malformed place) h = malformed_fault place h
-  gathering_fault (e.TooManyLocals place) h = locals_fault place h
-  gathering_fault (e.TooManyFunctions count) h = functions_fault count h
-  gathering_fault e.Memory h = tt
-  gathering_fault _ h = absurd h
+  pub gathering_fault : (f : Error) → HasReason (section_reasons at) f → HasReason (sections_reasons start) f
+  gathering_fault = reason_implied (section_reasons at) (sections_reasons start) (record {
+    malformed = malformed_fault;
+    component = λ h. h;
+    locals = locals_fault;
+    functions = functions_fault;
+    memory = memory_fault;
+  })
 
 -- nothing is left
 pub gathering_done : (start at : At) (g : Gathered) → at.bytes ≡ [] → Gathering start at g → HoldsSections start g

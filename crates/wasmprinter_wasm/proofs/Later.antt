@@ -1,7 +1,7 @@
 -- Reading that has come to a later place.
 use Rattle.std.proofs.Common.{◌≡◌, ℕ, ◌+◌, List, [], ◌∷◌, ◌++◌, length, Some, refl, sym, ap, ◌∙◌, arith, append_assoc, append-nil, length-append}
 use Rattle.wasmprinter_spec.specs.Grammar.{At, Grammar}
-use Rattle.wasmprinter_wasm.specs.Refusals.{HasManyLocals, HasFunctionSection}
+use Rattle.wasmprinter_wasm.specs.Refusals.{HasManyLocals, BeginsSection, BeginsItems}
 use Rattle.wasmprinter_wasm.proofs.Over.{many_in_part}
 
 -- the bytes from the second place on end those from the first
@@ -28,15 +28,19 @@ later_more g start at after x e l =
 pub many_later : (start at : At) (place : ℕ) → Later start at → HasManyLocals at place → HasManyLocals start place
 many_later start at place l m = many_in_part start at l.text [] place (l.parts ∙ ap (λ (bs : List ℕ). l.text ++ bs) (sym (append-nil at.bytes))) l.begins m
 
--- the same of a function section
-pub functions_later : (start at : At) (count : ℕ) → Later start at → HasFunctionSection at count → HasFunctionSection start count
-functions_later start at count l h = record {
+-- the same of a section that begins
+pub section_later : (start at : At) (id count : ℕ) → Later start at → BeginsSection at id count → BeginsSection start id count
+section_later start at id count l h = record {
   before = l.text ++ h.before;
   size_text = h.size_text;
   count_text = h.count_text;
   behind = h.behind;
-  parts = l.parts ∙ ap (λ (bs : List ℕ). l.text ++ bs) h.parts ∙ sym (append_assoc l.text h.before (0x03 ∷ (h.size_text ++ (h.count_text ++ h.behind))));
+  parts = l.parts ∙ ap (λ (bs : List ℕ). l.text ++ bs) h.parts ∙ sym (append_assoc l.text h.before (id ∷ (h.size_text ++ (h.count_text ++ h.behind))));
   size = h.size;
   sized = h.sized;
   counted = h.counted;
 }
+
+-- and of one with items that are kept
+pub items_later : (start at : At) → Later start at → BeginsItems at → BeginsItems start
+items_later start at l h = record { id = h.id; kept = h.kept; count = h.count; some = h.some; begins = section_later start at h.id h.count l h.begins }

@@ -2,6 +2,7 @@ pub mod Parts
 pub mod Over
 pub mod Later
 pub mod Listing
+pub mod Counting
 pub mod Contents
 pub mod Pairing
 pub mod Functions

@@ -8,11 +8,12 @@ use Rattle.wasmprinter_spec.specs.Placed.{Body}
 use Rattle.wasmprinter_spec.specs.Sections.{code_entry}
 use Rattle.wasmprinter_bytes.specs.Reads.{end_of}
 use Rattle.wasmprinter_bytes.specs.declared.error.Error.{Error}
-use Rattle.wasmprinter_bytes.specs.declared.error.Error.TheVariants as e
+use Rattle.wasmprinter_bytes.specs.Reasons.{HasReason}
+use Rattle.wasmprinter_bytes.proofs.Reasons.{reason_implied}
 use Rattle.wasmprinter_bytes.proofs.Fronts.{with_front}
 use Rattle.wasmprinter_wasm.specs.Refusals.{HasManyLocals, IsOver, AnyIsOver}
-use Rattle.wasmprinter_wasm.specs.Bodies.{IsBodyFault}
-use Rattle.wasmprinter_wasm.specs.Contents.{HasFew, IsBodiesFault}
+use Rattle.wasmprinter_wasm.specs.Bodies.{body_reasons}
+use Rattle.wasmprinter_wasm.specs.Contents.{HasFew, bodies_reasons}
 use Rattle.wasmprinter_wasm.proofs.Later.{Later, later_none, later_more, many_later}
 
 -- one more body has few locals
@@ -80,9 +81,13 @@ module _ (old start at : At) (count i : ℕ) (front : List (Placed Body)) (count
       subst (λ (bs : List (Placed Body)). AnyIsOver place bs) all there
 
   -- a fault of an entry is one of all entries
-  pub bodies_fault : (f : Error) → IsBodyFault P at f → IsBodiesFault old f
-  bodies_fault (e.Malformed place) h = (one_more ∙ rw h.0 refl, omega (arith, h.1))
-  bodies_fault (e.TooManyLocals place) h =
-      let from_start : HasManyLocals start place = many_later start at place later h.0 in
-      (many_later old start place (later_more u32 old old start count counted (later_none old)) from_start, any_over place h.1)
-  bodies_fault _ h = absurd h
+  pub bodies_fault : (f : Error) → HasReason (body_reasons P at) f → HasReason (bodies_reasons old) f
+  bodies_fault = reason_implied (body_reasons P at) (bodies_reasons old) (record {
+    malformed = λ place h. (one_more ∙ rw h.0 refl, omega (arith, h.1));
+    component = λ h. h;
+    locals = λ place h.
+        let from_start : HasManyLocals start place = many_later start at place later h.0 in
+        (many_later old start place (later_more u32 old old start count counted (later_none old)) from_start, any_over place h.1);
+    functions = λ count h. h;
+    memory = λ h. absurd h;
+  })

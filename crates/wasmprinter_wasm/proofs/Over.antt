@@ -11,9 +11,10 @@ use Rattle.wasmprinter_spec.specs.Sections.{local_entry, body, body_from, code_e
 use Rattle.wasmprinter_spec.specs.Limits.{local_count, most_locals}
 use Rattle.wasmprinter_wasm.proofs.Parts.{sized, sized_none, sized_some, old_parts, part_within}
 use Rattle.wasmprinter_bytes.specs.declared.error.Error.{Error}
-use Rattle.wasmprinter_bytes.specs.declared.error.Error.TheVariants as e
+use Rattle.wasmprinter_bytes.specs.Reasons.{HasReason}
+use Rattle.wasmprinter_bytes.proofs.Reasons.{reason_implied}
 use Rattle.wasmprinter_wasm.specs.Refusals.{HasManyLocals, IsOver}
-use Rattle.wasmprinter_wasm.specs.Bodies.{IsBodyFault}
+use Rattle.wasmprinter_wasm.specs.Bodies.{body_reasons}
 
 -- what is among some of the bytes is among all of them
 pub many_in_part : (at part : At) (t r : List ℕ) (place : ℕ) → at.bytes ≡ t ++ (part.bytes ++ r) → part.place ≡ at.place + length t → HasManyLocals part place → HasManyLocals at place
@@ -83,20 +84,24 @@ module _ (old mid part new : At) (size : ℕ) (size_read : u32.parse old ≡ Som
       (s.0, s.1 ∙ ap (λ (b : Placed Body). Some (b, s.0)) same)
 
   -- it has too many locals
-  entry_over : (place : ℕ) → IsBodyFault (placed body).parse part (e.TooManyLocals place) → IsBodyFault code_entry.parse old (e.TooManyLocals place)
+  entry_over : (place : ℕ) → (body_reasons (placed body).parse part).locals place → (body_reasons code_entry.parse old).locals place
   entry_over place h =
       let p = old_parts (placed body) old mid part new size size_read cut begins in
       (many_in_part old part p.0 new.bytes place p.1 p.2 h.0, λ x f. let b = entry_body x f in h.1 (x.0, b.0) b.1)
 
   -- none is spelled there
-  entry_malformed : (place : ℕ) → IsBodyFault (placed body).parse part (e.Malformed place) → IsBodyFault code_entry.parse old (e.Malformed place)
+  entry_malformed : (place : ℕ) → (body_reasons (placed body).parse part).malformed place → (body_reasons code_entry.parse old).malformed place
   entry_malformed place h =
       let none : code_entry.parse old ≡ None = rw (sized_none (placed body) old mid part new size size_read cut begins h.0) refl in
       let within = part_within (placed body) old mid part new size size_read cut begins in
       (none, omega (arith, h.1, within))
 
   -- each fault is one of the entry
-  pub entry_fault : (f : Error) → IsBodyFault (placed body).parse part f → IsBodyFault code_entry.parse old f
-  entry_fault (e.Malformed place) h = entry_malformed place h
-  entry_fault (e.TooManyLocals place) h = entry_over place h
-  entry_fault _ h = absurd h
+  pub entry_fault : (f : Error) → HasReason (body_reasons (placed body).parse part) f → HasReason (body_reasons code_entry.parse old) f
+  entry_fault = reason_implied (body_reasons (placed body).parse part) (body_reasons code_entry.parse old) (record {
+    malformed = entry_malformed;
+    component = λ h. h;
+    locals = entry_over;
+    functions = λ count h. h;
+    memory = λ h. h;
+  })

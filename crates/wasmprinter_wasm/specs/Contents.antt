@@ -10,10 +10,11 @@ use Rattle.wasmprinter_spec.specs.Binary.{bodies_in}
 use Rattle.wasmprinter_spec.specs.Limits.{local_count, most_locals, most_functions}
 use Rattle.wasmprinter_bytes.specs.Reads.{end_of}
 use Rattle.wasmprinter_bytes.specs.declared.error.Error.{Error}
-use Rattle.wasmprinter_bytes.specs.declared.error.Error.TheVariants.{Malformed, TooManyLocals, TooManyFunctions, Memory}
+use Rattle.wasmprinter_bytes.specs.Reasons.{Reasons, HasReason}
+use Rattle.wasmprinter_bytes.specs.Lists.{CountsItems}
 use Rattle.wasmprinter_wasm.specs.declared.section.Section.{Section}
 use Rattle.wasmprinter_wasm.specs.declared.section.Section.TheVariants as s
-use Rattle.wasmprinter_wasm.specs.Refusals.{HasManyLocals, HasFunctionSection, AnyIsOver}
+use Rattle.wasmprinter_wasm.specs.Refusals.{HasManyLocals, BeginsSection, IsKept, BeginsItems, AnyIsOver}
 
 -- the section of the definitions
 abbrev pub section_seen : Section → SectionValue
@@ -33,17 +34,27 @@ IsSmall (FunctionSection is) = length is ≤ most_functions
 IsSmall (ExportSection es) = Unit {0}
 IsSmall (CodeSection bs) = AllByRecursion HasFew bs
 
+-- how many items the section holds
+abbrev pub item_count : SectionValue → ℕ
+item_count (TypeSection ts) = length ts
+item_count (FunctionSection is) = length is
+item_count (ExportSection es) = length es
+item_count (CodeSection bs) = length bs
+
 -- the bodies of a code section
-abbrev pub IsBodiesFault : At → Error → Type 0
-IsBodiesFault at (Malformed place) = ((vec code_entry).parse at ≡ None) × (place ≤ end_of at)
-IsBodiesFault at (TooManyLocals place) = HasManyLocals at place × ((x : List (Placed Body) × At) → (vec code_entry).parse at ≡ Some x → AnyIsOver place x.0)
-IsBodiesFault at Memory = Unit {0}
-IsBodiesFault at _ = ⊥
+abbrev pub bodies_reasons : At → Reasons
+bodies_reasons at = record {
+  malformed = λ place. ((vec code_entry).parse at ≡ None) × (place ≤ end_of at);
+  component = ⊥;
+  locals = λ place. HasManyLocals at place × ((x : List (Placed Body) × At) → (vec code_entry).parse at ≡ Some x → AnyIsOver place x.0);
+  functions = λ count. ⊥;
+  memory = CountsItems at;
+}
 
 -- bodies of few locals are read, or the refusal is true
 abbrev pub TakesBodies : {X : Type 0} → (X → List (Placed Body)) → At → Result X Error → At → Type 0
 TakesBodies items old (Ok v) new = ((vec code_entry).parse old ≡ Some (items v, new)) × AllByRecursion HasFew (items v)
-TakesBodies items old (Err e) new = IsBodiesFault old e
+TakesBodies items old (Err e) new = HasReason (bodies_reasons old) e
 
 -- type indices stand there, more than functions are allowed
 pub record AreTooMany (at : At) (count : ℕ) : Type 0 where
@@ -54,30 +65,34 @@ pub record AreTooMany (at : At) (count : ℕ) : Type 0 where
   pub many : most_functions < count
 
 -- the type indices of a function section
-abbrev pub IsIndicesFault : At → Error → Type 0
-IsIndicesFault at (Malformed place) = ((vec u32).parse at ≡ None) × (place ≤ end_of at)
-IsIndicesFault at (TooManyFunctions count) = AreTooMany at count
-IsIndicesFault at Memory = Unit {0}
-IsIndicesFault at _ = ⊥
+abbrev pub indices_reasons : At → Reasons
+indices_reasons at = record {
+  malformed = λ place. ((vec u32).parse at ≡ None) × (place ≤ end_of at);
+  component = ⊥;
+  locals = λ place. ⊥;
+  functions = λ count. AreTooMany at count;
+  memory = CountsItems at;
+}
 
 -- no more type indices than are allowed are read, or the refusal is true
 abbrev pub TakesIndices : {X : Type 0} → (X → List ℕ) → At → Result X Error → At → Type 0
 TakesIndices items old (Ok v) new = ((vec u32).parse old ≡ Some (items v, new)) × (length (items v) ≤ most_functions)
-TakesIndices items old (Err e) new = IsIndicesFault old e
+TakesIndices items old (Err e) new = HasReason (indices_reasons old) e
 
 -- the content of a section with the id
-abbrev pub IsContentFault : ℕ → At → Error → Type 0
-IsContentFault id at (Malformed place) = ((content id).parse at ≡ None) × (place ≤ end_of at)
-IsContentFault id at (TooManyLocals place) =
-    HasManyLocals at place × ((x : SectionValue × At) → (content id).parse at ≡ Some x → AnyIsOver place (bodies_in (x.0 ∷ [])))
-IsContentFault id at (TooManyFunctions count) = (id ≡ 3) × AreTooMany at count
-IsContentFault id at Memory = Unit {0}
-IsContentFault id at _ = ⊥
+abbrev pub content_reasons : ℕ → At → Reasons
+content_reasons id at = record {
+  malformed = λ place. ((content id).parse at ≡ None) × (place ≤ end_of at);
+  component = ⊥;
+  locals = λ place. HasManyLocals at place × ((x : SectionValue × At) → (content id).parse at ≡ Some x → AnyIsOver place (bodies_in (x.0 ∷ [])));
+  functions = λ count. (id ≡ 3) × AreTooMany at count;
+  memory = IsKept id × CountsItems at;
+}
 
 -- content within the limits is read, or the refusal is true
 abbrev pub TakesContent : ℕ → At → Result Section Error → At → Type 0
 TakesContent id old (Ok s) new = ((content id).parse old ≡ Some (section_seen s, new)) × IsSmall (section_seen s)
-TakesContent id old (Err e) new = IsContentFault id old e
+TakesContent id old (Err e) new = HasReason (content_reasons id old) e
 
 -- the section holds the type indices of so many functions
 abbrev pub HasCount : ℕ → SectionValue → Type 0
@@ -85,16 +100,16 @@ HasCount count (FunctionSection is) = length is ≡ count
 HasCount count _ = ⊥
 
 -- a section
-abbrev pub IsSectionFault : At → Error → Type 0
-IsSectionFault at (Malformed place) = (section.parse at ≡ None) × (place ≤ end_of at)
-IsSectionFault at (TooManyLocals place) =
-    HasManyLocals at place × ((x : SectionValue × At) → section.parse at ≡ Some x → AnyIsOver place (bodies_in (x.0 ∷ [])))
-IsSectionFault at (TooManyFunctions count) =
-    HasFunctionSection at count × (most_functions < count) × ((x : SectionValue × At) → section.parse at ≡ Some x → HasCount count x.0)
-IsSectionFault at Memory = Unit {0}
-IsSectionFault at _ = ⊥
+abbrev pub section_reasons : At → Reasons
+section_reasons at = record {
+  malformed = λ place. (section.parse at ≡ None) × (place ≤ end_of at);
+  component = ⊥;
+  locals = λ place. HasManyLocals at place × ((x : SectionValue × At) → section.parse at ≡ Some x → AnyIsOver place (bodies_in (x.0 ∷ [])));
+  functions = λ count. BeginsSection at 3 count × (most_functions < count) × ((x : SectionValue × At) → section.parse at ≡ Some x → HasCount count x.0);
+  memory = BeginsItems at × ((x : SectionValue × At) → section.parse at ≡ Some x → 0 < item_count x.0);
+}
 
 -- a section within the limits is read, or the refusal is true
 abbrev pub TakesSection : At → Result Section Error → At → Type 0
 TakesSection old (Ok s) new = (section.parse old ≡ Some (section_seen s, new)) × IsSmall (section_seen s)
-TakesSection old (Err e) new = IsSectionFault old e
+TakesSection old (Err e) new = HasReason (section_reasons old) e

@@ -1,28 +1,45 @@
 -- Why a module is refused.
-use Rattle.std.specs.Prelude.{◌≡◌, ℕ, ◌<◌, ◌≤◌, List, length, Result, Ok, Err}
+use Rattle.std.specs.Prelude.{◌≡◌, ℕ, ◌+◌, ◌<◌, ◌≤◌, List, length, Result, Ok, Err}
 use Rattle.wasmprinter_spec.specs.Grammar.{from}
 use Rattle.wasmprinter_spec.specs.Placed.{PlacedModule}
 use Rattle.wasmprinter_spec.specs.Binary.{Spells, IsComponent}
 use Rattle.wasmprinter_spec.specs.Limits.{IsWithinLimits, most_functions}
 use Rattle.wasmprinter_bytes.specs.declared.error.Error.{Error}
-use Rattle.wasmprinter_bytes.specs.declared.error.Error.TheVariants.{Malformed, Component, TooManyLocals, TooManyFunctions, Memory}
-use Rattle.wasmprinter_wasm.specs.Refusals.{HasManyLocals, HasFunctionSection, AnyIsOver}
+use Rattle.wasmprinter_bytes.specs.Reasons.{Reasons, HasReason}
+use Rattle.wasmprinter_wasm.specs.Refusals.{HasManyLocals, BeginsSection, BeginsItems, AnyIsOver}
 use Rattle.wasmprinter_wasm.specs.Modules.{bodies_of}
+
+-- how many types, functions and exports it has
+abbrev pub items_held : PlacedModule → ℕ
+items_held m = length m.types + length m.functions + length m.exports
+
+-- it has a type, a function or an export
+abbrev pub HoldsSome : PlacedModule → Type 0
+HoldsSome m = 0 < items_held m
+
+-- it has none
+abbrev pub HoldsNothing : PlacedModule → Type 0
+HoldsNothing m = items_held m ≡ 0
+
+-- Why decoding may be refused: the bytes are a component; or no module is spelled; or there are too many locals in a function whose body
+-- lies at the place; or too many functions; or a growth was refused, and then a section begins there of which items are kept, and a
+-- module that is spelled holds something. `component` says when the bytes are refused as a component.
+abbrev pub module_reasons : List ℕ → Type 0 → Reasons
+module_reasons bytes component = record {
+  malformed = λ place. ((m : PlacedModule) → Spells bytes m → ⊥) × (place ≤ length bytes);
+  component = component;
+  locals = λ place. HasManyLocals (from 0 bytes) place × ((m : PlacedModule) → Spells bytes m → AnyIsOver place (bodies_of m.functions));
+  functions = λ count. BeginsSection (from 0 bytes) 3 count × (most_functions < count) × ((m : PlacedModule) → Spells bytes m → length m.functions ≡ count);
+  memory = BeginsItems (from 0 bytes) × ((m : PlacedModule) → Spells bytes m → HoldsSome m);
+}
 
 -- the refusal is true of the bytes, if they are no component
 abbrev pub IsFaultOf : List ℕ → Error → Type 0
-IsFaultOf bytes (Malformed place) = ((m : PlacedModule) → Spells bytes m → ⊥) × (place ≤ length bytes)
-IsFaultOf bytes (TooManyLocals place) = HasManyLocals (from 0 bytes) place × ((m : PlacedModule) → Spells bytes m → AnyIsOver place (bodies_of m.functions))
-IsFaultOf bytes (TooManyFunctions count) =
-    HasFunctionSection (from 0 bytes) count × (most_functions < count) × ((m : PlacedModule) → Spells bytes m → length m.functions ≡ count)
-IsFaultOf bytes Memory = Unit {0}
-IsFaultOf bytes _ = ⊥
+IsFaultOf bytes e = HasReason (module_reasons bytes ⊥) e
 
--- The refusal is true of the bytes: they are a component; or no module is spelled; or there are too many locals in a function
--- whose body lies at the place; or too many functions; or memory ran out. No other error is answered.
+-- the refusal is true of the bytes
 abbrev pub IsRefusal : List ℕ → Error → Type 0
-IsRefusal bytes Component = IsComponent bytes
-IsRefusal bytes e = IsFaultOf bytes e
+IsRefusal bytes e = HasReason (module_reasons bytes (IsComponent bytes)) e
 
 -- the module that the bytes spell, within the limits, or a true refusal
 abbrev pub TakesModule : List ℕ → Result PlacedModule Error → Type 0

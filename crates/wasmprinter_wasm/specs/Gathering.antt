@@ -1,17 +1,17 @@
 -- What sections hold together.
-use Rattle.std.specs.Prelude.{◌≡◌, ℕ, ◌<◌, ◌≤◌, List, [], ◌∷◌, length, true, Option, Some, Result, Ok, Err}
+use Rattle.std.specs.Prelude.{◌≡◌, ℕ, ◌+◌, ◌<◌, ◌≤◌, List, [], ◌∷◌, length, true, Option, Some, Result, Ok, Err}
 use Rattle.std.specs.List.{AllByRecursion}
 use Rattle.wasmprinter_spec.specs.Grammar.{At, Placed}
 use Rattle.wasmprinter_spec.specs.Repeated.{until_end}
 use Rattle.wasmprinter_spec.specs.Types.{FuncType}
 use Rattle.wasmprinter_spec.specs.Placed.{Body, Export}
 use Rattle.wasmprinter_spec.specs.Sections.{Section, TypeSection, FunctionSection, ExportSection, CodeSection, section}
-use Rattle.wasmprinter_spec.specs.Binary.{rank, are_above, type_indices_in, bodies_in}
+use Rattle.wasmprinter_spec.specs.Binary.{rank, are_above, types_in, type_indices_in, exports_in, bodies_in}
 use Rattle.wasmprinter_spec.specs.Limits.{most_functions}
 use Rattle.wasmprinter_bytes.specs.Reads.{end_of}
 use Rattle.wasmprinter_bytes.specs.declared.error.Error.{Error}
-use Rattle.wasmprinter_bytes.specs.declared.error.Error.TheVariants.{Malformed, TooManyLocals, TooManyFunctions, Memory}
-use Rattle.wasmprinter_wasm.specs.Refusals.{HasManyLocals, HasFunctionSection, AnyIsOver}
+use Rattle.wasmprinter_bytes.specs.Reasons.{Reasons, HasReason}
+use Rattle.wasmprinter_wasm.specs.Refusals.{HasManyLocals, BeginsSection, BeginsItems, AnyIsOver}
 use Rattle.wasmprinter_wasm.specs.Contents.{IsSmall}
 
 -- what the sections hold, and the rank of the last
@@ -50,17 +50,23 @@ pub record HoldsSections (at : At) (g : Gathered) : Type 0 where
   pub small : AllByRecursion IsSmall sections
   pub gathered : g ≡ added_all none_gathered sections
 
+-- how many items the sections hold
+abbrev pub item_count_in : List Section → ℕ
+item_count_in ss = length (types_in ss) + length (type_indices_in ss) + length (exports_in ss) + length (bodies_in ss)
+
 -- why sections up to the end of the bytes may be refused
-abbrev pub IsSectionsFault : At → Error → Type 0
-IsSectionsFault at (Malformed place) = ((ss : List Section) → sections_at at ≡ Some ss → are_above 0 ss ≡ true → ⊥) × (place ≤ end_of at)
-IsSectionsFault at (TooManyLocals place) = HasManyLocals at place × ((ss : List Section) → sections_at at ≡ Some ss → AnyIsOver place (bodies_in ss))
-IsSectionsFault at (TooManyFunctions count) =
-    HasFunctionSection at count × (most_functions < count)
-    × ((ss : List Section) → sections_at at ≡ Some ss → are_above 0 ss ≡ true → length (type_indices_in ss) ≡ count)
-IsSectionsFault at Memory = Unit {0}
-IsSectionsFault at _ = ⊥
+abbrev pub sections_reasons : At → Reasons
+sections_reasons at = record {
+  malformed = λ place. ((ss : List Section) → sections_at at ≡ Some ss → are_above 0 ss ≡ true → ⊥) × (place ≤ end_of at);
+  component = ⊥;
+  locals = λ place. HasManyLocals at place × ((ss : List Section) → sections_at at ≡ Some ss → AnyIsOver place (bodies_in ss));
+  functions = λ count.
+      BeginsSection at 3 count × (most_functions < count)
+      × ((ss : List Section) → sections_at at ≡ Some ss → are_above 0 ss ≡ true → length (type_indices_in ss) ≡ count);
+  memory = BeginsItems at × ((ss : List Section) → sections_at at ≡ Some ss → 0 < item_count_in ss);
+}
 
 -- sections in order and within the limits are read, or the refusal is true
 abbrev pub TakesSections : At → Result Gathered Error → Type 0
 TakesSections at (Ok g) = HoldsSections at g
-TakesSections at (Err e) = IsSectionsFault at e
+TakesSections at (Err e) = HasReason (sections_reasons at) e

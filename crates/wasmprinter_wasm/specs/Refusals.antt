@@ -1,4 +1,5 @@
--- Why a module that is not malformed may be refused: a function has more locals than are allowed, or there are more functions.
+-- Why a module that is not malformed may be refused: a function has more locals than are allowed, there are more functions, or a growth
+-- was refused, which comes only where something is to be kept.
 use Rattle.std.specs.Prelude.{◌≡◌, ℕ, ◌+◌, ◌<◌, ◌⊎◌, List, [], ◌∷◌, ◌++◌, length}
 use Rattle.wasmprinter_spec.specs.Grammar.{At, Placed, placed}
 use Rattle.wasmprinter_spec.specs.Name.{u32, vec}
@@ -17,16 +18,28 @@ pub record HasManyLocals (at : At) (place : ℕ) : Type 0 where
   pub spelled : (vec (placed local_entry)).spells place text locals
   pub many : most_locals < local_count locals
 
--- among the bytes begins a function section, an id and a size, with the count
-pub record HasFunctionSection (at : At) (count : ℕ) : Type 0 where
+-- among the bytes begins a section with the id, an id and a size, with the count
+pub record BeginsSection (at : At) (id count : ℕ) : Type 0 where
   pub before : List ℕ
   pub size_text : List ℕ
   pub count_text : List ℕ
   pub behind : List ℕ
-  pub parts : at.bytes ≡ before ++ 0x03 ∷ (size_text ++ (count_text ++ behind))
+  pub parts : at.bytes ≡ before ++ id ∷ (size_text ++ (count_text ++ behind))
   pub size : ℕ
   pub sized : u32.spells (at.place + length before + 1) size_text size
   pub counted : u32.spells (at.place + length before + 1 + length size_text) count_text count
+
+-- the id of a section whose items are kept: types, type indices, exports, bodies
+abbrev pub IsKept : ℕ → Type 0
+IsKept id = (id ≡ 1) ⊎ (id ≡ 3) ⊎ (id ≡ 7) ⊎ (id ≡ 10)
+
+-- among the bytes begins such a section with a count above zero
+pub record BeginsItems (at : At) : Type 0 where
+  pub id : ℕ
+  pub kept : IsKept id
+  pub count : ℕ
+  pub some : 0 < count
+  pub begins : BeginsSection at id count
 
 -- the body begins at the place, and has more locals than are allowed
 abbrev pub IsOver : ℕ → Placed Body → Type 0

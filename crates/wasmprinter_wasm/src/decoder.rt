@@ -1,12 +1,12 @@
 //! Decoding: a preamble, and sections up to the end (section 5.5, "Modules").
-ghost use Rattle.std.specs.Prelude.{◌≡◌, ◌↔◌, IsTrue, IfOk, IfErr, IsErrOf, IsOkUnless};
+ghost use Rattle.std.specs.Prelude.{◌≡◌, ◌↔◌, IsTrue, IsOk, IfOk, IfErr, IsErrOf, IsOkUnless};
 ghost use Rattle.wasmprinter_spec.specs.Placed.{PlacedModule};
 ghost use Rattle.wasmprinter_spec.specs.Binary.{Spells, IsComponent, preamble, preamble_bytes};
 ghost use Rattle.wasmprinter_spec.specs.Limits.{IsWithinLimits};
 ghost use Rattle.wasmprinter_bytes.specs.Reads.{Reads, IsWithin, end_of};
 ghost use Rattle.wasmprinter_wasm.specs.Contents.{section_seen};
 ghost use Rattle.wasmprinter_wasm.specs.Gathering.{none_gathered, added, TakesSections};
-ghost use Rattle.wasmprinter_wasm.specs.Decoding.{IsRefusal, TakesModule};
+ghost use Rattle.wasmprinter_wasm.specs.Decoding.{IsRefusal, HoldsNothing, TakesModule};
 
 use crate::body::Body;
 use crate::entries::{Export, FuncType};
@@ -136,8 +136,8 @@ fn read_module<'a>(alloc: Global, wasm: &'a [u8]) -> Result<Module<'a>, Error>
 /// # Errors
 ///
 /// `Component` where the bytes are marked as a component; `Malformed` where they are outside the binary format;
-/// `TooManyLocals` and `TooManyFunctions` where a limit of this printer is passed; `Memory` where a growth is refused. `Component`
-/// goes before the others; where several of these hold, any may be answered.
+/// `TooManyLocals` and `TooManyFunctions` where a limit of this printer is passed; `Memory` where a growth is refused, which needs a
+/// section with a count above zero. `Component` goes before the others; where several of these hold, any may be answered.
 pub fn decode<'a>(alloc: Global, wasm: &'a [u8]) -> Result<Module<'a>, Error>
     ensures ok { IfOk result (λ m. Spells wasm.now m × IsWithinLimits m) }
     ensures refused { IfErr result (IsRefusal wasm.now) }
@@ -145,6 +145,9 @@ pub fn decode<'a>(alloc: Global, wasm: &'a [u8]) -> Result<Module<'a>, Error>
 
     // Bytes that spell a module within the limits are refused for memory alone.
     ensures within { (m : PlacedModule) → Spells wasm.now m → IsWithinLimits m → IsOkUnless result Error.Memory }
+
+    // Bytes that spell a module without types, functions and exports are never refused.
+    ensures empty { (m : PlacedModule) → Spells wasm.now m → HoldsNothing m → IsOk result }
 {
     if is_component(wasm) {
         return Err(Error::Component);

@@ -58,7 +58,11 @@ fn read_type_indices(alloc: Global, cursor: &mut Cursor) -> Result<Vec<u32>, Err
     if count > MOST_FUNCTIONS {
         return Err(Error::TooManyFunctions { count });
     }
-    Ok(indices.iter().collect(alloc)?)
+    let mut kept = Vec::new(alloc);
+    for index in indices.iter() {
+        kept.push(index)?;
+    }
+    Ok(kept)
 }
 
 /// Reads what a section with the id holds.
