@@ -33,7 +33,7 @@ not_component bytes placed s c =
     absurd cc
 
 -- the decoder's refusal has its cause
-refusal_cause : {P : Type 0} (m : Meaning P) (bytes : List ℕ) (old : P) (e : Error) → IsRefusal bytes e → HasCause m bytes old old e
+pub refusal_cause : {P : Type 0} (m : Meaning P) (bytes : List ℕ) (old : P) (e : Error) → IsRefusal bytes e → HasCause m bytes old old e
 refusal_cause m bytes old (Malformed place) h = λ placed s. h.0 placed s
 refusal_cause m bytes old Component h = λ placed s. not_component bytes placed s h
 refusal_cause m bytes old (TooManyLocals place) h = λ placed s. h.1 placed s
@@ -42,12 +42,12 @@ refusal_cause m bytes old Memory h = λ placed s. h.1 placed s
 refusal_cause m bytes old _ h = absurd h
 
 -- it is true of the bytes
-refusal_true : (bytes : List ℕ) (e : Error) → IsRefusal bytes e → IsTrueOf bytes e
+pub refusal_true : (bytes : List ℕ) (e : Error) → IsRefusal bytes e → IsTrueOf bytes e
 refusal_true bytes (Printer x) h = absurd h
 refusal_true bytes _ h = h
 
 -- and leaves the printer as it was
-refusal_left : {P : Type 0} (m : Meaning P) (o : Options) (bytes : List ℕ) (old : P) (e : Error) → IsRefusal bytes e → Leaves m o bytes old old e
+pub refusal_left : {P : Type 0} (m : Meaning P) (o : Options) (bytes : List ℕ) (old : P) (e : Error) → IsRefusal bytes e → Leaves m o bytes old old e
 refusal_left m o bytes old (Malformed place) h = refl
 refusal_left m o bytes old Component h = refl
 refusal_left m o bytes old (TooManyLocals place) h = refl
@@ -55,20 +55,10 @@ refusal_left m o bytes old (TooManyFunctions count) h = refl
 refusal_left m o bytes old Memory h = refl
 refusal_left m o bytes old _ h = absurd h
 
--- the same of a result that hands the refusal on
-module _ {P : Type 0} (m : Meaning P) (o : Options) (bytes : List ℕ) (old : P) (e : Error) where
-  handed_on : (Q : Error → Type 0) (r : Result (Unit {0}) Error) → IsErrAnd r (λ y. y ≡ e) → Q e → IfErr r Q
-  handed_on Q (Ok x) f h = tt
-  handed_on Q (Err y) f h = subst Q (sym f) h
-
-  pub refused_caused : (r : Result (Unit {0}) Error) → IsErrAnd r (λ y. y ≡ e) → IsRefusal bytes e → IfErr r (HasCause m bytes old old)
-  refused_caused r f h = handed_on (HasCause m bytes old old) r f (refusal_cause m bytes old e h)
-
-  pub refused_true : (r : Result (Unit {0}) Error) → IsErrAnd r (λ y. y ≡ e) → IsRefusal bytes e → IfErr r (IsTrueOf bytes)
-  refused_true r f h = handed_on (IsTrueOf bytes) r f (refusal_true bytes e h)
-
-  pub refused_left : (r : Result (Unit {0}) Error) → IsErrAnd r (λ y. y ≡ e) → IsRefusal bytes e → IfErr r (Leaves m o bytes old old)
-  refused_left r f h = handed_on (Leaves m o bytes old old) r f (refusal_left m o bytes old e h)
+-- what is so of an error is so of a result that hands it on
+pub handed_on : (Q : Error → Type 0) (r : Result (Unit {0}) Error) (e : Error) → IsErrAnd r (λ y. y ≡ e) → Q e → IfErr r Q
+handed_on Q (Ok x) e f h = tt
+handed_on Q (Err y) e f h = subst Q (sym f) h
 
 module _ {P : Type 0} (m : Meaning P) (o : Options) (bytes : List ℕ) (placed : PlacedModule) (spelled : Spells bytes placed) (within : IsWithinLimits placed) (old new : P) where
   made : (r : Ending) → Written m o old new r (module_pieces o placed) → Made m old new r (layout o unclaimed placed)
@@ -84,10 +74,6 @@ module _ {P : Type 0} (m : Meaning P) (o : Options) (bytes : List ℕ) (placed :
   failed_caused x v =
       let b = (made (AtCall x) v).made in
       λ other s. record { calls = b.calls; before = b.before; run = b.run; call = b.call; failed = b.failed }
-
-  -- a module was being printed
-  pub failed_true : (x : IoError) → IsTrueOf bytes (Printer x)
-  failed_true x = record { placed = placed; spelled = spelled; within = within }
 
   -- and a beginning of its layout was
   pub failed_left : (x : IoError) → Written m o old new (AtCall x) (module_pieces o placed) → Leaves m o bytes old new (Printer x)

@@ -16,6 +16,12 @@ use Rattle.wasmprinter_wasm.specs.Modules.{bodies_of}
 use Rattle.wasmprinter_wasm.specs.Refusals.{AnyIsOver}
 use Rattle.wasmprinter_wasm.specs.Decoding.{HoldsSome, module_reasons}
 
+-- The reason for an error of printing: a call on the printer failed, and this is so of the printer's error; or one for which decoding may be
+-- refused.
+abbrev pub HasPrintReason : (IoError → Type 0) → Reasons → Error → Type 0
+HasPrintReason failed reasons (Printer e) = failed e
+HasPrintReason failed reasons e = HasReason reasons e
+
 -- After some list of calls one failed with this error, which it may in that state, and a count of faults below its greatest value rose by
 -- one.
 pub record PrinterFailed {P : Type 0} (m : Meaning P) (old new : P) (error : IoError) : Type 0 where
@@ -25,36 +31,26 @@ pub record PrinterFailed {P : Type 0} (m : Meaning P) (old new : P) (error : IoE
   pub call : Call
   pub failed : Failed m before call error new
 
--- The cause of a refusal, where bytes spell this module: a function with its body at the place has too many locals; there are so many
--- functions, and that is too many; a call on the printer failed with the error that is answered; or a growth was refused, and the module
--- holds something.
-abbrev pub print_causes : {P : Type 0} → Meaning P → P → P → PlacedModule → Reasons
-print_causes m old new placed = record {
+-- The causes of a refusal, where bytes spell this module: a function with its body at the place has too many locals; there are so many
+-- functions, and that is too many; or a growth was refused, for which this is so.
+abbrev pub causes : Type 0 → PlacedModule → Reasons
+causes growth placed = record {
   malformed = λ place. ⊥;
   component = ⊥;
   locals = λ place. AnyIsOver place (bodies_of placed.functions);
   functions = λ count. (length placed.functions ≡ count) × (most_functions < count);
-  printer = λ e. PrinterFailed m old new e;
-  memory = HoldsSome placed;
+  memory = growth;
 }
 
--- the error is answered for a cause, if bytes spell a module at all
+-- The error is answered for a cause, if bytes spell a module at all: such a one, where growths are refused only for a module that holds
+-- something; or a call on the printer failed with the error that is answered.
 abbrev pub HasCause : {P : Type 0} → Meaning P → List ℕ → P → P → Error → Type 0
-HasCause m bytes old new e = (placed : PlacedModule) → Spells bytes placed → HasReason (print_causes m old new placed) e
+HasCause m bytes old new e =
+    (placed : PlacedModule) → Spells bytes placed → HasPrintReason (PrinterFailed m old new) (causes (HoldsSome placed) placed) e
 
 -- The same where the text is made in memory: a growth may be refused for any module, and no printer fails.
-abbrev pub text_causes : PlacedModule → Reasons
-text_causes placed = record {
-  malformed = λ place. ⊥;
-  component = ⊥;
-  locals = λ place. AnyIsOver place (bodies_of placed.functions);
-  functions = λ count. (length placed.functions ≡ count) × (most_functions < count);
-  printer = λ e. ⊥;
-  memory = Unit {0};
-}
-
 abbrev pub HasTextCause : List ℕ → Error → Type 0
-HasTextCause bytes e = (placed : PlacedModule) → Spells bytes placed → HasReason (text_causes placed) e
+HasTextCause bytes e = (placed : PlacedModule) → Spells bytes placed → HasReason (causes (Unit {0}) placed) e
 
 -- an error as a printer gives it that fails only where it can't grow
 abbrev pub as_growth : Error → Error
@@ -69,7 +65,7 @@ pub record ArePrintable (bytes : List ℕ) : Type 0 where
 
 -- Of any bytes: the decoder's refusal is true, and the printer's comes only where a module within the limits is spelled.
 abbrev pub IsTrueOf : List ℕ → Error → Type 0
-IsTrueOf bytes e = HasReason (record (module_reasons bytes (IsComponent bytes)) { printer = λ x. ArePrintable bytes }) e
+IsTrueOf bytes e = HasPrintReason (λ x. ArePrintable bytes) (module_reasons bytes (IsComponent bytes)) e
 
 -- The same where the text is made in memory: a growth is refused to the decoder, or where a module within the limits is spelled.
 abbrev pub text_reasons : List ℕ → Reasons → Reasons
@@ -86,17 +82,17 @@ pub record WhilePrinting (o : Options) (bytes : List ℕ) (Left : List Call → 
   pub answers : Answers
   pub left : Left (layout o answers placed)
 
--- What a refusal leaves. Where a call on the printer failed, a module was being printed: the calls before it, followed by it, are a
--- beginning of the layout, up to cutting. After any other refusal no call was made.
-abbrev pub leftovers : {P : Type 0} → Meaning P → Options → List ℕ → P → P → Reasons
-leftovers m o bytes old new = record {
-  malformed = λ place. new ≡ old;
-  component = new ≡ old;
-  locals = λ place. new ≡ old;
-  functions = λ count. new ≡ old;
-  printer = λ e. WhilePrinting o bytes (Broken m old new e);
-  memory = new ≡ old;
+-- this is so of each error of decoding
+abbrev pub each_reason : Type 0 → Reasons
+each_reason so = record {
+  malformed = λ place. so;
+  component = so;
+  locals = λ place. so;
+  functions = λ count. so;
+  memory = so;
 }
 
+-- What a refusal leaves. Where a call on the printer failed, a module was being printed: the calls before it, followed by it, are a
+-- beginning of the layout, up to cutting. After any other refusal no call was made.
 abbrev pub Leaves : {P : Type 0} → Meaning P → Options → List ℕ → P → P → Error → Type 0
-Leaves m o bytes old new e = HasReason (leftovers m o bytes old new) e
+Leaves m o bytes old new e = HasPrintReason (λ x. WhilePrinting o bytes (Broken m old new x)) (each_reason (new ≡ old)) e
