@@ -210,6 +210,14 @@ unread_folded : numbers_read (map procedure (
     ∷ codes "(0)"
     ∷ codes "drop (local i32)"
     ∷ codes "(drop (local i32))"
+    ∷ codes "(then)"
+    ∷ codes "drop (then)"
+    ∷ codes "(drop (then))"
+    ∷ codes "(drop (then drop) (else drop))"
+    ∷ codes "(catch_all 0)"
+    ∷ codes "(drop (result i32))"
+    ∷ codes "(call 0 (type 0))"
+    ∷ codes "(drop (drop) (param i32))"
     ∷ [])) ≡ []
 unfolding lex class escape numeral natural integer groups table control_rows number_rows is_utf8 chars encode_utf8
 unread_folded = refl
