@@ -36,6 +36,9 @@ nothing_declared = record { types = []; functions = []; locals = [] }
 first_row : first_reading nothing_declared (bare ∷ numbered ∷ []) End ≡ Some (bare, NoImmediates)
 first_row = refl
 
+first_of_two : first_reading nothing_declared (bare ∷ record bare { number = 0x03 } ∷ []) End ≡ Some (bare, NoImmediates)
+first_of_two = refl
+
 second_row : first_reading nothing_declared (bare ∷ numbered ∷ []) (Word (codes "5") End) ≡ Some (numbered, I32 (pos 5))
 unfolding numeral natural integer
 second_row = refl
