@@ -4,7 +4,7 @@ use Rattle.std.specs.List.{AllByRecursion}
 use Rattle.std.proofs.lemmas.Bool.{and_from}
 use Rattle.std.proofs.lemmas.List.{length-map}
 use Rattle.std.proofs.lemmas.Option.{slice_get-map, slice_get_cases}
-use Rattle.wasmprinter_spec.specs.Grammar.{Placed}
+use Rattle.wasmprinter_spec.specs.Grammar.{Placed, ◌>>=◌}
 use Rattle.wasmprinter_spec.specs.Forest.{Forest, End, Word, Group, onto}
 use Rattle.wasmprinter_spec.specs.Types as types
 use Rattle.wasmprinter_spec.specs.Types.{ValType, FuncType}
@@ -36,32 +36,32 @@ unfolding rows
 group_first [] f h = h
 group_first (g ∷ gs) f h = refl
 
-adds : List Field → Fields → Fields
-adds [] m = m
-adds (x ∷ xs) m = add x (adds xs m)
+adds : List Field → Fields → Option Fields
+adds [] m = Some m
+adds (x ∷ xs) m = adds xs m >>= add x
 
 -- fields of one kind, before others
 fields-rows : {A : Type 0} (P : A → Type 0) (write : A → Forest) (make : A → Field) → ((x : A) → P x → field (write x) ≡ Some (make x)) →
-    (xs : List A) (f : Forest) (m : Fields) → AllByRecursion P xs → fields f ≡ Some m → fields (onto (rows (map write xs)) f) ≡ Some (adds (map make xs) m)
+    (xs : List A) (f : Forest) (m : Fields) → AllByRecursion P xs → fields f ≡ Some m → fields (onto (rows (map write xs)) f) ≡ adds (map make xs) m
 unfolding rows adds
 fields-rows P write make law [] f m h e = e
 fields-rows P write make law (x ∷ xs) f m h e = rw (law x h.0, fields-rows P write make law xs f m h.1 e)
 
 -- Adding fields of one kind puts them before those that there are.
-adds-types : {A : Type 0} (make : A → TypeText) (xs : List A) (m : Fields) → adds (map (λ x. TypeField (make x)) xs) m ≡ record m { types = map make xs ++ m.types }
+adds-types : {A : Type 0} (make : A → TypeText) (xs : List A) (m : Fields) → adds (map (λ x. TypeField (make x)) xs) m ≡ Some (record m { types = map make xs ++ m.types })
 unfolding adds
 adds-types make [] m = refl
-adds-types make (x ∷ xs) m = ap (add (TypeField (make x))) (adds-types make xs m)
+adds-types make (x ∷ xs) m = ap (λ n. n >>= add (TypeField (make x))) (adds-types make xs m)
 
-adds-exports : {A : Type 0} (make : A → ExportText) (xs : List A) (m : Fields) → adds (map (λ x. ExportField (make x)) xs) m ≡ record m { exports = map make xs ++ m.exports }
+adds-exports : {A : Type 0} (make : A → ExportText) (xs : List A) (m : Fields) → adds (map (λ x. ExportField (make x)) xs) m ≡ Some (record m { exports = map make xs ++ m.exports })
 unfolding adds
 adds-exports make [] m = refl
-adds-exports make (x ∷ xs) m = ap (add (ExportField (make x))) (adds-exports make xs m)
+adds-exports make (x ∷ xs) m = ap (λ n. n >>= add (ExportField (make x))) (adds-exports make xs m)
 
-adds-functions : {A : Type 0} (make : A → FunctionText) (xs : List A) (m : Fields) → adds (map (λ x. FunctionField (make x)) xs) m ≡ record m { functions = map make xs ++ m.functions }
+adds-functions : {A : Type 0} (make : A → FunctionText) (xs : List A) (m : Fields) → adds (map (λ x. FunctionField (make x)) xs) m ≡ Some (record m { functions = map make xs ++ m.functions })
 unfolding adds
 adds-functions make [] m = refl
-adds-functions make (x ∷ xs) m = ap (add (FunctionField (make x))) (adds-functions make xs m)
+adds-functions make (x ∷ xs) m = ap (λ n. n >>= add (FunctionField (make x))) (adds-functions make xs m)
 
 -- ---- signatures
 
@@ -144,13 +144,15 @@ module _ (m : PlacedModule) where
   fields-module_items : IsRanged m → fields (module_items false) ≡ Some all_fields
   unfolding module_items all_fields type_text export_text function_text
   fields-module_items h =
-      let functions : fields (onto (rows (map (λ f. function_items false (own_type f) f) m.functions)) End) ≡ Some (adds (map (λ f. FunctionField (function_text f)) m.functions) no_fields) =
-      fields-rows IsRangedFunction (λ f. function_items false (own_type f) f) (λ f. FunctionField (function_text f))
-      (λ f k. function_field-items (own_type f) f k) m.functions End no_fields h.each_function refl in
-      fields-rows (λ t. Unit {0}) (λ t. type_items t.value) (λ t. TypeField (type_text t)) (λ t k. type_field-items t.value) m.types _ _ (any_type m.types)
-      (fields-rows (λ e. IsRangedExport e.value) (λ e. export_items e.value) (λ e. ExportField (export_text e)) (λ e k. export_field-items e.value k) m.exports _ _ h.each_export
-      (rw onto-End at functions))
-      ∙ ap (λ v. Some v) (simp (adds-types, adds-exports, adds-functions, append-nil))
+      let functions : fields (rows (map (λ f. function_items false (own_type f) f) m.functions)) ≡ Some (record no_fields { functions = map function_text m.functions ++ [] }) =
+      rw onto-End at (fields-rows IsRangedFunction (λ f. function_items false (own_type f) f) (λ f. FunctionField (function_text f))
+      (λ f k. function_field-items (own_type f) f k) m.functions End no_fields h.each_function refl)
+      ∙ adds-functions function_text m.functions no_fields in
+      let exports = fields-rows (λ e. IsRangedExport e.value) (λ e. export_items e.value) (λ e. ExportField (export_text e))
+      (λ e k. export_field-items e.value k) m.exports _ _ h.each_export functions ∙ adds-exports export_text m.exports _ in
+      fields-rows (λ t. Unit {0}) (λ t. type_items t.value) (λ t. TypeField (type_text t)) (λ t k. type_field-items t.value) m.types _ _ (any_type m.types) exports
+      ∙ adds-types type_text m.types _
+      ∙ ap (λ v. Some v) (simp append-nil)
 
   -- the types as they are declared
   declared : (ts : List (Placed FuncType)) → map (λ t. t.type) (map type_text ts) ≡ map (λ t. t.value) ts

@@ -11,19 +11,19 @@ use Rattle.wasmprinter_spec.specs.Types as types
 use Rattle.wasmprinter_spec.specs.Types.{ValType, FuncType}
 use Rattle.wasmprinter_spec.specs.Numeral.{integer}
 use Rattle.wasmprinter_spec.specs.Operator.{Immediates, NoImmediates, Index, I32, I64, Operator}
-use Rattle.wasmprinter_spec.specs.Row.{Row, Shape, NoneShape, IndexShape, I32Shape, I64Shape}
-use Rattle.wasmprinter_spec.specs.Table.{by_opcode}
+use Rattle.wasmprinter_spec.specs.Row.{Shape, NoneShape, IndexShape, I32Shape, I64Shape}
+use Rattle.wasmprinter_spec.specs.Table.{rows_of, word_of}
 use Rattle.wasmprinter_spec.specs.Placed.{Export, PlacedFunction}
 use Rattle.wasmprinter_spec.specs.Module.{without_places, expanded}
 use Rattle.wasmprinter_spec.specs.Layout.{type_word}
 use Rattle.wasmprinter_spec.specs.IndexSpaces.{ByNumber, reference, Spaces}
-use Rattle.wasmprinter_spec.specs.Code.{Chunk, chunk, Instruction, Flat, Code, code, flattened, unfolded}
+use Rattle.wasmprinter_spec.specs.Code.{Chunk, chunk, Instruction, Flat, Code, code_of, code, flattened, unfolded}
 use Rattle.wasmprinter_spec.specs.OperatorText.{immediates, operator}
 use Rattle.wasmprinter_spec.specs.Read.{val_type, val_types, Variable, variable, variables, types_of, groups, Signature, signature, Field, TypeField, ExportField, FunctionField, field, each}
 use Rattle.wasmprinter_lexical.proofs.Grown.{onto-End, onto_assoc}
 use Rattle.wasmprinter_lexical.proofs.Numbers.{natural-decimal, integer-positive, integer-negative}
 use Rattle.wasmprinter_reading.proofs.Ranged.{IsSigned, HasShape, IsListed, IsRangedExport, IsRangedFunction}
-use Rattle.wasmprinter_reading.proofs.Tabled.{no_row-decimal, no_row-signed_decimal, same_bytes}
+use Rattle.wasmprinter_reading.proofs.Tabled.{no_rows-decimal, no_rows-signed_decimal, same_bytes}
 use Rattle.wasmprinter_reading.proofs.Trees.{types_items, group_items, signature_items, immediate_items, operators_items, InRange, in_range, mag_below, widened, HasRow, row_for, type_items, export_items, function_items}
 
 -- ---- types
@@ -98,22 +98,18 @@ signature-items t f p r left =
 -- ---- operators
 
 -- the chunk of each operator
-abbrev pub with_row : Option Row → Forest → List Chunk → List Chunk
-with_row None f cs = cs
-with_row (Some r) f cs = chunk r f ∷ cs
-
 abbrev pub chunks_of : List Operator → List Chunk
 chunks_of [] = []
-chunks_of (o ∷ os) = with_row (by_opcode o.opcode) (immediate_items o.immediates) (chunks_of os)
+chunks_of (o ∷ os) = chunk (rows_of (word_of o.opcode)) (immediate_items o.immediates) ∷ chunks_of os
 
 abbrev coded : Forest → List Instruction → Option Code
-coded f is = Some (record { front = f; instructions = is })
+coded f is = Some (code_of f is)
 
 items_front : (i : Immediates) → InRange i → (f : Forest) (is : List Instruction) → code f ≡ coded End is → code (onto (immediate_items i) f) ≡ coded (immediate_items i) is
 items_front NoImmediates h f is e = e
-items_front (Index n) h f is e = rw (no_row-decimal n (omega arith), e)
-items_front (I32 z) h f is e = rw (no_row-signed_decimal z (mag_below z (widened z h)), e)
-items_front (I64 z) h f is e = rw (no_row-signed_decimal z (mag_below z h), e)
+items_front (Index n) h f is e = rw (no_rows-decimal n (omega arith), e)
+items_front (I32 z) h f is e = rw (no_rows-signed_decimal z (mag_below z (widened z h)), e)
+items_front (I64 z) h f is e = rw (no_rows-signed_decimal z (mag_below z h), e)
 
 code-operators : (os : List Operator) → AllByRecursion IsListed os → code (operators_items os) ≡ coded End (map Flat (chunks_of os))
 code-operators [] h = refl
@@ -147,7 +143,7 @@ immediates-items s I32Shape (I32 z) h = rw (integer-32 z h)
 immediates-items s I64Shape (I64 z) h = rw (integer-64 z h)
 immediates-items s _ _ h = absurd h
 
-operator-items : (s : Spaces) (o : Operator) (r : HasRow o) → operator s (chunk r.row (immediate_items o.immediates)) ≡ Some o
+operator-items : (s : Spaces) (o : Operator) (r : HasRow o) → operator s (chunk (r.row ∷ []) (immediate_items o.immediates)) ≡ Some o
 operator-items s o r = rw (immediates-items s r.row.shape o.immediates r.shape, r.is.prefix, r.is.number)
 
 -- operators read back, whatever is declared
@@ -155,7 +151,7 @@ pub operators-read : (s : Spaces) (os : List Operator) → AllByRecursion IsList
 operators-read s [] h = refl
 operators-read s (o ∷ os) h =
     let r : HasRow o = row_for o h.0 in
-    rw (r.found, operator-items s o r, operators-read s os h.1)
+    rw (r.found, r.is.by_its_word, operator-items s o r, operators-read s os h.1)
 
 -- ---- fields
 

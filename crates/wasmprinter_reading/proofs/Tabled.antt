@@ -1,5 +1,5 @@
 -- What the table keeps, by tests over its rows: each is computed once, however many rows there are.
-use Rattle.std.proofs.Common.{◌≡◌, ℕ, ◌<◌, ◌≤◌, ◌^◌, Bool, true, false, ◌&&◌, ◌||◌, not, cond, eqb, leb, List, [], ◌∷◌, Some, None, refl, sym, ap, ◌∙◌, bytes_eq, subst, decimal, ℤ, pos, negsuc, ◌*◌, ◌+◌, arith, suc}
+use Rattle.std.proofs.Common.{◌≡◌, ℕ, ◌<◌, ◌≤◌, ◌^◌, Bool, true, false, ◌&&◌, ◌||◌, not, cond, eqb, leb, List, [], ◌∷◌, Some, refl, sym, ap, ◌∙◌, bytes_eq, subst, decimal, ℤ, pos, negsuc, ◌*◌, ◌+◌, arith, suc}
 use Rattle.std.proofs.lemmas.Bool.{and_parts, eqb-true, not-true, eq-eqb, both_ways, false_from_ne_true, le-leb}
 use Rattle.std.proofs.lemmas.Slice.Eq.{bytes_eq-Decides}
 use Rattle.std.specs.Fmt.{signed_decimal}
@@ -7,10 +7,11 @@ use Rattle.std.specs.Int.Signed.{mag}
 use Rattle.std.proofs.lemmas.Fmt.{decimal_is_IsNumeral}
 use Rattle.std.proofs.lemmas.Str.Parse.{digit_at}
 use Rattle.std.specs.Str.Parse.{IsNumeral}
+use Rattle.std.specs.List.{filter}
 use Rattle.wasmprinter_spec.specs.Character.{class}
 use Rattle.wasmprinter_spec.specs.Operator.{Opcode}
 use Rattle.wasmprinter_spec.specs.Row.{Row}
-use Rattle.wasmprinter_spec.specs.Table.{control_rows, number_rows, table, first, has_word, has_opcode, by_word, by_opcode}
+use Rattle.wasmprinter_spec.specs.Table.{control_rows, number_rows, table, first, has_word, has_opcode, rows_of, by_opcode}
 use Rattle.wasmprinter_lexical.proofs.Runs.{is_word}
 
 -- ---- a word as one number, which is compared at once
@@ -79,22 +80,36 @@ bytes_same xs ys h = (bytes_eq-Decides xs ys).0 h
 pub same_bytes : (xs : List ℕ) → bytes_eq xs xs ≡ true
 same_bytes xs = (bytes_eq-Decides xs xs).1 refl
 
-first_by_word : (rs : List Row) (r : Row) → distinct rs ≡ true → In r rs → first (has_word r.word) rs ≡ Some r
-first_by_word [] r d i = elim i [ ]
-first_by_word (s ∷ rs) r d here = ap (λ t. cond t (Some r) (first (has_word r.word) rs)) (same_bytes r.word)
-first_by_word (s ∷ rs) r d (there i) =
+differ : (m n : ℕ) → not (eqb m n) ≡ true → m ≡ n → ⊥
+differ m n h e = both_ways (eqb m n) (not-true (eqb m n) h) (eq-eqb m n e)
+
+-- a row of another key has another word
+other_word : (r s : Row) → (key s ≡ key r → ⊥) → has_word r.word s ≡ false
+other_word r s apart = false_from_ne_true (has_word r.word s) (λ e. apart (ap (key_after 0) (bytes_same s.word r.word e)))
+
+no_other : (r : Row) (rs : List Row) → lacks (key r) rs ≡ true → filter (has_word r.word) rs ≡ []
+no_other r [] h = refl
+no_other r (s ∷ rs) h =
+    let parts : (not (eqb (key s) (key r)) ≡ true) × (lacks (key r) rs ≡ true) = and_parts (not (eqb (key s) (key r))) (lacks (key r) rs) h in
+    ap (λ t. cond t (s ∷ filter (has_word r.word) rs) (filter (has_word r.word) rs)) (other_word r s (differ (key s) (key r) parts.0)) ∙ no_other r rs parts.1
+
+-- where words are distinct, a row is the only one of its word
+only_of_word : (rs : List Row) (r : Row) → distinct rs ≡ true → In r rs → filter (has_word r.word) rs ≡ r ∷ []
+only_of_word [] r d i = elim i [ ]
+only_of_word (s ∷ rs) r d here =
     let parts : (lacks (key s) rs ≡ true) × (distinct rs ≡ true) = and_parts (lacks (key s) rs) (distinct rs) d in
-    let other : not (eqb (key r) (key s)) ≡ true = all_at (λ x. not (eqb (key x) (key s))) r rs parts.0 i in
-    let no : has_word r.word s ≡ false = false_from_ne_true (has_word r.word s) (λ e.
-    both_ways (eqb (key r) (key s)) (not-true (eqb (key r) (key s)) other) (eq-eqb (key r) (key s) (ap (key_after 0) (sym (bytes_same s.word r.word e))))) in
-    ap (λ t. cond t (Some s) (first (has_word r.word) rs)) no ∙ first_by_word rs r parts.1 i
+    ap (λ t. cond t (r ∷ filter (has_word r.word) rs) (filter (has_word r.word) rs)) (same_bytes r.word) ∙ ap (λ t. r ∷ t) (no_other r rs parts.0)
+only_of_word (s ∷ rs) r d (there i) =
+    let parts : (lacks (key s) rs ≡ true) × (distinct rs ≡ true) = and_parts (lacks (key s) rs) (distinct rs) d in
+    let apart : not (eqb (key r) (key s)) ≡ true = all_at (λ x. not (eqb (key x) (key s))) r rs parts.0 i in
+    ap (λ t. cond t (s ∷ filter (has_word r.word) rs) (filter (has_word r.word) rs)) (other_word r s (λ e. differ (key r) (key s) apart (sym e))) ∙ only_of_word rs r parts.1 i
 
 -- ---- the row of an opcode
 
 pub record IsRow (o : Opcode) (r : Row) : Type 0 where
   pub prefix : r.prefix ≡ o.prefix
   pub number : r.number ≡ o.number
-  pub by_its_word : by_word r.word ≡ Some r
+  pub by_its_word : rows_of r.word ≡ r ∷ []
   pub is_its_word : is_word r.word ≡ true
 
 pub row_of : (o : Opcode) (r : Row) → by_opcode o ≡ Some r → IsRow o r
@@ -104,22 +119,22 @@ row_of o r h =
     record {
       prefix = eqb-true r.prefix o.prefix codes.0;
       number = eqb-true r.number o.number codes.1;
-      by_its_word = first_by_word table r words_distinct found.0;
+      by_its_word = only_of_word table r words_distinct found.0;
       is_its_word = all_at (λ x. is_word x.word) r table words_are_words found.0;
     }
 
 -- ---- a number is no word of the table
 
-first_none : (w : List ℕ) (rs : List Row) → is_number w ≡ true → all (λ r. not (is_number r.word)) rs ≡ true → first (has_word w) rs ≡ None
-first_none w [] n h = refl
-first_none w (r ∷ rs) n h =
+none_of_number : (w : List ℕ) (rs : List Row) → is_number w ≡ true → all (λ r. not (is_number r.word)) rs ≡ true → filter (has_word w) rs ≡ []
+none_of_number w [] n h = refl
+none_of_number w (r ∷ rs) n h =
     let parts : (not (is_number r.word) ≡ true) × (all (λ x. not (is_number x.word)) rs ≡ true) = and_parts (not (is_number r.word)) (all (λ x. not (is_number x.word)) rs) h in
     let no : has_word w r ≡ false = false_from_ne_true (has_word w r) (λ e.
     both_ways (is_number r.word) (not-true (is_number r.word) parts.0) (ap is_number (bytes_same r.word w e) ∙ n)) in
-    ap (λ t. cond t (Some r) (first (has_word w) rs)) no ∙ first_none w rs n parts.1
+    ap (λ t. cond t (r ∷ filter (has_word w) rs) (filter (has_word w) rs)) no ∙ none_of_number w rs n parts.1
 
-no_row : (w : List ℕ) → is_number w ≡ true → by_word w ≡ None
-no_row w h = first_none w table h no_numbers
+no_rows : (w : List ℕ) → is_number w ≡ true → rows_of w ≡ []
+no_rows w h = none_of_number w table h no_numbers
 
 or_true : (t : Bool) → (t || true) ≡ true
 or_true true = refl
@@ -131,9 +146,9 @@ is_number_digits (c ∷ cs) h =
     let within : (48 ≤ c) × (c ≤ 57) = digit_at (c ∷ cs) 0 h.1 h.0 in
     rw (le-leb 48 c within.0, le-leb c 57 within.1) (or_true (eqb c 45))
 
-pub no_row-decimal : (n : ℕ) → n < 2 ^ 64 → by_word (decimal n) ≡ None
-no_row-decimal n h = no_row (decimal n) (is_number_digits (decimal n) (decimal_is_IsNumeral n h).0)
+pub no_rows-decimal : (n : ℕ) → n < 2 ^ 64 → rows_of (decimal n) ≡ []
+no_rows-decimal n h = no_rows (decimal n) (is_number_digits (decimal n) (decimal_is_IsNumeral n h).0)
 
-pub no_row-signed_decimal : (z : ℤ) → mag z < 2 ^ 63 → by_word (signed_decimal z) ≡ None
-no_row-signed_decimal (pos n) h = no_row-decimal n (omega arith)
-no_row-signed_decimal (negsuc n) h = no_row (45 ∷ decimal (suc n)) refl
+pub no_rows-signed_decimal : (z : ℤ) → mag z < 2 ^ 63 → rows_of (signed_decimal z) ≡ []
+no_rows-signed_decimal (pos n) h = no_rows-decimal n (omega arith)
+no_rows-signed_decimal (negsuc n) h = no_rows (45 ∷ decimal (suc n)) refl

@@ -7,6 +7,7 @@ pub mod PlainRows
 pub mod NumeralRows
 pub mod TokenRows
 pub mod ForestRows
+pub mod CodeRows
 pub mod ReadRows
 pub mod UnreadRows
 pub mod IndexedRows

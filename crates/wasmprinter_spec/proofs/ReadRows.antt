@@ -69,6 +69,11 @@ with_notes : read (codes "(@a)(module (@name \"x\") (@a , ; ] [ }} }x{ ({) ,{{};
 unfolding lex class numeral natural groups table control_rows number_rows is_utf8 chars encode_utf8
 with_notes = refl
 
+-- hints, wherever they stand, are none of the module
+with_hints : read (codes "(@metadata.code.branch_hint) (module (@metadata.code.branch_hint x) (type (func (param (@metadata.code.branch_hint) i32) (result i32))) (export \"f\" (func 0)) (func (type 0) (@metadata.code.branch_hint \"\\01\") local.get (@metadata.code.branch_hint \"x\") 0 (@metadata.code.branch_hint)))") ≡ Some identity
+unfolding lex class escape numeral natural groups table control_rows number_rows is_utf8 chars encode_utf8
+with_hints = refl
+
 -- identifiers, also for what is declared behind their use; those of a type mean nothing
 with_names : read (codes "(module $m (export \"f\" (func $\"f\")) (func $f (type $\"t\") (param $\"a b\" i32) (result i32) local.get $\"a\\20b\") (type $t (func (param $y i32) (result i32))))") ≡ Some identity
 unfolding lex class escape numeral groups table control_rows number_rows is_utf8 chars encode_utf8

@@ -2,7 +2,7 @@
 use Rattle.std.specs.Prelude.{◌≡◌, ℕ, List, [], ◌∷◌, map, codes, Some, option_map, refl}
 use Rattle.wasmprinter_spec.specs.Operator.{opcode}
 use Rattle.wasmprinter_spec.specs.Row.{NoneShape, IndexShape, I32Shape, I64Shape, Func, Local, Fixed, OfCall, OfReturn}
-use Rattle.wasmprinter_spec.specs.Table.{table, control_rows, number_rows, by_word, by_opcode, word_of}
+use Rattle.wasmprinter_spec.specs.Table.{table, control_rows, number_rows, rows_of, by_opcode, word_of}
 
 -- return, call, drop, local.get, local.set, i32.const, i64.const
 abbrev numbers : List ℕ
@@ -23,9 +23,14 @@ arities : map (λ n. option_map (λ r. r.arity) (by_opcode (opcode 0 n))) number
 unfolding table control_rows number_rows
 arities = refl
 
-same_row : by_word (codes "local.set") ≡ by_opcode (opcode 0 0x21)
+-- the rows of a word: its opcode's alone, and none of what is no operator's word
+same_rows : map Some (rows_of (codes "local.set")) ≡ by_opcode (opcode 0 0x21) ∷ []
 unfolding table control_rows number_rows
-same_row = refl
+same_rows = refl
+
+no_rows : map rows_of (codes "local" ∷ codes "param" ∷ codes "" ∷ codes "local.set0" ∷ []) ≡ [] ∷ [] ∷ [] ∷ [] ∷ []
+unfolding table control_rows number_rows
+no_rows = refl
 
 -- the byte of `end`, a byte that no operator has, and a prefix
 no_word : map word_of (opcode 0 0x0b ∷ opcode 0 0xff ∷ opcode 0xfc 0x20 ∷ []) ≡ [] ∷ [] ∷ [] ∷ []

@@ -133,11 +133,14 @@ unread_indices = refl
 unread_identifiers : numbers_read (
     codes "(module (type $t (func)) (type $t (func)))"
     ∷ codes "(module (type $t (func)) (type (func)) (type $u (func)) (type $\"t\" (func (param i32))))"
+    ∷ codes "(module (type (func)) (type $t (func)) (type $t (func)))"
+    ∷ codes "(module (type $s (func)) (type $t (func)) (type $t (func)))"
     ∷ codes "(module (type (func)) (func $f (type 0)) (func $f (type 0)))"
     ∷ codes "(module (type (func)) (func $f (type 0)) (func (type 0)) (func $g (type 0)) (func $\"\\66\" (type 0)))"
     ∷ codes "(module (type (func (param i32))) (func (type 0) (param $x i32) (local $x i64)))"
     ∷ codes "(module (type (func (param i32 i32))) (func (type 0) (param $x i32) (param $x i32)))"
     ∷ codes "(module (type (func)) (func (type 0) (local $x i32) (local i32) (local $x i32)))"
+    ∷ codes "(module (type (func (param i32))) (func (type 0) (local i32) (local $x i32) (local $x i32)))"
     ∷ []) ≡ []
 unfolding lex class escape numeral natural integer groups table control_rows number_rows is_utf8 chars encode_utf8
 unread_identifiers = refl
@@ -210,6 +213,14 @@ unread_folded : numbers_read (map procedure (
     ∷ codes "(0)"
     ∷ codes "drop (local i32)"
     ∷ codes "(drop (local i32))"
+    ∷ codes "(then)"
+    ∷ codes "drop (then)"
+    ∷ codes "(drop (then))"
+    ∷ codes "(drop (then drop) (else drop))"
+    ∷ codes "(catch_all 0)"
+    ∷ codes "(drop (result i32))"
+    ∷ codes "(call 0 (type 0))"
+    ∷ codes "(drop (drop) (param i32))"
     ∷ [])) ≡ []
 unfolding lex class escape numeral natural integer groups table control_rows number_rows is_utf8 chars encode_utf8
 unread_folded = refl

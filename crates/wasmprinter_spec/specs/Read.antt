@@ -130,17 +130,18 @@ pub record Fields : Type 0 where
   pub exports : List ExportText
   pub functions : List FunctionText
 
-abbrev pub add : Field → Fields → Fields
-add (TypeField t) m = record m { types = t ∷ m.types }
-add (ExportField e) m = record m { exports = e ∷ m.exports }
-add (FunctionField f) m = record m { functions = f ∷ m.functions }
+-- A field before others: none where it can't stand before them.
+abbrev pub add : Field → Fields → Option Fields
+add (TypeField t) m = Some (record m { types = t ∷ m.types })
+add (ExportField e) m = Some (record m { exports = e ∷ m.exports })
+add (FunctionField f) m = Some (record m { functions = f ∷ m.functions })
 
 abbrev pub no_fields : Fields
 no_fields = record { types = []; exports = []; functions = [] }
 
 abbrev pub fields : Forest → Option Fields
 fields End = Some no_fields
-fields (Group g f) = field g >>= λ x. fields f >>= λ m. Some (add x m)
+fields (Group g f) = field g >>= λ x. fields f >>= add x
 fields _ = None
 
 -- ---- indices resolved

@@ -1,6 +1,7 @@
 -- The operators (sections 5.4 and 6.5 of the standard): a row for each opcode. Grammar, layout and reader take opcodes, words and
 -- immediates from these rows. The program has tables of its own, proved equal to them.
 use Rattle.std.specs.Prelude.{ℕ, List, [], ◌∷◌, ◌++◌, Bool, ◌&&◌, ◌==◌, cond, codes, bytes_eq, Option, Some, None}
+use Rattle.std.specs.List.{filter}
 use Rattle.wasmprinter_spec.specs.Operator.{Opcode}
 use Rattle.wasmprinter_spec.specs.Row.{Row, Shape, NoneShape, IndexShape, I32Shape, I64Shape, Func, Local, Arity, Fixed, OfCall, OfReturn}
 
@@ -39,9 +40,10 @@ has_word w r = bytes_eq r.word w
 abbrev pub has_opcode : Opcode → Row → Bool
 has_opcode o r = (r.prefix == o.prefix) && (r.number == o.number)
 
--- the row of a word, if it is an operator's
-abbrev pub by_word : List ℕ → Option Row
-by_word w = first (has_word w) table
+-- All rows of a word, in the order of the table: none where the word is no operator's. Some operators share a word, and what stands behind
+-- it tells them apart.
+abbrev pub rows_of : List ℕ → List Row
+rows_of w = filter (has_word w) table
 
 -- the row of an opcode, if it is listed
 abbrev pub by_opcode : Opcode → Option Row

@@ -1,0 +1,85 @@
+-- Worked rows of code (section 6.5 of the standard, "Folded Instructions"): what is an operator, which of several with one word it is, and the
+-- hints in front of it.
+use Rattle.std.specs.Prelude.{◌≡◌, ℕ, pos, List, [], ◌∷◌, map, codes, Option, Some, None, refl}
+use Rattle.std.specs.Char.{encode_utf8}
+use Rattle.std.specs.Str.{is_utf8, chars}
+use Rattle.wasmprinter_spec.specs.Grammar.{◌>>=◌}
+use Rattle.wasmprinter_spec.specs.Character.{class}
+use Rattle.wasmprinter_spec.specs.Numeral.{numeral, natural, integer}
+use Rattle.wasmprinter_spec.specs.Token.{escape, lex}
+use Rattle.wasmprinter_spec.specs.Forest.{Forest, End, Word, String, forest}
+use Rattle.wasmprinter_spec.specs.Operator.{NoImmediates, I32}
+use Rattle.wasmprinter_spec.specs.Row.{Row, NoneShape, I32Shape, Fixed}
+use Rattle.wasmprinter_spec.specs.Table.{plain, table, control_rows, number_rows}
+use Rattle.wasmprinter_spec.specs.IndexSpaces.{Spaces}
+use Rattle.wasmprinter_spec.specs.Code.{PartRole, role, unfolded}
+use Rattle.wasmprinter_spec.specs.OperatorText.{first_reading}
+
+-- ---- roles of groups
+
+parts : map role (codes "then" ∷ codes "else" ∷ codes "type" ∷ codes "param" ∷ codes "result" ∷ codes "catch" ∷ codes "catch_all_ref" ∷ codes "local" ∷ codes "1" ∷ [])
+    ≡ PartRole ∷ PartRole ∷ PartRole ∷ PartRole ∷ PartRole ∷ PartRole ∷ PartRole ∷ PartRole ∷ PartRole ∷ []
+unfolding table control_rows number_rows
+parts = refl
+
+-- ---- operators with one word
+
+abbrev bare : Row
+bare = plain 0x01 (codes "w") NoneShape (Fixed 0 0)
+
+abbrev numbered : Row
+numbered = plain 0x02 (codes "w") I32Shape (Fixed 0 0)
+
+abbrev nothing_declared : Spaces
+nothing_declared = record { types = []; functions = []; locals = [] }
+
+first_row : first_reading nothing_declared (bare ∷ numbered ∷ []) End ≡ Some (bare, NoImmediates)
+first_row = refl
+
+first_of_two : first_reading nothing_declared (bare ∷ record bare { number = 0x03 } ∷ []) End ≡ Some (bare, NoImmediates)
+first_of_two = refl
+
+second_row : first_reading nothing_declared (bare ∷ numbered ∷ []) (Word (codes "5") End) ≡ Some (numbered, I32 (pos 5))
+unfolding numeral natural integer
+second_row = refl
+
+no_row : first_reading nothing_declared (bare ∷ numbered ∷ []) (Word (codes "w") End) ≡ None
+unfolding numeral natural integer
+no_row = refl
+
+-- ---- hints
+
+-- the hints in front of each operator of a text
+abbrev hints : List ℕ → Option (List (List Forest))
+hints text = forest text >>= unfolded >>= λ cs. Some (map (λ c. c.hints) cs)
+
+-- a hint that holds this byte
+abbrev byte : ℕ → Forest
+byte b = String (b ∷ []) End
+
+hint_of_operator : hints (codes "local.get 0 (@metadata.code.branch_hint \"\\01\") drop return") ≡ Some ([] ∷ (byte 1 ∷ []) ∷ [] ∷ [])
+unfolding lex class escape table control_rows number_rows is_utf8 chars encode_utf8
+hint_of_operator = refl
+
+-- the group's own operator, which stands behind its operands
+hint_of_group : hints (codes "(@metadata.code.branch_hint \"\\00\") (drop (i32.const 1)) return") ≡ Some ([] ∷ (byte 0 ∷ []) ∷ [] ∷ [])
+unfolding lex class escape table control_rows number_rows is_utf8 chars encode_utf8
+hint_of_group = refl
+
+hint_in_group : hints (codes "(drop (@metadata.code.branch_hint \"\\01\") (i32.const 1))") ≡ Some ((byte 1 ∷ []) ∷ [] ∷ [])
+unfolding lex class escape table control_rows number_rows is_utf8 chars encode_utf8
+hint_in_group = refl
+
+-- other annotations between are passed over
+two_hints : hints (codes "(@metadata.code.branch_hint \"\\00\") (@a) (@metadata.code.branch_hint \"\\01\") drop") ≡ Some ((byte 0 ∷ byte 1 ∷ []) ∷ [])
+unfolding lex class escape table control_rows number_rows is_utf8 chars encode_utf8
+two_hints = refl
+
+-- in another annotation, in front of an immediate, behind the last operator
+inner_hint : hints (codes "(@a (@metadata.code.branch_hint \"\\00\")) local.get (@metadata.code.branch_hint \"\\00\") 0 drop (@metadata.code.branch_hint \"\\00\")") ≡ Some ([] ∷ [] ∷ [])
+unfolding lex class escape table control_rows number_rows is_utf8 chars encode_utf8
+inner_hint = refl
+
+other_names : hints (codes "(@metadata.code.hint \"\\00\") drop (@metadata.code.branch_hints \"\\00\") drop") ≡ Some ([] ∷ [] ∷ [])
+unfolding lex class escape table control_rows number_rows is_utf8 chars encode_utf8
+other_names = refl
