@@ -10,6 +10,7 @@ use crate::system::{Sink, Source};
 use std::alloc::Global;
 use std::fmt::Display;
 use std::io;
+use std::path::Path;
 use std::process::ExitCode;
 use wasmprinter::Error;
 
@@ -66,7 +67,7 @@ fn words_of<I: Iterator<Item = String>>(
 
 /// Prints the module in the file that the words name, the program's own name not among them, and answers the status.
 ///
-/// A refusal writes one line to `err`, and nothing to `out`.
+/// Nothing is written to `out` before the whole text stands. A refusal writes one line to `err`.
 pub fn run<S: Source, O: Sink, E: Sink>(
     source: &S,
     alloc: Global,
@@ -117,7 +118,7 @@ fn print_file<S: Source>(source: &S, alloc: Global, file: &str) -> Result<String
     ensures printed { IfOk result (λ text. GivesText (S.gives source.now file.now) (string_bytes text)) }
     ensures refused { IfErr result (GivesNoText (S.gives source.now file.now)) }
 {
-    let wasm = source.read(file).map_err(|_| Error::Unreadable)?;
+    let wasm = source.read(Path::new(file)).map_err(|_| Error::Unreadable)?;
     wasmprinter::print_bytes(alloc, &wasm)
 }
 

@@ -2,7 +2,7 @@
 //!
 //! The program is written over any `Source` and `Sink`s. A contract over them can say which file was read, and what was written
 //! where a write failed, since a function over any of them knows nothing of a call but that it was made.
-ghost use Rattle.std.specs.Prelude.{◌≡◌, ℕ, List, Some, None, Option, Result, MatchResult, OnOk, IfSome, ⊤};
+ghost use Rattle.std.specs.Prelude.{ℕ, List, Some, None, Option, Result, MatchResult, OnOk, IfSome, ⊤};
 ghost use Rattle.std.specs.Path.{path_bytes};
 ghost use Rattle.std.specs.Io.KnownBytes.{Appends};
 ghost use Rattle.std.specs.declared.io.Error.{Error};
@@ -15,14 +15,14 @@ use std::{fs, io};
 
 /// Where files are read.
 pub trait Source {
-    // What a read of the file with this name may give: bytes, or `None` where it fails.
+    // What a read of the file at the path with this text may give: bytes, or `None` where it fails.
     ghost gives: { Self → List ℕ → Option (List ℕ) → Type 0 };
 
     /// The bytes of a file.
-    fn read(&self, file: &str) -> io::Result<Vec<u8>>
+    fn read(&self, path: Path<'_>) -> io::Result<Vec<u8>>
         ensures { MatchResult result
-            (λ bytes. gives self.now file.now (Some bytes.items))
-            (λ _. gives self.now file.now None) };
+            (λ bytes. gives self.now (path_bytes path.entry) (Some bytes.items))
+            (λ _. gives self.now (path_bytes path.entry) None) };
 }
 
 /// What texts are written to.
@@ -35,19 +35,12 @@ pub trait Sink {
         ensures { takes self.old (D.output text) result self.new };
 }
 
-/// The path whose text is the word as it stands.
-fn path_of(word: &str) -> Path<'_>
-    ensures { path_bytes result ≡ word.now }
-{
-    Path::new(word)
-}
-
 // The system's files. No contract can say what a file holds.
 impl<R: Files + AllocGlobal> Source for R {
     ghost gives = { λ _ _ _. ⊤ };
 
-    fn read(&self, file: &str) -> io::Result<Vec<u8>> {
-        fs::read(self, path_of(file))
+    fn read(&self, path: Path<'_>) -> io::Result<Vec<u8>> {
+        fs::read(self, path)
     }
 }
 
