@@ -1,21 +1,25 @@
-//! What the program does with its words, over any two writers.
-ghost use Rattle.std.specs.Prelude.{◌≡◌, ◌≤◌, ◌↔◌, IsTrue, IsSome, map, false, is_some, string_bytes};
-ghost use Rattle.printwasm.specs.Words.{name_one_file};
+//! What the program does with its words, over any source of files and any two sinks.
+ghost use Rattle.std.specs.Prelude.{◌≡◌, ℕ, ◌⊎◌, List, ◌∷◌, [], Ok, map, is_some, IfSome, OnOk, IfOk, IfErr, string_bytes};
+ghost use Rattle.std.specs.Iterator.{IsFinite};
+ghost use Rattle.std.specs.Process.{exit_status};
+ghost use Rattle.std.specs.declared.io.Error.{Error as IoError};
+ghost use Rattle.printwasm.specs.Words.{AreWordsOf, WantsWords, name_one_file};
+ghost use Rattle.printwasm.specs.Outcome.{GivesText, GivesNoText, WritesText, FailsToWrite, Tells, HasOutcome, error_line};
 
+use crate::system::{Sink, Source};
 use std::alloc::Global;
-use std::fs;
-use std::io::Write;
+use std::fmt::Display;
+use std::io;
 use std::path::Path;
-use std::rt::Files;
+use std::process::ExitCode;
 use wasmprinter::Error;
 
-const USAGE: &str =
-    "usage: printwasm [--offsets] [--skeleton] [--name-unnamed] [--fold] [--color] FILE\n";
+const USAGE: &str = "usage: printwasm FILE\n";
 
 /// The module was printed.
 const PRINTED: u8 = 0;
 
-/// The file can't be read or the module can't be printed.
+/// The file can't be read, the module can't be printed, or the words can't be held.
 const REFUSED: u8 = 1;
 
 /// The words aren't those of the usage line.
@@ -24,9 +28,70 @@ const MISUSED: u8 = 2;
 /// With which words begin that choose an option.
 const OPTION: &str = "--";
 
+/// The program over all words that it is started with, its own name first.
+pub fn start<S: Source, I: Iterator<Item = String>, O: Sink, E: Sink>(
+    source: &S,
+    alloc: Global,
+    args: io::Result<I>,
+    out: &mut O,
+    err: &mut E,
+) -> ExitCode
+    requires can { IfOk args I.can_next }
+    requires finite { IfOk args (λ all. IsFinite (I.remaining all)) }
+    ensures { ((words : List (List ℕ)) × AreWordsOf I.next_gives args words
+        × HasOutcome (S.gives source.now) O.takes E.takes ⟦<Error as Display>⟧.output
+        words out.old out.new err.old err.new (exit_status result))
+        ⊎ ((error : IoError) × WantsWords args error
+        × Tells E.takes err.old err.new (error_line (⟦<io::Error as Display>⟧.output error))
+        × (out.new ≡ out.old) × (exit_status result ≡ 1)) }
+{
+    let status = match words_of(alloc, args) {
+        Ok(words) => run(source, alloc, &words, out, err),
+        Err(error) => refuse(err, error),
+    };
+    ExitCode::from(status)
+}
+
+/// The words as they come, the program's own name not among them.
+fn words_of<I: Iterator<Item = String>>(
+    alloc: Global,
+    args: io::Result<I>,
+) -> io::Result<Vec<String>>
+    requires can { IfOk args I.can_next }
+    requires finite { IfOk args (λ all. IsFinite (I.remaining all)) }
+    ensures words { IfOk result (λ words. AreWordsOf I.next_gives args (map string_bytes words.items)) }
+    ensures wanting { IfErr result (WantsWords args) }
+{
+    Ok(args?.skip(1).collect(alloc)?)
+}
+
+/// Prints the module in the file that the words name, the program's own name not among them, and answers the status.
+///
+/// Nothing is written to `out` before the whole text stands. A refusal writes one line to `err`.
+pub fn run<S: Source, O: Sink, E: Sink>(
+    source: &S,
+    alloc: Global,
+    words: &[String],
+    out: &mut O,
+    err: &mut E,
+) -> u8
+    ensures { HasOutcome (S.gives source.now) O.takes E.takes ⟦<Error as Display>⟧.output
+        (map string_bytes words.now) out.old out.new err.old err.new result }
+{
+    let Some(file) = file_of(words) else {
+        let _ = err.write_text(USAGE);
+        return MISUSED;
+    };
+    match write_file(source, alloc, file, out) {
+        Ok(()) => PRINTED,
+        Err(error) => refuse(err, error),
+    }
+}
+
 /// The file that the words name, if they name one file and nothing else. No option is known yet.
 fn file_of(words: &[String]) -> Option<&str>
-    ensures { is_some result ≡ name_one_file (map string_bytes words.now) }
+    ensures named { is_some result ≡ name_one_file (map string_bytes words.now) }
+    ensures whole { IfSome result (λ file. map string_bytes words.now ≡ file.now ∷ []) }
 {
     match words {
         [file] if !file.starts_with(OPTION) => Some(file.as_str()),
@@ -34,39 +99,34 @@ fn file_of(words: &[String]) -> Option<&str>
     }
 }
 
+/// Writes the text of the module in a file. The text is made whole before it is written.
+fn write_file<S: Source, O: Sink>(
+    source: &S,
+    alloc: Global,
+    file: &str,
+    out: &mut O,
+) -> Result<(), Error>
+    ensures written { OnOk result (WritesText (S.gives source.now file.now) O.takes out.old out.new (Ok tt)) }
+    ensures refused { IfErr result (FailsToWrite (S.gives source.now file.now) O.takes out.old out.new) }
+{
+    let text = print_file(source, alloc, file)?;
+    out.write_text(text.as_str()).map_err(Error::Printer)
+}
+
 /// The text of the module in a file.
-fn print_file<R: Files + AllocGlobal>(rt: &R, alloc: Global, file: &str) -> Result<String, Error> {
-    let wasm = fs::read(rt, Path::new(file)).map_err(|_| Error::Unreadable)?;
+fn print_file<S: Source>(source: &S, alloc: Global, file: &str) -> Result<String, Error>
+    ensures printed { IfOk result (λ text. GivesText (S.gives source.now file.now) (string_bytes text)) }
+    ensures refused { IfErr result (GivesNoText (S.gives source.now file.now)) }
+{
+    let wasm = source.read(Path::new(file)).map_err(|_| Error::Unreadable)?;
     wasmprinter::print_bytes(alloc, &wasm)
 }
 
-/// Prints the module in the file that the words name, the program's own name not among them, and answers the status.
-///
-/// The text is made whole before it is written to `out`. A refusal writes one line to `err`, and nothing to `out`.
-pub fn run<R: Files + AllocGlobal, W: Write, E: Write>(
-    rt: &R,
-    alloc: Global,
-    words: &[String],
-    out: &mut W,
-    err: &mut E,
-) -> u8
-    ensures usage { (result ≡ 2) ↔ (name_one_file (map string_bytes words.now) ≡ false) }
-    ensures status { result ≤ 2 }
-    ensures silent { result ≡ 2 → out.new ≡ out.old }
+/// Tells an error in a line of its own, and answers the status of a refusal, also where the line can't be written.
+fn refuse<E: Sink, D: Display + Drop>(err: &mut E, error: D) -> u8
+    ensures told { Tells E.takes err.old err.new (error_line (D.output error)) }
+    ensures status { result ≡ 1 }
 {
-    let Some(file) = file_of(words) else {
-        let _ = err.write_all(USAGE.as_bytes());
-        return MISUSED;
-    };
-    let done = match print_file(rt, alloc, file) {
-        Ok(text) => out.write_all(text.as_bytes()).map_err(Error::Printer),
-        Err(e) => Err(e),
-    };
-    match done {
-        Ok(()) => PRINTED,
-        Err(e) => {
-            let _ = writeln!(err, "error: {e}");
-            REFUSED
-        }
-    }
+    let _ = err.write_text(format_args!("error: {error}\n"));
+    REFUSED
 }

@@ -1,9 +1,11 @@
 //! Runs over files that the tests write. What is expected is typed by hand.
 
-use crate::program::run;
+use crate::program::{run, start};
+use std::alloc::AllocError;
 use std::io::Write;
+use std::process::ExitCode;
 use std::test::Fail;
-use std::{fs, io};
+use std::{env, fs, io};
 
 /// Before each section of a module.
 const PREAMBLE: [u8; 8] = [0x00, 0x61, 0x73, 0x6d, 0x01, 0x00, 0x00, 0x00];
@@ -15,8 +17,13 @@ const IDENTITY: [u8; 35] = [
     0x20, 0x00, 0x0b,
 ];
 
-const USAGE: &str =
-    "usage: printwasm [--offsets] [--skeleton] [--name-unnamed] [--fold] [--color] FILE\n";
+/// A function of 50001 locals of i32, whose body begins at byte 22.
+const MANY_LOCALS: [u8; 28] = [
+    0x00, 0x61, 0x73, 0x6d, 0x01, 0x00, 0x00, 0x00, 0x01, 0x04, 0x01, 0x60, 0x00, 0x00, 0x03, 0x02,
+    0x01, 0x00, 0x0a, 0x08, 0x01, 0x06, 0x01, 0xd1, 0x86, 0x03, 0x7f, 0x0b,
+];
+
+const USAGE: &str = "usage: printwasm FILE\n";
 
 /// What a run wrote, and its status.
 #[derive(Drop)]
@@ -26,13 +33,19 @@ struct Outcome {
     status: u8,
 }
 
+/// These words, each with memory of its own.
+fn owned(rt: &HostRuntime, words: &[&str]) -> Result<Vec<String>, Fail> {
+    let mut owned = Vec::new(rt.alloc());
+    for word in words {
+        owned.push(String::from_str(rt.alloc(), word)?)?;
+    }
+    Ok(owned)
+}
+
 /// The program over these words.
 fn run_with(rt: &HostRuntime, words: &[&str]) -> Result<Outcome, Fail> {
     let alloc = rt.alloc();
-    let mut owned = Vec::new(alloc);
-    for word in words {
-        owned.push(String::from_str(alloc, word)?)?;
-    }
+    let owned = owned(rt, words)?;
     let mut out = Vec::new(alloc);
     let mut err = Vec::new(alloc);
     let status = run(rt, alloc, &owned, &mut out, &mut err);
@@ -76,13 +89,27 @@ fn refuses_a_module_that_is_cut(rt: HostRuntime) -> Result<(), Fail> {
     let refused = run_over(&rt, "cut.wasm", &PREAMBLE[..7])?;
     assert_eq!(rt; refused.status, 1);
     assert_eq!(rt; refused.out.len(), 0);
-    assert!(rt;
-        refused
-            .err
-            .as_slice()
-            .starts_with(b"error: malformed module at byte 0x")
+    let line = refused.err.as_slice();
+    let Some(rest) = line.strip_prefix(b"error: malformed module at byte 0x") else {
+        return Err(Fail::new("another line"));
+    };
+    let Some(digits) = rest.strip_suffix(b"\n") else {
+        return Err(Fail::new("no line feed"));
+    };
+    assert!(rt; !digits.is_empty());
+    assert!(rt; digits.iter().all(|digit| digit.is_ascii_hexdigit()));
+    Ok(())
+}
+
+#[test]
+fn refuses_too_many_locals(rt: HostRuntime) -> Result<(), Fail> {
+    let refused = run_over(&rt, "locals.wasm", &MANY_LOCALS)?;
+    assert_eq!(rt; refused.status, 1);
+    assert_eq!(rt; refused.out.len(), 0);
+    assert_eq!(rt;
+        refused.err.as_slice(),
+        b"error: function at byte 0x16 has more than 50000 locals\n".as_slice()
     );
-    assert!(rt; refused.err.as_slice().ends_with(b"\n"));
     Ok(())
 }
 
@@ -96,6 +123,19 @@ fn refuses_a_component(rt: HostRuntime) -> Result<(), Fail> {
         refused.err.as_slice(),
         b"error: components are not supported\n".as_slice()
     );
+    Ok(())
+}
+
+#[test]
+fn reads_the_file_of_that_very_name(rt: HostRuntime) -> Result<(), Fail> {
+    fs::write(&rt, "named.wasm", &PREAMBLE)?;
+    let other = run_over(&rt, "named.wasm ", &IDENTITY[..9])?;
+    let printed = run_with(&rt, &["named.wasm"])?;
+    fs::remove_file(&rt, "named.wasm")?;
+    assert_eq!(rt; other.status, 1);
+    assert_eq!(rt; other.out.len(), 0);
+    assert_eq!(rt; printed.status, 0);
+    assert_eq!(rt; printed.out.as_slice(), b"(module)\n".as_slice());
     Ok(())
 }
 
@@ -128,13 +168,31 @@ fn tells_its_usage(rt: HostRuntime) -> Result<(), Fail> {
     Ok(())
 }
 
-/// A writer that is full.
+/// A writer that takes this many bytes more, and then fails.
 #[derive(Drop)]
-struct Full;
+struct Narrow {
+    taken: Vec<u8>,
+    room: usize,
+}
 
-impl Write for Full {
-    fn write(&mut self, _bytes: &[u8]) -> io::Result<usize> {
-        Ok(0)
+impl Narrow {
+    fn new(rt: &HostRuntime, room: usize) -> Narrow {
+        Narrow {
+            taken: Vec::new(rt.alloc()),
+            room,
+        }
+    }
+}
+
+impl Write for Narrow {
+    fn write(&mut self, bytes: &[u8]) -> io::Result<usize> {
+        let count = bytes.len().min(self.room);
+        if count == 0 {
+            return Err(io::Error::other("no room"));
+        }
+        self.taken.extend_from_slice(&bytes[..count])?;
+        self.room -= count;
+        Ok(count)
     }
 
     fn flush(&mut self) -> io::Result<()> {
@@ -143,14 +201,64 @@ impl Write for Full {
 }
 
 #[test]
-fn tells_that_nothing_could_be_written(rt: HostRuntime) -> Result<(), Fail> {
-    let alloc = rt.alloc();
-    fs::write(&rt, "full.wasm", &PREAMBLE)?;
-    let words = vec![in alloc; String::from_str(alloc, "full.wasm")?]?;
-    let mut err = Vec::new(alloc);
-    let status = run(&rt, alloc, &words, &mut Full, &mut err);
-    fs::remove_file(&rt, "full.wasm")?;
-    assert_eq!(rt; status, 1);
-    assert_eq!(rt; err.as_slice(), b"error: the printer failed\n".as_slice());
+fn tells_that_the_text_could_not_be_written(rt: HostRuntime) -> Result<(), Fail> {
+    let words = owned(&rt, &["narrow.wasm"])?;
+    fs::write(&rt, "narrow.wasm", &PREAMBLE)?;
+    for room in [0, 5] {
+        let mut out = Narrow::new(&rt, room);
+        let mut err = Vec::new(rt.alloc());
+        let status = run(&rt, rt.alloc(), &words, &mut out, &mut err);
+        assert_eq!(rt; status, 1);
+        assert_eq!(rt; out.taken.as_slice(), &b"(module)\n"[..room]);
+        assert_eq!(rt; err.as_slice(), b"error: the printer failed\n".as_slice());
+    }
+    fs::remove_file(&rt, "narrow.wasm")?;
+    Ok(())
+}
+
+#[test]
+fn keeps_its_status_where_errors_can_not_be_told(rt: HostRuntime) -> Result<(), Fail> {
+    let cases: [(&[&str], u8); 2] = [(&["no such file"], 1), (&[], 2)];
+    for (words, status) in cases {
+        for room in [0, 5] {
+            let words = owned(&rt, words)?;
+            let mut out = Vec::new(rt.alloc());
+            let mut err = Narrow::new(&rt, room);
+            assert_eq!(rt; run(&rt, rt.alloc(), &words, &mut out, &mut err), status);
+            assert_eq!(rt; out.len(), 0);
+            assert_eq!(rt; err.taken.len(), room);
+        }
+    }
+    Ok(())
+}
+
+#[test]
+fn starts_with_all_words_but_its_name(rt: HostRuntime) -> Result<(), Fail> {
+    let starts: [(&[&str], u8); 4] = [
+        (&[], 2),
+        (&["printwasm"], 2),
+        (&["printwasm", "no such file"], 1),
+        (&["printwasm", "no such file", "nor this"], 2),
+    ];
+    for (words, status) in starts {
+        let args = Ok(owned(&rt, words)?.into_iter());
+        let mut out = Vec::new(rt.alloc());
+        let mut err = Vec::new(rt.alloc());
+        let code = start(&rt, rt.alloc(), args, &mut out, &mut err);
+        assert_eq!(rt; code, ExitCode::from(status));
+        assert_eq!(rt; out.len(), 0);
+    }
+    Ok(())
+}
+
+#[test]
+fn tells_that_its_words_can_not_be_held(rt: HostRuntime) -> Result<(), Fail> {
+    let args: io::Result<env::Args> = Err(io::Error::from(AllocError));
+    let mut out = Vec::new(rt.alloc());
+    let mut err = Vec::new(rt.alloc());
+    let code = start(&rt, rt.alloc(), args, &mut out, &mut err);
+    assert_eq!(rt; code, ExitCode::from(1));
+    assert_eq!(rt; out.len(), 0);
+    assert_eq!(rt; err.as_slice(), b"error: out of memory\n".as_slice());
     Ok(())
 }

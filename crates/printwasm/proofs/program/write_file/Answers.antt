@@ -1,0 +1,9 @@
+-- An error of `print_file` is handed on as it is, before anything is written.
+use Rattle.std.proofs.Common.{refl, inl}
+use Rattle.std.proofs.lemmas.Result.{err_from_is_err_and}
+use Rattle.printwasm.proofs.program.write_file.Goals as goal
+
+pub returns-in_err-text-clause-refused : goal.returns-in_err-text-clause-refused
+returns-in_err-text-clause-refused g c =
+    let p = err_from_is_err_and c.from_residual.result c.from_residual.ensures.1 in
+    rw (p.1, p.2) (inl (c.in_err-text.ensures.refused, refl))
