@@ -4,9 +4,8 @@ use Rattle.std.specs.Fmt.{◌++?◌}
 use Rattle.std.specs.declared.io.Error.{Error as IoError}
 use Rattle.wasmprinter_bytes.specs.declared.error.Error.{Error}
 use Rattle.wasmprinter_bytes.specs.declared.error.Error.TheVariants.{Unreadable, Printer}
-use Rattle.wasmprinter_wasm.specs.Decoding.{IsRefusal}
 use Rattle.wasmprinter.specs.Printed.{HasText}
-use Rattle.wasmprinter.specs.Outcome.{HasModuleCause}
+use Rattle.wasmprinter.specs.Outcome.{HasTextCause, IsTrueOfText}
 use Rattle.printwasm.specs.Words.{name_one_file}
 
 -- what a read of one file may give: bytes, or `None` where it fails
@@ -24,7 +23,7 @@ GivesText gives text = (wasm : List ℕ) × gives (Some wasm) × HasText wasm te
 -- there is no text of the file: it can't be read, or its module can't be printed for a cause that is true of its bytes
 abbrev pub GivesNoText : Reading → Error → Type 0
 GivesNoText gives error =
-    (gives None × (error ≡ Unreadable)) ⊎ ((wasm : List ℕ) × gives (Some wasm) × IsRefusal wasm error × HasModuleCause wasm error)
+    (gives None × (error ≡ Unreadable)) ⊎ ((wasm : List ℕ) × gives (Some wasm) × IsTrueOfText wasm error × HasTextCause wasm error)
 
 -- the text of the file's module was written once, and the write answered this
 abbrev pub WritesText : {W : Type 0} → Reading → Writing W → W → W → Result (Unit {0}) IoError → Type 0

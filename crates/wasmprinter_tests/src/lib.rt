@@ -1,8 +1,15 @@
-//! Tests that cross crates: whole texts, refusals, and calls on a printer that records them. What is expected is typed by hand.
+//! Tests that cross crates, through the paths of the crate `wasmprinter` alone: whole texts, refusals, limits, decoded modules, and calls
+//! on printers that record them or fail. What is expected is typed by hand.
 #![tactic(auto)]
 
 #[cfg(test)]
+mod calls;
+#[cfg(test)]
+mod decoding;
+#[cfg(test)]
 mod example;
+#[cfg(test)]
+mod limits;
 #[cfg(test)]
 mod modules;
 #[cfg(test)]
@@ -11,3 +18,5 @@ mod recorder;
 mod refusals;
 #[cfg(test)]
 mod texts;
+#[cfg(test)]
+mod writers;

@@ -1,7 +1,12 @@
-//! Modules that the tests print.
+//! Modules that the tests print, with the texts and the calls that they give. All is typed by hand: the bytes from the binary format, the
+//! texts from the text format and the layout.
 
 /// Magic and version, a whole module by themselves.
 pub const PREAMBLE: [u8; 8] = [0x00, 0x61, 0x73, 0x6d, 0x01, 0x00, 0x00, 0x00];
+
+pub const EMPTY_TEXT: &str = "(module)\n";
+
+pub const EMPTY_CALLS: &str = "[0x0]({K}module{R})\n";
 
 /// A function of one i32 that gives it back, exported as f.
 pub const IDENTITY: [u8; 35] = [
@@ -12,6 +17,24 @@ pub const IDENTITY: [u8; 35] = [
     0x0a, 0x06, 0x01, 0x04, 0x00, 0x20, 0x00, 0x0b, // code
 ];
 
+pub const IDENTITY_TEXT: &str = r#"(module
+  (type (;0;) (func (param i32) (result i32)))
+  (export "f" (func 0))
+  (func (;0;) (type 0) (param i32) (result i32)
+    local.get 0
+  )
+)
+"#;
+
+pub const IDENTITY_CALLS: &str = r#"[0x0]({K}module{R}
+[0xb]  ({K}type {R}{N}(;0;){R} ({K}func{R} ({K}param{R} {T}i32{R}) ({K}result{R} {T}i32{R})))
+[0x17]  ({K}export {R}{L}"f"{R} ({K}func {R}{N}0{R}))
+[0x1f]  ({K}func {R}{N}(;0;){R} ({K}type {R}{N}0{R}) ({K}param{R} {T}i32{R}) ({K}result{R} {T}i32{R})
+[0x20]    local.get {N}0{R}
+[0x22]  )
+[0x23])
+"#;
+
 /// A function that gives -1 by way of a local of i64.
 pub const MINUS_ONE: [u8; 33] = [
     0x00, 0x61, 0x73, 0x6d, 0x01, 0x00, 0x00, 0x00, // preamble
@@ -19,3 +42,66 @@ pub const MINUS_ONE: [u8; 33] = [
     0x03, 0x02, 0x01, 0x00, // functions
     0x0a, 0x0c, 0x01, 0x0a, 0x01, 0x01, 0x7e, 0x42, 0x7f, 0x21, 0x00, 0x20, 0x00, 0x0b, // code
 ];
+
+pub const MINUS_ONE_TEXT: &str = r#"(module
+  (type (;0;) (func (result i64)))
+  (func (;0;) (type 0) (result i64)
+    (local i64)
+    i64.const -1
+    local.set 0
+    local.get 0
+  )
+)
+"#;
+
+/// Two types, two exports and two functions: the first without operators, the second with locals and each operator.
+pub const EVERYTHING: [u8; 70] = [
+    0x00, 0x61, 0x73, 0x6d, 0x01, 0x00, 0x00, 0x00, // preamble
+    0x01, 0x09, 0x02, 0x60, 0x00, 0x00, 0x60, 0x01, 0x7f, 0x01, 0x7e, // types from 0x08
+    0x03, 0x03, 0x02, 0x01, 0x00, // functions from 0x13
+    0x07, 0x09, 0x02, 0x02, 0x67, 0x6f, 0x00, 0x01, 0x00, 0x00, 0x00, // exports from 0x18
+    0x0a, 0x21, 0x02, 0x02, 0x00, 0x0b, // code from 0x23, with the first body at 0x27
+    0x1c, 0x02, 0x02, 0x7f, 0x01, 0x7e, // the second body at 0x2a
+    0x41, 0x7e, // at 0x2f
+    0x42, 0x80, 0x80, 0x80, 0x80, 0x80, 0x80, 0x80, 0x80, 0x80, 0x7f, // at 0x31
+    0x1a, 0x21, 0x01, 0x20, 0x81, 0x00, // at 0x3c, 0x3d and 0x3f; the last index takes a byte more than it needs
+    0x10, 0x00, 0x0f, 0x0b, // at 0x42, 0x44 and 0x45
+];
+
+pub const EVERYTHING_TEXT: &str = r#"(module
+  (type (;0;) (func))
+  (type (;1;) (func (param i32) (result i64)))
+  (export "go" (func 1))
+  (export "" (func 0))
+  (func (;0;) (type 1) (param i32) (result i64))
+  (func (;1;) (type 0)
+    (local i32 i32 i64)
+    i32.const -2
+    i64.const -9223372036854775808
+    drop
+    local.set 1
+    local.get 1
+    call 0
+    return
+  )
+)
+"#;
+
+pub const EVERYTHING_CALLS: &str = r#"[0x0]({K}module{R}
+[0xb]  ({K}type {R}{N}(;0;){R} ({K}func{R}))
+[0xe]  ({K}type {R}{N}(;1;){R} ({K}func{R} ({K}param{R} {T}i32{R}) ({K}result{R} {T}i64{R})))
+[0x1b]  ({K}export {R}{L}"go"{R} ({K}func {R}{N}1{R}))
+[0x20]  ({K}export {R}{L}""{R} ({K}func {R}{N}0{R}))
+[0x27]  ({K}func {R}{N}(;0;){R} ({K}type {R}{N}1{R}) ({K}param{R} {T}i32{R}) ({K}result{R} {T}i64{R}))
+[0x2a]  ({K}func {R}{N}(;1;){R} ({K}type {R}{N}0{R})
+[0x2b]    ({K}local{R} {T}i32{R} {T}i32{R} {T}i64{R})
+[0x2f]    i32.const{L} -2{R}
+[0x31]    i64.const{L} -9223372036854775808{R}
+[0x3c]    drop
+[0x3d]    local.set {N}1{R}
+[0x3f]    local.get {N}1{R}
+[0x42]    call {N}0{R}
+[0x44]    return
+[0x45]  )
+[0x46])
+"#;

@@ -1,0 +1,94 @@
+//! How printing a module ended.
+
+use crate::comparing::Comparing;
+use crate::shapes::Shape;
+use std::alloc::Global;
+use wasmprinter::wasm::decode;
+use wasmprinter::{Config, Error, print_bytes};
+
+#[derive(Clone, Copy)]
+pub enum Ending {
+    /// Each call gave what is wanted.
+    Printed,
+    /// A call answered `Memory`, and left nothing wrong behind.
+    OutOfMemory,
+    /// What else came.
+    Other(&'static str),
+}
+
+impl Ending {
+    pub fn word(self) -> &'static str {
+        match self {
+            Ending::Printed => "printed",
+            Ending::OutOfMemory => "out of memory",
+            Ending::Other(word) => word,
+        }
+    }
+
+    /// The status of a program of which this is the worst ending.
+    pub fn status(self) -> u8 {
+        match self {
+            Ending::Printed => 0,
+            Ending::OutOfMemory => 1,
+            Ending::Other(_) => 2,
+        }
+    }
+
+    /// The worse of two.
+    fn or(self, other: Ending) -> Ending {
+        if other.status() > self.status() {
+            other
+        } else {
+            self
+        }
+    }
+
+    /// Where a wanted thing holds or not.
+    fn of(holds: bool, otherwise: &'static str) -> Ending {
+        if holds {
+            Ending::Printed
+        } else {
+            Ending::Other(otherwise)
+        }
+    }
+
+    fn of_error(error: Error) -> Ending {
+        match error {
+            Error::Memory => Ending::OutOfMemory,
+            Error::Printer(_) => Ending::Other("the printer failed"),
+            Error::Malformed { .. } => Ending::Other("malformed"),
+            Error::Component => Ending::Other("component"),
+            _ => Ending::Other("another error"),
+        }
+    }
+}
+
+fn by_print_bytes(alloc: Global, shape: &Shape) -> Ending {
+    match print_bytes(alloc, shape.wasm) {
+        Ok(text) => Ending::of(text.as_str() == shape.text, "wrong text"),
+        Err(error) => Ending::of_error(error),
+    }
+}
+
+/// By a printer that needs no memory.
+fn by_config(alloc: Global, shape: &Shape) -> Ending {
+    let mut printer = Comparing::new(shape.text);
+    match Config::new().print(alloc, shape.wasm, &mut printer) {
+        Ok(()) => Ending::of(printer.is_whole(), "wrong calls"),
+        Err(error) => Ending::of(printer.is_beginning(), "wrong calls").or(Ending::of_error(error)),
+    }
+}
+
+fn by_decode(alloc: Global, shape: &Shape) -> Ending {
+    match decode(alloc, shape.wasm) {
+        Ok(module) => Ending::of(module.function_count() == shape.functions, "wrong count"),
+        Err(error) => Ending::of_error(error),
+    }
+}
+
+/// The worst ending of the three calls that take a module.
+pub fn ending_of(alloc: Global, shape: &Shape) -> Ending {
+    by_print_bytes(alloc, shape)
+        .or(by_config(alloc, shape))
+        .or(by_decode(alloc, shape))
+}

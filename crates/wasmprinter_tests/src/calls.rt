@@ -1,0 +1,89 @@
+//! The calls on a printer, in their order, and which error comes where one of them fails.
+
+use crate::modules::{
+    EMPTY_CALLS, EVERYTHING, EVERYTHING_CALLS, IDENTITY, IDENTITY_CALLS, PREAMBLE,
+};
+use crate::recorder::{REFUSED, Recorder};
+use std::io::ErrorKind;
+use std::test::Fail;
+use wasmprinter::{Config, Error};
+
+#[test]
+fn makes_each_call_in_order(rt: HostRuntime) -> Result<(), Fail> {
+    let modules: [(&[u8], &str); 3] = [
+        (&PREAMBLE, EMPTY_CALLS),
+        (&IDENTITY, IDENTITY_CALLS),
+        (&EVERYTHING, EVERYTHING_CALLS),
+    ];
+    for (wasm, calls) in modules {
+        let mut recorder = Recorder::new(rt.alloc());
+        Config::new().print(rt.alloc(), wasm, &mut recorder)?;
+        assert_eq!(rt; recorder.calls(), calls);
+        assert!(rt; recorder.is_complete());
+    }
+    Ok(())
+}
+
+#[test]
+fn makes_no_call_before_a_refusal(rt: HostRuntime) -> Result<(), Fail> {
+    let mut recorder = Recorder::new(rt.alloc());
+    let refused = Config::new().print(rt.alloc(), &IDENTITY[..34], &mut recorder);
+    assert!(rt; matches!(refused, Err(Error::Malformed { .. })));
+    assert_eq!(rt; recorder.calls(), "");
+    assert_eq!(rt; recorder.made(), 0);
+    assert!(rt; recorder.is_complete());
+    Ok(())
+}
+
+/// Calls that are refused in turn, each with those before it: the first, a style, a line feed, one in the middle, and the last.
+const BEGINNINGS: [&str; 5] = [
+    "[0x0](",
+    "[0x0]({K}",
+    "[0x0]({K}module{R}\n",
+    r#"[0x0]({K}module{R}
+[0xb]  ({K}type {R}{N}(;0;){R} ({K}func{R} ({K}param{R} {T}i32{R}) ({K}result{R} {T}i32{R})))
+[0x17]  ({K}export {R}{L}"f"{R} ({K}func {R}{N}"#,
+    IDENTITY_CALLS,
+];
+
+#[test]
+fn stops_at_the_call_that_fails_and_answers_its_error(rt: HostRuntime) -> Result<(), Fail> {
+    let alloc = rt.alloc();
+    let mut whole = Recorder::new(alloc);
+    Config::new().print(alloc, &IDENTITY, &mut whole)?;
+    let mut seen: usize = 0;
+    for call in 1..=whole.made() {
+        let mut recorder = Recorder::refusing(alloc, call, ErrorKind::BrokenPipe);
+        let refused = Config::new().print(alloc, &IDENTITY, &mut recorder);
+        assert!(rt;
+            matches!(refused, Err(Error::Printer(e)) if e.kind() == ErrorKind::BrokenPipe),
+            "at call {call}"
+        );
+        assert!(rt; recorder.is_complete());
+        let beginning = recorder
+            .calls()
+            .strip_suffix(REFUSED)
+            .ok_or("calls behind the one that failed")?;
+        assert!(rt; IDENTITY_CALLS.starts_with(beginning), "at call {call}");
+        if BEGINNINGS.iter().any(|wanted| *wanted == beginning) {
+            seen = seen.saturating_add(1);
+        }
+    }
+    assert_eq!(rt; seen, BEGINNINGS.len());
+    Ok(())
+}
+
+#[test]
+fn answers_each_kind_of_error_as_it_is(rt: HostRuntime) {
+    for kind in [
+        ErrorKind::BrokenPipe,
+        ErrorKind::StorageFull,
+        ErrorKind::OutOfMemory,
+        ErrorKind::Interrupted,
+        ErrorKind::Other,
+    ] {
+        let mut recorder = Recorder::refusing(rt.alloc(), 3, kind);
+        let refused = Config::default().print(rt.alloc(), &PREAMBLE, &mut recorder);
+        assert!(rt; matches!(refused, Err(Error::Printer(e)) if e.kind() == kind));
+    }
+}
