@@ -1,0 +1,19 @@
+-- What the bytes that a read gave come to.
+use Rattle.std.specs.Prelude.{ℕ, List, Some, Result, Ok, Err, IfOk, IfErr}
+use Rattle.std.proofs.Common.{inr}
+use Rattle.wasmprinter_bytes.specs.declared.error.Error.{Error}
+use Rattle.wasmprinter.specs.Printed.{HasText}
+use Rattle.wasmprinter.specs.Outcome.{HasTextCause, IsTrueOfText}
+use Rattle.printwasm.specs.Outcome.{Reading, GivesText, GivesNoText}
+
+-- the text of the bytes is the file's
+pub gives_text : {T : Type 0} (view : T → List ℕ) (gives : Reading) (wasm : List ℕ) (r : Result T Error) →
+    gives (Some wasm) → IfOk r (λ t. HasText wasm (view t)) → IfOk r (λ t. GivesText gives (view t))
+gives_text view gives wasm (Ok t) g h = (wasm, g, h)
+gives_text view gives wasm (Err e) g h = tt
+
+-- why there is none
+pub gives_no_text : {T : Type 0} (gives : Reading) (wasm : List ℕ) (r : Result T Error) →
+    gives (Some wasm) → IfErr r (IsTrueOfText wasm) → IfErr r (HasTextCause wasm) → IfErr r (GivesNoText gives)
+gives_no_text gives wasm (Ok t) g a b = tt
+gives_no_text gives wasm (Err e) g a b = inr (wasm, g, a, b)
