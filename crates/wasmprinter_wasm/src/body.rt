@@ -1,7 +1,7 @@
 //! Bodies of functions (section 5.5, "Code Section"): locals, and an expression.
 ghost use Rattle.std.specs.Prelude.{◌≡◌, ◌<◌, ◌↔◌, IsTrue};
 ghost use Rattle.wasmprinter_spec.specs.Grammar.{placed};
-ghost use Rattle.wasmprinter_spec.specs.Sections.{local_entry};
+ghost use Rattle.wasmprinter_spec.specs.Binary.Code.{local_entry};
 ghost use Rattle.wasmprinter_spec.specs.Limits.{local_count, most_locals};
 ghost use Rattle.wasmprinter_bytes.specs.Reads.{Reads, IsWithin, end_of};
 ghost use Rattle.wasmprinter_ops.specs.ValTypes.{type_seen};
@@ -101,7 +101,7 @@ pub struct Body<'a> {
 impl<'a> Model for Body<'a> {
     ghost use Rattle.wasmprinter_spec.specs.Grammar.{Placed};
     ghost use Rattle.wasmprinter_spec.specs.Placed.{Body as BodyValue};
-    ghost use Rattle.wasmprinter_spec.specs.Sections.{body_from};
+    ghost use Rattle.wasmprinter_spec.specs.Binary.Code.{body_from};
 
     ghost Value = { Placed BodyValue };
 

@@ -2,7 +2,7 @@
 ghost use Rattle.std.specs.Prelude.{◌≡◌};
 ghost use Rattle.wasmprinter_spec.specs.Grammar.{placed};
 ghost use Rattle.wasmprinter_spec.specs.Types.{func_type, only};
-ghost use Rattle.wasmprinter_spec.specs.Sections.{export};
+ghost use Rattle.wasmprinter_spec.specs.Binary.Exports.{export};
 ghost use Rattle.wasmprinter_ops.specs.ValTypes.{types_seen};
 ghost use Rattle.wasmprinter_bytes.specs.Reads.{Reads, IsWithin, end_of};
 
