@@ -10,7 +10,7 @@ use Rattle.wasmprinter_bytes.specs.declared.error.Error.{Error}
 use Rattle.wasmprinter_bytes.specs.Reasons.{HasReason}
 use Rattle.wasmprinter_bytes.specs.Lists.{reader_reasons}
 use Rattle.wasmprinter_bytes.proofs.Reasons.{reason_implied}
-use Rattle.wasmprinter_wasm.specs.declared.section.Section.{Section as SectionRead}
+use Rattle.wasmprinter_wasm.specs.declared.sections.Section.{Section as SectionRead}
 use Rattle.wasmprinter_wasm.specs.Refusals.{BeginsSection}
 use Rattle.wasmprinter_wasm.specs.Contents.{section_seen, HasOver, HasCount, item_count, Counts, content_reasons, section_reasons, TakesContent, TakesSection}
 use Rattle.wasmprinter_wasm.proofs.Parts.{sized, sized_is, sized_none, sized_some, old_parts, part_within}

@@ -12,8 +12,8 @@ use Rattle.wasmprinter_bytes.specs.Reads.{end_of}
 use Rattle.wasmprinter_bytes.specs.declared.error.Error.{Error}
 use Rattle.wasmprinter_bytes.specs.Reasons.{Reasons, HasReason}
 use Rattle.wasmprinter_bytes.specs.Lists.{CountsItems, reader_reasons}
-use Rattle.wasmprinter_wasm.specs.declared.section.Section.{Section}
-use Rattle.wasmprinter_wasm.specs.declared.section.Section.TheVariants as s
+use Rattle.wasmprinter_wasm.specs.declared.sections.Section.{Section}
+use Rattle.wasmprinter_wasm.specs.declared.sections.Section.TheVariants as s
 use Rattle.wasmprinter_wasm.specs.Refusals.{HasManyLocals, BeginsSection, BeginsItems, AnyIsOver}
 
 -- ---- of each kind

@@ -9,10 +9,11 @@ ghost use Rattle.wasmprinter_wasm.specs.Contents.{section_seen};
 ghost use Rattle.wasmprinter_wasm.specs.Gathering.{none_gathered, added, TakesSections};
 ghost use Rattle.wasmprinter_wasm.specs.Decoding.{IsRefusal, HoldsNothing, TakesModule};
 
-use crate::body::Body;
-use crate::entries::{Export, FuncType};
 use crate::module::Module;
-use crate::section::Section;
+use crate::sections::Section;
+use crate::sections::code::Body;
+use crate::sections::exports::Export;
+use crate::sections::types::FuncType;
 use std::alloc::Global;
 use std::marker::Model;
 use wasmprinter_bytes::bytes::Cursor;
