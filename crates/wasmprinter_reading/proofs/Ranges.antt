@@ -1,24 +1,25 @@
 -- A module that bytes spell keeps to its ranges.
-use Rattle.std.proofs.Common.{◌≡◌, ℕ, suc, ltb, ◌<◌, ◌≤◌, ◌+◌, ◌^◌, ◌==◌, List, [], ◌∷◌, ◌++◌, length, Bool, true, Option, Some, None, ◌⊎◌, inl, inr, refl, sym, ap, ◌∙◌, subst, arith}
+use Rattle.std.proofs.Common.{◌≡◌, ℕ, suc, ◌<◌, ◌+◌, ◌^◌, List, [], ◌∷◌, length, Option, Some, None, refl, ap, subst, arith}
 use Rattle.std.specs.Prelude.{IsUtf8}
 use Rattle.std.specs.List.{AllByRecursion}
 use Rattle.std.specs.Str.{is_utf8}
-use Rattle.std.proofs.lemmas.Bool.{ltb-true}
-use Rattle.std.specs.Cmp.{first_so, second_so}
-use Rattle.std.proofs.lemmas.List.{append-nil}
 use Rattle.std.proofs.lemmas.Str.{IsUtf8-from_is_utf8}
 use Rattle.wasmprinter_spec.specs.Choices.{tested}
-use Rattle.wasmprinter_spec.specs.Grammar.{Grammar, Placed, ◌>>=◌, bind_some, some_is, byte, placed}
+use Rattle.wasmprinter_spec.specs.Grammar.{Grammar, Placed, ◌>>=◌, bind_some, some_is, seq, as_value, placed}
 use Rattle.wasmprinter_spec.specs.Name.{u32, vec, name}
 use Rattle.wasmprinter_spec.specs.Types.{only}
 use Rattle.wasmprinter_spec.specs.Row.{Row, Shape, NoneShape, IndexShape, I32Shape, I64Shape}
 use Rattle.wasmprinter_spec.specs.Table.{by_opcode}
 use Rattle.wasmprinter_spec.specs.Instructions.{opcode_grammar, immediates, listed, operator, operator_apart}
 use Rattle.wasmprinter_spec.specs.Placed.{Body, PlacedFunction, PlacedModule}
-use Rattle.wasmprinter_spec.specs.Sections.{Section, TypeSection, FunctionSection, ExportSection, CodeSection, export, local_entry, body, code_entry, content, section}
-use Rattle.wasmprinter_spec.specs.Binary.{rank, are_above, types_in, type_indices_in, exports_in, bodies_in, paired, module_from, assembled, AreBytes, Spells}
+use Rattle.wasmprinter_spec.specs.Sized.{exactly, alone}
+use Rattle.wasmprinter_spec.specs.Binary.Exports.{export}
+use Rattle.wasmprinter_spec.specs.Binary.Code.{local_entry, body, code_entry}
+use Rattle.wasmprinter_spec.specs.Sections.{Kind, TypeSection, FunctionSection, ExportSection, CodeSection, Section, holds, content, section_id, section, are_above}
+use Rattle.wasmprinter_spec.proofs.Ordered.{held_each}
+use Rattle.wasmprinter_spec.specs.Binary.{type_indices_in, bodies_in, paired, module_from, assembled, AreBytes, Spells}
 use Rattle.wasmprinter_reading.proofs.Ranged.{HasShape, HasRowShape, IsListed, IsRangedExport, IsRangedFunction, IsRanged}
-use Rattle.wasmprinter_reading.proofs.AllSpelled.{AllSpelled, split_bytes, entries_have, AllSpelled-any, AllSpelled-seq, AllSpelled-mapped, AllSpelled-as_value, AllSpelled-nothing, AllSpelled-never, AllSpelled-choose, AllSpelled-placed, AllSpelled-exactly, AllSpelled-times, AllSpelled-closed}
+use Rattle.wasmprinter_reading.proofs.AllSpelled.{AllSpelled, split_bytes, entries_have, AllSpelled-any, AllSpelled-seq, AllSpelled-mapped, AllSpelled-as_value, AllSpelled-nothing, AllSpelled-never, AllSpelled-placed, AllSpelled-exactly, AllSpelled-times, AllSpelled-closed}
 use Rattle.wasmprinter_reading.proofs.LebRange.{AllSpelled-unsigned, AllSpelled-signed}
 
 -- What a vector holds: fewer than 2 ^ 32 items, each of which has P.
@@ -67,10 +68,10 @@ HasListedOperators b = AllByRecursion (λ o. IsListed o.value) b.operators
 
 -- what a section of each kind holds: a vector
 abbrev IsRangedSection : Section → Type 0
-IsRangedSection (TypeSection ts) = IsVector (λ t. Unit {0}) ts
-IsRangedSection (FunctionSection is) = IsVector (λ i. i < 2 ^ 32) is
-IsRangedSection (ExportSection es) = IsVector (λ e. IsRangedExport e.value) es
-IsRangedSection (CodeSection bs) = IsVector (λ b. HasListedOperators b.value) bs
+IsRangedSection (holds TypeSection ts) = IsVector (λ t. Unit {0}) ts
+IsRangedSection (holds FunctionSection is) = IsVector (λ i. i < 2 ^ 32) is
+IsRangedSection (holds ExportSection es) = IsVector (λ e. IsRangedExport e.value) es
+IsRangedSection (holds CodeSection bs) = IsVector (λ b. HasListedOperators b.value) bs
 
 -- An export: a name and an index.
 AllSpelled-export : AllSpelled export IsRangedExport
@@ -88,81 +89,25 @@ AllSpelled-code_entry : AllSpelled code_entry (λ b. HasListedOperators b.value)
 AllSpelled-code_entry =
     AllSpelled-as_value (AllSpelled-seq AllSpelled-u32 (λ size. AllSpelled-exactly (AllSpelled-placed AllSpelled-body) size)) (λ x h. h.1)
 
--- The content of a section of each id.
-AllSpelled-content : (id : ℕ) → AllSpelled (content id) IsRangedSection
-AllSpelled-content id =
-    AllSpelled-choose (id == 1) (AllSpelled-as_value (AllSpelled-vec (AllSpelled-any _)) (λ ts h. h))
-    (AllSpelled-choose (id == 3) (AllSpelled-as_value (AllSpelled-vec AllSpelled-u32) (λ is h. h))
-    (AllSpelled-choose (id == 7) (AllSpelled-as_value (AllSpelled-vec (AllSpelled-placed AllSpelled-export)) (λ es h. h))
-    (AllSpelled-choose (id == 10) (AllSpelled-as_value (AllSpelled-vec AllSpelled-code_entry) (λ bs h. h)) AllSpelled-never)))
+-- A size and what a section holds.
+AllSpelled-sized : {A : Type 0} {g : Grammar A} {P : A → Type 0} (made : A → Section) → AllSpelled g P → ((a : A) → P a → IsRangedSection (made a))
+    → AllSpelled (as_value (λ x. made x.1) (seq u32 (λ size. exactly (alone g) size))) IsRangedSection
+AllSpelled-sized made all keeps = AllSpelled-as_value (AllSpelled-seq AllSpelled-u32 (λ size. AllSpelled-exactly all size)) (λ x h. keeps x.1 h.1)
+
+-- The content of a section of each kind.
+AllSpelled-content : (kind : Kind) → AllSpelled (as_value (λ x. holds kind x.1) (seq u32 (λ size. exactly (content kind) size))) IsRangedSection
+AllSpelled-content TypeSection = AllSpelled-sized (holds TypeSection) (AllSpelled-vec (AllSpelled-any _)) (λ ts h. h)
+AllSpelled-content FunctionSection = AllSpelled-sized (holds FunctionSection) (AllSpelled-vec AllSpelled-u32) (λ is h. h)
+AllSpelled-content ExportSection = AllSpelled-sized (holds ExportSection) (AllSpelled-vec (AllSpelled-placed AllSpelled-export)) (λ es h. h)
+AllSpelled-content CodeSection = AllSpelled-sized (holds CodeSection) (AllSpelled-vec AllSpelled-code_entry) (λ bs h. h)
 
 -- A section: its content.
 AllSpelled-section : AllSpelled section IsRangedSection
-AllSpelled-section =
-    AllSpelled-as_value (AllSpelled-seq (AllSpelled-any byte) (λ id. AllSpelled-seq AllSpelled-u32 (λ size. AllSpelled-exactly (AllSpelled-content id) size)))
-    (λ x h. h.1.1)
+AllSpelled-section = AllSpelled-as_value (AllSpelled-seq (AllSpelled-any section_id) (λ k. AllSpelled-content k)) (λ x h. h.1)
 
--- ---- the one section of a kind
-
--- What a section puts in front of what the sections behind it hold of one kind: nothing, or if it is of that kind, a vector.
-abbrev PutsInFront : {A : Type 0} → (A → Type 0) → ℕ → Section → List A → List A → Type 0
-PutsInFront {A} P kind s all rest = (all ≡ rest) ⊎ ((rank s ≡ kind) × (own : List A) × (all ≡ own ++ rest) × IsVector P own)
-
--- Each section puts its own part in front.
-abbrev Gathers : {A : Type 0} → (A → Type 0) → ℕ → (List Section → List A) → Type 0
-Gathers P kind held = (s : Section) (ss : List Section) → IsRangedSection s → PutsInFront P kind s (held (s ∷ ss)) (held ss)
-
--- Types are gathered from the type section.
-types_gathered : Gathers (λ t. Unit {0}) 1 types_in
-types_gathered (TypeSection ts) ss ranged = inr (refl, ts, refl, ranged)
-types_gathered _ ss ranged = inl refl
-
--- Type indices are gathered from the function section.
-type_indices_gathered : Gathers (λ i. i < 2 ^ 32) 3 type_indices_in
-type_indices_gathered (FunctionSection is) ss ranged = inr (refl, is, refl, ranged)
-type_indices_gathered _ ss ranged = inl refl
-
--- Exports are gathered from the export section.
-exports_gathered : Gathers (λ e. IsRangedExport e.value) 8 exports_in
-exports_gathered (ExportSection es) ss ranged = inr (refl, es, refl, ranged)
-exports_gathered _ ss ranged = inl refl
-
--- Bodies are gathered from the code section.
-bodies_gathered : Gathers (λ b. HasListedOperators b.value) 12 bodies_in
-bodies_gathered (CodeSection bs) ss ranged = inr (refl, bs, refl, ranged)
-bodies_gathered _ ss ranged = inl refl
-
--- Of sections in order the first stands above the bound, and the others above the first.
-split_above : (s : Section) (ss : List Section) (low : ℕ) → are_above low (s ∷ ss) ≡ true → (low < rank s) × (are_above (rank s) ss ≡ true)
-split_above s ss low above =
-    let this : Bool = ltb low (rank s) in
-    let others : Bool = are_above (rank s) ss in
-    (ltb-true low (rank s) (first_so this others above), second_so this others above)
-
-module _ {A : Type 0} {P : A → Type 0} {kind : ℕ} (held : List Section → List A) (none : held [] ≡ []) (gathered : Gathers P kind held) where
-  -- Sections above a kind hold nothing of it.
-  none_above : (ss : List Section) (low : ℕ) → kind ≤ low → AllByRecursion IsRangedSection ss → are_above low ss ≡ true → held ss ≡ []
-  none_above [] low le ranged above = none
-  none_above (s ∷ ss) low le ranged above =
-      let order = split_above s ss low above in
-      elim (gathered s ss ranged.0) [
-        | inl same ↦ same ∙ none_above ss (rank s) (omega (arith, order.0)) ranged.1 order.1
-        | inr of_kind ↦ absurd (omega (arith, order.0, of_kind.0))
-      ]
-
-  -- Sections in order hold one vector of each kind, or nothing.
-  one_vector : (ss : List Section) (low : ℕ) → AllByRecursion IsRangedSection ss → are_above low ss ≡ true → IsVector P (held ss)
-  one_vector [] low ranged above = subst (IsVector P) (sym none) (record { count = omega arith; each = tt })
-  one_vector (s ∷ ss) low ranged above =
-      let order = split_above s ss low above in
-      elim (gathered s ss ranged.0) [
-        | inl same ↦ subst (IsVector P) (sym same) (one_vector ss (rank s) ranged.1 order.1)
-        | inr of_kind ↦
-            let own : List A = of_kind.1 in
-            let behind : held ss ≡ [] = none_above ss (rank s) (omega (arith, of_kind.0)) ranged.1 order.1 in
-            let all : held (s ∷ ss) ≡ own = of_kind.2 ∙ ap (λ (xs : List A). own ++ xs) behind ∙ append-nil own in
-            subst (IsVector P) (sym all) of_kind.3
-      ]
+-- No items are a vector.
+no_items : {A : Type 0} (P : A → Type 0) → IsVector P []
+no_items P = record { count = omega arith; each = tt }
 
 -- ---- functions
 
@@ -190,10 +135,10 @@ module_ranged : (size : ℕ) (ss : List Section) (m : PlacedModule) → assemble
 module_ranged size ss m e ranged =
     let ordered = tested (are_above 0 ss) (paired (type_indices_in ss) (bodies_in ss) >>= λ fs. Some (module_from size ss fs)) m e in
     let functions = bind_some (paired (type_indices_in ss) (bodies_in ss)) (λ fs. Some (module_from size ss fs)) m ordered.1 in
-    let types = one_vector types_in refl types_gathered ss 0 ranged ordered.0 in
-    let type_indices = one_vector type_indices_in refl type_indices_gathered ss 0 ranged ordered.0 in
-    let exports = one_vector exports_in refl exports_gathered ss 0 ranged ordered.0 in
-    let bodies = one_vector bodies_in refl bodies_gathered ss 0 ranged ordered.0 in
+    let types = held_each TypeSection IsRangedSection [] ss ranged (no_items (λ t. Unit {0})) in
+    let type_indices = held_each FunctionSection IsRangedSection [] ss ranged (no_items (λ i. i < 2 ^ 32)) in
+    let exports = held_each ExportSection IsRangedSection [] ss ranged (no_items (λ e. IsRangedExport e.value)) in
+    let bodies = held_each CodeSection IsRangedSection [] ss ranged (no_items (λ b. HasListedOperators b.value)) in
     let pairs = pairs_ranged (type_indices_in ss) (bodies_in ss) functions.0 functions.1 type_indices.each bodies.each in
     subst IsRanged (some_is (module_from size ss functions.0) m functions.2)
     (record {

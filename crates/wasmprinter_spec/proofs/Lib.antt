@@ -1,3 +1,4 @@
+pub mod Ordered
 pub mod Samples
 pub mod LebRows
 pub mod BinaryRows

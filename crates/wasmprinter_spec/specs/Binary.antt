@@ -1,12 +1,16 @@
 -- How bytes spell a module (section 5.5 of the standard, "Modules"): a preamble, and sections up to the end.
-use Rattle.std.specs.Prelude.{◌≡◌, ℕ, ◌<◌, List, [], ◌∷◌, ◌++◌, Bool, true, ◌&&◌, nat_lt, bytes_eq, Option, Some, None, if◌then◌else◌}
+use Rattle.std.specs.Prelude.{◌≡◌, ℕ, ◌<◌, List, [], ◌∷◌, ◌++◌, bytes_eq, Option, Some, None, if◌then◌else◌}
 use Rattle.std.specs.List.{AllByRecursion}
 use Rattle.wasmprinter_spec.specs.Grammar.{Grammar, Whole, ◌>>=◌, mapped, Placed}
 use Rattle.wasmprinter_spec.specs.Repeated.{until_end}
 use Rattle.wasmprinter_spec.specs.Sized.{front, headed, concluded}
 use Rattle.wasmprinter_spec.specs.Types.{FuncType}
 use Rattle.wasmprinter_spec.specs.Placed.{Body, Export, PlacedFunction, PlacedModule}
-use Rattle.wasmprinter_spec.specs.Sections.{Section, TypeSection, FunctionSection, ExportSection, CodeSection, section}
+use Rattle.wasmprinter_spec.specs.Sections.{Section, TypeSection, FunctionSection, ExportSection, CodeSection, section, are_above, held_in}
+pub mod Types
+pub mod Functions
+pub mod Exports
+pub mod Code
 
 -- the magic and the version
 abbrev pub magic : List ℕ
@@ -18,39 +22,18 @@ preamble_bytes = magic ++ (0x01 ∷ 0x00 ∷ 0x00 ∷ 0x00 ∷ [])
 abbrev pub preamble : Grammar (List ℕ)
 preamble = mapped (λ bytes. if bytes_eq bytes preamble_bytes then Some bytes else None) (front 8)
 
--- Where each kind of section stands in the order type, import, function, table, memory, tag, global, export, start, element, data
--- count, code, data.
-abbrev pub rank : Section → ℕ
-rank (TypeSection ts) = 1
-rank (FunctionSection is) = 3
-rank (ExportSection es) = 8
-rank (CodeSection bs) = 12
-
--- the sections stand in order and each kind comes at most once: all ranks are above this one and rise
-abbrev pub are_above : ℕ → List Section → Bool
-are_above low [] = true
-are_above low (s ∷ ss) = nat_lt low (rank s) && are_above (rank s) ss
-
--- what the sections of one kind hold
+-- what the sections hold of each kind
 abbrev pub types_in : List Section → List (Placed FuncType)
-types_in [] = []
-types_in (TypeSection ts ∷ ss) = ts ++ types_in ss
-types_in (s ∷ ss) = types_in ss
+types_in ss = held_in TypeSection [] ss
 
 abbrev pub type_indices_in : List Section → List ℕ
-type_indices_in [] = []
-type_indices_in (FunctionSection is ∷ ss) = is ++ type_indices_in ss
-type_indices_in (s ∷ ss) = type_indices_in ss
+type_indices_in ss = held_in FunctionSection [] ss
 
 abbrev pub exports_in : List Section → List (Placed Export)
-exports_in [] = []
-exports_in (ExportSection es ∷ ss) = es ++ exports_in ss
-exports_in (s ∷ ss) = exports_in ss
+exports_in ss = held_in ExportSection [] ss
 
 abbrev pub bodies_in : List Section → List (Placed Body)
-bodies_in [] = []
-bodies_in (CodeSection bs ∷ ss) = bs ++ bodies_in ss
-bodies_in (s ∷ ss) = bodies_in ss
+bodies_in ss = held_in CodeSection [] ss
 
 -- the type index of each function with its body, where there are as many of the one as of the other
 abbrev pub paired : List ℕ → List (Placed Body) → Option (List PlacedFunction)

@@ -1,46 +1,92 @@
--- How bytes spell sections (section 5.5 of the standard). The grammar so far has the type, function, export and code sections.
-use Rattle.std.specs.Prelude.{ℕ, List, ◌==◌}
-use Rattle.wasmprinter_spec.specs.Grammar.{Grammar, byte, seq, as_value, never, choose, Placed, placed}
-use Rattle.wasmprinter_spec.specs.Sized.{exactly, alone}
-use Rattle.wasmprinter_spec.specs.Terminated.{Closed}
-use Rattle.wasmprinter_spec.specs.Name.{name, u32, vec}
-use Rattle.wasmprinter_spec.specs.Types.{FuncType, val_type, func_type, only}
-use Rattle.wasmprinter_spec.specs.Operator.{Operator}
-use Rattle.wasmprinter_spec.specs.Instructions.{expression}
-use Rattle.wasmprinter_spec.specs.Placed.{LocalEntry, Body, Export}
+-- Sections (section 5.5 of the standard, "Sections"): each has a kind, and holds what is spelled by all the bytes of its size. The grammar so
+-- far has the type, function, export and code sections. What is said of each kind stands here, one line for each; how the content of a kind
+-- is spelled stands in a file of its own, in `Binary`.
+use Rattle.std.specs.Prelude.{ℕ, List, [], ◌∷◌, Bool, true, ◌&&◌, nat_lt, ◌==◌, Option, Some, None, if◌then◌else◌}
+use Rattle.wasmprinter_spec.specs.Grammar.{Grammar, Whole, byte, seq, as_value, mapped, Placed}
+use Rattle.wasmprinter_spec.specs.Repeated.{some_or}
+use Rattle.wasmprinter_spec.specs.Sized.{exactly}
+use Rattle.wasmprinter_spec.specs.Name.{u32}
+use Rattle.wasmprinter_spec.specs.Types.{FuncType}
+use Rattle.wasmprinter_spec.specs.Placed.{Body, Export}
+use Rattle.wasmprinter_spec.specs.Binary.Types.{type_section}
+use Rattle.wasmprinter_spec.specs.Binary.Functions.{function_section}
+use Rattle.wasmprinter_spec.specs.Binary.Exports.{export_section}
+use Rattle.wasmprinter_spec.specs.Binary.Code.{code_section}
+
+pub data Kind : Type 0 where
+  TypeSection : Kind
+  FunctionSection : Kind
+  ExportSection : Kind
+  CodeSection : Kind
+
+-- the kind of the sections with the id
+abbrev pub kind_of : ℕ → Option Kind
+kind_of id =
+    if id == 1 then Some TypeSection
+    else (if id == 3 then Some FunctionSection
+    else (if id == 7 then Some ExportSection
+    else (if id == 10 then Some CodeSection else None)))
+
+-- Where each kind stands in the order type, import, function, table, memory, tag, global, export, start, element, data count, code, data.
+-- Sections of a kind that has no place there may stand anywhere.
+abbrev pub rank : Kind → Option ℕ
+rank TypeSection = Some 1
+rank FunctionSection = Some 3
+rank ExportSection = Some 8
+rank CodeSection = Some 12
+
+-- what a section of the kind holds
+abbrev pub Content : Kind → Type 0
+Content TypeSection = List (Placed FuncType)
+Content FunctionSection = List ℕ
+Content ExportSection = List (Placed Export)
+Content CodeSection = List (Placed Body)
+
+-- how it is spelled, by all the bytes of the section
+abbrev pub content : (kind : Kind) → Whole (Content kind)
+content TypeSection = type_section
+content FunctionSection = function_section
+content ExportSection = export_section
+content CodeSection = code_section
 
 pub data Section : Type 0 where
-  TypeSection : List (Placed FuncType) → Section
-  FunctionSection : List ℕ → Section
-  ExportSection : List (Placed Export) → Section
-  CodeSection : List (Placed Body) → Section
+  holds : (kind : Kind) → Content kind → Section
 
--- a name, the kind 00 of functions, an index
-abbrev pub export : Grammar Export
-export = as_value (λ x. record { name = x.0; function = x.1.1 }) (seq name (λ _. seq (only 0x00) (λ _. u32)))
+abbrev pub section_kind : Section → Kind
+section_kind (holds kind x) = kind
 
-abbrev pub local_entry : Grammar LocalEntry
-local_entry = as_value (λ x. record { count = x.0; type = x.1 }) (seq u32 (λ _. val_type))
+-- what the section holds, if it is of this kind
+abbrev pub picked : (kind : Kind) → Section → Option (Content kind)
+picked TypeSection (holds TypeSection x) = Some x
+picked FunctionSection (holds FunctionSection x) = Some x
+picked ExportSection (holds ExportSection x) = Some x
+picked CodeSection (holds CodeSection x) = Some x
+picked _ _ = None
 
-abbrev pub body_from : List (Placed LocalEntry) → Closed (Placed Operator) → Body
-body_from locals code = record { locals = locals; operators = code.items; end = code.end }
+-- an id, which is that of a kind
+abbrev pub section_id : Grammar Kind
+section_id = mapped kind_of byte
 
--- locals and an expression
-abbrev pub body : Grammar Body
-body = as_value (λ x. body_from x.0 x.1) (seq (vec (placed local_entry)) (λ _. expression))
-
--- a size, and a body of exactly so many bytes
-abbrev pub code_entry : Grammar (Placed Body)
-code_entry = as_value (λ x. x.1) (seq u32 (λ size. exactly (alone (placed body)) size))
-
--- what a section of each id holds
-abbrev pub content : ℕ → Grammar Section
-content id =
-    choose (id == 1) (as_value TypeSection (vec (placed func_type)))
-    (choose (id == 3) (as_value FunctionSection (vec u32))
-    (choose (id == 7) (as_value ExportSection (vec (placed export)))
-    (choose (id == 10) (as_value CodeSection (vec code_entry)) never)))
-
--- an id, a size, and content of exactly so many bytes
+-- a kind, a size, and content of exactly so many bytes
 abbrev pub section : Grammar Section
-section = as_value (λ x. x.1.1) (seq byte (λ id. seq u32 (λ size. exactly (alone (content id)) size)))
+section = as_value (λ x. x.1) (seq section_id (λ k. as_value (λ x. holds k x.1) (seq u32 (λ size. exactly (content k) size))))
+
+-- ---- sections one after the other
+
+-- a section with this rank may stand behind those of which the last has the rank `low`
+abbrev pub follows : ℕ → Option ℕ → Bool
+follows low r = some_or r true (λ n. nat_lt low n)
+
+-- the rank of the last section that has one
+abbrev pub rank_behind : ℕ → Option ℕ → ℕ
+rank_behind low r = some_or r low (λ n. n)
+
+-- The sections stand in order, and each kind that has a rank comes at most once: their ranks are above this one and rise.
+abbrev pub are_above : ℕ → List Section → Bool
+are_above low [] = true
+are_above low (s ∷ ss) = follows low (rank (section_kind s)) && are_above (rank_behind low (rank (section_kind s))) ss
+
+-- What the section of the kind holds, and where there is none, this. (Each kind that has a rank comes at most once.)
+abbrev pub held_in : (kind : Kind) → Content kind → List Section → Content kind
+held_in kind none [] = none
+held_in kind none (s ∷ ss) = held_in kind (some_or (picked kind s) none (λ x. x)) ss

@@ -61,12 +61,13 @@ module _ {A : Type 0} (w : Whole A) where
     abbrev pub exactly : Grammar A
     exactly = record { spells = Exactly; parse = exactly_at; sound = exactly_sound; complete = exactly_complete }
 
+-- the value, if nothing stands behind it
+abbrev pub ended : {A : Type 0} → List ℕ → A → Option A
+ended [] a = Some a
+ended (b ∷ bs) a = None
+
 -- a value and nothing behind it
 module _ {A : Type 0} (g : Grammar A) where
-  abbrev pub ended : List ℕ → A → Option A
-  ended [] a = Some a
-  ended (b ∷ bs) a = None
-
   abbrev pub alone_at : At → Option A
   alone_at at = g.parse at >>= λ x. ended x.1.bytes x.0
 

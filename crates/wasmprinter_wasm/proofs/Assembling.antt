@@ -9,8 +9,8 @@ use Rattle.wasmprinter_spec.specs.Repeated.{until_end}
 use Rattle.wasmprinter_spec.specs.Sized.{headed}
 use Rattle.wasmprinter_spec.specs.Placed.{Export, PlacedFunction, PlacedModule}
 use Rattle.wasmprinter_spec.specs.Types.{FuncType}
-use Rattle.wasmprinter_spec.specs.Sections.{Section, section}
-use Rattle.wasmprinter_spec.specs.Binary.{AreBytes, preamble, are_above, types_in, type_indices_in, exports_in, bodies_in, paired, module_from, assembled, binary, Spells}
+use Rattle.wasmprinter_spec.specs.Sections.{FunctionSection, TypeSection, ExportSection, CodeSection, Section, section, are_above}
+use Rattle.wasmprinter_spec.specs.Binary.{AreBytes, preamble, types_in, type_indices_in, exports_in, bodies_in, paired, module_from, assembled, binary, Spells}
 use Rattle.wasmprinter_spec.specs.Limits.{HasFewLocals, IsWithinLimits, most_functions}
 use Rattle.wasmprinter_bytes.specs.Reads.{end_of}
 use Rattle.wasmprinter_bytes.specs.declared.error.Error.{Error}
@@ -19,12 +19,12 @@ use Rattle.wasmprinter_bytes.specs.Reasons.{HasReason}
 use Rattle.wasmprinter_bytes.proofs.Reasons.{reason_implied, memory_alone}
 use Rattle.wasmprinter_wasm.specs.Refusals.{AnyIsOver}
 use Rattle.wasmprinter_wasm.specs.Contents.{HasFew}
-use Rattle.wasmprinter_wasm.specs.Gathering.{Gathered, none_gathered, sections_at, item_count_in, HoldsSections, sections_reasons}
+use Rattle.wasmprinter_wasm.specs.Gathering.{Gathered, sections_at, item_count_in, HoldsSections, sections_reasons}
 use Rattle.wasmprinter_wasm.specs.Modules.{functions_of, module_seen, bodies_of, IsPaired}
 use Rattle.wasmprinter_wasm.specs.Decoding.{HoldsSome, HoldsNothing, module_reasons, IsFaultOf, TakesModule}
 use Rattle.wasmprinter_wasm.proofs.Later.{Later, later_none, later_more, many_later, section_later, items_later}
 use Rattle.wasmprinter_wasm.proofs.Pairing.{Paired, Pairs, paired_of, paired_length, pairs_of}
-use Rattle.wasmprinter_wasm.proofs.Held.{HoldsAll, holds_all, HoldsFew, few_all}
+use Rattle.wasmprinter_wasm.proofs.Held.{HoldsFew, few_held}
 
 -- what the bytes of a module are: a preamble, and sections in order with as many type indices as bodies
 record Spelled (at : At) (m : PlacedModule) (size : ℕ) : Type 0 where
@@ -94,22 +94,18 @@ module _ (bytes pre : List ℕ) (at : At) (first : preamble.parse (from 0 bytes)
       many_later (from 0 bytes) at place later h.0,
       λ m s.
           let p = spelled_of m s in
-          subst (AnyIsOver place) (sym (functions_are m p).bodies) (h.1 p.sections p.read),
+          subst (AnyIsOver place) (sym (functions_are m p).bodies) (h.1 p.sections p.read p.rise),
     );
     functions = λ count h.
-        (section_later (from 0 bytes) at 3 count later h.0, h.1, λ m s. let p = spelled_of m s in (functions_are m p).count ∙ h.2 p.sections p.read p.rise);
-    memory = λ h. (items_later (from 0 bytes) at later h.0, λ m s. let p = spelled_of m s in holds_some m p (h.1 p.sections p.read));
+        (section_later (from 0 bytes) at FunctionSection count later h.0, h.1, λ m s. let p = spelled_of m s in (functions_are m p).count ∙ h.2 p.sections p.read p.rise);
+    memory = λ h. (items_later (from 0 bytes) at later h.0, λ m s. let p = spelled_of m s in holds_some m p (h.1 p.sections p.read p.rise));
   })
 
   -- the sections stand there
   module _ (g : Gathered) (h : HoldsSections at g) where
-    -- what was gathered is what the sections hold
-    held : HoldsAll none_gathered h.sections g
-    held = subst (HoldsAll none_gathered h.sections) (sym h.gathered) (holds_all h.sections h.rise)
-
-    -- and it keeps the limits
+    -- what was gathered keeps the limits
     few : HoldsFew g
-    few = subst HoldsFew (sym h.gathered) (few_all h.sections h.small)
+    few = few_held g h.sections h.small h.held
 
     -- but the numbers of type indices and bodies differ
     pub module_unpaired : (length g.type_indices ≡ length g.bodies → ⊥) → IsFaultOf bytes (e.Malformed (length bytes))
@@ -118,7 +114,7 @@ module _ (bytes pre : List ℕ) (at : At) (first : preamble.parse (from 0 bytes)
           let p = spelled_of m s in
           let same : p.sections ≡ h.sections = some_is p.sections h.sections (sym p.read ∙ h.read) in
           let lengths : length (type_indices_in p.sections) ≡ length (bodies_in p.sections) = paired_length (type_indices_in p.sections) (bodies_in p.sections) p.functions p.pairs in
-          ne (ap length (held.type_indices ∙ ap type_indices_in (sym same)) ∙ lengths ∙ ap length (ap bodies_in same ∙ sym held.bodies)),
+          ne (ap length (h.held FunctionSection ∙ ap type_indices_in (sym same)) ∙ lengths ∙ ap length (ap bodies_in same ∙ sym (h.held CodeSection))),
       omega arith,
     )
 
@@ -142,7 +138,7 @@ module _ (bytes pre : List ℕ) (at : At) (first : preamble.parse (from 0 bytes)
 
       -- and those of the sections
       pairs : paired (type_indices_in h.sections) (bodies_in h.sections) ≡ Some made.functions
-      pairs = ap (λ (is : List ℕ). paired is (bodies_in h.sections)) (sym held.type_indices) ∙ ap (paired g.type_indices) (sym held.bodies) ∙ made.are
+      pairs = ap (λ (is : List ℕ). paired is (bodies_in h.sections)) (sym (h.held FunctionSection)) ∙ ap (paired g.type_indices) (sym (h.held CodeSection)) ∙ made.are
 
       -- the definitions read a module of them
       read : binary.parse (from 0 bytes) ≡ Some (module_from size h.sections made.functions)
@@ -151,7 +147,7 @@ module _ (bytes pre : List ℕ) (at : At) (first : preamble.parse (from 0 bytes)
       -- the bytes spell the module
       pub module_spelled : AreBytes bytes → Spells bytes seen
       module_spelled all =
-          let same_module : module_from size h.sections made.functions ≡ seen = alike _ _ _ _ _ _ _ _ (sym held.types) (sym functions_made) (sym held.exports) (omega arith) in
+          let same_module : module_from size h.sections made.functions ≡ seen = alike _ _ _ _ _ _ _ _ (sym (h.held TypeSection)) (sym functions_made) (sym (h.held ExportSection)) (omega arith) in
           record { are_bytes = all; spelled = binary.sound (from 0 bytes) seen (read ∙ ap (λ (m : PlacedModule). Some m) same_module) }
 
       -- the module is within the limits

@@ -1,19 +1,21 @@
 -- Faults of what a section holds are faults of the section.
-use Rattle.std.proofs.Common.{◌≡◌, ℕ, ◌≤◌, List, [], ◌∷◌, ◌++◌, length, Option, Some, None, refl, sym, ap, subst, ◌∙◌, arith, length-append, append_assoc}
+use Rattle.std.proofs.Common.{◌≡◌, ℕ, ◌<◌, ◌≤◌, List, [], ◌∷◌, ◌++◌, length, Option, Some, None, refl, sym, ap, subst, ◌∙◌, arith, length-append, append_assoc}
+use Rattle.std.specs.Prelude.{Result, Ok, Err}
 use Rattle.wasmprinter_spec.specs.Grammar.{At, ◌>>=◌, bind_some, some_is, byte}
 use Rattle.wasmprinter_spec.specs.Name.{u32}
 use Rattle.wasmprinter_spec.specs.Sized.{front_at}
-use Rattle.wasmprinter_spec.specs.Sections.{Section, FunctionSection, content, section}
+use Rattle.wasmprinter_spec.specs.Sections.{Kind, kind_of, Content, Section, holds, content, section}
 use Rattle.wasmprinter_bytes.specs.Reads.{end_of}
 use Rattle.wasmprinter_bytes.specs.declared.error.Error.{Error}
 use Rattle.wasmprinter_bytes.specs.Reasons.{HasReason}
+use Rattle.wasmprinter_bytes.specs.Lists.{reader_reasons}
 use Rattle.wasmprinter_bytes.proofs.Reasons.{reason_implied}
+use Rattle.wasmprinter_wasm.specs.declared.sections.Section.{Section as SectionRead}
 use Rattle.wasmprinter_wasm.specs.Refusals.{BeginsSection}
-use Rattle.wasmprinter_wasm.specs.Contents.{AreTooMany, HasCount, content_reasons, section_reasons}
-use Rattle.wasmprinter_wasm.proofs.Parts.{sized, sized_none, sized_some, old_parts, part_within}
+use Rattle.wasmprinter_wasm.specs.Contents.{section_seen, HasOver, HasCount, item_count, Counts, content_reasons, section_reasons, TakesContent, TakesSection}
+use Rattle.wasmprinter_wasm.proofs.Parts.{sized, sized_is, sized_none, sized_some, old_parts, part_within}
 use Rattle.wasmprinter_wasm.proofs.Over.{many_in_part}
 use Rattle.wasmprinter_wasm.proofs.Later.{Later, later_none, later_more, many_later}
-use Rattle.wasmprinter_wasm.proofs.Counting.{Counted, vec_counted, content_some}
 
 -- an id and a size were read, and so many bytes cut out
 module _ (old behind mid part new : At) (id size : ℕ) (id_read : byte.parse old ≡ Some (id, behind)) (size_read : u32.parse behind ≡ Some (size, mid))
@@ -22,94 +24,107 @@ module _ (old behind mid part new : At) (id size : ℕ) (id_read : byte.parse ol
   later : Later old behind
   later = later_more byte old old behind id id_read (later_none old)
 
-  -- the id in front of what was read
-  abbrev behind_id : Option ((ℕ × Section) × At) → Option ((ℕ × (ℕ × Section)) × At)
-  behind_id r = r >>= λ b. Some ((id, b.0), b.1)
-
-  -- the section alone
-  abbrev without_id : Option ((ℕ × (ℕ × Section)) × At) → Option (Section × At)
-  without_id r = r >>= λ x. Some (x.0.1.1, x.1)
-
-  -- the same at once
-  abbrev with_id : Option ((ℕ × Section) × At) → Option (Section × At)
-  with_id r = r >>= λ a. Some (a.0.1, a.1)
-
-  -- to put the id in front and to take it off is nothing
-  regroup : (r : Option ((ℕ × Section) × At)) → without_id (behind_id r) ≡ with_id r
-  regroup None = refl
-  regroup (Some a) = refl
-
-  -- a section is read as its part is
-  into : section.parse old ≡ with_id ((sized (content id)).parse behind)
-  into = rw id_read (regroup ((sized (content id)).parse behind))
-
-  -- the section that stands there is read of the part
-  section_content : (x : Section × At) → section.parse old ≡ Some x → (after : At) × ((content id).parse part ≡ Some (x.0, after))
-  section_content x r =
-      let a = bind_some ((sized (content id)).parse behind) (λ a. Some (a.0.1, a.1)) x (sym into ∙ r) in
-      let s = sized_some (content id) behind mid part new size size_read cut begins a.0 a.1 in
-      (s.0, s.1 ∙ ap (λ (c : Section). Some (c, s.0)) (ap (λ (y : Section × At). y.0) (some_is (a.0.0.1, a.0.1) x a.2)))
-
   -- a place in the part is one in the whole
   within : (place : ℕ) → place ≤ end_of part → place ≤ end_of old
   within place le =
-      let p = part_within (content id) behind mid part new size size_read cut begins in
+      let p = part_within behind mid part new size size_read cut begins in
       omega (arith, ap length later.parts, later.begins, length-append later.text behind.bytes)
 
-  -- a body of the part has too many locals
-  locals_fault : (place : ℕ) → (content_reasons id part).locals place → (section_reasons old).locals place
-  locals_fault place h =
-      let p = old_parts (content id) behind mid part new size size_read cut begins in
-      (many_later old behind place later (many_in_part behind part p.0 new.bytes place p.1 p.2 h.0), λ x r. let c = section_content x r in h.1 (x.0, c.0) c.1)
+  -- there are no sections with the id
+  no_section : kind_of id ≡ None → section.parse old ≡ None
+  no_section none = rw (id_read, none) refl
 
-  -- the section that stands there has so many type indices
-  counted : (count : ℕ) → id ≡ 3 → AreTooMany part count → (x : Section × At) → section.parse old ≡ Some x → HasCount count x.0
-  counted count three many x r =
-      let c = section_content x r in
-      let functions : (content 3).parse part ≡ Some (x.0, c.0) = ap (λ (n : ℕ). (content n).parse part) (sym three) ∙ c.1 in
-      let read : (content 3).parse part ≡ Some (FunctionSection many.indices, many.after) = rw many.read refl in
-      let same : FunctionSection many.indices ≡ x.0 = ap (λ (y : Section × At). y.0) (some_is (FunctionSection many.indices, many.after) (x.0, c.0) (sym read ∙ functions)) in
-      subst (λ (s : Section). HasCount count s) same many.counted
+  -- the id is that of a kind
+  module _ (kind : Kind) (is : kind_of id ≡ Some kind) where
+    -- the section with what was read
+    abbrev made : Option ((ℕ × Content kind) × At) → Option (Section × At)
+    made r = r >>= λ a. Some (holds kind a.0.1, a.1)
 
-  -- a section with the id and a count begins there
-  begun : (count : ℕ) → Counted part count → BeginsSection old id count
-  begun count c =
-      let first = byte.sound old (id, behind) id_read in
-      let p = old_parts (content id) behind mid part new size size_read cut begins in
-      let n = u32.sound part (count, c.after) c.counted in
-      let head : old.bytes ≡ id ∷ behind.bytes = first.parts ∙ ap (λ (bs : List ℕ). bs ++ behind.bytes) first.spelled in
-      let front : part.bytes ++ new.bytes ≡ n.text ++ (c.after.bytes ++ new.bytes) = ap (λ (bs : List ℕ). bs ++ new.bytes) n.parts ∙ append_assoc n.text c.after.bytes new.bytes in
-      record {
-        before = [];
-        size_text = p.0;
-        count_text = n.text;
-        behind = c.after.bytes ++ new.bytes;
-        parts = head ∙ ap (λ (bs : List ℕ). id ∷ bs) (p.1 ∙ ap (λ (bs : List ℕ). p.0 ++ bs) front);
-        size = size;
-        sized = p.3;
-        counted = n.spelled;
-      }
+    -- the kind in front of the section
+    abbrev with_kind : Option (Section × At) → Option ((Kind × Section) × At)
+    with_kind r = r >>= λ b. Some ((kind, b.0), b.1)
 
-  -- there are too many type indices
-  functions_fault : (count : ℕ) → (content_reasons id part).functions count → (section_reasons old).functions count
-  functions_fault count h =
-      let v = vec_counted u32 part (h.1.indices, h.1.after) h.1.read in
-      let c : Counted part count = subst (Counted part) h.1.counted v in
-      (subst (λ (n : ℕ). BeginsSection old n count) h.0 (begun count c), h.1.many, counted count h.0 h.1)
+    -- the section alone
+    abbrev behind_kind : Option (Section × At) → Option (Section × At)
+    behind_kind r = with_kind r >>= λ y. Some (y.0.1, y.1)
 
-  -- a growth was refused
-  memory_fault : (content_reasons id part).memory → (section_reasons old).memory
-  memory_fault h = (
-    record { id = id; kept = h.0; count = h.1.count; some = h.1.some; begins = begun h.1.count (record { after = h.1.after; counted = h.1.counted }) },
-    λ x r. let c = section_content x r in content_some id h.0 part (x.0, c.0) c.1 h.1,
-  )
+    -- to put the kind in front and to take it off is nothing
+    regroup : (r : Option (Section × At)) → behind_kind r ≡ r
+    regroup None = refl
+    regroup (Some a) = refl
 
-  -- a fault of the content is one of the section
-  pub section_fault : (f : Error) → HasReason (content_reasons id part) f → HasReason (section_reasons old) f
-  section_fault = reason_implied (content_reasons id part) (section_reasons old) (record {
-    malformed = λ place h. (rw (id_read, sized_none (content id) behind mid part new size size_read cut begins h.0) refl, within place h.1);
+    -- a section is read as its part is
+    into : section.parse old ≡ made ((sized behind mid part new size size_read cut begins (content kind)).parse behind)
+    into = rw (id_read, is) (regroup (made ((sized behind mid part new size size_read cut begins (content kind)).parse behind)))
+
+    -- what is read of the part is the section
+    section_read : (c : Content kind) → (content kind).parse part ≡ Some c → section.parse old ≡ Some (holds kind c, new)
+    section_read c e = into ∙ ap made (sized_is behind mid part new size size_read cut begins (content kind)) ∙ rw e refl
+
+    -- the section that stands there is read of the part
+    section_content : (x : Section × At) → section.parse old ≡ Some x → (c : Content kind) × ((content kind).parse part ≡ Some c) × (holds kind c ≡ x.0)
+    section_content x r =
+        let a = bind_some ((sized behind mid part new size size_read cut begins (content kind)).parse behind) (λ a. Some (holds kind a.0.1, a.1)) x (sym into ∙ r) in
+        (a.0.0.1, sized_some behind mid part new size size_read cut begins (content kind) a.0 a.1, ap (λ (y : Section × At). y.0) (some_is (holds kind a.0.0.1, a.0.1) x a.2))
+
+    -- what is so of the section, if the part spells one, is so of the section that stands there
+    of_section : (P : Section → Type 0) → ((c : Content kind) → (content kind).parse part ≡ Some c → P (holds kind c)) → (x : Section × At) → section.parse old ≡ Some x → P x.0
+    of_section P h x r = let c = section_content x r in subst P c.2 (h c.0 c.1)
+
+    -- a section of the kind and a count begins there
+    begun : (count : ℕ) → Counts part count → BeginsSection old kind count
+    begun count c =
+        let first = byte.sound old (id, behind) id_read in
+        let p = old_parts behind mid part new size size_read cut begins in
+        let n = u32.sound part (count, c.after) c.counted in
+        let head : old.bytes ≡ id ∷ behind.bytes = first.parts ∙ ap (λ (bs : List ℕ). bs ++ behind.bytes) first.spelled in
+        let front : part.bytes ++ new.bytes ≡ n.text ++ (c.after.bytes ++ new.bytes) = ap (λ (bs : List ℕ). bs ++ new.bytes) n.parts ∙ append_assoc n.text c.after.bytes new.bytes in
+        record {
+          before = [];
+          id = id;
+          of_kind = is;
+          size_text = p.0;
+          count_text = n.text;
+          behind = c.after.bytes ++ new.bytes;
+          parts = head ∙ ap (λ (bs : List ℕ). id ∷ bs) (p.1 ∙ ap (λ (bs : List ℕ). p.0 ++ bs) front);
+          size = size;
+          sized = p.3;
+          counted = n.spelled;
+        }
+
+    -- a fault of the content is one of the section
+    kind_fault : (f : Error) → HasReason (content_reasons kind part) f → HasReason (section_reasons old) f
+    kind_fault = reason_implied (content_reasons kind part) (section_reasons old) (record {
+      malformed = λ place h. (into ∙ ap made (sized_none behind mid part new size size_read cut begins (content kind) h.0), within place h.1);
+      component = λ h. h;
+      locals = λ place h.
+          let p = old_parts behind mid part new size size_read cut begins in
+          (many_later old behind place later (many_in_part behind part p.0 new.bytes place p.1 p.2 h.0), of_section (HasOver place) h.1);
+      functions = λ count h. (subst (λ (k : Kind). BeginsSection old k count) h.0 (begun count h.1), h.2, of_section (HasCount count) h.3);
+      memory = λ h. (
+        record { kind = kind; count = h.0.count; some = h.0.some; begins = begun h.0.count (record { after = h.0.after; counted = h.0.counted }) },
+        of_section (λ (s : Section). 0 < item_count s) h.1,
+      );
+    })
+
+  -- no section with the id is spelled
+  none_fault : kind_of id ≡ None → (f : Error) → HasReason (reader_reasons (Unit {0}) ⊥ part) f → HasReason (section_reasons old) f
+  none_fault none = reason_implied (reader_reasons (Unit {0}) ⊥ part) (section_reasons old) (record {
+    malformed = λ place h. (no_section none, within place h.1);
     component = λ h. h;
-    locals = locals_fault;
-    functions = functions_fault;
-    memory = memory_fault;
+    locals = λ place h. absurd h;
+    functions = λ count h. absurd h;
+    memory = λ h. absurd h;
   })
+
+  -- what was taken of the part is taken of the whole
+  section_taken : (o : Option Kind) → kind_of id ≡ o → (r : Result SectionRead Error) → TakesContent o part r → TakesSection old r new
+  section_taken (Some kind) is (Ok s) h =
+      let c = bind_some ((content kind).parse part) (λ x. Some (holds kind x)) (section_seen s) h.0 in
+      (section_read kind is c.0 c.1 ∙ ap (λ (x : Section). Some (x, new)) (some_is (holds kind c.0) (section_seen s) c.2), h.1)
+  section_taken (Some kind) is (Err f) h = kind_fault kind is f h
+  section_taken None none (Ok s) h = absurd h
+  section_taken None none (Err f) h = none_fault none f h
+
+  pub section_taken_by : (r : Result SectionRead Error) → TakesContent (kind_of id) part r → TakesSection old r new
+  section_taken_by = section_taken (kind_of id) refl

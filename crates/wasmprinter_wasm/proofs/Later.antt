@@ -1,6 +1,7 @@
 -- Reading that has come to a later place.
 use Rattle.std.proofs.Common.{◌≡◌, ℕ, ◌+◌, List, [], ◌∷◌, ◌++◌, length, Some, refl, sym, ap, ◌∙◌, arith, append_assoc, append-nil, length-append}
 use Rattle.wasmprinter_spec.specs.Grammar.{At, Grammar}
+use Rattle.wasmprinter_spec.specs.Sections.{Kind}
 use Rattle.wasmprinter_wasm.specs.Refusals.{HasManyLocals, BeginsSection, BeginsItems}
 use Rattle.wasmprinter_wasm.proofs.Over.{many_in_part}
 
@@ -29,13 +30,15 @@ pub many_later : (start at : At) (place : ℕ) → Later start at → HasManyLoc
 many_later start at place l m = many_in_part start at l.text [] place (l.parts ∙ ap (λ (bs : List ℕ). l.text ++ bs) (sym (append-nil at.bytes))) l.begins m
 
 -- the same of a section that begins
-pub section_later : (start at : At) (id count : ℕ) → Later start at → BeginsSection at id count → BeginsSection start id count
-section_later start at id count l h = record {
+pub section_later : (start at : At) (kind : Kind) (count : ℕ) → Later start at → BeginsSection at kind count → BeginsSection start kind count
+section_later start at kind count l h = record {
+  id = h.id;
+  of_kind = h.of_kind;
   before = l.text ++ h.before;
   size_text = h.size_text;
   count_text = h.count_text;
   behind = h.behind;
-  parts = l.parts ∙ ap (λ (bs : List ℕ). l.text ++ bs) h.parts ∙ sym (append_assoc l.text h.before (id ∷ (h.size_text ++ (h.count_text ++ h.behind))));
+  parts = l.parts ∙ ap (λ (bs : List ℕ). l.text ++ bs) h.parts ∙ sym (append_assoc l.text h.before (h.id ∷ (h.size_text ++ (h.count_text ++ h.behind))));
   size = h.size;
   sized = h.sized;
   counted = h.counted;
@@ -43,4 +46,4 @@ section_later start at id count l h = record {
 
 -- and of one with items that are kept
 pub items_later : (start at : At) → Later start at → BeginsItems at → BeginsItems start
-items_later start at l h = record { id = h.id; kept = h.kept; count = h.count; some = h.some; begins = section_later start at h.id h.count l h.begins }
+items_later start at l h = record { kind = h.kind; count = h.count; some = h.some; begins = section_later start at h.kind h.count l h.begins }

@@ -3,11 +3,11 @@ pub mod Over
 pub mod Later
 pub mod Listing
 pub mod Counting
+pub mod Wholes
 pub mod Contents
 pub mod Pairing
 pub mod Functions
 pub mod Until
-pub mod Rising
-pub mod Gathering
 pub mod Held
+pub mod Gathering
 pub mod Assembling

@@ -5,7 +5,7 @@ use Rattle.wasmprinter_spec.specs.Grammar.{At, Grammar, ◌>>=◌, bind_some, so
 use Rattle.wasmprinter_spec.specs.Name.{u32, vec}
 use Rattle.wasmprinter_spec.specs.Repeated.{items_at}
 use Rattle.wasmprinter_spec.specs.Placed.{Body}
-use Rattle.wasmprinter_spec.specs.Sections.{code_entry}
+use Rattle.wasmprinter_spec.specs.Binary.Code.{code_entry}
 use Rattle.wasmprinter_bytes.specs.Reads.{end_of}
 use Rattle.wasmprinter_bytes.specs.declared.error.Error.{Error}
 use Rattle.wasmprinter_bytes.specs.Reasons.{HasReason}

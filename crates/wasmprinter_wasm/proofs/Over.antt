@@ -1,15 +1,15 @@
 -- Bodies with more locals than are allowed.
 use Rattle.std.proofs.Common.{◌≡◌, ℕ, ◌+◌, ◌<◌, List, [], ◌++◌, length, Some, None, refl, sym, ap, subst, ◌∙◌, arith, append_assoc, length-append}
 use Rattle.wasmprinter_spec.specs.Grammar.{At, ◌>>=◌, bind_some, some_is, seq, Placed, placed}
-use Rattle.wasmprinter_spec.specs.Sized.{front_at}
+use Rattle.wasmprinter_spec.specs.Sized.{front_at, alone}
 use Rattle.wasmprinter_spec.specs.Terminated.{Closed}
 use Rattle.wasmprinter_spec.specs.Name.{u32, vec}
 use Rattle.wasmprinter_spec.specs.Placed.{LocalEntry, Body}
 use Rattle.wasmprinter_spec.specs.Operator.{Operator}
 use Rattle.wasmprinter_spec.specs.Instructions.{expression}
-use Rattle.wasmprinter_spec.specs.Sections.{local_entry, body, body_from, code_entry}
+use Rattle.wasmprinter_spec.specs.Binary.Code.{local_entry, body, body_from, code_entry}
 use Rattle.wasmprinter_spec.specs.Limits.{local_count, most_locals}
-use Rattle.wasmprinter_wasm.proofs.Parts.{sized, sized_none, sized_some, old_parts, part_within}
+use Rattle.wasmprinter_wasm.proofs.Parts.{alone_some, alone_none, sized, sized_none, sized_some, old_parts, part_within}
 use Rattle.wasmprinter_bytes.specs.declared.error.Error.{Error}
 use Rattle.wasmprinter_bytes.specs.Reasons.{HasReason}
 use Rattle.wasmprinter_bytes.proofs.Reasons.{reason_implied}
@@ -78,22 +78,21 @@ module _ (old mid part new : At) (size : ℕ) (size_read : u32.parse old ≡ Som
   -- the body that stands in the entry is read of the part
   entry_body : (x : Placed Body × At) → code_entry.parse old ≡ Some x → (after : At) × ((placed body).parse part ≡ Some (x.0, after))
   entry_body x e =
-      let a = bind_some ((sized (placed body)).parse old) (λ a. Some (a.0.1, a.1)) x e in
-      let s = sized_some (placed body) old mid part new size size_read cut begins a.0 a.1 in
+      let a = bind_some ((sized old mid part new size size_read cut begins (alone (placed body))).parse old) (λ a. Some (a.0.1, a.1)) x e in
       let same : a.0.0.1 ≡ x.0 = ap (λ (y : Placed Body × At). y.0) (some_is (a.0.0.1, a.0.1) x a.2) in
-      (s.0, s.1 ∙ ap (λ (b : Placed Body). Some (b, s.0)) same)
+      alone_some (placed body) part x.0 (sized_some old mid part new size size_read cut begins (alone (placed body)) a.0 a.1 ∙ ap (λ (b : Placed Body). Some b) same)
 
   -- it has too many locals
   entry_over : (place : ℕ) → (body_reasons (placed body).parse part).locals place → (body_reasons code_entry.parse old).locals place
   entry_over place h =
-      let p = old_parts (placed body) old mid part new size size_read cut begins in
+      let p = old_parts old mid part new size size_read cut begins in
       (many_in_part old part p.0 new.bytes place p.1 p.2 h.0, λ x f. let b = entry_body x f in h.1 (x.0, b.0) b.1)
 
   -- none is spelled there
   entry_malformed : (place : ℕ) → (body_reasons (placed body).parse part).malformed place → (body_reasons code_entry.parse old).malformed place
   entry_malformed place h =
-      let none : code_entry.parse old ≡ None = rw (sized_none (placed body) old mid part new size size_read cut begins h.0) refl in
-      let within = part_within (placed body) old mid part new size size_read cut begins in
+      let none : code_entry.parse old ≡ None = rw (sized_none old mid part new size size_read cut begins (alone (placed body)) (alone_none (placed body) part h.0)) refl in
+      let within = part_within old mid part new size size_read cut begins in
       (none, omega (arith, h.1, within))
 
   -- each fault is one of the entry

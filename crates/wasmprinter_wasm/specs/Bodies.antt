@@ -2,7 +2,7 @@
 use Rattle.std.specs.Prelude.{◌≡◌, ◌≤◌, Option, Some, None, Result, Ok, Err}
 use Rattle.wasmprinter_spec.specs.Grammar.{At, Placed, placed}
 use Rattle.wasmprinter_spec.specs.Placed.{Body}
-use Rattle.wasmprinter_spec.specs.Sections.{body, code_entry}
+use Rattle.wasmprinter_spec.specs.Binary.Code.{body, code_entry}
 use Rattle.wasmprinter_spec.specs.Limits.{local_count, most_locals}
 use Rattle.wasmprinter_bytes.specs.Reads.{end_of}
 use Rattle.wasmprinter_bytes.specs.declared.error.Error.{Error}

@@ -1,27 +1,29 @@
 -- Reading sections and what they hold.
-use Rattle.std.specs.Prelude.{◌≡◌, ℕ, ◌<◌, ◌≤◌, List, [], ◌∷◌, length, Some, None, Result, Ok, Err}
+use Rattle.std.specs.Prelude.{◌≡◌, ℕ, ◌<◌, ◌≤◌, List, length, Option, Some, None, Result, Ok, Err}
 use Rattle.std.specs.List.{AllByRecursion}
-use Rattle.wasmprinter_spec.specs.Grammar.{At, Placed}
+use Rattle.wasmprinter_spec.specs.Grammar.{At, Whole, ◌>>=◌, Placed}
 use Rattle.wasmprinter_spec.specs.Name.{u32, vec}
 use Rattle.wasmprinter_spec.specs.Placed.{Body}
-use Rattle.wasmprinter_spec.specs.Sections.{TypeSection, FunctionSection, ExportSection, CodeSection, code_entry, content, section}
+use Rattle.wasmprinter_spec.specs.Binary.Code.{code_entry}
+use Rattle.wasmprinter_spec.specs.Sections.{Kind, TypeSection, FunctionSection, ExportSection, CodeSection, Content, content, holds, picked, section}
 use Rattle.wasmprinter_spec.specs.Sections.{Section as SectionValue}
-use Rattle.wasmprinter_spec.specs.Binary.{bodies_in}
 use Rattle.wasmprinter_spec.specs.Limits.{local_count, most_locals, most_functions}
 use Rattle.wasmprinter_bytes.specs.Reads.{end_of}
 use Rattle.wasmprinter_bytes.specs.declared.error.Error.{Error}
 use Rattle.wasmprinter_bytes.specs.Reasons.{Reasons, HasReason}
-use Rattle.wasmprinter_bytes.specs.Lists.{CountsItems}
-use Rattle.wasmprinter_wasm.specs.declared.section.Section.{Section}
-use Rattle.wasmprinter_wasm.specs.declared.section.Section.TheVariants as s
-use Rattle.wasmprinter_wasm.specs.Refusals.{HasManyLocals, BeginsSection, IsKept, BeginsItems, AnyIsOver}
+use Rattle.wasmprinter_bytes.specs.Lists.{CountsItems, reader_reasons}
+use Rattle.wasmprinter_wasm.specs.declared.sections.Section.{Section}
+use Rattle.wasmprinter_wasm.specs.declared.sections.Section.TheVariants as s
+use Rattle.wasmprinter_wasm.specs.Refusals.{HasManyLocals, BeginsSection, BeginsItems, AnyIsOver}
+
+-- ---- of each kind
 
 -- the section of the definitions
 abbrev pub section_seen : Section → SectionValue
-section_seen (s.Types ts) = TypeSection ts.items
-section_seen (s.Functions is) = FunctionSection is.items
-section_seen (s.Exports es) = ExportSection es.items
-section_seen (s.Code bs) = CodeSection bs.items
+section_seen (s.Types ts) = holds TypeSection ts.items
+section_seen (s.Functions is) = holds FunctionSection is.items
+section_seen (s.Exports es) = holds ExportSection es.items
+section_seen (s.Code bs) = holds CodeSection bs.items
 
 -- a body of no more locals than are allowed
 abbrev pub HasFew : Placed Body → Type 0
@@ -29,17 +31,27 @@ HasFew b = local_count b.value.locals ≤ most_locals
 
 -- the section's bodies have no more locals than are allowed, and there are no more functions
 abbrev pub IsSmall : SectionValue → Type 0
-IsSmall (TypeSection ts) = Unit {0}
-IsSmall (FunctionSection is) = length is ≤ most_functions
-IsSmall (ExportSection es) = Unit {0}
-IsSmall (CodeSection bs) = AllByRecursion HasFew bs
+IsSmall (holds TypeSection ts) = Unit {0}
+IsSmall (holds FunctionSection is) = length is ≤ most_functions
+IsSmall (holds ExportSection es) = Unit {0}
+IsSmall (holds CodeSection bs) = AllByRecursion HasFew bs
 
 -- how many items the section holds
 abbrev pub item_count : SectionValue → ℕ
-item_count (TypeSection ts) = length ts
-item_count (FunctionSection is) = length is
-item_count (ExportSection es) = length es
-item_count (CodeSection bs) = length bs
+item_count (holds TypeSection ts) = length ts
+item_count (holds FunctionSection is) = length is
+item_count (holds ExportSection es) = length es
+item_count (holds CodeSection bs) = length bs
+
+-- the section holds the type indices of so many functions
+abbrev pub HasCount : ℕ → SectionValue → Type 0
+HasCount count s = (is : List ℕ) × (picked FunctionSection s ≡ Some is) × (length is ≡ count)
+
+-- it holds bodies of which one begins at the place and has too many locals
+abbrev pub HasOver : ℕ → SectionValue → Type 0
+HasOver place s = (bs : List (Placed Body)) × (picked CodeSection s ≡ Some bs) × AnyIsOver place bs
+
+-- ---- what stands in front of the end of a section
 
 -- the bodies of a code section
 abbrev pub bodies_reasons : At → Reasons
@@ -79,33 +91,49 @@ abbrev pub TakesIndices : {X : Type 0} → (X → List ℕ) → At → Result X 
 TakesIndices items old (Ok v) new = ((vec u32).parse old ≡ Some (items v, new)) × (length (items v) ≤ most_functions)
 TakesIndices items old (Err e) new = HasReason (indices_reasons old) e
 
--- the content of a section with the id
-abbrev pub content_reasons : ℕ → At → Reasons
-content_reasons id at = record {
-  malformed = λ place. ((content id).parse at ≡ None) × (place ≤ end_of at);
+-- ---- all that a section holds
+
+-- a count stands there, and it is this
+pub record Counts (at : At) (count : ℕ) : Type 0 where
+  pub after : At
+  pub counted : u32.parse at ≡ Some (count, after)
+
+-- Why the content of a section may be refused, which is spelled so and makes this section. `functions` says whether it may be for its
+-- functions. What is said of the content is true of what stands there, if it is spelled at all.
+abbrev pub whole_reasons : {C : Type 0} → Whole C → (C → SectionValue) → Type 0 → At → Reasons
+whole_reasons {C} w made functions at = record {
+  malformed = λ place. (w.parse at ≡ None) × (place ≤ end_of at);
   component = ⊥;
-  locals = λ place. HasManyLocals at place × ((x : SectionValue × At) → (content id).parse at ≡ Some x → AnyIsOver place (bodies_in (x.0 ∷ [])));
-  functions = λ count. (id ≡ 3) × AreTooMany at count;
-  memory = IsKept id × CountsItems at;
+  locals = λ place. HasManyLocals at place × ((x : C) → w.parse at ≡ Some x → HasOver place (made x));
+  functions = λ count. functions × Counts at count × (most_functions < count) × ((x : C) → w.parse at ≡ Some x → HasCount count (made x));
+  memory = CountsItems at × ((x : C) → w.parse at ≡ Some x → 0 < item_count (made x));
 }
 
--- content within the limits is read, or the refusal is true
-abbrev pub TakesContent : ℕ → At → Result Section Error → At → Type 0
-TakesContent id old (Ok s) new = ((content id).parse old ≡ Some (section_seen s, new)) × IsSmall (section_seen s)
-TakesContent id old (Err e) new = HasReason (content_reasons id old) e
+-- the content of a section of the kind
+abbrev pub content_reasons : Kind → At → Reasons
+content_reasons kind at = whole_reasons (content kind) (holds kind) (kind ≡ FunctionSection) at
 
--- the section holds the type indices of so many functions
-abbrev pub HasCount : ℕ → SectionValue → Type 0
-HasCount count (FunctionSection is) = length is ≡ count
-HasCount count _ = ⊥
+-- content of the kind within the limits takes all bytes, or the refusal is true
+abbrev pub TakesHeld : (kind : Kind) → {X : Type 0} → (X → Content kind) → At → Result X Error → Type 0
+TakesHeld kind view at (Ok v) = ((content kind).parse at ≡ Some (view v)) × IsSmall (holds kind (view v))
+TakesHeld kind view at (Err e) = HasReason (content_reasons kind at) e
+
+-- the same of a section of the kind, which may be none
+abbrev pub TakesContent : Option Kind → At → Result Section Error → Type 0
+TakesContent (Some kind) at (Ok s) = (((content kind).parse at >>= λ x. Some (holds kind x)) ≡ Some (section_seen s)) × IsSmall (section_seen s)
+TakesContent (Some kind) at (Err e) = HasReason (content_reasons kind at) e
+TakesContent None at (Ok s) = ⊥
+TakesContent None at (Err e) = HasReason (reader_reasons (Unit {0}) ⊥ at) e
+
+-- ---- sections
 
 -- a section
 abbrev pub section_reasons : At → Reasons
 section_reasons at = record {
   malformed = λ place. (section.parse at ≡ None) × (place ≤ end_of at);
   component = ⊥;
-  locals = λ place. HasManyLocals at place × ((x : SectionValue × At) → section.parse at ≡ Some x → AnyIsOver place (bodies_in (x.0 ∷ [])));
-  functions = λ count. BeginsSection at 3 count × (most_functions < count) × ((x : SectionValue × At) → section.parse at ≡ Some x → HasCount count x.0);
+  locals = λ place. HasManyLocals at place × ((x : SectionValue × At) → section.parse at ≡ Some x → HasOver place x.0);
+  functions = λ count. BeginsSection at FunctionSection count × (most_functions < count) × ((x : SectionValue × At) → section.parse at ≡ Some x → HasCount count x.0);
   memory = BeginsItems at × ((x : SectionValue × At) → section.parse at ≡ Some x → 0 < item_count x.0);
 }
 

@@ -3,6 +3,7 @@ use Rattle.std.specs.Prelude.{◌≡◌, ℕ, ◌+◌, ◌<◌, ◌≤◌, List,
 use Rattle.wasmprinter_spec.specs.Grammar.{from}
 use Rattle.wasmprinter_spec.specs.Placed.{PlacedModule}
 use Rattle.wasmprinter_spec.specs.Binary.{Spells, IsComponent}
+use Rattle.wasmprinter_spec.specs.Sections.{FunctionSection}
 use Rattle.wasmprinter_spec.specs.Limits.{IsWithinLimits, most_functions}
 use Rattle.wasmprinter_bytes.specs.declared.error.Error.{Error}
 use Rattle.wasmprinter_bytes.specs.Reasons.{Reasons, HasReason}
@@ -29,7 +30,7 @@ module_reasons bytes component = record {
   malformed = λ place. ((m : PlacedModule) → Spells bytes m → ⊥) × (place ≤ length bytes);
   component = component;
   locals = λ place. HasManyLocals (from 0 bytes) place × ((m : PlacedModule) → Spells bytes m → AnyIsOver place (bodies_of m.functions));
-  functions = λ count. BeginsSection (from 0 bytes) 3 count × (most_functions < count) × ((m : PlacedModule) → Spells bytes m → length m.functions ≡ count);
+  functions = λ count. BeginsSection (from 0 bytes) FunctionSection count × (most_functions < count) × ((m : PlacedModule) → Spells bytes m → length m.functions ≡ count);
   memory = BeginsItems (from 0 bytes) × ((m : PlacedModule) → Spells bytes m → HoldsSome m);
 }
 

@@ -1,12 +1,12 @@
 -- What sections hold together.
-use Rattle.std.specs.Prelude.{◌≡◌, ℕ, ◌+◌, ◌<◌, ◌≤◌, List, [], ◌∷◌, length, true, Option, Some, Result, Ok, Err}
+use Rattle.std.specs.Prelude.{◌≡◌, ℕ, ◌+◌, ◌<◌, ◌≤◌, List, [], length, true, Option, Some, Result, Ok, Err}
 use Rattle.std.specs.List.{AllByRecursion}
 use Rattle.wasmprinter_spec.specs.Grammar.{At, Placed}
 use Rattle.wasmprinter_spec.specs.Repeated.{until_end}
 use Rattle.wasmprinter_spec.specs.Types.{FuncType}
 use Rattle.wasmprinter_spec.specs.Placed.{Body, Export}
-use Rattle.wasmprinter_spec.specs.Sections.{Section, TypeSection, FunctionSection, ExportSection, CodeSection, section}
-use Rattle.wasmprinter_spec.specs.Binary.{rank, are_above, types_in, type_indices_in, exports_in, bodies_in}
+use Rattle.wasmprinter_spec.specs.Sections.{Kind, TypeSection, FunctionSection, ExportSection, CodeSection, Content, Section, holds, section, rank, rank_behind, are_above, held_in}
+use Rattle.wasmprinter_spec.specs.Binary.{types_in, type_indices_in, exports_in, bodies_in}
 use Rattle.wasmprinter_spec.specs.Limits.{most_functions}
 use Rattle.wasmprinter_bytes.specs.Reads.{end_of}
 use Rattle.wasmprinter_bytes.specs.declared.error.Error.{Error}
@@ -26,17 +26,23 @@ pub record Gathered : Type 0 where
 abbrev pub none_gathered : Gathered
 none_gathered = record { rank = 0; types = []; type_indices = []; exports = []; bodies = [] }
 
+-- what is kept of each kind
+abbrev pub kept : (kind : Kind) → Gathered → Content kind
+kept TypeSection g = g.types
+kept FunctionSection g = g.type_indices
+kept ExportSection g = g.exports
+kept CodeSection g = g.bodies
+
 -- with what one more section holds, in place of what one of its kind held
 abbrev pub added : Gathered → Section → Gathered
-added g (TypeSection ts) = record g { rank = rank (TypeSection ts); types = ts }
-added g (FunctionSection is) = record g { rank = rank (FunctionSection is); type_indices = is }
-added g (ExportSection es) = record g { rank = rank (ExportSection es); exports = es }
-added g (CodeSection bs) = record g { rank = rank (CodeSection bs); bodies = bs }
+added g (holds TypeSection ts) = record g { rank = rank_behind g.rank (rank TypeSection); types = ts }
+added g (holds FunctionSection is) = record g { rank = rank_behind g.rank (rank FunctionSection); type_indices = is }
+added g (holds ExportSection es) = record g { rank = rank_behind g.rank (rank ExportSection); exports = es }
+added g (holds CodeSection bs) = record g { rank = rank_behind g.rank (rank CodeSection); bodies = bs }
 
--- with what more sections hold
-abbrev pub added_all : Gathered → List Section → Gathered
-added_all g [] = g
-added_all g (s ∷ ss) = added_all (added g s) ss
+-- what is gathered is what the sections hold of each kind
+abbrev pub IsHeld : Gathered → List Section → Type 0
+IsHeld g ss = (kind : Kind) → kept kind g ≡ held_in kind (kept kind none_gathered) ss
 
 -- sections up to the end of the bytes
 abbrev pub sections_at : At → Option (List Section)
@@ -48,7 +54,7 @@ pub record HoldsSections (at : At) (g : Gathered) : Type 0 where
   pub read : sections_at at ≡ Some sections
   pub rise : are_above 0 sections ≡ true
   pub small : AllByRecursion IsSmall sections
-  pub gathered : g ≡ added_all none_gathered sections
+  pub held : IsHeld g sections
 
 -- how many items the sections hold
 abbrev pub item_count_in : List Section → ℕ
@@ -59,11 +65,11 @@ abbrev pub sections_reasons : At → Reasons
 sections_reasons at = record {
   malformed = λ place. ((ss : List Section) → sections_at at ≡ Some ss → are_above 0 ss ≡ true → ⊥) × (place ≤ end_of at);
   component = ⊥;
-  locals = λ place. HasManyLocals at place × ((ss : List Section) → sections_at at ≡ Some ss → AnyIsOver place (bodies_in ss));
+  locals = λ place. HasManyLocals at place × ((ss : List Section) → sections_at at ≡ Some ss → are_above 0 ss ≡ true → AnyIsOver place (bodies_in ss));
   functions = λ count.
-      BeginsSection at 3 count × (most_functions < count)
+      BeginsSection at FunctionSection count × (most_functions < count)
       × ((ss : List Section) → sections_at at ≡ Some ss → are_above 0 ss ≡ true → length (type_indices_in ss) ≡ count);
-  memory = BeginsItems at × ((ss : List Section) → sections_at at ≡ Some ss → 0 < item_count_in ss);
+  memory = BeginsItems at × ((ss : List Section) → sections_at at ≡ Some ss → are_above 0 ss ≡ true → 0 < item_count_in ss);
 }
 
 -- sections in order and within the limits are read, or the refusal is true

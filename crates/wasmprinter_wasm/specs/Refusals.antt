@@ -1,10 +1,11 @@
 -- Why a module that is not malformed may be refused: a function has more locals than are allowed, there are more functions, or a growth
 -- was refused, which comes only where something is to be kept.
-use Rattle.std.specs.Prelude.{◌≡◌, ℕ, ◌+◌, ◌<◌, ◌⊎◌, List, [], ◌∷◌, ◌++◌, length}
+use Rattle.std.specs.Prelude.{◌≡◌, ℕ, ◌+◌, ◌<◌, ◌⊎◌, List, [], ◌∷◌, ◌++◌, length, Some}
 use Rattle.wasmprinter_spec.specs.Grammar.{At, Placed, placed}
 use Rattle.wasmprinter_spec.specs.Name.{u32, vec}
 use Rattle.wasmprinter_spec.specs.Placed.{LocalEntry, Body}
-use Rattle.wasmprinter_spec.specs.Sections.{local_entry}
+use Rattle.wasmprinter_spec.specs.Sections.{Kind, kind_of}
+use Rattle.wasmprinter_spec.specs.Binary.Code.{local_entry}
 use Rattle.wasmprinter_spec.specs.Limits.{local_count, most_locals}
 
 -- among the bytes begin at the place a count and so many entries of locals, which add up to more than are allowed
@@ -18,9 +19,11 @@ pub record HasManyLocals (at : At) (place : ℕ) : Type 0 where
   pub spelled : (vec (placed local_entry)).spells place text locals
   pub many : most_locals < local_count locals
 
--- among the bytes begins a section with the id, an id and a size, with the count
-pub record BeginsSection (at : At) (id count : ℕ) : Type 0 where
+-- among the bytes begins a section of the kind, an id and a size, with the count
+pub record BeginsSection (at : At) (kind : Kind) (count : ℕ) : Type 0 where
   pub before : List ℕ
+  pub id : ℕ
+  pub of_kind : kind_of id ≡ Some kind
   pub size_text : List ℕ
   pub count_text : List ℕ
   pub behind : List ℕ
@@ -29,17 +32,12 @@ pub record BeginsSection (at : At) (id count : ℕ) : Type 0 where
   pub sized : u32.spells (at.place + length before + 1) size_text size
   pub counted : u32.spells (at.place + length before + 1 + length size_text) count_text count
 
--- the id of a section whose items are kept: types, type indices, exports, bodies
-abbrev pub IsKept : ℕ → Type 0
-IsKept id = (id ≡ 1) ⊎ (id ≡ 3) ⊎ (id ≡ 7) ⊎ (id ≡ 10)
-
--- among the bytes begins such a section with a count above zero
+-- among the bytes begins a section, of a kind whose items are kept as all are so far, with a count above zero
 pub record BeginsItems (at : At) : Type 0 where
-  pub id : ℕ
-  pub kept : IsKept id
+  pub kind : Kind
   pub count : ℕ
   pub some : 0 < count
-  pub begins : BeginsSection at id count
+  pub begins : BeginsSection at kind count
 
 -- the body begins at the place, and has more locals than are allowed
 abbrev pub IsOver : ℕ → Placed Body → Type 0

@@ -2,16 +2,18 @@
 ghost use Rattle.std.specs.Prelude.{◌≡◌, ◌↔◌, IsTrue, IsOk, IfOk, IfErr, IsErrOf, IsOkUnless};
 ghost use Rattle.wasmprinter_spec.specs.Placed.{PlacedModule};
 ghost use Rattle.wasmprinter_spec.specs.Binary.{Spells, IsComponent, preamble, preamble_bytes};
+ghost use Rattle.wasmprinter_spec.specs.Sections.{section_kind, rank, follows};
 ghost use Rattle.wasmprinter_spec.specs.Limits.{IsWithinLimits};
 ghost use Rattle.wasmprinter_bytes.specs.Reads.{Reads, IsWithin, end_of};
 ghost use Rattle.wasmprinter_wasm.specs.Contents.{section_seen};
 ghost use Rattle.wasmprinter_wasm.specs.Gathering.{none_gathered, added, TakesSections};
 ghost use Rattle.wasmprinter_wasm.specs.Decoding.{IsRefusal, HoldsNothing, TakesModule};
 
-use crate::body::Body;
-use crate::entries::{Export, FuncType};
 use crate::module::Module;
-use crate::section::Section;
+use crate::sections::Section;
+use crate::sections::code::Body;
+use crate::sections::exports::Export;
+use crate::sections::types::FuncType;
 use std::alloc::Global;
 use std::marker::Model;
 use wasmprinter_bytes::bytes::Cursor;
@@ -81,11 +83,21 @@ impl<'a> Gathered<'a> {
         }
     }
 
+    /// Whether the section may stand behind those that were read.
+    fn may_precede(&self, section: &Section) -> bool
+        ensures { result ≡ follows self.now.rank (rank (section_kind (section_seen section.now))) }
+    {
+        match section.rank() {
+            Some(rank) => self.rank < rank,
+            None => true,
+        }
+    }
+
     /// Keeps what a section holds.
     fn add(&mut self, section: Section<'a>)
         ensures { self.new ≡ added self.old (section_seen section.entry) }
     {
-        self.rank = section.rank();
+        self.rank = section.rank().unwrap_or(self.rank);
         match section {
             Section::Types(types) => self.types = types,
             Section::Functions(type_indices) => self.type_indices = type_indices,
@@ -102,7 +114,7 @@ impl<'a> Gathered<'a> {
         'sections: while !cursor.is_empty() {
             let place = cursor.place();
             let section = Section::read(alloc, cursor)?;
-            if section.rank() <= gathered.rank {
+            if !gathered.may_precede(&section) {
                 return Err(Error::Malformed { place });
             }
             gathered.add(section);

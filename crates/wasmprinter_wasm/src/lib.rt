@@ -1,18 +1,17 @@
 //! Modules in the binary format (chapter 5 of the WebAssembly Core Specification): decoding, and what a decoded module holds.
 #![tactic(auto)]
 
-mod body;
 mod decoder;
-mod entries;
 mod module;
 mod readers;
-mod section;
+mod sections;
 
-pub use body::{Body, LocalEntry, Locals};
 pub use decoder::decode;
-pub use entries::{Export, FuncType};
 pub use module::Module;
 pub use readers::Function;
+pub use sections::code::{Body, LocalEntry, Locals};
+pub use sections::exports::Export;
+pub use sections::types::FuncType;
 
 #[cfg(test)]
 mod tests;

@@ -2,8 +2,9 @@
 ghost use Rattle.std.specs.Prelude.{◌≡◌, length, slice_get};
 ghost use Rattle.wasmprinter_wasm.specs.Modules.{body_at};
 
-use crate::body::Body;
-use crate::entries::{Export, FuncType};
+use crate::sections::code::Body;
+use crate::sections::exports::Export;
+use crate::sections::types::FuncType;
 use std::marker::Model;
 
 /// A module; names and bodies are slices of the bytes that were decoded.

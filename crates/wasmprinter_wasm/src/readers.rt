@@ -1,9 +1,10 @@
 //! What a decoded module holds, for those that print it.
 ghost use Rattle.std.specs.Prelude.{◌≡◌, ◌<◌, length, Some, slice_get};
 
-use crate::body::Body;
-use crate::entries::{Export, FuncType};
 use crate::module::Module;
+use crate::sections::code::Body;
+use crate::sections::exports::Export;
+use crate::sections::types::FuncType;
 use std::marker::Model;
 
 /// A defined function.

@@ -1,11 +1,11 @@
 use Rattle.std.proofs.Common.{arith, refl}
 use Rattle.std.proofs.lemmas.Result.{err_from_is_err_and}
 use Rattle.wasmprinter_spec.specs.Repeated.{items_at}
-use Rattle.wasmprinter_spec.specs.Sections.{code_entry}
+use Rattle.wasmprinter_spec.specs.Binary.Code.{code_entry}
 use Rattle.wasmprinter_bytes.proofs.Fronts.{front_more}
 use Rattle.wasmprinter_wasm.proofs.Later.{later_none, later_more}
 use Rattle.wasmprinter_wasm.proofs.Listing.{few-push, bodies_fault, front_start}
-use Rattle.wasmprinter_wasm.proofs.section.read_bodies.Goals as goal
+use Rattle.wasmprinter_wasm.proofs.sections.code.read_bodies.Goals as goal
 
 pub loop-init : goal.loop-init
 loop-init c = record {

@@ -1,12 +1,12 @@
 use Rattle.std.proofs.Common.{◌≡◌, ◌-◌}
 use Rattle.std.specs.List.{AllByRecursion}
 use Rattle.wasmprinter_spec.specs.Repeated.{items_at}
-use Rattle.wasmprinter_spec.specs.Sections.{code_entry}
+use Rattle.wasmprinter_spec.specs.Binary.Code.{code_entry}
 use Rattle.wasmprinter_bytes.specs.Reads.{end_of}
 use Rattle.wasmprinter_bytes.proofs.Fronts.{with_front}
 use Rattle.wasmprinter_wasm.specs.Contents.{HasFew}
 use Rattle.wasmprinter_wasm.proofs.Later.{Later}
-use Rattle.wasmprinter_wasm.proofs.section.read_bodies.Given as goal
+use Rattle.wasmprinter_wasm.proofs.sections.code.read_bodies.Given as goal
 
 abbrev pub invariant-loop : goal.invariant-loop
 invariant-loop l = record {

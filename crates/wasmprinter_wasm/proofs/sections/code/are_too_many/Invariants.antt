@@ -1,6 +1,6 @@
 use Rattle.std.proofs.Common.{◌≡◌, ◌+◌, ◌≤◌}
 use Rattle.wasmprinter_spec.specs.Limits.{local_count, most_locals}
-use Rattle.wasmprinter_wasm.proofs.body.are_too_many.Given as goal
+use Rattle.wasmprinter_wasm.proofs.sections.code.are_too_many.Given as goal
 
 abbrev pub invariant-loop-entry : goal.invariant-loop-entry
 invariant-loop-entry l = record {

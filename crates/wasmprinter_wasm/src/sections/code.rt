@@ -1,12 +1,16 @@
-//! Bodies of functions (section 5.5, "Code Section"): locals, and an expression.
+//! The code section (section 5.5, "Code Section"): bodies of functions, each with its locals and an expression.
 ghost use Rattle.std.specs.Prelude.{◌≡◌, ◌<◌, ◌↔◌, IsTrue};
 ghost use Rattle.wasmprinter_spec.specs.Grammar.{placed};
-ghost use Rattle.wasmprinter_spec.specs.Sections.{local_entry};
+ghost use Rattle.wasmprinter_spec.specs.Binary.Code.{local_entry};
 ghost use Rattle.wasmprinter_spec.specs.Limits.{local_count, most_locals};
 ghost use Rattle.wasmprinter_bytes.specs.Reads.{Reads, IsWithin, end_of};
 ghost use Rattle.wasmprinter_ops.specs.ValTypes.{type_seen};
+ghost use Rattle.wasmprinter_spec.specs.Sections.{CodeSection};
 ghost use Rattle.wasmprinter_wasm.specs.Bodies.{TakesBody, TakesEntry};
+ghost use Rattle.wasmprinter_wasm.specs.Contents.{TakesBodies, TakesHeld};
 
+use crate::sections::expect_end;
+use std::alloc::Global;
 use std::marker::Model;
 use wasmprinter_bytes::bytes::Cursor;
 use wasmprinter_bytes::lists::{Items, Spelled};
@@ -101,7 +105,7 @@ pub struct Body<'a> {
 impl<'a> Model for Body<'a> {
     ghost use Rattle.wasmprinter_spec.specs.Grammar.{Placed};
     ghost use Rattle.wasmprinter_spec.specs.Placed.{Body as BodyValue};
-    ghost use Rattle.wasmprinter_spec.specs.Sections.{body_from};
+    ghost use Rattle.wasmprinter_spec.specs.Binary.Code.{body_from};
 
     ghost Value = { Placed BodyValue };
 
@@ -128,7 +132,7 @@ impl<'a> Body<'a> {
     }
 
     /// Reads an entry of a code section: a size, and a body of exactly so many bytes.
-    pub(crate) fn read_entry(cursor: &mut Cursor<'a>) -> Result<Self, Error>
+    fn read_entry(cursor: &mut Cursor<'a>) -> Result<Self, Error>
         ensures reads { TakesEntry cursor.old result cursor.new }
         ensures end { end_of cursor.new ≡ end_of cursor.old }
     {
@@ -182,4 +186,26 @@ impl<'a> Body<'a> {
     {
         self.code.end()
     }
+}
+
+/// Reads the bodies of a code section, a count in front.
+fn read_bodies<'a>(alloc: Global, cursor: &mut Cursor<'a>) -> Result<Vec<Body<'a>>, Error>
+    ensures reads { TakesBodies (λ v. v.items) cursor.old result cursor.new }
+    ensures end { end_of cursor.new ≡ end_of cursor.old }
+{
+    let count = cursor.u32()?;
+    let mut bodies = Vec::new(alloc);
+    for _ in 0..count {
+        bodies.push(Body::read_entry(cursor)?)?;
+    }
+    Ok(bodies)
+}
+
+/// Reads what a code section holds.
+pub(crate) fn read_code<'a>(alloc: Global, cursor: &mut Cursor<'a>) -> Result<Vec<Body<'a>>, Error>
+    ensures { TakesHeld CodeSection (λ v. v.items) cursor.old result }
+{
+    let bodies = read_bodies(alloc, cursor)?;
+    expect_end(cursor)?;
+    Ok(bodies)
 }

@@ -1,6 +1,6 @@
 use Rattle.std.proofs.Common.{refl}
 use Rattle.wasmprinter_wasm.proofs.Over.{body_over}
-use Rattle.wasmprinter_wasm.proofs.body.Body.read.Goals as goal
+use Rattle.wasmprinter_wasm.proofs.sections.code.Body.read.Goals as goal
 
 pub returns-then-are_too_many-clause-reads : goal.returns-then-are_too_many-clause-reads
 returns-then-are_too_many-clause-reads c =

@@ -1,6 +1,6 @@
 use Rattle.std.proofs.lemmas.Result.{err_from_is_err_and}
 use Rattle.wasmprinter_wasm.proofs.Over.{entry_fault}
-use Rattle.wasmprinter_wasm.proofs.body.Body.read_entry.Goals as goal
+use Rattle.wasmprinter_wasm.proofs.sections.code.Body.read_entry.Goals as goal
 
 pub returns-in_err-body-clause-reads : goal.returns-in_err-body-clause-reads
 returns-in_err-body-clause-reads c =

@@ -1,0 +1,123 @@
+-- Sections in order: each kind that has a rank comes at most once.
+use Rattle.std.proofs.Common.{◌≡◌, ℕ, ◌≤◌, ◌⊎◌, inl, inr, true, List, [], ◌∷◌, ◌++◌, Option, Some, None, refl, sym, ap, subst, ◌∙◌, arith}
+use Rattle.std.specs.List.{AllByRecursion}
+use Rattle.std.proofs.lemmas.Bool.{and_parts, ltb-true}
+use Rattle.wasmprinter_spec.specs.Grammar.{some_is}
+use Rattle.wasmprinter_spec.specs.Repeated.{some_or}
+use Rattle.wasmprinter_spec.specs.Sections.{Kind, TypeSection, FunctionSection, ExportSection, CodeSection, Content, Section, holds, section_kind, picked, rank, follows, rank_behind, are_above, held_in}
+
+-- ---- of each kind
+
+-- a section is of another kind, or holds what is picked of it
+pub picks : (kind : Kind) (s : Section) → (picked kind s ≡ None) ⊎ ((x : Content kind) × (s ≡ holds kind x))
+picks TypeSection (holds TypeSection x) = inr (x, refl)
+picks FunctionSection (holds FunctionSection x) = inr (x, refl)
+picks ExportSection (holds ExportSection x) = inr (x, refl)
+picks CodeSection (holds CodeSection x) = inr (x, refl)
+picks _ _ = inl refl
+
+-- of a section of the kind it is picked
+pub picked_own : (kind : Kind) (x : Content kind) → picked kind (holds kind x) ≡ Some x
+picked_own TypeSection x = refl
+picked_own FunctionSection x = refl
+picked_own ExportSection x = refl
+picked_own CodeSection x = refl
+
+-- what is picked of a section is all that it holds
+pub picked_is : (kind : Kind) (s : Section) (x : Content kind) → picked kind s ≡ Some x → s ≡ holds kind x
+picked_is kind s x e =
+    elim (picks kind s) [
+      | inl other ↦ absurd (let clash : ◌≡◌ {A = Option (Content kind)} None (Some x) = sym other ∙ e in cc)
+      | inr own ↦
+          let its : picked kind s ≡ Some own.0 = ap (picked kind) own.1 ∙ picked_own kind own.0 in
+          own.1 ∙ ap (holds kind) (some_is own.0 x (sym its ∙ e))
+    ]
+
+-- ---- ranks
+
+-- the rank of the last section that has one, this where none has
+abbrev pub last_rank : ℕ → List Section → ℕ
+last_rank low [] = low
+last_rank low (s ∷ ss) = last_rank (rank_behind low (rank (section_kind s))) ss
+
+-- a section in front that may stand there
+above_parts : (low : ℕ) (s : Section) (ss : List Section) → are_above low (s ∷ ss) ≡ true
+    → (follows low (rank (section_kind s)) ≡ true) × (are_above (rank_behind low (rank (section_kind s))) ss ≡ true)
+above_parts low s ss up = and_parts (follows low (rank (section_kind s))) (are_above (rank_behind low (rank (section_kind s))) ss) up
+
+-- ranks don't fall
+rank_grows : (low : ℕ) (r : Option ℕ) → follows low r ≡ true → low ≤ rank_behind low r
+rank_grows low None up = omega arith
+rank_grows low (Some n) up = let lt = ltb-true low n up in omega arith
+
+-- a section behind others that it may follow stands in order with them
+pub above_push : (low : ℕ) (ss : List Section) (s : Section) → are_above low ss ≡ true → follows (last_rank low ss) (rank (section_kind s)) ≡ true → are_above low (ss ++ s ∷ []) ≡ true
+above_push low [] s up on = rw on refl
+above_push low (x ∷ xs) s up on =
+    let parts = above_parts low x xs up in
+    rw (parts.0, above_push (rank_behind low (rank (section_kind x))) xs s parts.1 on) refl
+
+-- its rank is then the last
+pub last_rank_push : (low : ℕ) (ss : List Section) (s : Section) → last_rank low (ss ++ s ∷ []) ≡ rank_behind (last_rank low ss) (rank (section_kind s))
+last_rank_push low [] s = refl
+last_rank_push low (x ∷ xs) s = last_rank_push (rank_behind low (rank (section_kind x))) xs s
+
+-- a section in the midst may follow those in front of it
+pub above_midst : (low : ℕ) (xs : List Section) (s : Section) (ys : List Section) → are_above low (xs ++ s ∷ ys) ≡ true → follows (last_rank low xs) (rank (section_kind s)) ≡ true
+above_midst low [] s ys up = (above_parts low s ys up).0
+above_midst low (x ∷ xs) s ys up = above_midst (rank_behind low (rank (section_kind x))) xs s ys (above_parts low x (xs ++ s ∷ ys) up).1
+
+-- ---- what sections hold of one kind
+
+module _ (kind : Kind) where
+  -- what stands behind one more section
+  abbrev pub with_one : Content kind → Section → Content kind
+  with_one d s = some_or (picked kind s) d (λ x. x)
+
+  -- the last of sections counts last
+  pub held_push : (d : Content kind) (ss : List Section) (s : Section) → held_in kind d (ss ++ s ∷ []) ≡ with_one (held_in kind d ss) s
+  held_push d [] s = refl
+  held_push d (x ∷ xs) s = held_push (with_one d x) xs s
+
+  -- what is so of each section, and of one that holds what there is without any, is so of what they hold
+  pub held_each : (P : Section → Type 0) (d : Content kind) (ss : List Section) → AllByRecursion P ss → P (holds kind d) → P (holds kind (held_in kind d ss))
+  held_each P d [] all none = none
+  held_each P d (s ∷ ss) all none =
+      elim (picks kind s) [
+        | inl other ↦ held_each P (with_one d s) ss all.1 (rw other none)
+        | inr own ↦
+            let same : with_one d s ≡ own.0 = rw (own.1, picked_own kind own.0) refl in
+            held_each P (with_one d s) ss all.1 (subst (λ (x : Content kind). P (holds kind x)) (sym same) (subst P own.1 all.0))
+      ]
+
+  module _ (r : ℕ) (ranked : rank kind ≡ Some r) where
+    -- sections above its rank hold nothing of it
+    pub held_past : (d : Content kind) (low : ℕ) (ss : List Section) → r ≤ low → are_above low ss ≡ true → held_in kind d ss ≡ d
+    held_past d low [] le up = refl
+    held_past d low (s ∷ ss) le up =
+        let parts = above_parts low s ss up in
+        let grows = rank_grows low (rank (section_kind s)) parts.0 in
+        elim (picks kind s) [
+          | inl other ↦ rw other (held_past d (rank_behind low (rank (section_kind s))) ss (omega arith) parts.1)
+          | inr own ↦
+              let its : rank (section_kind s) ≡ Some r = ap (λ (x : Section). rank (section_kind x)) own.1 ∙ ranked in
+              let on : follows low (Some r) ≡ true = ap (follows low) (sym its) ∙ parts.0 in
+              let lt = ltb-true low r on in
+              absurd (omega arith)
+        ]
+
+    -- where one stands among sections in order, they hold what it holds
+    pub held_midst : (d : Content kind) (low : ℕ) (xs : List Section) (x : Content kind) (ys : List Section) → are_above low (xs ++ holds kind x ∷ ys) ≡ true
+        → held_in kind d (xs ++ holds kind x ∷ ys) ≡ x
+    held_midst d low [] x ys up =
+        let parts = above_parts low (holds kind x) ys up in
+        let behind : are_above r ys ≡ true = ap (λ (o : Option ℕ). are_above (rank_behind low o) ys) (sym ranked) ∙ parts.1 in
+        ap (λ (o : Option (Content kind)). held_in kind (some_or o d (λ y. y)) ys) (picked_own kind x) ∙ held_past x r ys (omega arith) behind
+    held_midst d low (y ∷ xs) x ys up = held_midst (with_one d y) (rank_behind low (rank (section_kind y))) xs x ys (above_parts low y (xs ++ holds kind x ∷ ys) up).1
+
+    -- the same of a section of which it is picked
+    pub held_picked : (d : Content kind) (low : ℕ) (xs : List Section) (s : Section) (x : Content kind) (ys : List Section) → picked kind s ≡ Some x
+        → are_above low (xs ++ s ∷ ys) ≡ true → held_in kind d (xs ++ s ∷ ys) ≡ x
+    held_picked d low xs s x ys e up =
+        let is : s ≡ holds kind x = picked_is kind s x e in
+        ap (λ (y : Section). held_in kind d (xs ++ y ∷ ys)) is ∙ held_midst d low xs x ys (ap (λ (y : Section). are_above low (xs ++ y ∷ ys)) (sym is) ∙ up)

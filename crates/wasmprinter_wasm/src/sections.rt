@@ -1,0 +1,108 @@
+//! Sections (section 5.5, "Sections"): an id, a size, and content of exactly so many bytes.
+ghost use Rattle.std.specs.Prelude.{◌≡◌, ◌≤◌, [], MatchResult};
+ghost use Rattle.wasmprinter_spec.specs.Sections.{kind_of, section_kind, rank};
+ghost use Rattle.wasmprinter_spec.specs.Types.{only};
+ghost use Rattle.wasmprinter_bytes.specs.Reads.{Reads, IsWithin, end_of};
+ghost use Rattle.wasmprinter_wasm.specs.Contents.{section_seen, TakesContent, TakesSection};
+
+pub mod code;
+pub mod exports;
+mod functions;
+pub mod types;
+
+use crate::sections::code::{Body, read_code};
+use crate::sections::exports::{Export, read_exports};
+use crate::sections::functions::read_functions;
+use crate::sections::types::{FuncType, read_types};
+use std::alloc::Global;
+use wasmprinter_bytes::bytes::Cursor;
+use wasmprinter_bytes::{Error, Malformed};
+
+const TYPE: u8 = 1;
+
+const FUNCTION: u8 = 3;
+
+const EXPORT: u8 = 7;
+
+const CODE: u8 = 10;
+
+/// What a section holds.
+#[derive(Drop)]
+pub(crate) enum Section<'a> {
+    /// Function types.
+    Types(Vec<FuncType<'a>>),
+    /// The type index of each defined function.
+    Functions(Vec<u32>),
+    /// Exports.
+    Exports(Vec<Export<'a>>),
+    /// The bodies of the defined functions.
+    Code(Vec<Body<'a>>),
+}
+
+/// Nothing may be left of what a section holds.
+fn expect_end(cursor: &Cursor) -> Result<(), Malformed>
+    ensures { MatchResult result (λ _. cursor.now.bytes ≡ []) (λ e. (cursor.now.bytes ≡ [] → ⊥) × (e.place ≤ end_of cursor.now)) }
+{
+    if cursor.is_empty() {
+        Ok(())
+    } else {
+        Err(Malformed {
+            place: cursor.place(),
+        })
+    }
+}
+
+/// Reads the byte, and no other.
+fn read_only(cursor: &mut Cursor, wanted: u8) -> Result<u8, Malformed>
+    ensures reads { Reads (λ b. b) (only wanted).parse cursor.old result cursor.new }
+    ensures within { IsWithin cursor.old result }
+    ensures end { end_of cursor.new ≡ end_of cursor.old }
+{
+    let place = cursor.place();
+    let byte = cursor.u8()?;
+    if byte == wanted {
+        Ok(byte)
+    } else {
+        Err(Malformed { place })
+    }
+}
+
+/// Reads what a section with the id holds.
+fn read_content<'a>(alloc: Global, id: u8, cursor: &mut Cursor<'a>) -> Result<Section<'a>, Error>
+    ensures { TakesContent (kind_of id) cursor.old result }
+{
+    match id {
+        TYPE => Ok(Section::Types(read_types(alloc, cursor)?)),
+        FUNCTION => Ok(Section::Functions(read_functions(alloc, cursor)?)),
+        EXPORT => Ok(Section::Exports(read_exports(alloc, cursor)?)),
+        CODE => Ok(Section::Code(read_code(alloc, cursor)?)),
+        _ => Err(Error::Malformed {
+            place: cursor.place(),
+        }),
+    }
+}
+
+impl<'a> Section<'a> {
+    /// Reads a section.
+    pub(crate) fn read(alloc: Global, cursor: &mut Cursor<'a>) -> Result<Self, Error>
+        ensures reads { TakesSection cursor.old result cursor.new }
+        ensures end { end_of cursor.new ≡ end_of cursor.old }
+    {
+        let id = cursor.u8()?;
+        let size = cursor.u32()?;
+        let mut part = cursor.part(size as usize)?;
+        read_content(alloc, id, &mut part)
+    }
+
+    /// Where sections of this kind stand in the order that a module keeps, `None` for those that may stand anywhere.
+    pub(crate) fn rank(&self) -> Option<u8>
+        ensures { result ≡ rank (section_kind (section_seen self.now)) }
+    {
+        match self {
+            Section::Types(_) => Some(1),
+            Section::Functions(_) => Some(3),
+            Section::Exports(_) => Some(8),
+            Section::Code(_) => Some(12),
+        }
+    }
+}
