@@ -49,8 +49,11 @@ fn are_granted(alloc: Global, count: u32) -> bool {
     true
 }
 
-/// Prints each module, and writes how it ended.
+/// Prints each module, writes how it ended, and answers the status of the worst ending.
 fn print_all(rt: &HostRuntime) -> io::Result<u8> {
+    if !are_granted(rt.alloc(), wanted_requests(&mut rt.stdin())?) {
+        return Ok(Ending::Other("own request").status());
+    }
     let mut status = Ending::Printed.status();
     for shape in &SHAPES {
         let ending = ending_of(rt.alloc(), shape);
@@ -61,12 +64,8 @@ fn print_all(rt: &HostRuntime) -> io::Result<u8> {
 }
 
 fn main(rt: HostRuntime) -> ExitCode {
-    let count = wanted_requests(&mut rt.stdin()).unwrap_or(0);
-    if !are_granted(rt.alloc(), count) {
-        return ExitCode::from(Ending::Other("own request").status());
-    }
     match print_all(&rt) {
         Ok(status) => ExitCode::from(status),
-        Err(_) => ExitCode::from(Ending::Other("no output").status()),
+        Err(_) => ExitCode::from(Ending::Other("no input or output").status()),
     }
 }

@@ -96,6 +96,7 @@ fn takes_a_million_functions(rt: HostRuntime) -> Result<(), Fail> {
     Ok(())
 }
 
+/// It takes a second as `rt test` builds it, and more than the 60 seconds that `rt try --test` gives.
 #[test]
 fn prints_a_million_functions(rt: HostRuntime) -> Result<(), Fail> {
     let wasm = with_most_functions(rt.alloc())?;

@@ -4,7 +4,7 @@ use crate::modules::{EMPTY_TEXT, IDENTITY, IDENTITY_TEXT, PREAMBLE};
 use std::fmt;
 use std::io::ErrorKind;
 use std::test::Fail;
-use wasmprinter::{Config, Error, Print, PrintFmtWrite};
+use wasmprinter::{Config, Error, Print, PrintFmtWrite, print};
 
 /// A writer that refuses one piece, and takes all others.
 #[derive(Drop)]
@@ -93,7 +93,7 @@ fn gives_each_piece_and_line_feed_to_the_writer(rt: HostRuntime) -> Result<(), F
 #[test]
 fn keeps_the_text_that_a_string_begins_with(rt: HostRuntime) -> Result<(), Fail> {
     let alloc = rt.alloc();
-    let mut printer = PrintFmtWrite(String::from_str(alloc, "first ")?);
+    let mut printer = print::PrintFmtWrite(String::from_str(alloc, "first ")?);
     Config::default().print(alloc, &PREAMBLE, &mut printer)?;
     Config::default().print(alloc, &PREAMBLE, &mut printer)?;
     let refused = Config::default().print(alloc, &PREAMBLE[..7], &mut printer);

@@ -1,0 +1,60 @@
+#!/bin/sh
+# Refuses each request for memory of the program `refusals` in turn, and judges how it takes that. Each run has to end with status 1, with one
+# module `out of memory` and all others `printed`; or with all `printed`, if the request was made once more (`collect` asks for as
+# much as it hopes to need, and where that is refused for less). Ends with another status than 0 where a run doesn't, or faults or hangs.
+#
+# tools/refusals.sh [LAST]: one build serves all runs. The request with the number LAST is refused in each, and each makes requests of its own
+# first, so many that another one of the library's comes to be that request. LAST has to be greater than the number of the
+# library's requests; the runs past them show that nothing was refused.
+set -eu
+cd "$(dirname "$0")/../crates/refusals"
+last=${1:-100}
+began=$(date +%s)
+work=$(mktemp -d)
+trap 'rm -rf "$work"' EXIT
+mkdir "$work/cases"
+run=1
+while [ "$run" -le "$last" ]; do
+    echo $((last - run)) >"$work/cases/$run"
+    run=$((run + 1))
+done
+if ! rt try --fail-alloc "$last" --cases "$work/cases" >"$work/out" 2>"$work/err"; then
+    cat "$work/err"
+    echo "refusals: a run faulted, hung, or differed between the two ways in which it is run"
+    exit 1
+fi
+awk -v last="$last" -v err="$work/err" '
+    # standard output: a line `== RUN`, and then one for each module
+    FILENAME != err && /^== / { run = $2; next }
+    FILENAME != err && /: printed$/ { printed[run]++; next }
+    FILENAME != err && /: out of memory$/ { refused[run]++; next }
+    FILENAME != err { print "refusals: run " run ": " $0; bad = 1 }
+    # standard error: how many requests a run made, and how it ended
+    FILENAME == err && /^allocations: / { made = $2 }
+    FILENAME == err && /^case=/ {
+        run = substr($1, 6)
+        requests[run] = made - (last - run)
+        for (i = 2; i <= NF; i++) if ($i ~ /^status=/) status[run] = substr($i, 8)
+    }
+    END {
+        # the last run makes no request of its own, and none of its requests is refused
+        count = requests[last]
+        if (count == 0 || count >= last) {
+            print "refusals: " count + 0 " requests: give a number that is greater"
+            exit 1
+        }
+        for (run = 1; run <= last; run++) {
+            if (run <= count && status[run] == 1 && refused[run] == 1 && printed[run] == printed[last] - 1) {
+                answered++
+            } else if (run <= count && status[run] == 0 && !refused[run] && printed[run] == printed[last] && requests[run] == count + 1) {
+                again++
+            } else if (run <= count || status[run] != 0 || refused[run] || printed[run] != printed[last]) {
+                print "refusals: request " run " of " count ": status " status[run] ", " printed[run] + 0 " printed, " refused[run] + 0 " out of memory"
+                bad = 1
+            }
+        }
+        print "refusals: of " count " requests, " answered + 0 " were answered by `Memory` when refused, and " again + 0 " were made once more; " last " runs"
+        exit bad
+    }
+' "$work/out" "$work/err"
+echo "refusals: $(($(date +%s) - began)) seconds"
