@@ -1,5 +1,5 @@
 -- What a printing function's end comes to, from what the decoder and the writer of modules promise.
-use Rattle.std.specs.Prelude.{◌≡◌, ℕ, List, ◌∷◌, ◌++◌, ◌↔◌, true, bytes_eq, Some, Result, Ok, Err, OnOk, IfErr, IsErrAnd, IsErrOf, refl}
+use Rattle.std.specs.Prelude.{◌≡◌, ℕ, List, ◌∷◌, ◌++◌, ◌↔◌, true, bytes_eq, Some, Result, Ok, Err, IfErr, IsErrAnd, refl}
 use Rattle.std.proofs.Common.{sym, ap, ◌∙◌, subst, inl, inr}
 use Rattle.std.proofs.lemmas.Slice.Eq.{bytes_eq-Decides}
 use Rattle.wasmprinter_spec.specs.Choices.{tested}
@@ -9,10 +9,9 @@ use Rattle.wasmprinter_spec.specs.Limits.{IsWithinLimits}
 use Rattle.wasmprinter_spec.specs.Meaning.{Meaning}
 use Rattle.wasmprinter_spec.specs.Options.{Options}
 use Rattle.wasmprinter_spec.specs.Layout.{module_pieces, layout}
-use Rattle.wasmprinter_bytes.specs.Emits.{Made, Ending, Through, AtCall, moment_of, outcome, Broken}
+use Rattle.wasmprinter_bytes.specs.Emits.{Made, Ending, Through, AtCall}
 use Rattle.wasmprinter_bytes.specs.Prints.{Written}
 use Rattle.wasmprinter_bytes.specs.PrintsLaws.{written}
-use Rattle.wasmprinter_bytes.specs.Reasons.{HasReason}
 use Rattle.wasmprinter_bytes.specs.declared.error.Error.{Error}
 use Rattle.wasmprinter_bytes.specs.declared.error.Error.TheVariants.{Malformed, Component, TooManyLocals, TooManyFunctions, Printer, Memory}
 use Rattle.std.specs.declared.io.Error.{Error as IoError}

@@ -1,10 +1,39 @@
 //! A module and its fields (section 6.6 of the WebAssembly Core Specification), each on a line of its own.
+ghost use Rattle.wasmprinter_spec.specs.Layout.{numbered};
+ghost use Rattle.wasmprinter_bytes.specs.Prints.{Prints};
+
 mod exports;
 mod functions;
 mod modules;
 mod types;
 
 pub(crate) use modules::write_module;
+use std::io;
+use wasmprinter_bytes::print::Print;
+use wasmprinter_lines::options::PrintOptions;
 
 /// How deep the fields of a module are nested.
 const FIELD_NESTING: u32 = 1;
+
+/// A field of a module.
+pub(crate) trait Field {
+    ghost use Rattle.std.specs.Prelude.{ℕ, List};
+    ghost use Rattle.wasmprinter_spec.specs.Piece.{Piece};
+
+    /// Its pieces, by its number among the fields of its kind.
+    ghost pieces: { ℕ → Self → List Piece };
+
+    /// Writes the field with the number.
+    fn write<P: Print>(&self, p: &mut P, options: &PrintOptions, number: u64) -> io::Result<()>
+        ensures { Prints P.meaning options.now p.old p.new result (pieces number self.now) };
+}
+
+/// Writes the fields of one kind, in order.
+fn write_each<P: Print, F: Field>(p: &mut P, options: &PrintOptions, fields: &[F]) -> io::Result<()>
+    ensures { Prints P.meaning options.now p.old p.new result (numbered F.pieces 0 fields.now) }
+{
+    for (number, field) in fields.iter().enumerate() {
+        field.write(p, options, number as u64)?;
+    }
+    Ok(())
+}

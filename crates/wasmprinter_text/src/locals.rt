@@ -10,9 +10,9 @@ ghost use Rattle.wasmprinter_ops.specs.ValTypes.{type_seen};
 use crate::types::write_type;
 use std::io;
 use wasmprinter_bytes::print::Print;
-use wasmprinter_ops::types::ValType;
 use wasmprinter_lines::lines::break_line;
 use wasmprinter_lines::options::PrintOptions;
+use wasmprinter_ops::types::ValType;
 use wasmprinter_wasm::Locals;
 use wasmprinter_words::words::{open, shut};
 

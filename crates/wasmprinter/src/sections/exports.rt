@@ -5,15 +5,15 @@ ghost use Rattle.wasmprinter_spec.specs.Piece.{Gap, OpenGap, Shut, Number, Quote
 ghost use Rattle.wasmprinter_spec.specs.Layout.{group_gap, export_pieces};
 ghost use Rattle.wasmprinter_bytes.specs.Prints.{Prints};
 
-use crate::sections::FIELD_NESTING;
+use crate::sections::{FIELD_NESTING, Field};
 use std::io;
 use wasmprinter_bytes::print::Print;
-use wasmprinter_lines::options::PrintOptions;
 use wasmprinter_lines::lines::break_line;
+use wasmprinter_lines::options::PrintOptions;
+use wasmprinter_wasm::Export;
 use wasmprinter_words::numbers::write_index_group;
 use wasmprinter_words::strings::write_string;
 use wasmprinter_words::words::{gap, open_gap, shut};
-use wasmprinter_wasm::Export;
 
 fn write_export_group<P: Print>(p: &mut P, export: &Export<'_>) -> io::Result<()>
     ensures { (o : Options) → Prints P.meaning o p.old p.new result
@@ -26,14 +26,11 @@ fn write_export_group<P: Print>(p: &mut P, export: &Export<'_>) -> io::Result<()
     shut(p)
 }
 
-/// Writes an export.
-pub(crate) fn write_export<P: Print>(
-    p: &mut P,
-    options: &PrintOptions,
-    export: &Export<'_>,
-) -> io::Result<()>
-    ensures { Prints P.meaning options.now p.old p.new result (export_pieces export.now) }
-{
-    break_line(p, options, Some(export.place()), FIELD_NESTING)?;
-    write_export_group(p, export)
+impl<'a> Field for Export<'a> {
+    ghost pieces = { λ i e. export_pieces e };
+
+    fn write<P: Print>(&self, p: &mut P, options: &PrintOptions, _number: u64) -> io::Result<()> {
+        break_line(p, options, Some(self.place()), FIELD_NESTING)?;
+        write_export_group(p, self)
+    }
 }

@@ -9,20 +9,16 @@ use crate::sections::FIELD_NESTING;
 use std::io;
 use wasmprinter_bytes::print::Print;
 use wasmprinter_flat::operators::{has_operators, write_operators};
-use wasmprinter_lines::options::PrintOptions;
 use wasmprinter_lines::lines::{break_line, close_at};
+use wasmprinter_lines::options::PrintOptions;
 use wasmprinter_text::locals::{has_locals, write_locals};
 use wasmprinter_text::types::signature;
+use wasmprinter_wasm::{Body, FuncType, Function};
 use wasmprinter_words::numbers::{mark, write_index_group};
 use wasmprinter_words::words::{gap, open_gap, shut, word};
-use wasmprinter_wasm::{Body, FuncType, Function};
 
 /// Writes the signature of a type, and nothing where there is no such type.
-fn write_signature<P: Print>(
-    p: &mut P,
-    types: &[FuncType<'_>],
-    type_index: u32,
-) -> io::Result<()>
+fn write_signature<P: Print>(p: &mut P, types: &[FuncType<'_>], type_index: u32) -> io::Result<()>
     ensures { (o : Options) → Prints P.meaning o p.old p.new result (signature_pieces 2 (signature_of (slice_get types.now type_index))) }
 {
     match types.get(type_index as usize) {

@@ -2,44 +2,17 @@
 ghost use Rattle.std.specs.Prelude.{◌≡◌, [], ◌∷◌, ◌++◌, ◌||◌, Some, codes};
 ghost use Rattle.wasmprinter_spec.specs.Options.{Options};
 ghost use Rattle.wasmprinter_spec.specs.Piece.{Begin, Feed, Open};
-ghost use Rattle.wasmprinter_spec.specs.Layout.{has_break, close, numbered, type_pieces, export_pieces, function_pieces, field_pieces, module_pieces};
+ghost use Rattle.wasmprinter_spec.specs.Layout.{has_break, close, numbered, function_pieces, field_pieces, module_pieces};
 ghost use Rattle.wasmprinter_bytes.specs.Prints.{Prints};
 
-use crate::sections::exports::write_export;
 use crate::sections::functions::write_function;
-use crate::sections::types::write_type;
+use crate::sections::write_each;
 use std::io;
 use wasmprinter_bytes::print::Print;
-use wasmprinter_lines::options::PrintOptions;
 use wasmprinter_lines::lines::{begin, close_at, end};
+use wasmprinter_lines::options::PrintOptions;
+use wasmprinter_wasm::Module;
 use wasmprinter_words::words::open;
-use wasmprinter_wasm::{Export, FuncType, Module};
-
-fn write_types<P: Print>(
-    p: &mut P,
-    options: &PrintOptions,
-    types: &[FuncType<'_>],
-) -> io::Result<()>
-    ensures { Prints P.meaning options.now p.old p.new result (numbered type_pieces 0 types.now) }
-{
-    for (number, func_type) in types.iter().enumerate() {
-        write_type(p, options, number as u64, func_type)?;
-    }
-    Ok(())
-}
-
-fn write_exports<P: Print>(
-    p: &mut P,
-    options: &PrintOptions,
-    exports: &[Export<'_>],
-) -> io::Result<()>
-    ensures { Prints P.meaning options.now p.old p.new result (numbered (λ i e. export_pieces e) 0 exports.now) }
-{
-    for export in exports {
-        write_export(p, options, export)?;
-    }
-    Ok(())
-}
 
 fn write_functions<P: Print>(
     p: &mut P,
@@ -60,8 +33,8 @@ fn write_functions<P: Print>(
 fn write_fields<P: Print>(p: &mut P, options: &PrintOptions, module: &Module<'_>) -> io::Result<()>
     ensures { Prints P.meaning options.now p.old p.new result (field_pieces options.now module.now) }
 {
-    write_types(p, options, module.types())?;
-    write_exports(p, options, module.exports())?;
+    write_each(p, options, module.types())?;
+    write_each(p, options, module.exports())?;
     write_functions(p, options, module)
 }
 

@@ -5,15 +5,15 @@ ghost use Rattle.wasmprinter_spec.specs.Piece.{Gap, Open, OpenGap, Shut, Mark};
 ghost use Rattle.wasmprinter_spec.specs.Layout.{signature_pieces, type_pieces};
 ghost use Rattle.wasmprinter_bytes.specs.Prints.{Prints};
 
-use crate::sections::FIELD_NESTING;
+use crate::sections::{FIELD_NESTING, Field};
 use std::io;
 use wasmprinter_bytes::print::Print;
-use wasmprinter_lines::options::PrintOptions;
 use wasmprinter_lines::lines::break_line;
+use wasmprinter_lines::options::PrintOptions;
 use wasmprinter_text::types::signature;
+use wasmprinter_wasm::FuncType;
 use wasmprinter_words::numbers::mark;
 use wasmprinter_words::words::{gap, open, open_gap, shut};
-use wasmprinter_wasm::FuncType;
 
 fn write_type_group<P: Print>(p: &mut P, number: u64, func_type: &FuncType<'_>) -> io::Result<()>
     ensures { (o : Options) → Prints P.meaning o p.old p.new result
@@ -28,15 +28,11 @@ fn write_type_group<P: Print>(p: &mut P, number: u64, func_type: &FuncType<'_>) 
     shut(p)
 }
 
-/// Writes the type with the number.
-pub(crate) fn write_type<P: Print>(
-    p: &mut P,
-    options: &PrintOptions,
-    number: u64,
-    func_type: &FuncType<'_>,
-) -> io::Result<()>
-    ensures { Prints P.meaning options.now p.old p.new result (type_pieces number func_type.now) }
-{
-    break_line(p, options, Some(func_type.place()), FIELD_NESTING)?;
-    write_type_group(p, number, func_type)
+impl<'a> Field for FuncType<'a> {
+    ghost pieces = { type_pieces };
+
+    fn write<P: Print>(&self, p: &mut P, options: &PrintOptions, number: u64) -> io::Result<()> {
+        break_line(p, options, Some(self.place()), FIELD_NESTING)?;
+        write_type_group(p, number, self)
+    }
 }

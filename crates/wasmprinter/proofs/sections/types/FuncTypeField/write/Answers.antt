@@ -1,13 +1,13 @@
 use Rattle.wasmprinter_bytes.specs.PrintsLaws.{both_pieces, pieces_end}
 use Rattle.wasmprinter.proofs.Fields.{type-out}
-use Rattle.wasmprinter.proofs.sections.types.write_type.Goals as goal
+use Rattle.wasmprinter.proofs.sections.types.FuncTypeField.write.Goals as goal
 
 pub returns-in_err-break_line : goal.returns-in_err-break_line
 returns-in_err-break_line g c =
-    rw (type-out c.args.number c.args.func_type.now)
+    rw (type-out c.args.number c.args.self.now)
     (pieces_end g.P.Print.meaning c.from_residual.result _ c.from_residual.ensures.1 (rw c.place.ensures at c.in_err-break_line.ensures))
 
 pub returns : goal.returns
 returns g c =
-    rw (type-out c.args.number c.args.func_type.now)
+    rw (type-out c.args.number c.args.self.now)
     (both_pieces g.P.Print.meaning (rw c.place.ensures at c.in_ok-break_line.ensures) (c.write_type_group.ensures c.args.options.now))
