@@ -1,7 +1,6 @@
 #!/bin/sh
 # Refuses each request for memory of the program `refusals` in turn, and judges how it takes that. Each run has to end with status 1, with one
-# module `out of memory` and all others `printed`; or with all `printed`, if the request was made once more (`collect` asks for as
-# much as it hopes to need, and where that is refused for less). Ends with another status than 0 where a run doesn't, or faults or hangs.
+# module `out of memory` and all others `printed`. Ends with another status than 0 where a run doesn't, or faults or hangs.
 #
 # tools/refusals.sh [LAST]: one build serves all runs. The request with the number LAST is refused in each, and each makes requests of its own
 # first, so many that another one of the library's comes to be that request. LAST has to be greater than the number of the
@@ -46,14 +45,12 @@ awk -v last="$last" -v err="$work/err" '
         for (run = 1; run <= last; run++) {
             if (run <= count && status[run] == 1 && refused[run] == 1 && printed[run] == printed[last] - 1) {
                 answered++
-            } else if (run <= count && status[run] == 0 && !refused[run] && printed[run] == printed[last] && requests[run] == count + 1) {
-                again++
             } else if (run <= count || status[run] != 0 || refused[run] || printed[run] != printed[last]) {
                 print "refusals: request " run " of " count ": status " status[run] ", " printed[run] + 0 " printed, " refused[run] + 0 " out of memory"
                 bad = 1
             }
         }
-        print "refusals: of " count " requests, " answered + 0 " were answered by `Memory` when refused, and " again + 0 " were made once more; " last " runs"
+        print "refusals: of " count " requests, " answered + 0 " were answered by `Memory` when refused; " last " runs"
         exit bad
     }
 ' "$work/out" "$work/err"
