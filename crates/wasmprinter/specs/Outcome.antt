@@ -1,4 +1,4 @@
--- Why printing is refused, and what a refusal leaves of the printer. `HasReason` has a line for each error.
+-- Why printing is refused, and what a refusal leaves of the printer, with a line for each error.
 use Rattle.std.specs.Prelude.{◌≡◌, ◌<◌, ◌⊎◌, List, ℕ, length}
 use Rattle.std.specs.declared.io.Error.{Error as IoError}
 use Rattle.wasmprinter_spec.specs.Binary.{Spells, IsComponent}
@@ -11,7 +11,7 @@ use Rattle.wasmprinter_spec.specs.Layout.{layout}
 use Rattle.wasmprinter_bytes.specs.Emits.{Broken}
 use Rattle.wasmprinter_bytes.specs.Reasons.{Reasons, HasReason}
 use Rattle.wasmprinter_bytes.specs.declared.error.Error.{Error}
-use Rattle.wasmprinter_bytes.specs.declared.error.Error.TheVariants.{Printer, Memory}
+use Rattle.wasmprinter_bytes.specs.declared.error.Error.TheVariants.{Malformed, Component, TooManyLocals, TooManyFunctions, EmptyTableInit, FoldLegacy, FoldHint, DylinkSubsection, Unreadable, Printer, Memory}
 use Rattle.wasmprinter_wasm.specs.Modules.{bodies_of}
 use Rattle.wasmprinter_wasm.specs.Refusals.{AnyIsOver}
 use Rattle.wasmprinter_wasm.specs.Decoding.{HoldsSome, module_reasons}
@@ -19,8 +19,17 @@ use Rattle.wasmprinter_wasm.specs.Decoding.{HoldsSome, module_reasons}
 -- The reason for an error of printing: a call on the printer failed, and this is so of the printer's error; or one for which decoding may be
 -- refused.
 abbrev pub HasPrintReason : (IoError → Type 0) → Reasons → Error → Type 0
+HasPrintReason failed reasons (Malformed place) = reasons.malformed place
+HasPrintReason failed reasons Component = reasons.component
+HasPrintReason failed reasons (TooManyLocals place) = reasons.locals place
+HasPrintReason failed reasons (TooManyFunctions count) = reasons.functions count
+HasPrintReason failed reasons (EmptyTableInit place) = ⊥
+HasPrintReason failed reasons (FoldLegacy place) = ⊥
+HasPrintReason failed reasons (FoldHint place) = ⊥
+HasPrintReason failed reasons (DylinkSubsection id) = ⊥
+HasPrintReason failed reasons Unreadable = ⊥
 HasPrintReason failed reasons (Printer e) = failed e
-HasPrintReason failed reasons e = HasReason reasons e
+HasPrintReason failed reasons Memory = reasons.memory
 
 -- After some list of calls one failed with this error, which it may in that state, and a count of faults below its greatest value rose by
 -- one.

@@ -1,3 +1,4 @@
+-- The styles that code chooses, as calls on a printer know them.
 use Rattle.wasmprinter_spec.specs.Call as call
 use Rattle.wasmprinter_spec.specs.Call.{Style}
 use Rattle.wasmprinter_bytes.specs.declared.print.calls.Style.{Style as Chosen}

@@ -1,3 +1,5 @@
+//! Numbers in LEB128 at the edges of their ranges, names, lists, and texts of errors. What is expected is typed by hand.
+
 use crate::bytes::Cursor;
 use crate::error::{Error, Malformed};
 use crate::lists::Items;

@@ -1,3 +1,5 @@
+//! Opcodes, their words and shapes, and walks over operators. What is expected is typed by hand.
+
 use crate::expression::Expression;
 use crate::opcode::{Opcode, Shape, Space};
 use crate::operator::{Immediates, Operator};

@@ -12,7 +12,7 @@ use Rattle.wasmprinter_spec.specs.Operator.{NoImmediates, I32}
 use Rattle.wasmprinter_spec.specs.Row.{Row, NoneShape, I32Shape, Fixed}
 use Rattle.wasmprinter_spec.specs.Table.{plain, table, control_rows, number_rows}
 use Rattle.wasmprinter_spec.specs.IndexSpaces.{Spaces}
-use Rattle.wasmprinter_spec.specs.Code.{PartRole, role, unfolded}
+use Rattle.wasmprinter_spec.specs.Code.{Chunk, PartRole, role, Folded, operands, flattened, unfolded}
 use Rattle.wasmprinter_spec.specs.OperatorText.{first_reading}
 
 -- ---- roles of groups
@@ -83,3 +83,14 @@ inner_hint = refl
 other_names : hints (codes "(@metadata.code.hint \"\\00\") drop (@metadata.code.branch_hints \"\\00\") drop") ≡ Some ([] ∷ [] ∷ [])
 unfolding lex class escape table control_rows number_rows is_utf8 chars encode_utf8
 other_names = refl
+
+-- ---- folded instructions: what stands before their own operator, it, and what stands behind
+
+abbrev of_number : ℕ → Chunk
+of_number n = record { rows = record bare { number = n } ∷ []; arguments = End; hints = [] }
+
+in_three_parts : flattened (Folded (of_number 1 ∷ []) (of_number 2) (of_number 3 ∷ []) ∷ []) ≡ of_number 1 ∷ of_number 2 ∷ of_number 3 ∷ []
+in_three_parts = refl
+
+operand_in_three_parts : operands (Folded (of_number 1 ∷ []) (of_number 2) (of_number 3 ∷ []) ∷ Folded [] (of_number 4) [] ∷ []) ≡ Some (of_number 1 ∷ of_number 2 ∷ of_number 3 ∷ of_number 4 ∷ [])
+operand_in_three_parts = refl

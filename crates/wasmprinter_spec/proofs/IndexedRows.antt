@@ -6,7 +6,9 @@ use Rattle.wasmprinter_spec.specs.Operator as operator
 use Rattle.wasmprinter_spec.specs.Operator.{Opcode, opcode, Immediates, NoImmediates, Index, Operator}
 use Rattle.wasmprinter_spec.specs.Table.{table, control_rows, number_rows}
 use Rattle.wasmprinter_spec.specs.Module.{Module}
-use Rattle.wasmprinter_spec.specs.Indexed.{IsIndexed}
+use Rattle.wasmprinter_spec.specs.Row.{Row, Shape, NoneShape, IndexShape, I32Shape, I64Shape}
+use Rattle.wasmprinter_spec.specs.Indexed.{Counts, IsIndexedOperator, IsIndexed}
+use Rattle.std.specs.List.{AllByRecursion}
 use Rattle.wasmprinter_spec.specs.Options.{defaults, IsBlank}
 use Rattle.wasmprinter_spec.proofs.Samples.{local_get, local_set, call, drop, return, i32_const, i64_const, empty, identity, stored, mixed}
 
@@ -134,3 +136,18 @@ tab_and_blank = (inr refl, (inl refl, tt))
 
 no_indent : IsBlank []
 no_indent = tt
+
+-- ---- each operator of the table has immediates that are declared, where each index space holds something
+
+abbrev immediates_of : Shape → Immediates
+immediates_of NoneShape = NoImmediates
+immediates_of (IndexShape space) = Index 0
+immediates_of I32Shape = operator.I32 (pos 0)
+immediates_of I64Shape = operator.I64 (pos 0)
+
+abbrev one_each : Counts
+one_each = record { functions = 1; locals = 1 }
+
+each_operator : AllByRecursion (λ r. IsIndexedOperator one_each (record { opcode = opcode r.prefix r.number; immediates = immediates_of r.shape })) table
+unfolding table control_rows number_rows
+each_operator = (tt, (omega arith, (tt, (omega arith, (omega arith, (tt, (tt, tt)))))))

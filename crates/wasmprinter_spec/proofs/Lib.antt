@@ -5,6 +5,7 @@ pub mod BinaryRows
 pub mod LayoutRows
 pub mod ColourRows
 pub mod PlainRows
+pub mod MeaningRows
 pub mod NumeralRows
 pub mod TokenRows
 pub mod ForestRows

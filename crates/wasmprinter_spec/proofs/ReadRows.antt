@@ -32,6 +32,11 @@ reads_empty : read (codes "(module)\n") ≡ Some empty
 unfolding lex class is_utf8 chars encode_utf8
 reads_empty = refl
 
+-- an annotation in another one in front of the module is nothing
+reads_empty_behind_annotations : read (codes "(@a (@custom \"x\" \"y\")) (module)") ≡ Some empty
+unfolding lex class escape is_utf8 chars encode_utf8
+reads_empty_behind_annotations = refl
+
 reads_empty_with_offsets : read (codes "(module\n(;@8     ;))\n") ≡ Some empty
 unfolding lex class is_utf8 chars encode_utf8
 reads_empty_with_offsets = refl

@@ -1,8 +1,8 @@
 -- Worked rows of the table of operators (sections 5.4 and 6.5 of the standard): words, shapes and arities by opcode.
-use Rattle.std.specs.Prelude.{◌≡◌, ℕ, List, [], ◌∷◌, map, codes, Some, option_map, refl}
+use Rattle.std.specs.Prelude.{◌≡◌, ℕ, List, [], ◌∷◌, Bool, true, not, ◌&&◌, is_some, map, codes, Some, option_map, refl}
 use Rattle.wasmprinter_spec.specs.Operator.{opcode}
-use Rattle.wasmprinter_spec.specs.Row.{NoneShape, IndexShape, I32Shape, I64Shape, Func, Local, Fixed, OfCall, OfReturn}
-use Rattle.wasmprinter_spec.specs.Table.{table, control_rows, number_rows, rows_of, by_opcode, word_of}
+use Rattle.wasmprinter_spec.specs.Row.{Row, NoneShape, IndexShape, I32Shape, I64Shape, Func, Local, Fixed, OfCall, OfReturn}
+use Rattle.wasmprinter_spec.specs.Table.{table, control_rows, number_rows, first, has_opcode, rows_of, by_opcode, word_of}
 
 -- return, call, drop, local.get, local.set, i32.const, i64.const
 abbrev numbers : List ℕ
@@ -36,3 +36,12 @@ no_rows = refl
 no_word : map word_of (opcode 0 0x0b ∷ opcode 0 0xff ∷ opcode 0xfc 0x20 ∷ []) ≡ [] ∷ [] ∷ [] ∷ []
 unfolding table control_rows number_rows
 no_word = refl
+
+-- no opcode is listed twice
+abbrev have_own_opcodes : List Row → Bool
+have_own_opcodes [] = true
+have_own_opcodes (r ∷ rs) = not (is_some (first (has_opcode (opcode r.prefix r.number)) rs)) && have_own_opcodes rs
+
+own_opcodes : have_own_opcodes table ≡ true
+unfolding table control_rows number_rows
+own_opcodes = refl

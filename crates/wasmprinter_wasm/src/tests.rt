@@ -1,3 +1,5 @@
+//! Modules that are decoded and modules that are refused. What is expected is typed by hand.
+
 use crate::decoder::decode;
 use std::alloc::{AllocError, Global};
 use std::test::Fail;
