@@ -153,9 +153,11 @@ fn refuses_a_file_that_is_missing(rt: HostRuntime) -> Result<(), Fail> {
 
 #[test]
 fn tells_its_usage(rt: HostRuntime) -> Result<(), Fail> {
-    let misuses: [&[&str]; 4] = [
+    let misuses: [&[&str]; 6] = [
         &[],
         &["a.wasm", "b.wasm"],
+        &["a.wasm", "b.wasm", "c.wasm"],
+        &["a.wasm", "b.wasm", "c.wasm", "d.wasm"],
         &["--offsets", "a.wasm"],
         &["--help"],
     ];
@@ -234,19 +236,27 @@ fn keeps_its_status_where_errors_can_not_be_told(rt: HostRuntime) -> Result<(), 
 
 #[test]
 fn starts_with_all_words_but_its_name(rt: HostRuntime) -> Result<(), Fail> {
-    let starts: [(&[&str], u8); 4] = [
-        (&[], 2),
-        (&["printwasm"], 2),
-        (&["printwasm", "no such file"], 1),
-        (&["printwasm", "no such file", "nor this"], 2),
+    let missing = "error: the file can't be read\n";
+    let starts: [(&[&str], u8, &str); 6] = [
+        (&[], 2, USAGE),
+        (&["printwasm"], 2, USAGE),
+        (&["printwasm", "no such file"], 1, missing),
+        (&["printwasm", "no such file", "nor this"], 2, USAGE),
+        (
+            &["printwasm", "no such file", "nor this", "nor that"],
+            2,
+            USAGE,
+        ),
+        (&["printwasm", "a", "b", "c", "d", "e", "f", "g"], 2, USAGE),
     ];
-    for (words, status) in starts {
+    for (words, status, told) in starts {
         let args = Ok(owned(&rt, words)?.into_iter());
         let mut out = Vec::new(rt.alloc());
         let mut err = Vec::new(rt.alloc());
         let code = start(&rt, rt.alloc(), args, &mut out, &mut err);
         assert_eq!(rt; code, ExitCode::from(status));
         assert_eq!(rt; out.len(), 0);
+        assert_eq!(rt; err.as_slice(), told.as_bytes());
     }
     Ok(())
 }
@@ -260,5 +270,89 @@ fn tells_that_its_words_can_not_be_held(rt: HostRuntime) -> Result<(), Fail> {
     assert_eq!(rt; code, ExitCode::from(1));
     assert_eq!(rt; out.len(), 0);
     assert_eq!(rt; err.as_slice(), b"error: out of memory\n".as_slice());
+    Ok(())
+}
+
+#[test]
+fn tells_why_the_system_gives_no_words(rt: HostRuntime) -> Result<(), Fail> {
+    let args: io::Result<env::Args> = Err(io::Error::other("no words"));
+    let mut out = Vec::new(rt.alloc());
+    let mut err = Vec::new(rt.alloc());
+    let code = start(&rt, rt.alloc(), args, &mut out, &mut err);
+    assert_eq!(rt; code, ExitCode::from(1));
+    assert_eq!(rt; out.len(), 0);
+    assert_eq!(rt; err.as_slice(), b"error: no words\n".as_slice());
+    Ok(())
+}
+
+/// How many functions the large module has, and that count as the binary format spells it.
+const MANY: u32 = 30_000;
+
+const MANY_SPELLED: [u8; 3] = [0xb0, 0xea, 0x01];
+
+#[test]
+fn prints_a_large_file_to_its_end(rt: HostRuntime) -> Result<(), Fail> {
+    let mut wasm = Vec::from_slice(rt.alloc(), &PREAMBLE)?;
+    wasm.extend_from_slice(&[0x01, 0x04, 0x01, 0x60, 0x00, 0x00])?;
+    // a function section of 30,003 bytes: the count, and type 0 for each
+    wasm.extend_from_slice(&[0x03, 0xb3, 0xea, 0x01])?;
+    wasm.extend_from_slice(&MANY_SPELLED)?;
+    for _ in 0..MANY {
+        wasm.push(0x00)?;
+    }
+    // a code section of 90,003 bytes: the count, and a body without locals and operators for each
+    wasm.extend_from_slice(&[0x0a, 0x93, 0xbf, 0x05])?;
+    wasm.extend_from_slice(&MANY_SPELLED)?;
+    for _ in 0..MANY {
+        wasm.extend_from_slice(&[0x02, 0x00, 0x0b])?;
+    }
+    let printed = run_over(&rt, "large.wasm", &wasm)?;
+    assert_eq!(rt; printed.status, 0);
+    assert!(rt;
+        printed
+            .out
+            .as_slice()
+            .ends_with(b"\n  (func (;29999;) (type 0))\n)\n")
+    );
+    Ok(())
+}
+
+/// A writer that refuses the first write, and takes all others.
+#[derive(Drop)]
+struct Late {
+    taken: Vec<u8>,
+    is_late: bool,
+}
+
+impl Write for Late {
+    fn write(&mut self, bytes: &[u8]) -> io::Result<usize> {
+        if !self.is_late {
+            self.is_late = true;
+            return Err(io::Error::other("not yet"));
+        }
+        self.taken.extend_from_slice(bytes)?;
+        Ok(bytes.len())
+    }
+
+    fn flush(&mut self) -> io::Result<()> {
+        Ok(())
+    }
+}
+
+#[test]
+fn writes_nothing_behind_a_failed_write(rt: HostRuntime) -> Result<(), Fail> {
+    let words = owned(&rt, &["late.wasm"])?;
+    fs::write(&rt, "late.wasm", &PREAMBLE)?;
+    let mut out = Late {
+        taken: Vec::new(rt.alloc()),
+        is_late: false,
+    };
+    let mut err = Vec::new(rt.alloc());
+    let status = run(&rt, rt.alloc(), &words, &mut out, &mut err);
+    fs::remove_file(&rt, "late.wasm")?;
+    assert_eq!(rt; status, 1);
+    assert!(rt; out.is_late);
+    assert_eq!(rt; out.taken.len(), 0);
+    assert_eq!(rt; err.as_slice(), b"error: the printer failed\n".as_slice());
     Ok(())
 }

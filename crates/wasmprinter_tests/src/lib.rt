@@ -17,6 +17,8 @@ mod recorder;
 #[cfg(test)]
 mod refusals;
 #[cfg(test)]
+mod strings;
+#[cfg(test)]
 mod texts;
 #[cfg(test)]
 mod writers;

@@ -122,3 +122,33 @@ fn refuses_a_function_more(rt: HostRuntime) -> Result<(), Fail> {
     assert!(rt; matches!(decoded, Err(Error::TooManyFunctions { count: 1_000_001 })));
     Ok(())
 }
+
+/// How many types and exports the module has, that count as the binary format spells it, and the size of a section of so many entries of
+/// three bytes.
+const THOUSANDS: u32 = 3_000;
+
+const THOUSANDS_SPELLED: [u8; 2] = [0xb8, 0x17];
+
+const THOUSANDS_SIZE: [u8; 2] = [0xaa, 0x46];
+
+#[test]
+fn prints_thousands_of_types_and_exports(rt: HostRuntime) -> Result<(), Fail> {
+    let mut wasm = Vec::from_slice(rt.alloc(), &PREAMBLE)?;
+    // types of functions without parameters and results; exports of function 0 under the empty name
+    for (id, entry) in [(0x01, [0x60, 0x00, 0x00]), (0x07, [0x00, 0x00, 0x00])] {
+        wasm.push(id)?;
+        wasm.extend_from_slice(&THOUSANDS_SIZE)?;
+        wasm.extend_from_slice(&THOUSANDS_SPELLED)?;
+        for _ in 0..THOUSANDS {
+            wasm.extend_from_slice(&entry)?;
+        }
+    }
+    let text = print_bytes(rt.alloc(), &wasm)?;
+    assert_eq!(rt; text.as_str().matches("\n  (type (;").count(), 3_000);
+    assert_eq!(rt;
+        text.as_str().matches("\n  (export \"\" (func 0))").count(),
+        3_000
+    );
+    assert!(rt; text.as_str().contains("\n  (type (;2999;) (func))\n"));
+    Ok(())
+}

@@ -107,3 +107,16 @@ fn keeps_the_text_that_a_string_begins_with(rt: HostRuntime) -> Result<(), Fail>
     assert_eq!(rt; second, EMPTY_TEXT);
     Ok(())
 }
+
+#[test]
+fn gives_a_long_piece_to_the_writer(rt: HostRuntime) -> Result<(), Fail> {
+    let mut piece = String::new(rt.alloc());
+    for _ in 0..1_000 {
+        piece.push_str("0123456789")?;
+    }
+    let mut printer = PrintFmtWrite(Refusing::new(String::new(rt.alloc()), 0));
+    printer.write_str(piece.as_str())?;
+    assert_eq!(rt; printer.0.given, 1);
+    assert_eq!(rt; printer.0.text.as_str(), piece.as_str());
+    Ok(())
+}

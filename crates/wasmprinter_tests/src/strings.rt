@@ -1,0 +1,28 @@
+//! A string in quotes, as a caller of the library writes it to a printer of its own.
+
+use crate::recorder::Recorder;
+use std::io::ErrorKind;
+use std::test::Fail;
+use wasmprinter::Error;
+use wasmprinter::text::write_quoted;
+
+#[test]
+fn writes_a_string_in_quotes(rt: HostRuntime) -> Result<(), Fail> {
+    let mut recorder = Recorder::new(rt.alloc());
+    write_quoted(&mut recorder, "a b\"\\\u{1b}\u{e9}~\u{7f}")?;
+    assert_eq!(rt;
+        recorder.calls(),
+        r#"{L}"a b\\u\{22\}\\u\{5c\}\\u\{1b\}\\u\{e9\}~\\u\{7f\}"{R}"#
+    );
+    assert!(rt; recorder.is_complete());
+    Ok(())
+}
+
+#[test]
+fn answers_the_error_of_the_printer(rt: HostRuntime) -> Result<(), Fail> {
+    let mut recorder = Recorder::refusing(rt.alloc(), 2, ErrorKind::BrokenPipe);
+    let refused = write_quoted(&mut recorder, "a");
+    assert!(rt; matches!(refused, Err(Error::Printer(e)) if e.kind() == ErrorKind::BrokenPipe));
+    assert_eq!(rt; recorder.calls(), r#"{L}"{!}"#);
+    Ok(())
+}
