@@ -1,5 +1,5 @@
 -- What a printing function's end comes to, from what the decoder and the writer of modules promise.
-use Rattle.std.specs.Prelude.{◌≡◌, ℕ, List, ◌∷◌, ◌++◌, ◌↔◌, true, bytes_eq, Some, Result, Ok, Err, IfErr, IsErrAnd, refl}
+use Rattle.std.specs.Prelude.{◌≡◌, ℕ, List, ◌∷◌, ◌++◌, true, bytes_eq, Some, Result, Ok, Err, IfErr, IsErrAnd, refl}
 use Rattle.std.proofs.Common.{sym, ap, ◌∙◌, subst, inl, inr}
 use Rattle.std.proofs.lemmas.Slice.Eq.{bytes_eq-Decides}
 use Rattle.wasmprinter_spec.specs.Choices.{tested}
@@ -89,8 +89,3 @@ pub growth_true : (bytes : List ℕ) (e : Error) → IsTrueOf bytes e → IsTrue
 growth_true bytes (Printer x) h = inr h
 growth_true bytes Memory h = inl h
 growth_true bytes _ h = h
-
--- it makes no error a component, and none that is one another
-pub growth_component : (e : Error) → (as_growth e ≡ Component) ↔ (e ≡ Component)
-growth_component (Printer x) = (λ h. absurd cc, λ h. absurd cc)
-growth_component _ = (λ h. h, λ h. h)
