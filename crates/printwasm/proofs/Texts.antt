@@ -1,7 +1,7 @@
 -- What the bytes that a read gave come to.
 use Rattle.std.specs.Prelude.{ℕ, List, Some, Result, Ok, Err, IfOk, IfErr}
 use Rattle.std.proofs.Common.{inr}
-use Rattle.wasmprinter_bytes.specs.declared.error.Error.{Error}
+use Rattle.wasmprinter_error.specs.declared.error.Error.{Error}
 use Rattle.wasmprinter.specs.Printed.{HasText}
 use Rattle.wasmprinter.specs.Outcome.{HasTextCause, IsTrueOfText}
 use Rattle.printwasm.specs.Outcome.{Reading, GivesText, GivesNoText}

@@ -1,56 +1,59 @@
 -- The layouts of a module's fields with their groups written out: parenthesis, what the group holds, parenthesis.
-use Rattle.std.specs.Prelude.{◌≡◌, ℕ, suc, ◌+◌, ◌<◌, ◌==◌, not, drop, List, [], ◌∷◌, ◌++◌, Bool, true, false, ◌||◌, ◌≤◌, length, chars, codes, Some, None, slice_get, refl}
+use Rattle.std.specs.Prelude.{◌≡◌, ℕ, suc, ◌+◌, ◌<◌, ◌==◌, not, drop, List, [], ◌∷◌, ◌++◌, Bool, true, false, ◌||◌, ◌≤◌, length, chars, codes, Option, Some, None, slice_get, refl}
 use Rattle.std.proofs.Common.{sym, ap, ap₂, ◌∙◌, add-one, append_assoc, drop-cons, get_or}
 use Rattle.std.proofs.Math.Dec.{eqb-suc-zero}
 use Rattle.std.proofs.lemmas.Option.{slice_get_past, slice_get_within, get_or_from_slice_get}
 use Rattle.std.proofs.lemmas.List.{drop_all}
 use Rattle.wasmprinter_spec.specs.Grammar.{Placed}
-use Rattle.wasmprinter_spec.specs.Types.{FuncType}
-use Rattle.wasmprinter_spec.specs.Placed.{Export, PlacedFunction, PlacedModule}
+use Rattle.wasmprinter_spec.specs.Types.{FuncType, SubType, all_types, signature_at}
+use Rattle.wasmprinter_spec.specs.Module.{groups_of}
+use Rattle.wasmprinter_spec.specs.Placed.{TypeGroup, Export, PlacedFunction, PlacedModule}
 use Rattle.wasmprinter_spec.specs.Options.{Options}
 use Rattle.wasmprinter_spec.specs.Piece.{Piece, Begin, Feed, Break, Gap, Open, OpenGap, Shut, Word, Number, Mark, Quoted}
-use Rattle.wasmprinter_spec.specs.Layout.{has_break, close, group, group_gap, group_at, group_gap_at, type_group, signature_of, signature_pieces, type_pieces, export_pieces, header_pieces, local_pieces, body_pieces, function_group, function_pieces, numbered, field_pieces, module_pieces}
+use Rattle.wasmprinter_spec.specs.Layout.{export_pieces, signature_if, header_pieces, local_pieces, body_pieces, function_group, function_pieces, module_field_pieces, module_pieces}
+use Rattle.wasmprinter_spec.specs.Layout.Groups.{has_break, close, numbered, group_gap, group_at, group_gap_at}
+use Rattle.wasmprinter_spec.specs.Layout.Types.{signature_pieces, type_group_pieces, type_section_pieces}
 use Rattle.wasmprinter_lines.proofs.Groups.{has_break-append, line-append, group-line, group_gap-line, line-group, line-group_gap}
-use Rattle.wasmprinter_text.proofs.Signatures.{signature-line, signature-nesting}
+use Rattle.wasmprinter_text.proofs.Signatures.{signature-line}
 
--- a function type as a group
-func-line : (t : FuncType) → group 2 (codes "func") (signature_pieces 3 t) ≡ Open (codes "func") ∷ (signature_pieces 2 t ++ (Shut ∷ []))
-func-line t =
-    group-line 2 (codes "func") (signature_pieces 3 t) (signature-line 3 t) ∙ ap (λ ps. Open (codes "func") ∷ (ps ++ (Shut ∷ []))) (signature-nesting 3 2 t)
+-- the signature of no function type
+pub signature-none : (r : Option FuncType) → r ≡ None → signature_if r ≡ []
+unfolding signature_if
+signature-none r e = ap signature_if e
 
--- a type, written out
-pub type-out : (i : ℕ) (t : Placed FuncType) →
-    type_pieces i t ≡ Break (Some t.place) 1 ∷ (OpenGap (codes "type") ∷ (Mark i ∷ (Gap ∷ (Open (codes "func") ∷ (signature_pieces 2 t.value ++ (Shut ∷ (Shut ∷ [])))))))
-unfolding type_pieces
-type-out i t =
-    ap (λ ps. Break (Some t.place) 1 ∷ ps)
-    (group_gap-line 1 (codes "type") (Mark i ∷ (Gap ∷ group 2 (codes "func") (signature_pieces 3 t.value))) (line-group 2 (codes "func") (signature_pieces 3 t.value) (signature-line 3 t.value))
-    ∙ ap (λ ps. OpenGap (codes "type") ∷ (Mark i ∷ (Gap ∷ (ps ++ (Shut ∷ []))))) (func-line t.value)
-    ∙ ap (λ ps. OpenGap (codes "type") ∷ (Mark i ∷ (Gap ∷ (Open (codes "func") ∷ ps)))) (append_assoc (signature_pieces 2 t.value) (Shut ∷ []) (Shut ∷ [])))
+-- that of a function type
+pub signature-some : (r : Option FuncType) (t : FuncType) → r ≡ Some t → signature_if r ≡ signature_pieces t
+unfolding signature_if
+signature-some r t e = ap signature_if e
 
-header-line : (i n : ℕ) (t : FuncType) → has_break (header_pieces i n t) ≡ false
+signature_if-line : (t : Option FuncType) → has_break (signature_if t) ≡ false
+unfolding signature_if
+signature_if-line None = refl
+signature_if-line (Some t) = signature-line t
+
+header-line : (i n : ℕ) (t : Option FuncType) → has_break (header_pieces i n t) ≡ false
 unfolding header_pieces
 header-line i n t =
-    line-append (group_gap 2 (codes "type") (Number n ∷ [])) (signature_pieces 2 t) (line-group_gap 2 (codes "type") (Number n ∷ []) refl) (signature-line 2 t)
+    line-append (group_gap 2 (codes "type") (Number n ∷ [])) (signature_if t) (line-group_gap 2 (codes "type") (Number n ∷ []) refl) (signature_if-line t)
 
 -- a function without its body, written out
-pub skeleton-out : (offsets : Bool) (t : FuncType) (i : ℕ) (f : PlacedFunction) →
-    function_group true offsets t i f ≡ OpenGap (codes "func") ∷ (header_pieces i f.type_index t ++ (Gap ∷ (Word (codes "...") ∷ (Shut ∷ []))))
+pub skeleton-out : (offsets : Bool) (ts : List SubType) (t : Option FuncType) (i : ℕ) (f : PlacedFunction) →
+    function_group true offsets ts t i f ≡ OpenGap (codes "func") ∷ (header_pieces i f.type_index t ++ (Gap ∷ (Word (codes "...") ∷ (Shut ∷ []))))
 unfolding function_group
-skeleton-out offsets t i f =
+skeleton-out offsets ts t i f =
     group_gap-line 1 (codes "func") (header_pieces i f.type_index t ++ (Gap ∷ (Word (codes "...") ∷ []))) (line-append (header_pieces i f.type_index t) (Gap ∷ (Word (codes "...") ∷ [])) (header-line i f.type_index t) refl)
     ∙ ap (λ ps. OpenGap (codes "func") ∷ ps) (append_assoc (header_pieces i f.type_index t) (Gap ∷ (Word (codes "...") ∷ [])) (Shut ∷ []))
 
 -- a function, written out
-pub function-out : (offsets : Bool) (t : FuncType) (i : ℕ) (f : PlacedFunction) →
-    function_group false offsets t i f
-    ≡ OpenGap (codes "func") ∷ (header_pieces i f.type_index t ++ (local_pieces f.body.value.locals ++ (body_pieces f.body.value.operators
-    ++ close (Some f.body.value.end) 1 (offsets || (has_break (local_pieces f.body.value.locals) || has_break (body_pieces f.body.value.operators))))))
+pub function-out : (offsets : Bool) (ts : List SubType) (t : Option FuncType) (i : ℕ) (f : PlacedFunction) →
+    function_group false offsets ts t i f
+    ≡ OpenGap (codes "func") ∷ (header_pieces i f.type_index t ++ (local_pieces f.body.value.locals ++ (body_pieces ts f.body.value.operators
+    ++ close (Some f.body.value.end) 1 (offsets || (has_break (local_pieces f.body.value.locals) || has_break (body_pieces ts f.body.value.operators))))))
 unfolding function_group group_gap_at
-function-out offsets t i f =
+function-out offsets ts t i f =
     let head : List Piece = header_pieces i f.type_index t in
     let locals : List Piece = local_pieces f.body.value.locals in
-    let body : List Piece = body_pieces f.body.value.operators in
+    let body : List Piece = body_pieces ts f.body.value.operators in
     let changed : has_break (head ++ (locals ++ body)) ≡ (has_break locals || has_break body) =
     has_break-append head (locals ++ body) ∙ ap (λ b. b || has_break (locals ++ body)) (header-line i f.type_index t) ∙ has_break-append locals body in
     ap (λ b. OpenGap (codes "func") ∷ ((head ++ (locals ++ body)) ++ close (Some f.body.value.end) 1 (offsets || b))) changed
@@ -61,10 +64,10 @@ function-out offsets t i f =
 -- a module, written out
 pub module-out : (o : Options) (m : PlacedModule) →
     module_pieces o m
-    ≡ Begin 0 ∷ (Open (codes "module") ∷ (field_pieces o m ++ (close (Some m.size) 0 (o.offsets || has_break (field_pieces o m)) ++ (Feed ∷ []))))
+    ≡ Begin 0 ∷ (Open (codes "module") ∷ (module_field_pieces o m ++ (close (Some m.size) 0 (o.offsets || has_break (module_field_pieces o m)) ++ (Feed ∷ []))))
 unfolding module_pieces group_at
 module-out o m =
-    ap (λ ps. Begin 0 ∷ (Open (codes "module") ∷ ps)) (append_assoc (field_pieces o m) (close (Some m.size) 0 (o.offsets || has_break (field_pieces o m))) (Feed ∷ []))
+    ap (λ ps. Begin 0 ∷ (Open (codes "module") ∷ ps)) (append_assoc (module_field_pieces o m) (close (Some m.size) 0 (o.offsets || has_break (module_field_pieces o m))) (Feed ∷ []))
 
 -- an export, written out
 pub export-out : (e : Placed Export) →
@@ -74,36 +77,28 @@ export-out e =
     ap (λ ps. Break (Some e.place) 1 ∷ ps)
     (group_gap-line 1 (codes "export") (Quoted (chars e.value.name) ∷ (Gap ∷ group_gap 2 (codes "func") (Number e.value.function ∷ []))) (line-group_gap 2 (codes "func") (Number e.value.function ∷ []) refl))
 
-no_signature : signature_pieces 2 (signature_of None) ≡ []
-unfolding signature_pieces type_group
-no_signature = refl
-
--- no signature past the last type
-pub signature-past : (ts : List (Placed FuncType)) (i : ℕ) → length ts ≤ i → signature_pieces 2 (signature_of (slice_get ts i)) ≡ []
-signature-past ts i h = ap (λ t. signature_pieces 2 (signature_of t)) (slice_get_past ts i h) ∙ no_signature
-
 -- a function without its body, with the line that it begins
-pub outline-out : (o : Options) (ts : List (Placed FuncType)) (i : ℕ) (f : PlacedFunction) → o.skeleton ≡ true →
-    function_pieces o ts i f ≡ Break (Some f.body.place) 1 ∷ (OpenGap (codes "func") ∷ (header_pieces i f.type_index (signature_of (slice_get ts f.type_index)) ++ (Gap ∷ (Word (codes "...") ∷ (Shut ∷ [])))))
+pub outline-out : (o : Options) (ts : List SubType) (i : ℕ) (f : PlacedFunction) → o.skeleton ≡ true →
+    function_pieces o ts i f ≡ Break (Some f.body.place) 1 ∷ (OpenGap (codes "func") ∷ (header_pieces i f.type_index (signature_at ts f.type_index) ++ (Gap ∷ (Word (codes "...") ∷ (Shut ∷ [])))))
 unfolding function_pieces
 outline-out o ts i f e =
-    let t : FuncType = signature_of (slice_get ts f.type_index) in
-    ap (λ b. Break (Some f.body.place) 1 ∷ function_group b o.offsets t i f) e ∙ ap (λ ps. Break (Some f.body.place) 1 ∷ ps) (skeleton-out o.offsets t i f)
+    let t : Option FuncType = signature_at ts f.type_index in
+    ap (λ b. Break (Some f.body.place) 1 ∷ function_group b o.offsets ts t i f) e ∙ ap (λ ps. Break (Some f.body.place) 1 ∷ ps) (skeleton-out o.offsets ts t i f)
 
 -- a function with its body, with the line that it begins
-pub whole-out : (o : Options) (ts : List (Placed FuncType)) (i : ℕ) (f : PlacedFunction) → o.skeleton ≡ false →
+pub whole-out : (o : Options) (ts : List SubType) (i : ℕ) (f : PlacedFunction) → o.skeleton ≡ false →
     function_pieces o ts i f
-    ≡ Break (Some f.body.place) 1 ∷ (OpenGap (codes "func") ∷ (header_pieces i f.type_index (signature_of (slice_get ts f.type_index))
-    ++ (local_pieces f.body.value.locals ++ (body_pieces f.body.value.operators
-    ++ close (Some f.body.value.end) 1 (o.offsets || (has_break (local_pieces f.body.value.locals) || has_break (body_pieces f.body.value.operators)))))))
+    ≡ Break (Some f.body.place) 1 ∷ (OpenGap (codes "func") ∷ (header_pieces i f.type_index (signature_at ts f.type_index)
+    ++ (local_pieces f.body.value.locals ++ (body_pieces ts f.body.value.operators
+    ++ close (Some f.body.value.end) 1 (o.offsets || (has_break (local_pieces f.body.value.locals) || has_break (body_pieces ts f.body.value.operators)))))))
 unfolding function_pieces
 whole-out o ts i f e =
-    let t : FuncType = signature_of (slice_get ts f.type_index) in
-    ap (λ b. Break (Some f.body.place) 1 ∷ function_group b o.offsets t i f) e ∙ ap (λ ps. Break (Some f.body.place) 1 ∷ ps) (function-out o.offsets t i f)
+    let t : Option FuncType = signature_at ts f.type_index in
+    ap (λ b. Break (Some f.body.place) 1 ∷ function_group b o.offsets ts t i f) e ∙ ap (λ ps. Break (Some f.body.place) 1 ∷ ps) (function-out o.offsets ts t i f)
 
 -- the line that a function begins, whatever stands on it
-pub function-line : (o : Options) (ts : List (Placed FuncType)) (i : ℕ) (f : PlacedFunction) →
-    function_pieces o ts i f ≡ Break (Some f.body.place) 1 ∷ function_group o.skeleton o.offsets (signature_of (slice_get ts f.type_index)) i f
+pub function-line : (o : Options) (ts : List SubType) (i : ℕ) (f : PlacedFunction) →
+    function_pieces o ts i f ≡ Break (Some f.body.place) 1 ∷ function_group o.skeleton o.offsets ts (signature_at ts f.type_index) i f
 unfolding function_pieces
 function-line o ts i f = refl
 
@@ -142,24 +137,29 @@ numbered-break f i [] b = refl
 numbered-break f i (x ∷ xs) b =
     has_break-append (f i x) (numbered f (i + 1) xs) ∙ ap (λ y. y || has_break (numbered f (i + 1) xs)) (b i x) ∙ sym (ap not (eqb-suc-zero (length xs)))
 
-type-break : (i : ℕ) (t : Placed FuncType) → has_break (type_pieces i t) ≡ true
-unfolding type_pieces
-type-break i t = refl
+-- whether lines change for groups of types: each begins a line
+types-break : (i : ℕ) (gs : List (Placed TypeGroup)) → has_break (type_section_pieces i gs) ≡ not (length gs == 0)
+unfolding type_section_pieces type_group_pieces
+types-break i [] = refl
+types-break i (g ∷ gs) = sym (ap not (eqb-suc-zero (length gs)))
 
 export-break : (i : ℕ) (e : Placed Export) → has_break (export_pieces e) ≡ true
 unfolding export_pieces
 export-break i e = refl
 
-function-break : (o : Options) (ts : List (Placed FuncType)) (i : ℕ) (f : PlacedFunction) → has_break (function_pieces o ts i f) ≡ true
+function-break : (o : Options) (ts : List SubType) (i : ℕ) (f : PlacedFunction) → has_break (function_pieces o ts i f) ≡ true
 unfolding function_pieces
 function-break o ts i f = refl
 
 -- whether lines change for the fields of a module
 pub fields-break : (o : Options) (m : PlacedModule) →
-    has_break (field_pieces o m) ≡ (not (length m.types == 0) || (not (length m.exports == 0) || not (length m.functions == 0)))
-unfolding field_pieces
+    has_break (module_field_pieces o m) ≡ (not (length m.types == 0) || (not (length m.exports == 0) || not (length m.functions == 0)))
+unfolding module_field_pieces
 fields-break o m =
-    has_break-append (numbered type_pieces 0 m.types) (numbered (λ i e. export_pieces e) 0 m.exports ++ numbered (function_pieces o m.types) 0 m.functions)
-    ∙ ap₂ (λ a b. a || b) (numbered-break type_pieces 0 m.types type-break)
-    (has_break-append (numbered (λ i e. export_pieces e) 0 m.exports) (numbered (function_pieces o m.types) 0 m.functions)
-    ∙ ap₂ (λ a b. a || b) (numbered-break (λ i e. export_pieces e) 0 m.exports export-break) (numbered-break (function_pieces o m.types) 0 m.functions (function-break o m.types)))
+    let types : List Piece = type_section_pieces 0 m.types in
+    let exports : List Piece = numbered (λ i e. export_pieces e) 0 m.exports in
+    let functions : List Piece = numbered (function_pieces o (all_types (groups_of m.types))) 0 m.functions in
+    has_break-append types (exports ++ functions)
+    ∙ ap₂ (λ a b. a || b) (types-break 0 m.types)
+    (has_break-append exports functions
+    ∙ ap₂ (λ a b. a || b) (numbered-break (λ i e. export_pieces e) 0 m.exports export-break) (numbered-break (function_pieces o (all_types (groups_of m.types))) 0 m.functions (function-break o (all_types (groups_of m.types)))))

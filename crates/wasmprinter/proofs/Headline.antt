@@ -10,7 +10,7 @@ use Rattle.wasmprinter_spec.specs.Options.{Options}
 use Rattle.wasmprinter_spec.specs.Plain.{IsPlainText}
 use Rattle.wasmprinter_spec.specs.Layout.{layout}
 use Rattle.wasmprinter_spec.specs.Read.{read}
-use Rattle.wasmprinter_bytes.specs.Emits.{Whole}
+use Rattle.wasmprinter_print.specs.Emits.{Whole}
 use Rattle.wasmprinter_lexical.proofs.Alike.{alike_texts}
 use Rattle.wasmprinter_lexical.proofs.Plain.{uncolour-plain}
 use Rattle.wasmprinter_reading.proofs.Main.{reads_back, prints_plain_text}

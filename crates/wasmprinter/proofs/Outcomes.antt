@@ -9,11 +9,11 @@ use Rattle.wasmprinter_spec.specs.Limits.{IsWithinLimits}
 use Rattle.wasmprinter_spec.specs.Meaning.{Meaning}
 use Rattle.wasmprinter_spec.specs.Options.{Options}
 use Rattle.wasmprinter_spec.specs.Layout.{module_pieces, layout}
-use Rattle.wasmprinter_bytes.specs.Emits.{Made, Ending, Through, AtCall}
-use Rattle.wasmprinter_bytes.specs.Prints.{Written}
-use Rattle.wasmprinter_bytes.specs.PrintsLaws.{written}
-use Rattle.wasmprinter_bytes.specs.declared.error.Error.{Error}
-use Rattle.wasmprinter_bytes.specs.declared.error.Error.TheVariants.{Malformed, Component, TooManyLocals, TooManyFunctions, Printer, Memory}
+use Rattle.wasmprinter_print.specs.Emits.{Made, Ending, Through, AtCall}
+use Rattle.wasmprinter_print.specs.Prints.{Written}
+use Rattle.wasmprinter_print.specs.PrintsLaws.{written}
+use Rattle.wasmprinter_error.specs.declared.error.Error.{Error}
+use Rattle.wasmprinter_error.specs.declared.error.Error.TheVariants.{Malformed, Component, TooManyLocals, TooManyFunctions, Printer, Memory}
 use Rattle.std.specs.declared.io.Error.{Error as IoError}
 use Rattle.wasmprinter_wasm.specs.Decoding.{IsRefusal}
 use Rattle.wasmprinter.specs.Printed.{Printed, unclaimed}

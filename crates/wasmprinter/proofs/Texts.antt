@@ -7,7 +7,7 @@ use Rattle.wasmprinter_spec.specs.Options.{Options, Answers, defaults, IsBlank}
 use Rattle.wasmprinter_spec.specs.Placed.{PlacedModule}
 use Rattle.wasmprinter_spec.specs.Plain.{IsPlainText}
 use Rattle.wasmprinter_spec.specs.Layout.{layout}
-use Rattle.wasmprinter_bytes.specs.Writers.{FmtAfter}
+use Rattle.wasmprinter_print.specs.Writers.{FmtAfter}
 use Rattle.wasmprinter_lexical.proofs.Alike.{alike_texts}
 use Rattle.wasmprinter_reading.proofs.Main.{reads_back, prints_plain_text}
 use Rattle.wasmprinter_spec.specs.Read.{read}

@@ -7,8 +7,8 @@ ghost use Rattle.wasmprinter.specs.Outcome.{HasCause, IsTrueOf, Leaves};
 use crate::sections::write_module;
 use std::alloc::Global;
 use std::marker::Model;
-use wasmprinter_bytes::Error;
-use wasmprinter_bytes::print::Print;
+use wasmprinter_error::Error;
+use wasmprinter_print::Print;
 use wasmprinter_lines::options::PrintOptions;
 use wasmprinter_wasm::decode;
 
@@ -75,7 +75,7 @@ impl Default for Config {
 mod tests {
     use super::*;
     use std::test::Fail;
-    use wasmprinter_bytes::print::PrintFmtWrite;
+    use wasmprinter_print::PrintFmtWrite;
 
     /// A function that answers its parameter, exported.
     const EXPORTED: [u8; 35] = [

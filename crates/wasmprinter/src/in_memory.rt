@@ -6,8 +6,8 @@ ghost use Rattle.wasmprinter.specs.Outcome.{as_growth, HasTextCause, IsTrueOfTex
 
 use crate::config::Config;
 use std::alloc::Global;
-use wasmprinter_bytes::Error;
-use wasmprinter_bytes::print::PrintFmtWrite;
+use wasmprinter_error::Error;
+use wasmprinter_print::PrintFmtWrite;
 
 /// A string that is printed to fails only where it can't grow.
 fn without_printer(error: Error) -> Error

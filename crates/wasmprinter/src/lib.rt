@@ -13,5 +13,5 @@ pub mod wasm;
 
 pub use config::Config;
 pub use in_memory::print_bytes;
-pub use print::{Print, PrintFmtWrite};
-pub use wasmprinter_bytes::Error;
+pub use print::{Print, PrintFmtWrite, PrintIoWrite, PrintTermcolor};
+pub use wasmprinter_error::Error;

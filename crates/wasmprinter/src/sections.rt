@@ -1,19 +1,20 @@
 //! A module and its fields (section 6.6 of the WebAssembly Core Specification), each on a line of its own.
-ghost use Rattle.wasmprinter_spec.specs.Layout.{numbered};
-ghost use Rattle.wasmprinter_bytes.specs.Prints.{Prints};
+ghost use Rattle.wasmprinter_spec.specs.Layout.Groups.{numbered};
+ghost use Rattle.wasmprinter_print.specs.Prints.{Prints};
 
 mod exports;
 mod functions;
+mod locals;
 mod modules;
 mod types;
 
 pub(crate) use modules::write_module;
 use std::io;
-use wasmprinter_bytes::print::Print;
+use wasmprinter_print::Print;
 use wasmprinter_lines::options::PrintOptions;
 
 /// How deep the fields of a module are nested.
-const FIELD_NESTING: u32 = 1;
+const FIELD_NESTING: u64 = 1;
 
 /// A field of a module.
 pub(crate) trait Field {

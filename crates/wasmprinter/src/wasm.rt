@@ -1,5 +1,7 @@
 //! Modules in the binary format: decoding, and walking over what was decoded.
+pub use wasmprinter_ops::blocks::{BlockType, Catch, Catches, Targets};
 pub use wasmprinter_ops::expression::OperatorsReader;
 pub use wasmprinter_ops::opcode::Opcode;
 pub use wasmprinter_ops::operator::{Immediates, Operator};
+pub use wasmprinter_ops::types::{HeapType, RefType, ValType, ValTypes};
 pub use wasmprinter_wasm::{Body, Module, decode};

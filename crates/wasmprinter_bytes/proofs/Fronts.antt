@@ -1,25 +1,25 @@
 -- A loop that reads items into a list.
 use Rattle.std.proofs.Common.{◌≡◌, ℕ, suc, ◌+◌, ◌-◌, ◌<◌, List, [], ◌∷◌, ◌++◌, Option, Some, None, refl, sym, ap, subst, ◌∙◌, ◌⊎◌, inl, inr, append_assoc, arith}
 use Rattle.std.specs.Prelude.{IsSome}
-use Rattle.wasmprinter_spec.specs.Grammar.{At, ◌>>=◌}
+use Rattle.wasmprinter_spec.specs.Grammar.{Input, ◌>>=◌}
 use Rattle.wasmprinter_spec.specs.Repeated.{items_at}
 
 -- a value was read at a place that is the first, or behind a first one
-pub first_stands : {A : Type 0} (parse : At → Option (A × At)) (start at : At) (x : A × At) → (at ≡ start) ⊎ IsSome (parse start) → parse at ≡ Some x → IsSome (parse start)
-first_stands parse start at x (inl here) e = subst (λ (y : At). IsSome (parse y)) here (rw e refl)
+pub first_stands : {A : Type 0} (parse : Input → Option (A × Input)) (start at : Input) (x : A × Input) → (at ≡ start) ⊎ IsSome (parse start) → parse at ≡ Some x → IsSome (parse start)
+first_stands parse start at x (inl here) e = subst (λ (y : Input). IsSome (parse y)) here (rw e refl)
 first_stands parse start at x (inr there) e = there
 
 -- what is read, behind what was read before
-abbrev pub with_front : {A : Type 0} → List A → Option (List A × At) → Option (List A × At)
+abbrev pub with_front : {A : Type 0} → List A → Option (List A × Input) → Option (List A × Input)
 with_front front read = read >>= λ x. Some (front ++ x.0, x.1)
 
-module _ {A : Type 0} (parse : At → Option (A × At)) where
-  regroup : (xs : List A) (x : A) (r : Option (List A × At)) → with_front xs (r >>= λ b. Some (x ∷ b.0, b.1)) ≡ with_front (xs ++ x ∷ []) r
+module _ {A : Type 0} (parse : Input → Option (A × Input)) where
+  regroup : (xs : List A) (x : A) (r : Option (List A × Input)) → with_front xs (r >>= λ b. Some (x ∷ b.0, b.1)) ≡ with_front (xs ++ x ∷ []) r
   regroup xs x (Some b) = ap (λ (ys : List A). Some (ys, b.1)) (sym (append_assoc xs (x ∷ []) b.0))
   regroup xs x None = refl
 
   -- one more item is read
-  pub front_more : (xs : List A) (count i : ℕ) (at : At) (x : A) (after : At) (total : Option (List A × At)) → i < count → parse at ≡ Some (x, after)
+  pub front_more : (xs : List A) (count i : ℕ) (at : Input) (x : A) (after : Input) (total : Option (List A × Input)) → i < count → parse at ≡ Some (x, after)
       → with_front xs (items_at parse (count - i) at) ≡ total → with_front (xs ++ x ∷ []) (items_at parse (count - (i + 1)) after) ≡ total
   front_more xs count i at x after total lt e h =
       let k : count - i ≡ suc (count - (i + 1)) = omega arith in

@@ -1,4 +1,3 @@
 pub mod Powers
 pub mod Fronts
 pub mod Items
-pub mod Reasons

@@ -1,9 +1,2 @@
 pub mod Reads
-pub mod Reasons
 pub mod Lists
-pub mod Emits
-pub mod EmitsLaws
-pub mod Prints
-pub mod PrintsLaws
-pub mod Styles
-pub mod Writers

@@ -1,34 +1,34 @@
 -- Values that are read one after the other.
 use Rattle.std.specs.Prelude.{◌≡◌, ℕ, ◌<◌, ◌≤◌, List, Option, Some, None, IsSome, Result, Ok, Err}
-use Rattle.wasmprinter_spec.specs.Grammar.{At, ◌>>=◌}
+use Rattle.wasmprinter_spec.specs.Grammar.{Input, ◌>>=◌}
 use Rattle.wasmprinter_spec.specs.Name.{u32}
 use Rattle.wasmprinter_spec.specs.Repeated.{items_at}
 use Rattle.wasmprinter_bytes.specs.Reads.{end_of}
-use Rattle.wasmprinter_bytes.specs.declared.error.Error.{Error}
-use Rattle.wasmprinter_bytes.specs.Reasons.{Reasons, HasReason}
+use Rattle.wasmprinter_error.specs.declared.error.Error.{Error}
+use Rattle.wasmprinter_error.specs.Reasons.{Reasons, HasReason}
 
 -- a count, and so many values
-abbrev pub counted_at : {A : Type 0} → (At → Option (A × At)) → At → Option ((ℕ × List A) × At)
+abbrev pub counted_at : {A : Type 0} → (Input → Option (A × Input)) → Input → Option ((ℕ × List A) × Input)
 counted_at parse at = u32.parse at >>= λ n. items_at parse n.0 n.1 >>= λ xs. Some ((n.0, xs.0), xs.1)
 
 -- the values alone: `(vec g).parse` is `vec_at g.parse`
-abbrev pub vec_at : {A : Type 0} → (At → Option (A × At)) → At → Option (List A × At)
+abbrev pub vec_at : {A : Type 0} → (Input → Option (A × Input)) → Input → Option (List A × Input)
 vec_at parse at = counted_at parse at >>= λ x. Some (x.0.1, x.1)
 
 -- a count above zero stands there
-pub record CountsItems (at : At) : Type 0 where
+pub record CountsItems (at : Input) : Type 0 where
   pub count : ℕ
-  pub after : At
+  pub after : Input
   pub counted : u32.parse at ≡ Some (count, after)
   pub some : 0 < count
 
 -- a count above zero stands there, and behind it a first value
-pub record BeginsList {A : Type 0} (parse : At → Option (A × At)) (at : At) : Type 0 where
+pub record BeginsList {A : Type 0} (parse : Input → Option (A × Input)) (at : Input) : Type 0 where
   pub counts : CountsItems at
   pub first : IsSome (parse counts.after)
 
 -- why a reader that grows something may refuse: nothing of the kind stands there; or a growth was refused, for which this is so
-abbrev pub reader_reasons : Type 0 → Type 0 → At → Reasons
+abbrev pub reader_reasons : Type 0 → Type 0 → Input → Reasons
 reader_reasons nothing grows at = record {
   malformed = λ place. nothing × (place ≤ end_of at);
   component = ⊥;
@@ -39,6 +39,6 @@ reader_reasons nothing grows at = record {
 
 -- The value stands there, and reading goes on behind it; or nothing of the kind stands there; or a growth was refused, and then `Grows` holds
 -- of where reading stood.
-abbrev pub Takes : {X A : Type 0} → (X → A) → (At → Option (A × At)) → (At → Type 0) → At → Result X Error → At → Type 0
+abbrev pub Takes : {X A : Type 0} → (X → A) → (Input → Option (A × Input)) → (Input → Type 0) → Input → Result X Error → Input → Type 0
 Takes view parse Grows old (Ok x) new = parse old ≡ Some (view x, new)
 Takes view parse Grows old (Err e) new = HasReason (reader_reasons (parse old ≡ None) (Grows old) old) e

@@ -2,13 +2,13 @@
 //! Specification, "Integers" and "Names").
 ghost use Rattle.std.specs.Prelude.{◌≡◌, ◌<◌, ◌≤◌, ◌^◌, ◌+◌, ◌-◌, ◌*◌, ◌↔◌, [], length, take, slice_get, nat_lt, IfOk, IsTrue, pos, neg_ℤ, negsuc, ◌+ℤ◌, ◌*ℤ◌, ◌≤ℤ◌, ◌<ℤ◌};
 ghost use Rattle.wasmprinter_spec.specs.Grammar.{byte};
-ghost use Rattle.wasmprinter_spec.specs.Sized.{front};
+ghost use Rattle.wasmprinter_spec.specs.Sized.{take_bytes};
 ghost use Rattle.wasmprinter_spec.specs.Leb.{unsigned, signed};
 ghost use Rattle.wasmprinter_spec.specs.Name.{u32 as u32_grammar, name};
 ghost use Rattle.wasmprinter_bytes.specs.Reads.{Reads, IsWithin, end_of};
 
-use crate::error::Malformed;
 use std::marker::Model;
+use wasmprinter_error::Malformed;
 
 /// The bits that one byte of LEB128 holds.
 const BITS: u32 = 7;
@@ -30,9 +30,9 @@ pub struct Cursor<'a> {
 
 impl<'a> Model for Cursor<'a> {
     ghost use Rattle.std.specs.Prelude.{◌<◌, ◌^◌, ◌+◌, length};
-    ghost use Rattle.wasmprinter_spec.specs.Grammar.{At};
+    ghost use Rattle.wasmprinter_spec.specs.Grammar.{Input};
 
-    ghost Value = { At };
+    ghost Value = { Input };
 
     ghost view = { λ c. record { place = c.place; bytes = c.rest.now } };
 
@@ -114,7 +114,8 @@ impl<'a> Cursor<'a> {
 
     /// A second cursor that stands at the same place.
     pub fn fork(&self) -> Cursor<'a>
-        ensures { result ≡ self.now }
+        ensures same { result ≡ self.now }
+        ensures fits { end_of self.now < 2 ^ 64 }
     {
         Cursor {
             place: self.place,
@@ -158,7 +159,7 @@ impl<'a> Cursor<'a> {
 
     /// So many bytes.
     pub fn take(&mut self, len: usize) -> Result<&'a [u8], Malformed>
-        ensures reads { Reads (λ b. b.now) (front len).parse self.old result self.new }
+        ensures reads { Reads (λ b. b.now) (take_bytes len).parse self.old result self.new }
         ensures within { IsWithin self.old result }
         ensures end { end_of self.new ≡ end_of self.old }
     {
@@ -173,7 +174,7 @@ impl<'a> Cursor<'a> {
 
     /// A cursor over so many bytes, alone; this one goes on behind them.
     pub fn part(&mut self, len: usize) -> Result<Cursor<'a>, Malformed>
-        ensures reads { Reads (λ c. c.bytes) (front len).parse self.old result self.new }
+        ensures reads { Reads (λ c. c.bytes) (take_bytes len).parse self.old result self.new }
         ensures place { IfOk result (λ c. c.place ≡ self.old.place) }
         ensures within { IsWithin self.old result }
         ensures end { end_of self.new ≡ end_of self.old }
@@ -273,6 +274,8 @@ impl<'a> Cursor<'a> {
         ensures reads { Reads (λ n. n) (signed 33).parse self.old result self.new }
         ensures within { IsWithin self.old result }
         ensures end { end_of self.new ≡ end_of self.old }
+        ensures above { IfOk result (λ n. neg_ℤ (pos (2 ^ 32)) ≤ℤ n) }
+        ensures below { IfOk result (λ n. n <ℤ pos (2 ^ 32)) }
     {
         self.signed(i32::BITS + 1)
     }

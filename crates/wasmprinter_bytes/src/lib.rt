@@ -1,12 +1,7 @@
-//! Why a module is refused, reading a WebAssembly module's bytes, and printers.
+//! Reading a WebAssembly module's bytes: a cursor, numbers, names and lists.
 #![tactic(auto)]
 
 pub mod bytes;
-mod error;
 pub mod lists;
-pub mod print;
-
-pub use error::{Error, Malformed};
-
 #[cfg(test)]
 mod tests;

@@ -1,20 +1,20 @@
 //! Vectors (section 5.1 of the WebAssembly Core Specification, "Lists"): a count, and so many items one after the other.
-ghost use Rattle.std.specs.Prelude.{◌≡◌, length};
+ghost use Rattle.std.specs.Prelude.{◌≡◌, [], length};
 ghost use Rattle.wasmprinter_bytes.specs.Reads.{Reads, IsWithin, end_of};
 ghost use Rattle.wasmprinter_bytes.specs.Lists.{Takes, BeginsList, vec_at};
 
 use crate::bytes::Cursor;
-use crate::error::{Error, Malformed};
 use std::alloc::Global;
 use std::marker::{Model, PhantomData};
+use wasmprinter_error::{Error, Malformed};
 
 /// A value that bytes spell, read without memory of its own; it borrows nothing.
 pub trait Spelled: Drop {
     ghost use Rattle.std.specs.Prelude.{Option};
-    ghost use Rattle.wasmprinter_spec.specs.Grammar.{At};
+    ghost use Rattle.wasmprinter_spec.specs.Grammar.{Input};
 
     /// How it is read.
-    ghost parse: { At → Option (Self × At) };
+    ghost parse: { Input → Option (Self × Input) };
 
     /// Reads the value at the cursor.
     fn read(cursor: &mut Cursor) -> Result<Self, Malformed>
@@ -36,10 +36,10 @@ impl Spelled for u32 {
 /// A value that bytes spell, read without memory of its own; it may borrow the bytes.
 pub trait SpelledIn<'a>: Drop {
     ghost use Rattle.std.specs.Prelude.{Option};
-    ghost use Rattle.wasmprinter_spec.specs.Grammar.{At};
+    ghost use Rattle.wasmprinter_spec.specs.Grammar.{Input};
 
     /// How it is read.
-    ghost parse: { At → Option (Self × At) };
+    ghost parse: { Input → Option (Self × Input) };
 
     /// Reads the value at the cursor.
     fn read(cursor: &mut Cursor<'a>) -> Result<Self, Malformed>
@@ -84,6 +84,17 @@ impl<'a, T: Spelled> Model for Items<'a, T> {
 }
 
 impl<'a, T: Spelled> Items<'a, T> {
+    /// No values.
+    pub fn none(cursor: &Cursor<'a>) -> Self
+        ensures { result ≡ [] }
+    {
+        Items {
+            left: 0,
+            cursor: cursor.fork(),
+            item: PhantomData,
+        }
+    }
+
     /// Reads a count and so many values.
     pub fn read(cursor: &mut Cursor<'a>) -> Result<Self, Malformed>
         ensures reads { Reads (λ t. t) (vec_at T.parse) cursor.old result cursor.new }

@@ -1,1 +1,5 @@
-pub mod Bodies
+pub mod Depths
+pub mod LabelTexts
+pub mod Clauses
+pub mod Openings
+pub mod Walking

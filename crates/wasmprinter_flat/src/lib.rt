@@ -1,4 +1,6 @@
 //! Operators as flat text (section 6.5 of the WebAssembly Core Specification), over any printer.
 #![tactic(auto)]
 
+mod blocks;
+mod labels;
 pub mod operators;

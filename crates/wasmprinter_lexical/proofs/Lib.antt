@@ -1,9 +1,13 @@
 pub mod Runs
 pub mod Numbers
+pub mod Floats
+pub mod FloatValues
+pub mod FloatPieces
 pub mod Quotes
 pub mod Grown
 pub mod Printed
 pub mod Plain
+pub mod Identifiers
 pub mod Pieces
 pub mod Writes
 pub mod PrintedPieces

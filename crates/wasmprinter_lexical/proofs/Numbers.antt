@@ -9,7 +9,8 @@ use Rattle.std.specs.Fmt.{digits, signed_decimal}
 use Rattle.std.specs.Int.Signed.{mag}
 use Rattle.wasmprinter_spec.specs.Character.{Class, class, Plain}
 use Rattle.wasmprinter_spec.specs.Numeral.{is_underscore, is_digit, follows_digit, is_numeral, without_underscores, numeral, natural, integer, unsigned_integer}
-use Rattle.wasmprinter_lexical.proofs.Runs.{runs, is_quiet, is_plain_class, all_run, all_quiet, is_word}
+use Rattle.wasmprinter_spec.specs.Quoted.{runs, all_run}
+use Rattle.wasmprinter_lexical.proofs.Runs.{is_quiet, is_plain_class, all_quiet, is_word}
 
 -- ---- a digit
 
@@ -39,7 +40,7 @@ plain_is_quiet _ h = absurd (true≢false (sym h))
 
 -- ---- digits
 
-all_run_digits : (ds : List ℕ) → AllDigits 10 ds → all_run ds ≡ true
+pub all_run_digits : (ds : List ℕ) → AllDigits 10 ds → all_run ds ≡ true
 all_run_digits [] h = refl
 all_run_digits (c ∷ cs) h = and_from (runs (class c)) (all_run cs) (plain_runs (class c) (digit_is_plain c h.0)) (all_run_digits cs h.1)
 
@@ -63,15 +64,15 @@ follows_digits : (base : ℕ) (ds : List ℕ) → AllDigits base ds → follows_
 follows_digits base [] h = refl
 follows_digits base (c ∷ cs) h = rw (digit_true base c h.0, follows_digits base cs h.1)
 
-is_numeral_digits : (base : ℕ) (ds : List ℕ) → IsNumeral base ds → is_numeral base ds ≡ true
+pub is_numeral_digits : (base : ℕ) (ds : List ℕ) → IsNumeral base ds → is_numeral base ds ≡ true
 is_numeral_digits base [] h = absurd (omega (arith, h.0))
 is_numeral_digits base (c ∷ cs) h = and_from (is_digit base c) (follows_digit base cs) (digit_true base c h.1.0) (follows_digits base cs h.1.1)
 
-without_underscores_digits : (base : ℕ) (ds : List ℕ) → base ≤ 36 → AllDigits base ds → without_underscores ds ≡ ds
+pub without_underscores_digits : (base : ℕ) (ds : List ℕ) → base ≤ 36 → AllDigits base ds → without_underscores ds ≡ ds
 without_underscores_digits base [] small h = refl
 without_underscores_digits base (c ∷ cs) small h = rw (not_underscore base c small h.0, without_underscores_digits base cs small h.1)
 
-numeral_from : (base n : ℕ) (ds : List ℕ) → base ≤ 36 → IsNumeral base ds → digits_value base ds ≡ n → numeral base ds ≡ Some n
+pub numeral_from : (base n : ℕ) (ds : List ℕ) → base ≤ 36 → IsNumeral base ds → digits_value base ds ≡ n → numeral base ds ≡ Some n
 unfolding numeral
 numeral_from base n ds small h e = rw (is_numeral_digits base ds h, without_underscores_digits base ds small h.1, e)
 

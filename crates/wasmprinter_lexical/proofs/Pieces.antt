@@ -1,5 +1,5 @@
 -- One piece, and pieces behind one another: their text lexes to their tokens, and all its bytes are printed ones.
-use Rattle.std.proofs.Common.{◌≡◌, ℕ, zero, suc, ◌<◌, ◌-◌, ◌^◌, Bool, true, false, ◌&&◌, min, List, [], ◌∷◌, ◌++◌, Option, Some, None, refl, sym, ap, ◌∙◌, append_assoc, append-nil, true≢false, codes, decimal, replicate, length, ◌⊎◌, inl, inr}
+use Rattle.std.proofs.Common.{◌≡◌, ℕ, zero, suc, ◌<◌, ◌-◌, ◌^◌, Bool, true, false, ◌&&◌, min, List, [], ◌∷◌, ◌++◌, Option, Some, None, refl, sym, ap, ◌∙◌, append_assoc, append-nil, true≢false, codes, decimal, replicate, length, flat_map, encode_utf8_all, ◌⊎◌, inl, inr}
 use Rattle.std.proofs.lemmas.Bool.{and_parts, and_from}
 use Rattle.std.specs.Fmt.{signed_decimal, digits}
 use Rattle.std.specs.Int.Signed.{mag}
@@ -7,20 +7,22 @@ use Rattle.std.proofs.Math.Utf8.{scalars}
 use Rattle.wasmprinter_spec.specs.Character.{class}
 use Rattle.wasmprinter_spec.specs.Call.{Call, Text, call_text, text_of}
 use Rattle.wasmprinter_spec.specs.Options.{Options, IsBlank}
-use Rattle.wasmprinter_spec.specs.Quoted.{quoted_text}
-use Rattle.wasmprinter_spec.specs.Token.{Clear, lex}
-use Rattle.wasmprinter_spec.specs.Piece.{Piece, Begin, Feed, Break, Gap, Open, OpenGap, Shut, Word, TypeWord, Number, Constant, Mark, Quoted, repeated, left_in, place_text, place_calls, most_indents, calls, text, piece_tokens, all_calls, all_tokens}
-use Rattle.wasmprinter_lexical.proofs.Runs.{is_quiet, is_word, all_quiet, all_blank, is_blank_class, delimited, word_lexes, open_lexes, blanks_lex, comment_lexes}
+use Rattle.wasmprinter_spec.specs.Quoted.{char_text, quoted_text, identifier_text}
+use Rattle.wasmprinter_spec.specs.Token.{Clear, is_name, lex}
+use Rattle.wasmprinter_spec.specs.Piece.{Piece, Begin, Feed, Break, Gap, Open, OpenGap, OpenPlain, Shut, Word, TypeWord, Number, Constant, Mark, Quoted, Identifier, NameNote, Remark, Ending, repeated, left_in, place_text, place_calls, most_indents, calls, text, piece_tokens, all_calls, all_tokens}
+use Rattle.wasmprinter_lexical.proofs.Runs.{is_quiet, ends_line, ending_lexes, is_word, all_quiet, all_blank, is_blank_class, delimited, word_lexes, open_lexes, blanks_lex, comment_lexes}
 use Rattle.wasmprinter_lexical.proofs.Numbers.{is_word-decimal, is_word-signed_decimal, all_quiet-decimal}
 use Rattle.wasmprinter_lexical.proofs.Quotes.{text_lexes}
-use Rattle.wasmprinter_lexical.proofs.Printed.{hex_digits_are_good}
+use Rattle.wasmprinter_lexical.proofs.Printed.{hex_digits_are_good, is_remark, remark}
+use Rattle.wasmprinter_lexical.proofs.Identifiers.{identifier_lexes, name_note_lexes}
 
 -- ---- which piece may stand behind which
 
--- what a piece leaves: anything may follow, or only what a token may end before
+-- what a piece leaves: anything may follow, or only what a token may end before, or only the end of the line
 pub data Edge : Type 0 where
   Free : Edge
   Bound : Edge
+  Ended : Edge  -- only the end of the line
 
 -- begins with what a token may end before
 abbrev pub begins : Piece → Bool
@@ -29,20 +31,31 @@ begins (Word w) = false
 begins (TypeWord w) = false
 begins (Number n) = false
 begins (Quoted cs) = false
+begins (Identifier cs) = false
 begins _ = true
+
+-- begins with the end of a line
+abbrev pub feeds : Piece → Bool
+feeds Feed = true
+feeds (Break place nesting) = true
+feeds _ = false
 
 abbrev pub leaves : Piece → Edge
 leaves (Open w) = Bound
+leaves (OpenPlain w) = Bound
 leaves (Word w) = Bound
 leaves (TypeWord w) = Bound
 leaves (Number n) = Bound
 leaves (Constant z) = Bound
 leaves (Quoted cs) = Bound
+leaves (Identifier cs) = Bound
+leaves (Ending s) = Ended
 leaves _ = Free
 
 abbrev pub may_follow : Edge → Piece → Bool
 may_follow Free p = true
 may_follow Bound p = begins p
+may_follow Ended p = feeds p
 
 abbrev pub joined : Edge → List Piece → Bool
 joined e [] = true
@@ -52,12 +65,17 @@ joined e (p ∷ ps) = may_follow e p && joined (leaves p) ps
 abbrev pub IsPiece : Piece → Type 0
 IsPiece (Open w) = is_word w ≡ true
 IsPiece (OpenGap w) = is_word w ≡ true
+IsPiece (OpenPlain w) = is_word w ≡ true
 IsPiece (Word w) = is_word w ≡ true
 IsPiece (TypeWord w) = is_word w ≡ true
 IsPiece (Number n) = n < 2 ^ 64
 IsPiece (Constant z) = mag z < 2 ^ 63
 IsPiece (Mark n) = n < 2 ^ 64
 IsPiece (Quoted cs) = scalars cs ≡ true
+IsPiece (Identifier cs) = (scalars cs ≡ true) × (is_name (encode_utf8_all cs) ≡ true)
+IsPiece (NameNote cs) = scalars cs ≡ true
+IsPiece (Remark t s) = is_remark s ≡ true
+IsPiece (Ending s) = is_remark s ≡ true
 IsPiece _ = Unit {0}
 
 abbrev pub ArePieces : List Piece → Type 0
@@ -67,6 +85,7 @@ ArePieces (p ∷ ps) = IsPiece p × ArePieces ps
 abbrev pub follows : Edge → List ℕ → Bool
 follows Free rest = true
 follows Bound rest = delimited rest
+follows Ended rest = ends_line rest
 
 -- ---- a new line
 
@@ -155,6 +174,8 @@ module _ (o : Options) (blank : all_blank o.indent ≡ true) where
       ap (λ t. lex Clear (40 ∷ (t ++ rest))) (append-nil (w ++ (32 ∷ [])))
       ∙ ap (λ t. lex Clear (40 ∷ t)) (append_assoc w (32 ∷ []) rest)
       ∙ open_lexes w (32 ∷ rest) h refl
+  piece_lexes (OpenPlain w) rest h d =
+      ap (λ t. lex Clear (40 ∷ (t ++ rest))) (append-nil w) ∙ open_lexes w rest h d
   piece_lexes Shut rest h d = refl
   piece_lexes (Word w) rest h d = ap (λ t. lex Clear (t ++ rest)) (append-nil w) ∙ word_lexes w rest h d
   piece_lexes (TypeWord w) rest h d = ap (λ t. lex Clear (t ++ rest)) (append-nil w) ∙ word_lexes w rest h d
@@ -166,6 +187,22 @@ module _ (o : Options) (blank : all_blank o.indent ≡ true) where
       ∙ comment_lexes (decimal n) rest (all_quiet-decimal n h)
   piece_lexes (Quoted cs) rest h d =
       ap (λ t. lex Clear (t ++ rest)) (append-nil (quoted_text cs)) ∙ text_lexes cs rest h d
+  piece_lexes (Identifier cs) rest h d =
+      ap (λ t. lex Clear (t ++ rest)) (append-nil (identifier_text cs)) ∙ identifier_lexes cs rest h.0 h.1 d
+  piece_lexes (NameNote cs) rest h d =
+      ap (λ t. lex Clear (codes "(@name \"" ++ t)) (append_assoc (flat_map char_text cs) (codes "\")") rest)
+      ∙ name_note_lexes cs rest h
+  piece_lexes (Remark true s) rest h d =
+      ap (λ t. lex Clear (40 ∷ (59 ∷ (t ++ rest)))) (append-nil (s ++ codes ";)"))
+      ∙ ap (λ t. lex Clear (40 ∷ (59 ∷ t))) (append_assoc s (codes ";)") rest)
+      ∙ comment_lexes s rest (remark s h).quiet
+  piece_lexes (Remark false s) rest h d =
+      ap (λ t. lex Clear (40 ∷ (59 ∷ (t ++ rest)))) (append-nil (s ++ codes ";)"))
+      ∙ ap (λ t. lex Clear (40 ∷ (59 ∷ t))) (append_assoc s (codes ";)") rest)
+      ∙ comment_lexes s rest (remark s h).quiet
+  piece_lexes (Ending s) rest h d =
+      ap (λ t. lex Clear (codes ";; " ++ (t ++ rest))) (append-nil s)
+      ∙ ending_lexes s rest (remark s h).inline d
 
 begins_delimited : (o : Options) (p : Piece) (rest : List ℕ) → begins p ≡ true → delimited (text o p ++ rest) ≡ true
 unfolding class
@@ -175,6 +212,7 @@ begins_delimited o (Break place nesting) rest h = refl
 begins_delimited o Gap rest h = refl
 begins_delimited o (Open w) rest h = refl
 begins_delimited o (OpenGap w) rest h = refl
+begins_delimited o (OpenPlain w) rest h = refl
 begins_delimited o Shut rest h = refl
 begins_delimited o (Word w) rest h = absurd (true≢false (sym h))
 begins_delimited o (TypeWord w) rest h = absurd (true≢false (sym h))
@@ -182,6 +220,17 @@ begins_delimited o (Number n) rest h = absurd (true≢false (sym h))
 begins_delimited o (Constant z) rest h = refl
 begins_delimited o (Mark n) rest h = refl
 begins_delimited o (Quoted cs) rest h = absurd (true≢false (sym h))
+begins_delimited o (Identifier cs) rest h = absurd (true≢false (sym h))
+begins_delimited o (NameNote cs) rest h = refl
+begins_delimited o (Remark true s) rest h = refl
+begins_delimited o (Remark false s) rest h = refl
+begins_delimited o (Ending s) rest h = refl
+
+feeds_ends_line : (o : Options) (p : Piece) (rest : List ℕ) → feeds p ≡ true → ends_line (text o p ++ rest) ≡ true
+unfolding class
+feeds_ends_line o Feed rest h = refl
+feeds_ends_line o (Break place nesting) rest h = refl
+feeds_ends_line o _ rest h = absurd (true≢false (sym h))
 
 -- ---- pieces behind one another
 
@@ -197,6 +246,8 @@ follows_first : (o : Options) (e : Edge) (ps : List Piece) → joined e ps ≡ t
 follows_first o Free ps h = refl
 follows_first o Bound [] h = refl
 follows_first o Bound (p ∷ ps) h = begins_delimited o p (all_text o ps) (and_parts (begins p) (joined (leaves p) ps) h).0
+follows_first o Ended [] h = refl
+follows_first o Ended (p ∷ ps) h = feeds_ends_line o p (all_text o ps) (and_parts (feeds p) (joined (leaves p) ps) h).0
 
 pub pieces_lex : (o : Options) → IsBlank o.indent → (e : Edge) (ps : List Piece) → joined e ps ≡ true → ArePieces ps → lex Clear (all_text o ps) ≡ all_tokens ps
 unfolding lex

@@ -11,7 +11,7 @@ use Rattle.wasmprinter_lexical.proofs.Printed.{is_printed, all_printed}
 
 -- ---- the test of plain bytes
 
-plain_byte : (b : ℕ) → is_printed b ≡ true → IsPlainByte b
+pub plain_byte : (b : ℕ) → is_printed b ≡ true → IsPlainByte b
 plain_byte b h = by (eqb b 10) refl (eqb b 9) refl h
   where
     by : (t : Bool) → eqb b 10 ≡ t → (u : Bool) → eqb b 9 ≡ u → (t || u || (leb 32 b && leb b 126)) ≡ true → IsPlainByte b
@@ -33,7 +33,7 @@ plain_texts_join (c ∷ cs) b h k = (h.0, plain_texts_join cs b h.1 k)
 
 -- ---- UTF-8
 
-is_low : (b : ℕ) → IsPlainByte b → b < 128
+pub is_low : (b : ℕ) → IsPlainByte b → b < 128
 is_low b (inl e) = omega arith
 is_low b (inr (inl e)) = omega arith
 is_low b (inr (inr h)) = omega arith
@@ -80,8 +80,11 @@ not_escape b (inl e) = ne_eqb b 27 (λ f. omega arith)
 not_escape b (inr (inl e)) = ne_eqb b 27 (λ f. omega arith)
 not_escape b (inr (inr h)) = ne_eqb b 27 (λ f. omega arith)
 
+-- a byte of plain text stays
+pub uncolour-byte : (b : ℕ) (bs : List ℕ) → IsPlainByte b → uncolour (b ∷ bs) ≡ b ∷ uncolour bs
+uncolour-byte b bs h =
+    ap (λ n. uncolour_step n b (λ k. uncolour_after k bs)) (no_sequence sequences b bs sequences_escape (not_escape b h))
+
 pub uncolour-plain : (text : List ℕ) → IsPlainText text → uncolour text ≡ text
 uncolour-plain [] h = refl
-uncolour-plain (b ∷ bs) h =
-    ap (λ n. uncolour_step n b (λ k. uncolour_after k bs)) (no_sequence sequences b bs sequences_escape (not_escape b h.0))
-    ∙ ap (λ t. b ∷ t) (uncolour-plain bs h.1)
+uncolour-plain (b ∷ bs) h = uncolour-byte b bs h.0 ∙ ap (λ t. b ∷ t) (uncolour-plain bs h.1)

@@ -1,9 +1,10 @@
 -- Plain bytes by a test, which is computed for the bytes of each class: a line feed, a tab, or from the blank to the tilde.
-use Rattle.std.proofs.Common.{◌≡◌, ℕ, zero, suc, ◌<◌, ◌≤◌, ◌/◌, ◌%◌, Bool, true, false, ◌&&◌, ◌||◌, not, cond, leb, ltb, eqb, List, [], ◌∷◌, ◌++◌, refl, sym, ap, ◌∙◌, arith, true≢false}
+use Rattle.std.proofs.Common.{◌≡◌, ℕ, zero, suc, ◌<◌, ◌≤◌, ◌/◌, ◌%◌, Bool, true, false, ◌&&◌, ◌||◌, not, cond, leb, ltb, eqb, List, [], ◌∷◌, ◌++◌, refl, sym, ap, ◌∙◌, arith, true≢false, decimal}
 use Rattle.std.proofs.lemmas.Bool.{and_parts, and_from, agree_below, agree_below_at, ltb-true, ltb-false, le-ltb, le-leb, ne_eqb}
 use Rattle.std.specs.Fmt.{digits, digits_onto, digit_glyph}
 use Rattle.wasmprinter_spec.specs.Character.{Class, Foreign, class}
-use Rattle.wasmprinter_lexical.proofs.Runs.{runs, is_quiet, is_blank_class, all_run, all_quiet, all_blank}
+use Rattle.wasmprinter_spec.specs.Quoted.{runs, all_run}
+use Rattle.wasmprinter_lexical.proofs.Runs.{is_quiet, is_inline, is_blank_class, all_quiet, all_inline, all_blank}
 
 abbrev pub is_printed : ℕ → Bool
 is_printed b = eqb b 10 || eqb b 9 || (leb 32 b && leb b 126)
@@ -111,3 +112,62 @@ good_digits (suc k) n bs g =
 pub hex_digits_are_good : (n : ℕ) → (all_printed (digits 16 false n) ≡ true) × (all_quiet (digits 16 false n) ≡ true)
 unfolding digits
 hex_digits_are_good n = good_digits 64 n [] (refl, refl)
+
+-- ---- decimal digits of any number
+
+remark_glyph : ℕ → Bool
+remark_glyph d = is_printed (digit_glyph false d) && (is_quiet (class (digit_glyph false d)) && is_inline (class (digit_glyph false d)))
+
+remark_glyphs_low : agree_below remark_glyph (λ d. true) 10 ≡ true
+unfolding remark_glyph class
+remark_glyphs_low = refl
+
+-- stands in a comment: printed, neither begins nor ends a comment, and ends no line
+abbrev pub stands_in_remark : ℕ → Bool
+stands_in_remark b = is_printed b && (is_quiet (class b) && is_inline (class b))
+
+abbrev pub is_remark : List ℕ → Bool
+is_remark [] = true
+is_remark (b ∷ bs) = stands_in_remark b && is_remark bs
+
+pub record IsRemark (w : List ℕ) : Type 0 where
+  pub printed : all_printed w ≡ true
+  pub quiet : all_quiet w ≡ true
+  pub inline : all_inline w ≡ true
+
+pub remark : (w : List ℕ) → is_remark w ≡ true → IsRemark w
+remark [] h = record { printed = refl; quiet = refl; inline = refl }
+remark (b ∷ bs) h =
+    let parts : (stands_in_remark b ≡ true) × (is_remark bs ≡ true) = and_parts (stands_in_remark b) (is_remark bs) h in
+    let one : (is_printed b ≡ true) × ((is_quiet (class b) && is_inline (class b)) ≡ true) = and_parts (is_printed b) (is_quiet (class b) && is_inline (class b)) parts.0 in
+    let two : (is_quiet (class b) ≡ true) × (is_inline (class b) ≡ true) = and_parts (is_quiet (class b)) (is_inline (class b)) one.1 in
+    let r : IsRemark bs = remark bs parts.1 in
+    record {
+      printed = and_from (is_printed b) (all_printed bs) one.0 r.printed;
+      quiet = and_from (is_quiet (class b)) (all_quiet bs) two.0 r.quiet;
+      inline = and_from (is_inline (class b)) (all_inline bs) two.1 r.inline;
+    }
+
+remark_digit : (d : ℕ) (bs : List ℕ) → d < 10 → is_remark bs ≡ true → is_remark (digit_glyph false d ∷ bs) ≡ true
+unfolding remark_glyph
+remark_digit d bs h g = and_from (stands_in_remark (digit_glyph false d)) (is_remark bs) (agree_below_at remark_glyph (λ x. true) 10 d remark_glyphs_low h) g
+
+remark_digits : (k n : ℕ) (bs : List ℕ) → is_remark bs ≡ true → is_remark (digits_onto k 10 false n bs) ≡ true
+remark_digits zero n bs g = g
+remark_digits (suc k) n bs g =
+    by _ _ (eqb (n / 10) 0) (remark_digit (n % 10) bs (omega arith) g) (remark_digits k (n / 10) (digit_glyph false (n % 10) ∷ bs) (remark_digit (n % 10) bs (omega arith) g))
+  where
+    by : (a b : List ℕ) (t : Bool) → is_remark a ≡ true → is_remark b ≡ true → is_remark (cond t a b) ≡ true
+    by a b true x y = x
+    by a b false x y = y
+
+-- a number stands in a comment, however great
+pub is_remark-decimal : (n : ℕ) → is_remark (decimal n) ≡ true
+unfolding digits
+is_remark-decimal n = remark_digits 64 n [] refl
+
+pub is_remark-append : (a b : List ℕ) → is_remark a ≡ true → is_remark b ≡ true → is_remark (a ++ b) ≡ true
+is_remark-append [] b h k = k
+is_remark-append (c ∷ cs) b h k =
+    let parts : (stands_in_remark c ≡ true) × (is_remark cs ≡ true) = and_parts (stands_in_remark c) (is_remark cs) h in
+    and_from (stands_in_remark c) (is_remark (cs ++ b)) parts.0 (is_remark-append cs b parts.1 k)

@@ -5,12 +5,13 @@ use Rattle.std.specs.Fmt.{signed_decimal, digits}
 use Rattle.wasmprinter_spec.specs.Call.{Text, text_of}
 use Rattle.wasmprinter_spec.specs.Options.{Options, IsBlank}
 use Rattle.wasmprinter_spec.specs.Plain.{IsPlainText}
-use Rattle.wasmprinter_spec.specs.Quoted.{char_text, is_plain, quoted_text}
-use Rattle.wasmprinter_spec.specs.Piece.{Piece, Begin, Feed, Break, Gap, Open, OpenGap, Shut, Word, TypeWord, Number, Constant, Mark, Quoted, repeated, left_in, place_text, place_calls, most_indents, text, all_calls}
-use Rattle.wasmprinter_lexical.proofs.Runs.{is_word, is_plain_class, runs, all_run}
+use Rattle.wasmprinter_spec.specs.Quoted.{char_text, is_plain, quoted_text, is_run, identifier_text, runs, all_run}
+use Rattle.wasmprinter_spec.specs.Piece.{Piece, Begin, Feed, Break, Gap, Open, OpenGap, OpenPlain, Shut, Word, TypeWord, Number, Constant, Mark, Quoted, Identifier, NameNote, Remark, Ending, repeated, left_in, place_text, place_calls, most_indents, text, all_calls}
+use Rattle.wasmprinter_lexical.proofs.Runs.{is_word, is_plain_class}
 use Rattle.wasmprinter_spec.specs.Character.{class}
 use Rattle.wasmprinter_lexical.proofs.Numbers.{plain_runs, is_word-decimal, is_word-signed_decimal}
-use Rattle.wasmprinter_lexical.proofs.Printed.{is_printed, all_printed, all_printed-append, all_printed-run, all_printed-blank, hex_digits_are_good}
+use Rattle.wasmprinter_lexical.proofs.Printed.{is_printed, all_printed, all_printed-append, all_printed-run, all_printed-blank, hex_digits_are_good, remark}
+use Rattle.wasmprinter_lexical.proofs.Identifiers.{run_is_printed}
 use Rattle.wasmprinter_lexical.proofs.Plain.{plain_text}
 use Rattle.wasmprinter_lexical.proofs.Pieces.{IsPiece, ArePieces, all_text, text_of-all_calls, text_of-append, all_blank-IsBlank, all_blank-repeated}
 
@@ -49,6 +50,14 @@ printed_quoted : (cs : List ℕ) → all_printed (quoted_text cs) ≡ true
 unfolding quoted_text
 printed_quoted cs = printed_chars cs (34 ∷ []) refl
 
+printed_identifier : (cs : List ℕ) → all_printed (identifier_text cs) ≡ true
+unfolding identifier_text
+printed_identifier cs = by (is_run cs) refl
+  where
+    by : (t : Bool) → is_run cs ≡ t → all_printed (cond t cs (quoted_text cs)) ≡ true
+    by true e = run_is_printed cs e
+    by false e = printed_quoted cs
+
 printed_blanks : (n : ℕ) → all_printed (replicate n 32) ≡ true
 printed_blanks zero = refl
 printed_blanks (suc n) = printed_blanks n
@@ -83,6 +92,7 @@ module _ (o : Options) (blank : IsBlank o.indent) where
   printed_piece Gap h = refl
   printed_piece (Open w) h = printed_styled w (printed_word w h)
   printed_piece (OpenGap w) h = printed_styled (w ++ (32 ∷ [])) (all_printed-append w (32 ∷ []) (printed_word w h) refl)
+  printed_piece (OpenPlain w) h = printed_styled w (printed_word w h)
   printed_piece Shut h = refl
   printed_piece (Word w) h = printed_styled w (printed_word w h)
   printed_piece (TypeWord w) h = printed_styled w (printed_word w h)
@@ -91,6 +101,11 @@ module _ (o : Options) (blank : IsBlank o.indent) where
   printed_piece (Mark n) h =
       printed_styled (decimal n ++ codes ";)") (all_printed-append (decimal n) (codes ";)") (printed_word (decimal n) (is_word-decimal n h)) refl)
   printed_piece (Quoted cs) h = printed_styled (quoted_text cs) (printed_quoted cs)
+  printed_piece (Identifier cs) h = printed_styled (identifier_text cs) (printed_identifier cs)
+  printed_piece (NameNote cs) h = printed_chars cs (codes "\")") refl
+  printed_piece (Remark true s) h = printed_styled (s ++ codes ";)") (all_printed-append s (codes ";)") (remark s h).printed refl)
+  printed_piece (Remark false s) h = printed_styled (s ++ codes ";)") (all_printed-append s (codes ";)") (remark s h).printed refl)
+  printed_piece (Ending s) h = printed_styled s (remark s h).printed
 
   printed_pieces : (ps : List Piece) → ArePieces ps → all_printed (all_text o ps) ≡ true
   printed_pieces [] h = refl

@@ -1,21 +1,22 @@
 -- What pieces read as. `Writes a ps b f`: behind the edge a the pieces ps may stand, they leave the edge b, and their tokens are those of
 -- the items f, annotations cut out, of which none is a custom section in this row or in a group of it. One rule for each piece and each kind of group; `search writing`
 -- finds whole derivations.
-use Rattle.std.proofs.Common.{◌≡◌, ℕ, ℤ, ◌<◌, ◌^◌, Bool, true, false, ◌||◌, List, [], ◌∷◌, ◌++◌, Option, Some, None, refl, sym, ap, ap₂, ◌∙◌, append_assoc, append-nil, decimal, subst, encode_utf8_all}
-use Rattle.std.proofs.lemmas.Bool.{and_parts, and_from}
+use Rattle.std.proofs.Common.{◌≡◌, ℕ, ℤ, ◌<◌, ◌^◌, Bool, true, false, ◌||◌, List, [], ◌∷◌, ◌++◌, Option, Some, None, refl, sym, ap, ap₂, ◌∙◌, append_assoc, append-nil, decimal, codes, subst, encode_utf8_all}
+use Rattle.std.proofs.lemmas.Bool.{and_parts, and_from, or_right}
 use Rattle.std.specs.Fmt.{signed_decimal}
 use Rattle.std.specs.Int.Signed.{mag}
 use Rattle.std.proofs.Math.Utf8.{scalars}
 use Rattle.wasmprinter_spec.specs.Call.{text_of}
 use Rattle.wasmprinter_spec.specs.Options.{Options, IsBlank}
-use Rattle.wasmprinter_spec.specs.Token.{left, right, word, string, tokens}
-use Rattle.wasmprinter_spec.specs.Forest.{Forest, End, Word, String, Group, flat, onto, cut, row_customs, customs, forest, the_one, grow}
+use Rattle.wasmprinter_spec.specs.Token.{left, left_note, right, word, name, string, is_name, tokens}
+use Rattle.wasmprinter_spec.specs.Forest.{Forest, End, Word, Name, String, Group, Note, flat, onto, cut, row_customs, customs, forest, the_one, grow}
 use Rattle.wasmprinter_spec.specs.Piece as piece
-use Rattle.wasmprinter_spec.specs.Piece.{Piece, Begin, Feed, Break, Gap, Open, OpenGap, Shut, TypeWord, Number, Constant, Mark, Quoted, all_calls, all_tokens, piece_tokens}
-use Rattle.wasmprinter_spec.specs.Layout.{group, group_gap, group_at, group_gap_at, close, has_break}
+use Rattle.wasmprinter_spec.specs.Piece.{Piece, Begin, Feed, Break, Gap, Open, OpenGap, OpenPlain, Shut, TypeWord, Number, Constant, Mark, Quoted, Identifier, NameNote, Remark, Ending, all_calls, all_tokens, piece_tokens}
+use Rattle.wasmprinter_spec.specs.Layout.Groups.{group, group_gap, group_at, group_gap_at, line_group, line_group_gap, close, has_break}
 use Rattle.wasmprinter_lexical.proofs.Runs.{is_word}
 use Rattle.wasmprinter_lexical.proofs.Grown.{flat-onto, one-flat, cut-onto, row_customs-onto, customs-onto}
-use Rattle.wasmprinter_lexical.proofs.Pieces.{Edge, Free, Bound, begins, leaves, may_follow, joined, ArePieces, text_of-all_calls, pieces_lex}
+use Rattle.wasmprinter_lexical.proofs.Printed.{is_remark}
+use Rattle.wasmprinter_lexical.proofs.Pieces.{Edge, Free, Bound, Ended, begins, feeds, leaves, may_follow, joined, ArePieces, text_of-all_calls, pieces_lex}
 
 pub record Writes (a : Edge) (ps : List Piece) (b : Edge) (f : Forest) : Type 0 where
   pub joins : (qs : List Piece) → joined b qs ≡ true → joined a (ps ++ qs) ≡ true
@@ -66,13 +67,49 @@ loosen : (b : Edge) (qs : List Piece) → joined b qs ≡ true → joined Free q
 loosen b [] h = refl
 loosen b (q ∷ qs) h = (and_parts (may_follow b q) (joined (leaves q) qs) h).1
 
-begins_all : (a : Edge) (p : Piece) → begins p ≡ true → may_follow a p ≡ true
-begins_all Free p b = refl
-begins_all Bound p b = b
+-- something may follow on the line
+abbrev pub is_open : Edge → Bool
+is_open Ended = false
+is_open _ = true
 
--- a piece that may stand behind a word may stand anywhere
-joins_anywhere : (a : Edge) (p : Piece) (ps : List Piece) → begins p ≡ true → joined (leaves p) ps ≡ true → joined a (p ∷ ps) ≡ true
-joins_anywhere a p ps b j = and_from (may_follow a p) (joined (leaves p) ps) (begins_all a p b) j
+begins_all : (a : Edge) (p : Piece) → is_open a ≡ true → begins p ≡ true → may_follow a p ≡ true
+begins_all Free p o b = refl
+begins_all Bound p o b = b
+begins_all Ended p o b = absurd cc
+
+feeds_all : (a : Edge) (p : Piece) → feeds p ≡ true → may_follow a p ≡ true
+feeds_all Free p f = refl
+feeds_all Bound Feed f = refl
+feeds_all Bound (Break place nesting) f = refl
+feeds_all Bound _ f = absurd cc
+feeds_all Ended p f = f
+
+-- Pieces that may stand behind a word may stand behind anything. (In no set of rules: a search would go round it.)
+pub loosened : {b : Edge} {ps : List Piece} {f : Forest} → Writes Bound ps b f → Writes Free ps b f
+loosened {ps = ps} w = record {
+  joins = λ qs h. loosen Bound (ps ++ qs) (w.joins qs h);
+  are = w.are;
+  whole = w.whole;
+  tokens = w.tokens;
+  without = w.without;
+  in_row = w.in_row;
+  in_groups = w.in_groups;
+}
+
+-- a piece that may stand behind a word may stand where the line goes on
+joins_anywhere : (a : Edge) (p : Piece) (ps : List Piece) → is_open a ≡ true → begins p ≡ true → joined (leaves p) ps ≡ true → joined a (p ∷ ps) ≡ true
+joins_anywhere a p ps o b j = and_from (may_follow a p) (joined (leaves p) ps) (begins_all a p o b) j
+
+-- the end of a line may stand anywhere
+joins_line : (a : Edge) (p : Piece) (ps : List Piece) → feeds p ≡ true → joined (leaves p) ps ≡ true → joined a (p ∷ ps) ≡ true
+joins_line a p ps f j = and_from (may_follow a p) (joined (leaves p) ps) (feeds_all a p f) j
+
+-- what may stand where the line must end may stand anywhere
+pub ended_joins : (a : Edge) (ps : List Piece) → joined Ended ps ≡ true → joined a ps ≡ true
+ended_joins a [] j = refl
+ended_joins a (p ∷ ps) j =
+    let parts : (feeds p ≡ true) × (joined (leaves p) ps ≡ true) = and_parts (feeds p) (joined (leaves p) ps) j in
+    joins_line a p ps parts.0 parts.1
 
 pub nothing_writes : {a : Edge} → Writes a [] a End
 nothing_writes = record { joins = λ qs h. h; are = tt; whole = End; tokens = refl; without = refl; in_row = refl; in_groups = refl }
@@ -85,7 +122,7 @@ begin_writes w = record { joins = w.joins; are = (tt, w.are); whole = w.whole; t
 
 pub feed_writes : {a b : Edge} {ps : List Piece} {f : Forest} → Writes Free ps b f → Writes a (Feed ∷ ps) b f
 feed_writes {a = a} {ps = ps} w = record {
-  joins = λ qs h. joins_anywhere a Feed (ps ++ qs) refl (w.joins qs h);
+  joins = λ qs h. joins_line a Feed (ps ++ qs) refl (w.joins qs h);
   are = (tt, w.are);
   whole = w.whole;
   tokens = w.tokens;
@@ -96,7 +133,7 @@ feed_writes {a = a} {ps = ps} w = record {
 
 pub break_writes : {a b : Edge} {place : Option ℕ} {nesting : ℕ} {ps : List Piece} {f : Forest} → Writes Free ps b f → Writes a (Break place nesting ∷ ps) b f
 break_writes {a = a} {place = place} {nesting = nesting} {ps = ps} w = record {
-  joins = λ qs h. joins_anywhere a (Break place nesting) (ps ++ qs) refl (w.joins qs h);
+  joins = λ qs h. joins_line a (Break place nesting) (ps ++ qs) refl (w.joins qs h);
   are = (tt, w.are);
   whole = w.whole;
   tokens = w.tokens;
@@ -105,9 +142,9 @@ break_writes {a = a} {place = place} {nesting = nesting} {ps = ps} w = record {
   in_groups = w.in_groups;
 }
 
-pub gap_writes : {a b : Edge} {ps : List Piece} {f : Forest} → Writes Free ps b f → Writes a (Gap ∷ ps) b f
-gap_writes {a = a} {ps = ps} w = record {
-  joins = λ qs h. joins_anywhere a Gap (ps ++ qs) refl (w.joins qs h);
+pub gap_writes : {a b : Edge} {ps : List Piece} {f : Forest} → is_open a ≡ true → Writes Free ps b f → Writes a (Gap ∷ ps) b f
+gap_writes {a = a} {ps = ps} e w = record {
+  joins = λ qs h. joins_anywhere a Gap (ps ++ qs) e refl (w.joins qs h);
   are = (tt, w.are);
   whole = w.whole;
   tokens = w.tokens;
@@ -116,9 +153,9 @@ gap_writes {a = a} {ps = ps} w = record {
   in_groups = w.in_groups;
 }
 
-pub mark_writes : {a b : Edge} {n : ℕ} {ps : List Piece} {f : Forest} → n < 2 ^ 64 → Writes Free ps b f → Writes a (Mark n ∷ ps) b f
-mark_writes {a = a} {n = n} {ps = ps} h w = record {
-  joins = λ qs g. joins_anywhere a (Mark n) (ps ++ qs) refl (w.joins qs g);
+pub mark_writes : {a b : Edge} {n : ℕ} {ps : List Piece} {f : Forest} → is_open a ≡ true → n < 2 ^ 64 → Writes Free ps b f → Writes a (Mark n ∷ ps) b f
+mark_writes {a = a} {n = n} {ps = ps} e h w = record {
+  joins = λ qs g. joins_anywhere a (Mark n) (ps ++ qs) e refl (w.joins qs g);
   are = (h, w.are);
   whole = w.whole;
   tokens = w.tokens;
@@ -160,9 +197,9 @@ number_writes {n = n} h w = record {
   in_groups = w.in_groups;
 }
 
-pub constant_writes : {a b : Edge} {z : ℤ} {ps : List Piece} {f : Forest} → mag z < 2 ^ 63 → Writes Bound ps b f → Writes a (Constant z ∷ ps) b (Word (signed_decimal z) f)
-constant_writes {a = a} {z = z} {ps = ps} h w = record {
-  joins = λ qs g. joins_anywhere a (Constant z) (ps ++ qs) refl (w.joins qs g);
+pub constant_writes : {a b : Edge} {z : ℤ} {ps : List Piece} {f : Forest} → is_open a ≡ true → mag z < 2 ^ 63 → Writes Bound ps b f → Writes a (Constant z ∷ ps) b (Word (signed_decimal z) f)
+constant_writes {a = a} {z = z} {ps = ps} e h w = record {
+  joins = λ qs g. joins_anywhere a (Constant z) (ps ++ qs) e refl (w.joins qs g);
   are = (h, w.are);
   whole = Word (signed_decimal z) w.whole;
   tokens = ap (λ t. word (signed_decimal z) ∷ t) w.tokens;
@@ -182,15 +219,95 @@ quoted_writes {cs = cs} h w = record {
   in_groups = w.in_groups;
 }
 
+pub identifier_writes : {b : Edge} {cs : List ℕ} {ps : List Piece} {f : Forest} → scalars cs ≡ true → is_name (encode_utf8_all cs) ≡ true → Writes Bound ps b f →
+    Writes Free (Identifier cs ∷ ps) b (Name (encode_utf8_all cs) f)
+identifier_writes {cs = cs} h n w = record {
+  joins = w.joins;
+  are = ((h, n), w.are);
+  whole = Name (encode_utf8_all cs) w.whole;
+  tokens = ap (λ t. name (encode_utf8_all cs) ∷ t) w.tokens;
+  without = ap (Name (encode_utf8_all cs)) w.without;
+  in_row = w.in_row;
+  in_groups = w.in_groups;
+}
+
+pub name_note_writes : {a b : Edge} {cs : List ℕ} {ps : List Piece} {f : Forest} → is_open a ≡ true → scalars cs ≡ true → Writes Free ps b f → Writes a (NameNote cs ∷ ps) b f
+name_note_writes {a = a} {cs = cs} {ps = ps} e h w = record {
+  joins = λ qs g. joins_anywhere a (NameNote cs) (ps ++ qs) e refl (w.joins qs g);
+  are = (h, w.are);
+  whole = Note (codes "name") (String (encode_utf8_all cs) End) w.whole;
+  tokens = ap (λ t. left_note (codes "name") ∷ (string (encode_utf8_all cs) ∷ (right ∷ t))) w.tokens;
+  without = w.without;
+  in_row = w.in_row;
+  in_groups = w.in_groups;
+}
+
+pub remark_writes : {a b : Edge} {t : Bool} {s : List ℕ} {ps : List Piece} {f : Forest} → is_open a ≡ true → is_remark s ≡ true → Writes Free ps b f → Writes a (Remark t s ∷ ps) b f
+remark_writes {a = a} {t = t} {s = s} {ps = ps} e h w = record {
+  joins = λ qs g. joins_anywhere a (Remark t s) (ps ++ qs) e refl (w.joins qs g);
+  are = (h, w.are);
+  whole = w.whole;
+  tokens = w.tokens;
+  without = w.without;
+  in_row = w.in_row;
+  in_groups = w.in_groups;
+}
+
+pub ending_writes : {a b : Edge} {s : List ℕ} {ps : List Piece} {f : Forest} → is_open a ≡ true → is_remark s ≡ true → Writes Ended ps b f → Writes a (Ending s ∷ ps) b f
+ending_writes {a = a} {s = s} {ps = ps} e h w = record {
+  joins = λ qs g. joins_anywhere a (Ending s) (ps ++ qs) e refl (w.joins qs g);
+  are = (h, w.are);
+  whole = w.whole;
+  tokens = w.tokens;
+  without = w.without;
+  in_row = w.in_row;
+  in_groups = w.in_groups;
+}
+
+-- ---- where a line must end. No rules for a search, which would go round them.
+
+-- what may stand where the line must end may stand behind anything
+pub behind_anything : {b : Edge} {ps : List Piece} {f : Forest} (a : Edge) → Writes Ended ps b f → Writes a ps b f
+behind_anything {ps = ps} a w = record {
+  joins = λ qs h. ended_joins a (ps ++ qs) (w.joins qs h);
+  are = w.are;
+  whole = w.whole;
+  tokens = w.tokens;
+  without = w.without;
+  in_row = w.in_row;
+  in_groups = w.in_groups;
+}
+
+-- behind any pieces a line may end
+pub before_line : {a : Edge} {ps : List Piece} {f : Forest} (b : Edge) → Writes a ps b f → Writes a ps Ended f
+before_line b w = record {
+  joins = λ qs h. w.joins qs (ended_joins b qs h);
+  are = w.are;
+  whole = w.whole;
+  tokens = w.tokens;
+  without = w.without;
+  in_row = w.in_row;
+  in_groups = w.in_groups;
+}
+
 -- ---- groups
 
 pub close_tokens : (place : Option ℕ) (nesting : ℕ) (t : Bool) → all_tokens (close place nesting t) ≡ right ∷ []
 close_tokens place nesting true = refl
 close_tokens place nesting false = refl
 
-close_joins : (place : Option ℕ) (nesting : ℕ) (t : Bool) (qs : List Piece) → joined Free qs ≡ true → joined Bound (close place nesting t ++ qs) ≡ true
-close_joins place nesting true qs h = h
-close_joins place nesting false qs h = h
+-- behind the end of a line a group closes on a line of its own
+abbrev pub may_close : Edge → Bool → Bool
+may_close Ended t = t
+may_close _ t = true
+
+close_joins : (c : Edge) (place : Option ℕ) (nesting : ℕ) (t : Bool) (qs : List Piece) → may_close c t ≡ true → joined Free qs ≡ true → joined c (close place nesting t ++ qs) ≡ true
+close_joins Free place nesting true qs m h = h
+close_joins Free place nesting false qs m h = h
+close_joins Bound place nesting true qs m h = h
+close_joins Bound place nesting false qs m h = h
+close_joins Ended place nesting true qs m h = h
+close_joins Ended place nesting false qs m h = absurd cc
 
 close_are : (place : Option ℕ) (nesting : ℕ) (t : Bool) → ArePieces (close place nesting t)
 close_are place nesting true = (tt, (tt, tt))
@@ -209,14 +326,17 @@ opening v h = record { delimits = refl; leaves_it = refl; is = (h, tt); opens = 
 opening_gap : (v : List ℕ) → is_word v ≡ true → IsOpening (OpenGap v) Free v
 opening_gap v h = record { delimits = refl; leaves_it = refl; is = (h, tt); opens = refl }
 
+opening_plain : (v : List ℕ) → is_word v ≡ true → IsOpening (OpenPlain v) Bound v
+opening_plain v h = record { delimits = refl; leaves_it = refl; is = (h, tt); opens = refl }
+
 -- an opening, what the group holds, and its end
-closed_writes : {b e : Edge} {f : Forest} (p : Piece) (v : List ℕ) (place : Option ℕ) (nesting : ℕ) (t : Bool) (ps : List Piece) (a : Edge) →
-    IsOpening p e v → Writes e ps Bound f → Writes a (p ∷ (ps ++ close place nesting t)) b (Group (Word v f) End)
-closed_writes {b = b} {e = e} {f = f} p v place nesting t ps a i w = record {
-  joins = λ qs g. joins_anywhere a p ((ps ++ close place nesting t) ++ qs) i.delimits
+closed_writes : {b e c : Edge} {f : Forest} (p : Piece) (v : List ℕ) (place : Option ℕ) (nesting : ℕ) (t : Bool) (ps : List Piece) (a : Edge) →
+    is_open a ≡ true → may_close c t ≡ true → IsOpening p e v → Writes e ps c f → Writes a (p ∷ (ps ++ close place nesting t)) b (Group (Word v f) End)
+closed_writes {b = b} {e = e} {c = c} {f = f} p v place nesting t ps a o m i w = record {
+  joins = λ qs g. joins_anywhere a p ((ps ++ close place nesting t) ++ qs) o i.delimits
       (subst (λ x. joined x ((ps ++ close place nesting t) ++ qs) ≡ true) (sym i.leaves_it)
       (subst (λ x. joined e x ≡ true) (sym (append_assoc ps (close place nesting t) qs))
-      (w.joins (close place nesting t ++ qs) (close_joins place nesting t qs (loosen b qs g)))));
+      (w.joins (close place nesting t ++ qs) (close_joins c place nesting t qs m (loosen b qs g)))));
   are = (i.is.0, ArePieces-append ps (close place nesting t) w.are (close_are place nesting t));
   whole = Group (Word v w.whole) End;
   tokens =
@@ -227,34 +347,61 @@ closed_writes {b = b} {e = e} {f = f} p v place nesting t ps a i w = record {
   in_groups = append-nil (row_customs w.whole) ∙ w.in_row;
 }
 
-pub group_writes : {a b : Edge} (nesting : ℕ) (v : List ℕ) (ps : List Piece) {f : Forest} → is_word v ≡ true → Writes Bound ps Bound f → Writes a (group nesting v ps) b (Group (Word v f) End)
+pub group_writes : {a b : Edge} (nesting : ℕ) (v : List ℕ) (ps : List Piece) {f : Forest} → is_open a ≡ true → is_word v ≡ true → Writes Bound ps Bound f → Writes a (group nesting v ps) b (Group (Word v f) End)
 unfolding group
-group_writes {a = a} nesting v ps h w = closed_writes (Open v) v None nesting (has_break ps) ps a (opening v h) w
+group_writes {a = a} nesting v ps o h w = closed_writes (Open v) v None nesting (has_break ps) ps a o refl (opening v h) w
 
-pub group_gap_writes : {a b : Edge} (nesting : ℕ) (v : List ℕ) (ps : List Piece) {f : Forest} → is_word v ≡ true → Writes Free ps Bound f → Writes a (group_gap nesting v ps) b (Group (Word v f) End)
+pub group_gap_writes : {a b : Edge} (nesting : ℕ) (v : List ℕ) (ps : List Piece) {f : Forest} → is_open a ≡ true → is_word v ≡ true → Writes Free ps Bound f → Writes a (group_gap nesting v ps) b (Group (Word v f) End)
 unfolding group_gap
-group_gap_writes {a = a} nesting v ps h w = closed_writes (OpenGap v) v None nesting (has_break ps) ps a (opening_gap v h) w
+group_gap_writes {a = a} nesting v ps o h w = closed_writes (OpenGap v) v None nesting (has_break ps) ps a o refl (opening_gap v h) w
 
-pub group_at_writes : {a b : Edge} (offsets : Bool) (place nesting : ℕ) (v : List ℕ) (ps : List Piece) {f : Forest} → is_word v ≡ true → Writes Bound ps Bound f → Writes a (group_at offsets place nesting v ps) b (Group (Word v f) End)
+pub group_at_writes : {a b : Edge} (offsets : Bool) (place nesting : ℕ) (v : List ℕ) (ps : List Piece) {f : Forest} → is_open a ≡ true → is_word v ≡ true → Writes Bound ps Bound f → Writes a (group_at offsets place nesting v ps) b (Group (Word v f) End)
 unfolding group_at
-group_at_writes {a = a} offsets place nesting v ps h w = closed_writes (Open v) v (Some place) nesting (offsets || has_break ps) ps a (opening v h) w
+group_at_writes {a = a} offsets place nesting v ps o h w = closed_writes (Open v) v (Some place) nesting (offsets || has_break ps) ps a o refl (opening v h) w
 
-pub group_gap_at_writes : {a b : Edge} (offsets : Bool) (place nesting : ℕ) (v : List ℕ) (ps : List Piece) {f : Forest} → is_word v ≡ true → Writes Free ps Bound f → Writes a (group_gap_at offsets place nesting v ps) b (Group (Word v f) End)
+pub group_gap_at_writes : {a b : Edge} (offsets : Bool) (place nesting : ℕ) (v : List ℕ) (ps : List Piece) {f : Forest} → is_open a ≡ true → is_word v ≡ true → Writes Free ps Bound f → Writes a (group_gap_at offsets place nesting v ps) b (Group (Word v f) End)
 unfolding group_gap_at
-group_gap_at_writes {a = a} offsets place nesting v ps h w = closed_writes (OpenGap v) v (Some place) nesting (offsets || has_break ps) ps a (opening_gap v h) w
+group_gap_at_writes {a = a} offsets place nesting v ps o h w = closed_writes (OpenGap v) v (Some place) nesting (offsets || has_break ps) ps a o refl (opening_gap v h) w
+
+-- a group that ends where the line must end, and that has changed the line
+pub ended_group_gap_at_writes : {a b : Edge} (offsets : Bool) (place nesting : ℕ) (v : List ℕ) (ps : List Piece) {f : Forest} → is_open a ≡ true → is_word v ≡ true → has_break ps ≡ true → Writes Free ps Ended f →
+    Writes a (group_gap_at offsets place nesting v ps) b (Group (Word v f) End)
+unfolding group_gap_at
+ended_group_gap_at_writes {a = a} offsets place nesting v ps o h t w = closed_writes (OpenGap v) v (Some place) nesting (offsets || has_break ps) ps a o (or_right offsets (has_break ps) t) (opening_gap v h) w
+
+pub line_group_writes : {a b : Edge} (v : List ℕ) (ps : List Piece) {f : Forest} → is_open a ≡ true → is_word v ≡ true → Writes Bound ps Bound f → Writes a (line_group v ps) b (Group (Word v f) End)
+unfolding line_group
+line_group_writes {a = a} v ps o h w = closed_writes (Open v) v None 0 false ps a o refl (opening v h) w
+
+pub line_group_gap_writes : {a b : Edge} (v : List ℕ) (ps : List Piece) {f : Forest} → is_open a ≡ true → is_word v ≡ true → Writes Free ps Bound f → Writes a (line_group_gap v ps) b (Group (Word v f) End)
+unfolding line_group_gap
+line_group_gap_writes {a = a} v ps o h w = closed_writes (OpenGap v) v None 0 false ps a o refl (opening_gap v h) w
 
 -- ---- the same before others, in forms that a search can apply
 
-pub group_then : {a c : Edge} (nesting : ℕ) (v : List ℕ) (ps qs : List Piece) {f g : Forest} → is_word v ≡ true → Writes Bound ps Bound f → Writes Bound qs c g → Writes a (group nesting v ps ++ qs) c (Group (Word v f) g)
-group_then nesting v ps qs h v' w = both_write (group_writes nesting v ps h v') w
+pub group_then : {a c : Edge} (nesting : ℕ) (v : List ℕ) (ps qs : List Piece) {f g : Forest} → is_open a ≡ true → is_word v ≡ true → Writes Bound ps Bound f → Writes Bound qs c g → Writes a (group nesting v ps ++ qs) c (Group (Word v f) g)
+group_then nesting v ps qs o h v' w = both_write (group_writes nesting v ps o h v') w
 
-pub group_gap_then : {a c : Edge} (nesting : ℕ) (v : List ℕ) (ps qs : List Piece) {f g : Forest} → is_word v ≡ true → Writes Free ps Bound f → Writes Bound qs c g → Writes a (group_gap nesting v ps ++ qs) c (Group (Word v f) g)
-group_gap_then nesting v ps qs h v' w = both_write (group_gap_writes nesting v ps h v') w
+pub group_gap_then : {a c : Edge} (nesting : ℕ) (v : List ℕ) (ps qs : List Piece) {f g : Forest} → is_open a ≡ true → is_word v ≡ true → Writes Free ps Bound f → Writes Bound qs c g → Writes a (group_gap nesting v ps ++ qs) c (Group (Word v f) g)
+group_gap_then nesting v ps qs o h v' w = both_write (group_gap_writes nesting v ps o h v') w
 
-pub group_at_then : {a c : Edge} (offsets : Bool) (place nesting : ℕ) (v : List ℕ) (ps qs : List Piece) {f g : Forest} → is_word v ≡ true → Writes Bound ps Bound f → Writes Bound qs c g → Writes a (group_at offsets place nesting v ps ++ qs) c (Group (Word v f) g)
-group_at_then offsets place nesting v ps qs h v' w = both_write (group_at_writes offsets place nesting v ps h v') w
+pub group_at_then : {a c : Edge} (offsets : Bool) (place nesting : ℕ) (v : List ℕ) (ps qs : List Piece) {f g : Forest} → is_open a ≡ true → is_word v ≡ true → Writes Bound ps Bound f → Writes Bound qs c g → Writes a (group_at offsets place nesting v ps ++ qs) c (Group (Word v f) g)
+group_at_then offsets place nesting v ps qs o h v' w = both_write (group_at_writes offsets place nesting v ps o h v') w
+
+pub line_group_then : {a c : Edge} (v : List ℕ) (ps qs : List Piece) {f g : Forest} → is_open a ≡ true → is_word v ≡ true → Writes Bound ps Bound f → Writes Bound qs c g → Writes a (line_group v ps ++ qs) c (Group (Word v f) g)
+line_group_then v ps qs o h v' w = both_write (line_group_writes v ps o h v') w
+
+pub line_group_gap_then : {a c : Edge} (v : List ℕ) (ps qs : List Piece) {f g : Forest} → is_open a ≡ true → is_word v ≡ true → Writes Free ps Bound f → Writes Bound qs c g → Writes a (line_group_gap v ps ++ qs) c (Group (Word v f) g)
+line_group_gap_then v ps qs o h v' w = both_write (line_group_gap_writes v ps o h v') w
+
+-- a group without a style, whose pieces stand in the list itself
+pub plain_group_then : {a c : Edge} {v : List ℕ} {ps qs : List Piece} {f g : Forest} → is_open a ≡ true → is_word v ≡ true → Writes Bound ps Bound f → Writes Bound qs c g →
+    Writes a (OpenPlain v ∷ (ps ++ (Shut ∷ qs))) c (Group (Word v f) g)
+plain_group_then {a = a} {c = c} {v = v} {ps = ps} {qs = qs} {f = f} {g = g} o h v' w =
+    subst (λ t. Writes a (OpenPlain v ∷ t) c (Group (Word v f) g)) (append_assoc ps (Shut ∷ []) qs)
+    (both_write (closed_writes (OpenPlain v) v None 0 false ps a o refl (opening_plain v h) v') w)
 
 pub then : {a c : Edge} {ps qs : List Piece} {f g : Forest} → Writes a ps Bound f → Writes Bound qs c g → Writes a (ps ++ qs) c (onto f g)
 then v w = both_write v w
 
-pub ruleset writing = (nothing_writes, free_writes, begin_writes, feed_writes, gap_writes, break_writes, mark_writes, word_writes, type_word_writes, number_writes, constant_writes, quoted_writes, group_writes, group_gap_writes, group_at_writes, group_gap_at_writes, group_then, group_gap_then, group_at_then, then)
+pub ruleset writing = (nothing_writes, free_writes, begin_writes, feed_writes, gap_writes, break_writes, mark_writes, word_writes, type_word_writes, number_writes, constant_writes, quoted_writes, identifier_writes, name_note_writes, remark_writes, ending_writes, group_writes, group_gap_writes, group_at_writes, group_gap_at_writes, line_group_writes, line_group_gap_writes, group_then, group_gap_then, group_at_then, line_group_then, line_group_gap_then, plain_group_then, then)

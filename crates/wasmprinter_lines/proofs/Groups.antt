@@ -2,7 +2,7 @@
 use Rattle.std.specs.Prelude.{◌≡◌, ℕ, List, [], ◌∷◌, ◌++◌, Bool, true, false, ◌||◌, cond, None, refl}
 use Rattle.std.proofs.Common.{sym, ap, ap₂, ◌∙◌}
 use Rattle.wasmprinter_spec.specs.Piece.{Piece, Open, OpenGap, Shut}
-use Rattle.wasmprinter_spec.specs.Layout.{breaks, has_break, close, group, group_gap}
+use Rattle.wasmprinter_spec.specs.Layout.Groups.{breaks, has_break, close, group, group_gap}
 
 -- a test on the first, and then on the others
 or-cond : (b c : Bool) → cond b true c ≡ (b || c)

@@ -4,5 +4,5 @@ use Rattle.wasmprinter_lines.specs.declared.options.Indent.{Indent}
 use Rattle.wasmprinter_lines.specs.declared.options.Indent.TheVariants.{TwoBlanks}
 
 -- the text of an indent
-abbrev pub text_of : Indent → List ℕ
-text_of TwoBlanks = codes "  "
+abbrev pub indent_text : Indent → List ℕ
+indent_text TwoBlanks = codes "  "

@@ -4,13 +4,13 @@ ghost use Rattle.std.specs.Fmt.{digits};
 ghost use Rattle.wasmprinter_spec.specs.Call.{Text};
 ghost use Rattle.wasmprinter_spec.specs.Options.{Options};
 ghost use Rattle.wasmprinter_spec.specs.Piece.{Begin, Feed, Break, repeated, left_in, place_calls};
-ghost use Rattle.wasmprinter_spec.specs.Layout.{close};
-ghost use Rattle.wasmprinter_bytes.specs.Emits.{Emits};
-ghost use Rattle.wasmprinter_bytes.specs.Prints.{Prints};
+ghost use Rattle.wasmprinter_spec.specs.Layout.Groups.{close};
+ghost use Rattle.wasmprinter_print.specs.Emits.{Emits};
+ghost use Rattle.wasmprinter_print.specs.Prints.{Prints};
 
 use crate::options::PrintOptions;
 use std::io;
-use wasmprinter_bytes::print::{Print, Style, feed, reset, start, text};
+use wasmprinter_print::{Print, Style, feed, reset, start, text};
 use wasmprinter_words::numbers::{HEXADECIMAL, hexadecimal_len, write_digits};
 use wasmprinter_words::words::shut;
 
@@ -21,7 +21,7 @@ const PLACE_WIDTH: usize = 6;
 const COMMENT_WIDTH: usize = 11;
 
 /// The levels of nesting of which each is indented.
-const MOST_INDENTS: u32 = 50;
+const MOST_INDENTS: u64 = 50;
 
 /// Writes a text so many times.
 fn write_repeated<P: Print>(p: &mut P, s: &str, count: usize) -> io::Result<()>
@@ -108,7 +108,7 @@ pub fn break_line<P: Print>(
     p: &mut P,
     options: &PrintOptions,
     place: Option<u64>,
-    nesting: u32,
+    nesting: u64,
 ) -> io::Result<()>
     ensures { Prints P.meaning options.now p.old p.new result (Break place nesting ∷ []) }
 {
@@ -122,7 +122,7 @@ fn shut_below<P: Print>(
     p: &mut P,
     options: &PrintOptions,
     place: u64,
-    nesting: u32,
+    nesting: u64,
 ) -> io::Result<()>
     ensures { Prints P.meaning options.now p.old p.new result (close (Some place) nesting true) }
 {
@@ -134,7 +134,7 @@ fn shut_if<P: Print>(
     p: &mut P,
     options: &PrintOptions,
     place: u64,
-    nesting: u32,
+    nesting: u64,
     on_new_line: bool,
 ) -> io::Result<()>
     ensures { Prints P.meaning options.now p.old p.new result (close (Some place) nesting on_new_line) }
@@ -152,7 +152,7 @@ pub fn close_at<P: Print>(
     p: &mut P,
     options: &PrintOptions,
     place: u64,
-    nesting: u32,
+    nesting: u64,
     changed: bool,
 ) -> io::Result<()>
     ensures { Prints P.meaning options.now p.old p.new result (close (Some place) nesting (options.now.offsets || changed)) }

@@ -20,11 +20,11 @@ pub struct PrintOptions {
 
 impl Model for PrintOptions {
     ghost use Rattle.wasmprinter_spec.specs.Options.{Options};
-    ghost use Rattle.wasmprinter_lines.specs.Indents.{text_of};
+    ghost use Rattle.wasmprinter_lines.specs.Indents.{indent_text};
 
     ghost Value = { Options };
 
-    ghost view = { λ o. record { offsets = o.offsets; skeleton = o.skeleton; indent = text_of o.indent } };
+    ghost view = { λ o. record { offsets = o.offsets; skeleton = o.skeleton; indent = indent_text o.indent } };
 }
 
 impl PrintOptions {

@@ -3,9 +3,9 @@ use Rattle.std.proofs.Common.{◌≡◌, ℕ, zero, suc, ◌+◌, ◌<◌, ◌�
 use Rattle.std.proofs.lemmas.Bool.{and_parts, ltb-true, eqb-true, ne_eqb}
 use Rattle.std.proofs.lemmas.List.{length-map}
 use Rattle.wasmprinter_spec.specs.Operator.{Opcode, opcode}
-use Rattle.wasmprinter_spec.specs.Row.{Row, Shape}
-use Rattle.wasmprinter_spec.specs.Table.{table, control_rows, number_rows, first, has_opcode, by_opcode, word_of}
-use Rattle.wasmprinter_ops.specs.ByNumber.{each_from, size_of, each_word, each_shape, shape_of}
+use Rattle.wasmprinter_spec.specs.Row.{Row, Shape, Role, Plain}
+use Rattle.wasmprinter_spec.specs.Table.{table, control_rows, variable_rows, number_rows, first, has_opcode, by_opcode, word_of, role_of}
+use Rattle.wasmprinter_ops.specs.ByNumber.{each_from, size_of, each_word, each_shape, each_role, shape_of}
 
 module _ {A : Type 0} (f : ℕ → A) (d : A) where
   -- at a position within, f of it
@@ -36,7 +36,7 @@ fits (r ∷ rs) = ltb r.number (size_of r.prefix) && fits rs
 
 -- the table is so
 table_fits : fits table ≡ true
-unfolding table control_rows number_rows
+unfolding table control_rows variable_rows number_rows
 table_fits = refl
 
 -- the row has another opcode than one past the size
@@ -74,6 +74,11 @@ pub no_shapes : (prefix : ℕ) → prefix ≢ 0 → [] ≡ each_shape prefix
 unfolding each_shape
 no_shapes prefix ne = rw (ne_eqb prefix 0 ne) refl
 
+-- nor roles
+pub no_roles : (prefix : ℕ) → prefix ≢ 0 → [] ≡ each_role prefix
+unfolding each_role
+no_roles prefix ne = rw (ne_eqb prefix 0 ne) refl
+
 module _ {A : Type 0} (f : ℕ → A) (d : A) (prefix n : ℕ) (xs : List A) (is : xs ≡ each_from f 0 (size_of prefix)) where
   within_is : n < length xs → get_or xs n d ≡ f n
   within_is lt =
@@ -104,3 +109,13 @@ module _ (o : Opcode) where
   pub shape_past : (xs : List (Option Shape)) → xs ≡ each_shape o.prefix → length xs ≤ o.number → None ≡ shape_of o
   unfolding each_shape
   shape_past xs is le = rw (not_listed o (past_is (λ n. shape_of (opcode o.prefix n)) None o.prefix o.number xs is le)) refl
+
+  -- the role at a position of the table
+  pub role_within : (xs : List Role) → xs ≡ each_role o.prefix → o.number < length xs → get_or xs o.number Plain ≡ role_of o
+  unfolding each_role
+  role_within xs is lt = within_is (λ n. role_of (opcode o.prefix n)) Plain o.prefix o.number xs is lt
+
+  -- past the table all are plain
+  pub role_past : (xs : List Role) → xs ≡ each_role o.prefix → length xs ≤ o.number → Plain ≡ role_of o
+  unfolding each_role
+  role_past xs is le = rw (not_listed o (past_is (λ n. role_of (opcode o.prefix n)) Plain o.prefix o.number xs is le)) refl

@@ -1,22 +1,22 @@
 -- Items that take all bytes, each at least one.
-use Rattle.std.proofs.Common.{◌≡◌, ℕ, ◌+◌, ◌<◌, List, [], ◌∷◌, ◌++◌, length, Some, refl, sym, ap, subst, ◌∙◌, arith, append_assoc, append-nil, length-append}
-use Rattle.wasmprinter_spec.specs.Grammar.{At, from, Spans, Grammar}
+use Rattle.std.proofs.Common.{◌≡◌, ℕ, ◌+◌, ◌<◌, ◌≤◌, List, [], ◌∷◌, ◌++◌, length, Some, refl, sym, ap, subst, ◌∙◌, arith, append_assoc, append-nil, length-append}
+use Rattle.wasmprinter_spec.specs.Grammar.{Input, input, Spans, Grammar}
 use Rattle.wasmprinter_spec.specs.Repeated.{Entries, until_end}
 
 module _ {A : Type 0} (g : Grammar A) where
   -- the first item, and the others behind it
-  pub record FirstEntry (at : At) (xs : List A) : Type 0 where
+  pub record FirstEntry (at : Input) (xs : List A) : Type 0 where
     pub item : A
     pub others : List A
-    pub after : At
+    pub after : Input
     pub is : xs ≡ item ∷ others
     pub first : g.parse at ≡ Some (item, after)
     pub rest : (until_end g).parse after ≡ Some others
 
-  first_of : (at : At) (xs : List A) → (at.bytes ≡ [] → ⊥) → Entries g at.place at.bytes xs → FirstEntry at xs
+  first_of : (at : Input) (xs : List A) → (at.bytes ≡ [] → ⊥) → Entries g at.place at.bytes xs → FirstEntry at xs
   first_of at [] some s = absurd (some s)
   first_of at (x ∷ xs) some s =
-      let after : At = from (at.place + length s.0) s.1 in
+      let after : Input = input (at.place + length s.0) s.1 in
       record {
         item = x;
         others = xs;
@@ -26,8 +26,14 @@ module _ {A : Type 0} (g : Grammar A) where
         rest = (until_end g).complete after xs s.5;
       }
 
-  pub first_entry : (at : At) (xs : List A) → (at.bytes ≡ [] → ⊥) → (until_end g).parse at ≡ Some xs → FirstEntry at xs
+  pub first_entry : (at : Input) (xs : List A) → (at.bytes ≡ [] → ⊥) → (until_end g).parse at ≡ Some xs → FirstEntry at xs
   first_entry at xs some e = first_of at xs some ((until_end g).sound at xs e)
+
+  -- there are no more items than bytes
+  pub entries-few : (p : ℕ) (text : List ℕ) (xs : List A) → Entries g p text xs → length xs ≤ length text
+  entries-few p text [] s = omega arith
+  entries-few p text (x ∷ xs) s =
+      omega (arith, ap length s.2, length-append s.0 s.1, s.3, entries-few (p + length s.0) s.1 xs s.5)
 
   -- one more item at the end
   entries-push : (xs : List A) (p : ℕ) (t u : List ℕ) (x : A) → Entries g p t xs → 0 < length u → g.spells (p + length t) u x → Entries g p (t ++ u) (xs ++ x ∷ [])
@@ -42,7 +48,7 @@ module _ {A : Type 0} (g : Grammar A) where
       (s.0, s.1 ++ u, ap (λ (r : List ℕ). r ++ u) s.2 ∙ append_assoc s.0 s.1 u, s.3, s.4, more)
 
   -- the same between two places
-  pub spans-push : (start mid after : At) (xs : List A) (x : A) → Spans (Entries g) start (xs, mid) → (s : Spans g.spells mid (x, after)) → 0 < length s.text → Spans (Entries g) start (xs ++ x ∷ [], after)
+  pub spans-push : (start mid after : Input) (xs : List A) (x : A) → Spans (Entries g) start (xs, mid) → (s : Spans g.spells mid (x, after)) → 0 < length s.text → Spans (Entries g) start (xs ++ x ∷ [], after)
   spans-push start mid after xs x f s some = record {
     text = f.text ++ s.text;
     parts = f.parts ∙ ap (λ (r : List ℕ). f.text ++ r) s.parts ∙ sym (append_assoc f.text s.text after.bytes);

@@ -1,6 +1,9 @@
 pub mod Dense
 pub mod Entries
-pub mod Closing
+pub mod Stepping
 pub mod Skipping
 pub mod Walking
 pub mod Made
+pub mod BlockTypes
+pub mod Seen
+pub mod FirstBytes

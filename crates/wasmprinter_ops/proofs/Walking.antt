@@ -1,13 +1,13 @@
 -- A walk over operators that are known to stand there.
-use Rattle.std.proofs.Common.{◌≡◌, ℕ, ◌<◌, length, arith, List, [], ◌∷◌, Option, Some, None, refl, sym, ap, ◌∙◌, false}
+use Rattle.std.proofs.Common.{◌≡◌, ℕ, ◌<◌, ◌≤◌, length, arith, List, [], ◌∷◌, Option, Some, None, refl, sym, ap, ◌∙◌, false}
 use Rattle.std.specs.Prelude.{MatchOption}
 use Rattle.std.specs.Bool.{IsTrue}
-use Rattle.wasmprinter_spec.specs.Grammar.{At, Placed, placed, some_is}
+use Rattle.wasmprinter_spec.specs.Grammar.{Input, Placed, placed, some_is}
 use Rattle.wasmprinter_spec.specs.Repeated.{some_or}
 use Rattle.wasmprinter_spec.specs.Operator.{Operator}
 use Rattle.wasmprinter_spec.specs.Instructions.{operator}
-use Rattle.wasmprinter_ops.specs.Operators.{operators, operators_in, HasOperators, pairs, placed_seen}
-use Rattle.wasmprinter_ops.proofs.Entries.{first_entry}
+use Rattle.wasmprinter_ops.specs.Operators.{operators, operators_in, HasOperators, pairs, placed_view}
+use Rattle.wasmprinter_ops.proofs.Entries.{first_entry, entries-few}
 
 -- the same of what was read
 stand_of : (r : Option (List (Placed Operator))) → MatchOption r ⊥ (λ ops. Unit {0}) → r ≡ Some (some_or r [] (λ ops. ops))
@@ -15,31 +15,35 @@ stand_of None h = absurd h
 stand_of (Some ops) h = refl
 
 -- the operators that stand there
-pub stand_there : (at : At) → HasOperators at → operators.parse at ≡ Some (operators_in at)
+pub stand_there : (at : Input) → HasOperators at → operators.parse at ≡ Some (operators_in at)
 stand_there at h = stand_of (operators.parse at) h
 
 -- what stands there, from what is read
-pub has_operators : (at : At) (ops : List (Placed Operator)) → operators.parse at ≡ Some ops → HasOperators at
+pub has_operators : (at : Input) (ops : List (Placed Operator)) → operators.parse at ≡ Some ops → HasOperators at
 has_operators at ops e = rw e tt
 
 -- and they are those that were read
-pub operators_are : (at : At) (ops : List (Placed Operator)) → operators.parse at ≡ Some ops → operators_in at ≡ ops
+pub operators_are : (at : Input) (ops : List (Placed Operator)) → operators.parse at ≡ Some ops → operators_in at ≡ ops
 operators_are at ops e = rw e refl
 
+-- there are no more of them than bytes
+pub few_operators : (at : Input) → HasOperators at → length (operators_in at) ≤ length at.bytes
+few_operators at h = entries-few (placed operator) at.place at.bytes (operators_in at) (operators.sound at (operators_in at) (stand_there at h))
+
 -- one operator was read, and the others stand behind it
-pub record NextOperator (at after : At) (o : ℕ × Operator) : Type 0 where
+pub record NextOperator (at after : Input) (o : ℕ × Operator) : Type 0 where
   pub stands : HasOperators after
   pub steps : pairs (operators_in at) ≡ o ∷ pairs (operators_in after)
   pub fewer : length (pairs (operators_in after)) < length (pairs (operators_in at))
 
 -- the operator that was read is the first of those that stand there
-pub next_operator : (at after : At) (o : ℕ × Operator) → (at.bytes ≡ [] → IsTrue false) → HasOperators at → (placed operator).parse at ≡ Some (placed_seen o, after) → NextOperator at after o
+pub next_operator : (at after : Input) (o : ℕ × Operator) → (at.bytes ≡ [] → IsTrue false) → HasOperators at → (placed operator).parse at ≡ Some (placed_view o, after) → NextOperator at after o
 next_operator at after o some h e =
     let f = first_entry (placed operator) at (operators_in at) (λ z. let t = some z in cc) (stand_there at h) in
-    let read : Placed Operator × At = (f.item, f.after) in
-    let same : read ≡ (placed_seen o, after) = some_is read (placed_seen o, after) (sym f.first ∙ e) in
-    let item : f.item ≡ placed_seen o = ap (λ (x : Placed Operator × At). x.0) same in
-    let there : f.after ≡ after = ap (λ (x : Placed Operator × At). x.1) same in
+    let read : Placed Operator × Input = (f.item, f.after) in
+    let same : read ≡ (placed_view o, after) = some_is read (placed_view o, after) (sym f.first ∙ e) in
+    let item : f.item ≡ placed_view o = ap (λ (x : Placed Operator × Input). x.0) same in
+    let there : f.after ≡ after = ap (λ (x : Placed Operator × Input). x.1) same in
     let rest : operators.parse after ≡ Some f.others = ap operators.parse (sym there) ∙ f.rest in
     let steps : pairs (operators_in at) ≡ o ∷ pairs (operators_in after) =
     ap pairs f.is ∙ ap (λ (x : Placed Operator). (x.place, x.value) ∷ pairs f.others) item ∙ ap (λ (xs : List (Placed Operator)). o ∷ pairs xs) (sym (operators_are after f.others rest)) in

@@ -1,5 +1,8 @@
 pub mod Shapes
 pub mod ByNumber
-pub mod Immediates
-pub mod Operators
 pub mod ValTypes
+pub mod Blocks
+pub mod Immediates
+pub mod Nesting
+pub mod Operators
+pub mod Types

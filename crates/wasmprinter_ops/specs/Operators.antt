@@ -1,40 +1,59 @@
 -- Operators with their places, as many as bytes hold.
-use Rattle.std.specs.Prelude.{◌≡◌, ℕ, ◌+◌, List, [], ◌∷◌, map, Some, None, MatchOption, Result, Ok, Err}
-use Rattle.wasmprinter_spec.specs.Grammar.{At, from, Spans, Whole, Placed, placed}
+use Rattle.std.specs.Prelude.{◌≡◌, ℕ, List, [], map, Some, None, MatchOption, Result, Ok, Err}
+use Rattle.wasmprinter_spec.specs.Grammar.{Input, Spans, Remainder, Placed, placed}
 use Rattle.wasmprinter_spec.specs.Repeated.{some_or, until_end, Entries}
 use Rattle.wasmprinter_spec.specs.Operator.{Operator}
-use Rattle.wasmprinter_spec.specs.Instructions.{operator, expression, end_byte}
-use Rattle.wasmprinter_bytes.specs.declared.error.Malformed.{Malformed}
+use Rattle.wasmprinter_spec.specs.Instructions.{operator, expression, roles}
+use Rattle.wasmprinter_spec.specs.Nesting.{Nests, Sequence}
+use Rattle.wasmprinter_spec.specs.Table.{role_of}
+use Rattle.wasmprinter_bytes.specs.Lists.{reader_reasons}
+use Rattle.wasmprinter_error.specs.declared.error.Error.{Error}
+use Rattle.wasmprinter_error.specs.Reasons.{HasReason}
+use Rattle.wasmprinter_ops.specs.Nesting.{OpensBlock}
 
 -- a place and an operator, as the definitions see them
-abbrev pub placed_seen : ℕ × Operator → Placed Operator
-placed_seen x = record { place = x.0; value = x.1 }
+abbrev pub placed_view : ℕ × Operator → Placed Operator
+placed_view x = record { place = x.0; value = x.1 }
 
 -- places and operators, as the program gives them
 abbrev pub pairs : List (Placed Operator) → List (ℕ × Operator)
 pairs ops = map (λ o. (o.place, o.value)) ops
 
 -- operators up to the end of the bytes, each with its place
-abbrev pub operators : Whole (List (Placed Operator))
+abbrev pub operators : Remainder (List (Placed Operator))
 operators = until_end (placed operator)
 
 -- the operators, none where the bytes spell something else
-abbrev pub operators_in : At → List (Placed Operator)
+abbrev pub operators_in : Input → List (Placed Operator)
 operators_in at = some_or (operators.parse at) [] (λ ops. ops)
 
 -- the bytes spell operators
-abbrev pub HasOperators : At → Type 0
+abbrev pub HasOperators : Input → Type 0
 HasOperators at = MatchOption (operators.parse at) ⊥ (λ ops. Unit {0})
 
--- operators stand there, up to the byte of an `end`
-pub record OperatorsAndEnd (old new : At) : Type 0 where
-  pub items : List (Placed Operator)
-  pub rest : List ℕ
-  pub skipped : Spans (Entries (placed operator)) old (items, new)
-  pub stops : new.bytes ≡ end_byte ∷ rest
-  pub is : expression.parse old ≡ Some (record { items = items; end = new.place }, from (new.place + 1) rest)
+-- the bytes spell operators that are well nested
+abbrev pub HasExpression : Input → Type 0
+HasExpression at = HasOperators at × Nests Sequence (roles (operators_in at))
 
--- operators are passed by, up to the byte of an `end`; or no expression stands there
-abbrev pub SkipsOperators : {X : Type 0} → At → Result X Malformed → At → Type 0
-SkipsOperators old (Ok x) new = OperatorsAndEnd old new
-SkipsOperators old (Err e) new = expression.parse old ≡ None
+-- operators stand there, up to the `end` that closes them, which lies at the place
+pub record OperatorsAndEnd (old : Input) (end : ℕ) (new : Input) : Type 0 where
+  pub items : List (Placed Operator)
+  pub before : Input
+  pub stands : before.place ≡ end
+  pub skipped : Spans (Entries (placed operator)) old (items, before)
+  pub is : expression.parse old ≡ Some (record { items = items; end = end }, new)
+
+-- operators stand there, and behind them one that opens a block
+pub record HasBlock (at : Input) : Type 0 where
+  pub items : List (Placed Operator)
+  pub before : Input
+  pub skipped : Spans (Entries (placed operator)) at (items, before)
+  pub opener : Operator
+  pub after : Input
+  pub read : operator.parse before ≡ Some (opener, after)
+  pub opens : OpensBlock (role_of opener.opcode)
+
+-- operators and the `end` that closes them are passed by; or no expression stands there; or a growth was refused, at a block
+abbrev pub SkipsOperators : Input → Result ℕ Error → Input → Type 0
+SkipsOperators old (Ok end) new = OperatorsAndEnd old end new
+SkipsOperators old (Err e) new = HasReason (reader_reasons (expression.parse old ≡ None) (HasBlock old) old) e

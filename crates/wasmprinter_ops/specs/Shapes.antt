@@ -1,25 +1,44 @@
--- The program's shapes of immediates, and those of the table of operators.
+-- The program's shapes of immediates and roles, and those of the table of operators.
 use Rattle.std.specs.Prelude.{Option, Some, None}
-use Rattle.wasmprinter_spec.specs.Row.{Space, Shape, NoneShape, IndexShape, I32Shape, I64Shape}
+use Rattle.wasmprinter_spec.specs.Row.{Space, Shape, NoneShape, BlockShape, TryTableShape, IndexShape, BranchTableShape, I32Shape, I64Shape, Role}
 use Rattle.wasmprinter_spec.specs.Row as row
 use Rattle.wasmprinter_ops.specs.declared.opcode.Space.{Space as ProgramSpace}
 use Rattle.wasmprinter_ops.specs.declared.opcode.Space.TheVariants as spaces
 use Rattle.wasmprinter_ops.specs.declared.opcode.Shape.{Shape as ProgramShape}
 use Rattle.wasmprinter_ops.specs.declared.opcode.Shape.TheVariants as shapes
+use Rattle.wasmprinter_ops.specs.declared.opcode.Role.{Role as ProgramRole}
+use Rattle.wasmprinter_ops.specs.declared.opcode.Role.TheVariants as program_roles
 
 -- the index space of the definitions
-abbrev pub space_seen : ProgramSpace → Space
-space_seen spaces.Func = row.Func
-space_seen spaces.Local = row.Local
+abbrev pub space_view : ProgramSpace → Space
+space_view spaces.Func = row.Func
+space_view spaces.Local = row.Local
+space_view spaces.Label = row.Label
+space_view spaces.Tag = row.Tag
 
 -- the shape of the definitions
-abbrev pub shape_seen : ProgramShape → Shape
-shape_seen shapes.None = NoneShape
-shape_seen (shapes.Index space) = IndexShape (space_seen space)
-shape_seen shapes.I32 = I32Shape
-shape_seen shapes.I64 = I64Shape
+abbrev pub shape_view : ProgramShape → Shape
+shape_view shapes.None = NoneShape
+shape_view shapes.Block = BlockShape
+shape_view shapes.TryTable = TryTableShape
+shape_view (shapes.Index space) = IndexShape (space_view space)
+shape_view shapes.BranchTable = BranchTableShape
+shape_view shapes.I32 = I32Shape
+shape_view shapes.I64 = I64Shape
 
 -- the same of a shape that may be missing
-abbrev pub seen : Option ProgramShape → Option Shape
-seen None = None
-seen (Some s) = Some (shape_seen s)
+abbrev pub optional_shape_view : Option ProgramShape → Option Shape
+optional_shape_view None = None
+optional_shape_view (Some s) = Some (shape_view s)
+
+-- the role of the definitions
+abbrev pub role_view : ProgramRole → Role
+role_view program_roles.Plain = row.Plain
+role_view program_roles.Opens = row.Opens
+role_view program_roles.OpensIf = row.OpensIf
+role_view program_roles.OpensTry = row.OpensTry
+role_view program_roles.Turns = row.Turns
+role_view program_roles.Catches = row.Catches
+role_view program_roles.CatchesAll = row.CatchesAll
+role_view program_roles.Delegates = row.Delegates
+role_view program_roles.Ends = row.Ends

@@ -1,17 +1,18 @@
 //! Expressions (section 5.4, "Expressions"): operators up to the `end` that closes them. The operators aren't kept: they are read again from
 //! the bytes as they are asked for.
-ghost use Rattle.std.specs.Prelude.{◌≡◌, OnOk};
-ghost use Rattle.wasmprinter_spec.specs.Instructions.{expression};
-ghost use Rattle.wasmprinter_bytes.specs.Reads.{Reads, IsWithin, end_of};
-ghost use Rattle.wasmprinter_ops.specs.Operators.{SkipsOperators};
+ghost use Rattle.std.specs.Prelude.{◌≡◌, ◌<◌, ◌^◌, length};
+ghost use Rattle.wasmprinter_spec.specs.Instructions.{expression, roles};
+ghost use Rattle.wasmprinter_spec.specs.Nesting.{Nests, Sequence};
+ghost use Rattle.wasmprinter_bytes.specs.Reads.{end_of};
+ghost use Rattle.wasmprinter_bytes.specs.Lists.{Takes};
+ghost use Rattle.wasmprinter_ops.specs.Operators.{SkipsOperators, HasBlock};
 
+use crate::nesting::{Blocks, Step};
 use crate::operator::{Operator, read_placed};
+use std::alloc::Global;
 use std::marker::Model;
-use wasmprinter_bytes::Malformed;
 use wasmprinter_bytes::bytes::Cursor;
-
-/// The opcode of the `end` that closes an expression.
-const END: u8 = 0x0b;
+use wasmprinter_error::Error;
 
 /// The operators that are left, each with its place.
 #[derive(Drop)]
@@ -64,40 +65,43 @@ pub struct Expression<'a> {
 impl<'a> Model for Expression<'a> {
     ghost use Rattle.wasmprinter_spec.specs.Grammar.{Placed};
     ghost use Rattle.wasmprinter_spec.specs.Operator.{Operator as OperatorValue};
-    ghost use Rattle.wasmprinter_spec.specs.Terminated.{Closed};
+    ghost use Rattle.wasmprinter_spec.specs.Instructions.{Closed};
     ghost use Rattle.wasmprinter_bytes.specs.Reads.{end_of};
-    ghost use Rattle.wasmprinter_ops.specs.Operators.{operators_in, HasOperators};
+    ghost use Rattle.wasmprinter_ops.specs.Operators.{operators_in, HasExpression};
 
     ghost Value = { Closed (Placed OperatorValue) };
 
     ghost view = { λ e. record { items = operators_in e.operators; end = end_of e.operators } };
 
-    ghost invariant = { λ e. HasOperators e.operators };
+    ghost invariant = { λ e. HasExpression e.operators };
 }
 
-/// Reads operators up to the byte of an `end`, which is not read.
-fn skip_operators(cursor: &mut Cursor) -> Result<(), Malformed>
+/// Reads operators up to the `end` that closes them, and gives the place of that `end`.
+fn skip_operators(alloc: Global, cursor: &mut Cursor) -> Result<u64, Error>
     ensures reads { SkipsOperators cursor.old result cursor.new }
-    ensures within { IsWithin cursor.old result }
     ensures end { end_of cursor.new ≡ end_of cursor.old }
 {
-    while cursor.peek() != Some(END) {
-        Operator::read(cursor)?;
+    let mut blocks = Blocks::new(alloc);
+    loop {
+        let place = cursor.place();
+        let operator = Operator::read(cursor)?;
+        match blocks.advance(operator.opcode.role())? {
+            Step::On => {}
+            Step::Stop => return Ok(place),
+            Step::Refused => return Err(Error::Malformed { place }),
+        }
     }
-    Ok(())
 }
 
 impl<'a> Expression<'a> {
-    /// Reads operators and the `end` behind them.
-    pub fn read(cursor: &mut Cursor<'a>) -> Result<Self, Malformed>
-        ensures reads { Reads (λ e. e) expression.parse cursor.old result cursor.new }
-        ensures within { IsWithin cursor.old result }
+    /// Reads operators and the `end` that closes them.
+    pub fn read(alloc: Global, cursor: &mut Cursor<'a>) -> Result<Self, Error>
+        ensures reads { Takes (λ e. e) expression.parse HasBlock cursor.old result cursor.new }
         ensures end { end_of cursor.new ≡ end_of cursor.old }
     {
         let start = cursor.fork();
-        skip_operators(cursor)?;
-        let len = cursor.place() - start.place();
-        cursor.u8()?;
+        let end = skip_operators(alloc, cursor)?;
+        let len = end - start.place();
         Ok(Expression {
             operators: start.front(len as usize),
         })
@@ -114,7 +118,9 @@ impl<'a> Expression<'a> {
 
     /// The operators in order, without the last `end`.
     pub fn operators(&self) -> OperatorsReader<'a>
-        ensures { result ≡ self.now.items }
+        ensures all { result ≡ self.now.items }
+        ensures nested { Nests Sequence (roles self.now.items) }
+        ensures few { length self.now.items < 2 ^ 64 }
     {
         OperatorsReader {
             cursor: self.operators.fork(),

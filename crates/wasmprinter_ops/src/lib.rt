@@ -2,7 +2,9 @@
 //! spell them.
 #![tactic(auto)]
 
+pub mod blocks;
 pub mod expression;
+mod nesting;
 pub mod opcode;
 pub mod operator;
 mod tables;

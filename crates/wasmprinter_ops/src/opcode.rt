@@ -1,15 +1,15 @@
 //! Opcodes, and what the table of operators says of them.
 ghost use Rattle.std.specs.Prelude.{◌≡◌, map};
-ghost use Rattle.wasmprinter_spec.specs.Table.{word_of};
+ghost use Rattle.wasmprinter_spec.specs.Table.{word_of, role_of};
 ghost use Rattle.wasmprinter_spec.specs.Instructions.{is_prefix as is_prefix_byte, opcode_grammar};
 ghost use Rattle.wasmprinter_bytes.specs.Reads.{Reads, IsWithin, end_of};
-ghost use Rattle.wasmprinter_ops.specs.ByNumber.{each_word, each_shape, shape_of};
-ghost use Rattle.wasmprinter_ops.specs.Shapes.{seen};
+ghost use Rattle.wasmprinter_ops.specs.ByNumber.{each_word, each_shape, each_role, shape_of};
+ghost use Rattle.wasmprinter_ops.specs.Shapes.{optional_shape_view, role_view};
 
 use crate::tables;
 use std::marker::Model;
-use wasmprinter_bytes::Malformed;
 use wasmprinter_bytes::bytes::Cursor;
+use wasmprinter_error::Malformed;
 
 /// The index spaces that immediates name (section 2.5, "Indices").
 #[derive(Clone, Copy, Debug, PartialEq, Eq)]
@@ -18,19 +18,52 @@ pub enum Space {
     Func,
     /// The parameters and locals of a function.
     Local,
+    /// The blocks around an operator, the innermost first.
+    Label,
+    /// Tags of exceptions, imported ones first.
+    Tag,
 }
 
-/// What stands behind an opcode.
+/// What stands behind an opcode (section 5.4).
 #[derive(Clone, Copy, Debug, PartialEq, Eq)]
 pub enum Shape {
     /// Nothing.
     None,
+    /// The type of a block.
+    Block,
+    /// The type of a block, and catch clauses.
+    TryTable,
     /// An index of the space.
     Index(Space),
+    /// Labels, and one more for all other numbers.
+    BranchTable,
     /// A signed number of 32 bits.
     I32,
     /// A signed number of 64 bits.
     I64,
+}
+
+/// How an operator stands to the blocks around it (section 5.4, "Control Instructions", and the older exception operators).
+#[derive(Clone, Copy, Debug, PartialEq, Eq)]
+pub enum Role {
+    /// It stands in a block, and neither opens nor closes one.
+    Plain,
+    /// It opens a block that only `end` closes: `block`, `loop`, `try_table`.
+    Opens,
+    /// It opens a block that may have an `else`: `if`.
+    OpensIf,
+    /// It opens a block that may have catches: `try`.
+    OpensTry,
+    /// It ends the first arm of an `if` and begins the second: `else`.
+    Turns,
+    /// It begins a catch of a `try`: `catch`.
+    Catches,
+    /// It begins the last catch of a `try`: `catch_all`.
+    CatchesAll,
+    /// It closes a `try` that has no catches: `delegate`.
+    Delegates,
+    /// It closes a block: `end`.
+    Ends,
 }
 
 /// The prefix byte, 0 where there is none, and the number behind it or the byte itself.
@@ -59,9 +92,15 @@ fn one_byte_words() -> &'static [&'static str]
 }
 
 fn one_byte_shapes() -> &'static [Option<Shape>]
-    ensures { map seen result.now ≡ each_shape 0 }
+    ensures { map optional_shape_view result.now ≡ each_shape 0 }
 {
     &tables::ONE_BYTE_SHAPES
+}
+
+fn one_byte_roles() -> &'static [Role]
+    ensures { map role_view result.now ≡ each_role 0 }
+{
+    &tables::ONE_BYTE_ROLES
 }
 
 /// The words of the opcodes with the prefix, by their numbers.
@@ -76,10 +115,20 @@ fn words_of(prefix: u8) -> &'static [&'static str]
 
 /// The shapes of the immediates of the opcodes with the prefix, by their numbers.
 fn shapes_of(prefix: u8) -> &'static [Option<Shape>]
-    ensures { map seen result.now ≡ each_shape prefix }
+    ensures { map optional_shape_view result.now ≡ each_shape prefix }
 {
     match prefix {
         0 => one_byte_shapes(),
+        _ => &[],
+    }
+}
+
+/// How the opcodes with the prefix stand to the blocks around them, by their numbers.
+fn roles_of(prefix: u8) -> &'static [Role]
+    ensures { map role_view result.now ≡ each_role prefix }
+{
+    match prefix {
+        0 => one_byte_roles(),
         _ => &[],
     }
 }
@@ -125,11 +174,21 @@ impl Opcode {
 
     /// The shape of the immediates, `None` for an opcode that isn't listed.
     pub fn shape(&self) -> Option<Shape>
-        ensures { seen result ≡ shape_of self.now }
+        ensures { optional_shape_view result ≡ shape_of self.now }
     {
         match shapes_of(self.prefix).get(self.number as usize) {
             Some(shape) => *shape,
             None => None,
+        }
+    }
+
+    /// How the operator stands to the blocks around it, `Plain` for an opcode that isn't listed.
+    pub fn role(&self) -> Role
+        ensures { role_view result ≡ role_of self.now }
+    {
+        match roles_of(self.prefix).get(self.number as usize) {
+            Some(role) => *role,
+            None => Role::Plain,
         }
     }
 }

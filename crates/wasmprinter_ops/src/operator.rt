@@ -3,22 +3,29 @@ ghost use Rattle.std.specs.Prelude.{◌≡◌, IfOk};
 ghost use Rattle.wasmprinter_spec.specs.Grammar.{placed};
 ghost use Rattle.wasmprinter_spec.specs.Instructions.{operator, immediates as immediates_grammar};
 ghost use Rattle.wasmprinter_bytes.specs.Reads.{Reads, IsWithin, end_of};
-ghost use Rattle.wasmprinter_ops.specs.Immediates.{immediates_seen, HasShape};
-ghost use Rattle.wasmprinter_ops.specs.Operators.{placed_seen};
-ghost use Rattle.wasmprinter_ops.specs.Shapes.{shape_seen};
+ghost use Rattle.wasmprinter_ops.specs.Immediates.{immediates_view, HasShape};
+ghost use Rattle.wasmprinter_ops.specs.Operators.{placed_view};
+ghost use Rattle.wasmprinter_ops.specs.Shapes.{shape_view};
 
+use crate::blocks::{BlockType, Catches, Targets, read_block_type, read_catches};
 use crate::opcode::{Opcode, Shape};
-use std::marker::{Model, PhantomData};
-use wasmprinter_bytes::Malformed;
+use std::marker::Model;
 use wasmprinter_bytes::bytes::Cursor;
+use wasmprinter_error::Malformed;
 
-/// What stands behind an opcode, in the order of the bytes.
-#[derive(Clone, Copy, Debug, PartialEq, Eq)]
-pub enum Immediates {
+/// What stands behind an opcode, in the order of the bytes (section 5.4).
+#[derive(Drop)]
+pub enum Immediates<'a> {
     /// Nothing.
     None,
+    /// The type of a block.
+    Block(BlockType),
+    /// The type of a block, and catch clauses.
+    TryTable(BlockType, Catches<'a>),
     /// An index.
     Index(u32),
+    /// Labels for the numbers from 0 on, and one for all other numbers.
+    BrTable(Targets<'a>, u32),
     /// A number of 32 bits.
     I32(i32),
     /// A number of 64 bits.
@@ -31,33 +38,40 @@ pub struct Operator<'a> {
     /// Which operator it is.
     pub opcode: Opcode,
     /// What stands behind the opcode.
-    pub immediates: Immediates,
-    /// The bytes that immediates may borrow.
-    bytes: PhantomData<&'a [u8]>,
+    pub immediates: Immediates<'a>,
 }
 
 impl<'a> Model for Operator<'a> {
     ghost use Rattle.wasmprinter_spec.specs.Operator.{Operator as OperatorValue};
-    ghost use Rattle.wasmprinter_ops.specs.Immediates.{immediates_seen, IsListed};
+    ghost use Rattle.wasmprinter_ops.specs.Immediates.{immediates_view, IsListed};
 
     ghost Value = { OperatorValue };
 
-    ghost view = { λ o. record { opcode = o.opcode; immediates = immediates_seen o.immediates } };
+    ghost view = { λ o. record { opcode = o.opcode; immediates = immediates_view o.immediates } };
 
-    ghost invariant = { λ o. IsListed o.opcode (immediates_seen o.immediates) };
+    ghost invariant = { λ o. IsListed o.opcode (immediates_view o.immediates) };
 }
 
-impl Immediates {
+impl<'a> Immediates<'a> {
     /// Reads immediates of the shape.
-    fn read(cursor: &mut Cursor, shape: Shape) -> Result<Self, Malformed>
-        ensures reads { Reads immediates_seen (immediates_grammar (shape_seen shape)).parse cursor.old result cursor.new }
+    fn read(cursor: &mut Cursor<'a>, shape: Shape) -> Result<Self, Malformed>
+        ensures reads { Reads immediates_view (immediates_grammar (shape_view shape)).parse cursor.old result cursor.new }
         ensures within { IsWithin cursor.old result }
         ensures end { end_of cursor.new ≡ end_of cursor.old }
-        ensures shape { IfOk result (λ i. HasShape (shape_seen shape) (immediates_seen i)) }
+        ensures shape { IfOk result (λ i. HasShape (shape_view shape) (immediates_view i)) }
     {
         match shape {
             Shape::None => Ok(Immediates::None),
+            Shape::Block => Ok(Immediates::Block(read_block_type(cursor)?)),
+            Shape::TryTable => {
+                let block_type = read_block_type(cursor)?;
+                Ok(Immediates::TryTable(block_type, read_catches(cursor)?))
+            }
             Shape::Index(_) => Ok(Immediates::Index(cursor.u32()?)),
+            Shape::BranchTable => {
+                let targets = Targets::read(cursor)?;
+                Ok(Immediates::BrTable(targets, cursor.u32()?))
+            }
             Shape::I32 => Ok(Immediates::I32(cursor.s32()?)),
             Shape::I64 => Ok(Immediates::I64(cursor.s64()?)),
         }
@@ -77,17 +91,13 @@ impl<'a> Operator<'a> {
             return Err(Malformed { place });
         };
         let immediates = Immediates::read(cursor, shape)?;
-        Ok(Operator {
-            opcode,
-            immediates,
-            bytes: PhantomData,
-        })
+        Ok(Operator { opcode, immediates })
     }
 }
 
 /// Reads an operator, with its place in front.
 pub fn read_placed<'a>(cursor: &mut Cursor<'a>) -> Result<(u64, Operator<'a>), Malformed>
-    ensures reads { Reads placed_seen (placed operator).parse cursor.old result cursor.new }
+    ensures reads { Reads placed_view (placed operator).parse cursor.old result cursor.new }
     ensures within { IsWithin cursor.old result }
     ensures end { end_of cursor.new ≡ end_of cursor.old }
 {

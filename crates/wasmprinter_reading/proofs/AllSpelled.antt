@@ -1,11 +1,12 @@
 -- What holds of all values that bytes spell: a predicate goes through each combinator of grammars from the parts to the whole.
-use Rattle.std.proofs.Common.{◌≡◌, ℕ, ◌+◌, List, [], ◌∷◌, ◌++◌, length, Bool, true, false, Option, Some, subst, sym}
+use Rattle.std.proofs.Common.{◌≡◌, ℕ, ◌+◌, ◌≤◌, List, [], ◌∷◌, ◌++◌, length, Bool, true, false, Option, Some, None, refl, subst, sym}
 use Rattle.std.specs.List.{AllByRecursion}
-use Rattle.wasmprinter_spec.specs.Grammar.{Grammar, some_is, seq, mapped, as_value, nothing, never, choose, placed}
+use Rattle.wasmprinter_spec.specs.Grammar.{Grammar, some_is, byte, seq, try_map, map_value, succeed, fail, choose, placed}
+use Rattle.wasmprinter_spec.specs.FirstByte.{announced, Peeked, peeked}
+use Rattle.wasmprinter_spec.specs.Binary.ValTypes.{given}
 use Rattle.wasmprinter_spec.specs.Repeated.{Items, times, Entries}
 use Rattle.wasmprinter_spec.specs.Sized.{alone, exactly}
 use Rattle.wasmprinter_spec.specs.Binary.{AreBytes}
-use Rattle.wasmprinter_spec.specs.Terminated.{BeginsOtherwise, closed}
 
 -- Each value that bytes spell has P.
 pub record AllSpelled {A : Type 0} (g : Grammar A) (P : A → Type 0) : Type 0 where
@@ -30,27 +31,45 @@ AllSpelled-seq first second = record {
 }
 
 -- The values under a function that may refuse.
-pub AllSpelled-mapped : {A B : Type 0} {f : A → Option B} {g : Grammar A} {P : A → Type 0} {Q : B → Type 0} →
-    AllSpelled g P → ((a : A) (b : B) → f a ≡ Some b → P a → Q b) → AllSpelled (mapped f g) Q
-AllSpelled-mapped all keeps = record { has = λ p text b bytes s. keeps s.0 b s.1 (all.has p text s.0 bytes s.2) }
+pub AllSpelled-try_map : {A B : Type 0} {f : A → Option B} {g : Grammar A} {P : A → Type 0} {Q : B → Type 0} →
+    AllSpelled g P → ((a : A) (b : B) → f a ≡ Some b → P a → Q b) → AllSpelled (try_map f g) Q
+AllSpelled-try_map all keeps = record { has = λ p text b bytes s. keeps s.0 b s.1 (all.has p text s.0 bytes s.2) }
 
 -- The values under a function.
-pub AllSpelled-as_value : {A B : Type 0} {f : A → B} {g : Grammar A} {P : A → Type 0} {Q : B → Type 0} →
-    AllSpelled g P → ((a : A) → P a → Q (f a)) → AllSpelled (as_value f g) Q
-AllSpelled-as_value {f} {Q} all keeps = AllSpelled-mapped all (λ a b e h. subst Q (some_is (f a) b e) (keeps a h))
+pub AllSpelled-map_value : {A B : Type 0} {f : A → B} {g : Grammar A} {P : A → Type 0} {Q : B → Type 0} →
+    AllSpelled g P → ((a : A) → P a → Q (f a)) → AllSpelled (map_value f g) Q
+AllSpelled-map_value {f} {Q} all keeps = AllSpelled-try_map all (λ a b e h. subst Q (some_is (f a) b e) (keeps a h))
 
 -- A value that no bytes spell.
-pub AllSpelled-nothing : {A : Type 0} {a : A} {P : A → Type 0} → P a → AllSpelled (nothing a) P
-AllSpelled-nothing {a} {P} h = record { has = λ p text b bytes s. subst P (sym s.1) h }
+pub AllSpelled-succeed : {A : Type 0} {a : A} {P : A → Type 0} → P a → AllSpelled (succeed a) P
+AllSpelled-succeed {a} {P} h = record { has = λ p text b bytes s. subst P (sym s.1) h }
 
 -- No value at all.
-pub AllSpelled-never : {A : Type 0} {P : A → Type 0} → AllSpelled never P
-AllSpelled-never = record { has = λ p text a bytes s. absurd s }
+pub AllSpelled-fail : {A : Type 0} {P : A → Type 0} → AllSpelled fail P
+AllSpelled-fail = record { has = λ p text a bytes s. absurd s }
 
 -- One grammar or another.
 pub AllSpelled-choose : {A : Type 0} {g h : Grammar A} {P : A → Type 0} → (b : Bool) → AllSpelled g P → AllSpelled h P → AllSpelled (choose b g h) P
 AllSpelled-choose true first second = first
 AllSpelled-choose false first second = second
+
+-- A value if there is one.
+pub AllSpelled-given : {A : Type 0} {P : A → Type 0} (o : Option A) → ((a : A) → o ≡ Some a → P a) → AllSpelled (given o) P
+AllSpelled-given None holds = AllSpelled-fail
+AllSpelled-given (Some a) holds = AllSpelled-succeed (holds a refl)
+
+-- What the first byte announces, if each such value has P.
+pub AllSpelled-announced : {A : Type 0} {h : ℕ → Grammar A} {P : A → Type 0} → ((b : ℕ) → AllSpelled (h b) P) → AllSpelled (announced h) P
+AllSpelled-announced each = AllSpelled-map_value (AllSpelled-seq (AllSpelled-any byte) each) (λ x h. h.1)
+
+peeked_has : {A : Type 0} {h : ℕ → Grammar A} {P : A → Type 0} → ((b : ℕ) → AllSpelled (h b) P) →
+    (p : ℕ) (text : List ℕ) (a : A) → AreBytes text → Peeked h p text a → P a
+peeked_has each p [] a bytes s = absurd s
+peeked_has each p (b ∷ text) a bytes s = (each b).has p (b ∷ text) a bytes s
+
+-- What the first byte chooses, itself among it, if each such value has P.
+pub AllSpelled-peeked : {A : Type 0} {h : ℕ → Grammar A} {P : A → Type 0} → ((b : ℕ) → AllSpelled (h b) P) → AllSpelled (peeked h) P
+AllSpelled-peeked each = record { has = λ p text a bytes s. peeked_has each p text a bytes s }
 
 -- A value with its place.
 pub AllSpelled-placed : {A : Type 0} {g : Grammar A} {P : A → Type 0} → AllSpelled g P → AllSpelled (placed g) (λ x. P x.value)
@@ -60,8 +79,15 @@ AllSpelled-placed all = record { has = λ p text x bytes s. all.has p text x.val
 pub AllSpelled-exactly : {A : Type 0} {g : Grammar A} {P : A → Type 0} → AllSpelled g P → (n : ℕ) → AllSpelled (exactly (alone g) n) P
 AllSpelled-exactly all n = record { has = λ p text a bytes s. all.has p text a bytes s.1 }
 
+-- A value that takes exactly n bytes measures at most n by what takes at least so many bytes.
+pub AllSpelled-within : {A : Type 0} {g : Grammar A} {P : A → Type 0} {size : A → ℕ} → ((p : ℕ) (text : List ℕ) (a : A) → g.spells p text a → size a ≤ length text) →
+    AllSpelled g P → (n : ℕ) → AllSpelled (exactly (alone g) n) (λ a. P a × (size a ≤ n))
+AllSpelled-within {size = size} takes all n = record {
+  has = λ p text a bytes s. (all.has p text a bytes s.1, subst (λ k. size a ≤ k) s.0 (takes p text a s.1));
+}
+
 -- Items that stand one after the other.
-items_have : {A : Type 0} {g : Grammar A} {P : A → Type 0} → AllSpelled g P →
+pub items_have : {A : Type 0} {g : Grammar A} {P : A → Type 0} → AllSpelled g P →
     (xs : List A) (p : ℕ) (text : List ℕ) → AreBytes text → Items g p text xs → AllByRecursion P xs
 items_have all [] p text bytes s = tt
 items_have all (x ∷ xs) p text bytes s =
@@ -75,15 +101,6 @@ entries_have all [] p text bytes s = tt
 entries_have all (x ∷ xs) p text bytes s =
     let parts = split_bytes s.0 s.1 (subst AreBytes s.2 bytes) in
     (all.has p s.0 x parts.0 s.4, entries_have all xs (p + length s.0) s.1 parts.1 s.5)
-
--- Items up to the byte that closes them.
-pub AllSpelled-closed : {A : Type 0} {closer : ℕ} {g : Grammar A} {P : A → Type 0} →
-    (apart : (p : ℕ) (text : List ℕ) (a : A) → g.spells p text a → BeginsOtherwise closer text) → AllSpelled g P →
-    AllSpelled (closed closer g apart) (λ x. AllByRecursion P x.items)
-AllSpelled-closed {closer} apart all = record {
-  has = λ p text x bytes s.
-      items_have all x.items p s.0 (split_bytes s.0 (closer ∷ []) (subst AreBytes s.1 bytes)).0 s.2;
-}
 
 -- So many items.
 pub AllSpelled-times : {A : Type 0} {g : Grammar A} {P : A → Type 0} → AllSpelled g P →

@@ -1,215 +1,183 @@
 -- The items of a module read back as that module.
-use Rattle.std.proofs.Common.{◌≡◌, ◌⊎◌, inl, inr, ℕ, ◌<◌, ◌≤◌, arith, Bool, true, false, List, [], ◌∷◌, ◌++◌, length, Option, Some, None, refl, ap, ◌∙◌, codes, slice_get, get_or, map, option_map, append-nil}
+use Rattle.std.proofs.Common.{◌≡◌, Bool, true, false, List, [], ◌∷◌, ◌++◌, Option, Some, None, refl, sym, ap, subst, ◌∙◌, codes, map, append-nil}
 use Rattle.std.specs.List.{AllByRecursion}
-use Rattle.std.proofs.lemmas.Bool.{and_from}
-use Rattle.std.proofs.lemmas.List.{length-map}
-use Rattle.std.proofs.lemmas.Option.{slice_get-map, slice_get_cases}
-use Rattle.wasmprinter_spec.specs.Grammar.{Placed, ◌>>=◌}
+use Rattle.wasmprinter_spec.specs.Grammar.{Placed}
 use Rattle.wasmprinter_spec.specs.Forest.{Forest, End, Word, Group, onto}
-use Rattle.wasmprinter_spec.specs.Types as types
-use Rattle.wasmprinter_spec.specs.Types.{ValType, FuncType}
-use Rattle.wasmprinter_spec.specs.Placed.{Export, PlacedFunction, PlacedModule}
-use Rattle.wasmprinter_spec.specs.Module.{without_places, expanded, function_of, module_of}
-use Rattle.wasmprinter_spec.specs.Indexed.{IsIndexed, IsIndexedFunction}
-use Rattle.wasmprinter_spec.specs.Layout.{signature_of}
-use Rattle.wasmprinter_spec.specs.IndexSpaces.{Identifiers, are_distinct, index_space, Spaces, ByNumber}
-use Rattle.wasmprinter_spec.specs.Read.{variable, ids_of, identified, TypeText, ExportText, FunctionText, Field, TypeField, ExportField, FunctionField, field, Fields, add, no_fields, fields, each, same_type, same_types, same_func_type, parameters, module_spaces, read_function, read_export, resolved, read_forest}
-use Rattle.wasmprinter_lexical.proofs.Grown.{onto-End}
+use Rattle.wasmprinter_spec.specs.Types.{SubType, FuncType, concat, all_types, signature_at}
+use Rattle.wasmprinter_spec.specs.Placed.{TypeGroup, Export, PlacedFunction, PlacedModule}
+use Rattle.wasmprinter_spec.specs.Module.{without_places, groups_of, function_of, module_of}
+use Rattle.wasmprinter_spec.specs.Indexed.{IsIndexed, IsIndexedFunction, counts_in}
+use Rattle.wasmprinter_spec.specs.IndexSpaces.{Identifiers, are_distinct, Spaces, Context}
+use Rattle.wasmprinter_spec.specs.Text.Items.{each, identified}
+use Rattle.wasmprinter_spec.specs.Text.Types.{read_group}
+use Rattle.wasmprinter_spec.specs.Text.Functions.{read_function}
+use Rattle.wasmprinter_spec.specs.Text.Exports.{read_export}
+use Rattle.wasmprinter_spec.specs.Read.{Fields, no_fields, fields, declared, spaces_of, context, module_of_fields, read_forest}
+use Rattle.wasmprinter_lexical.proofs.Grown.{onto-End, onto_assoc}
+use Rattle.wasmprinter_reading.specs.Listed.{IsSignatureInRange, AreSignaturesInRange}
 use Rattle.wasmprinter_reading.proofs.Ranged.{IsRanged, IsRangedExport, IsRangedFunction}
-use Rattle.wasmprinter_reading.proofs.Trees.{type_items, export_items, function_items}
-use Rattle.wasmprinter_reading.proofs.BackParts.{unnamed, types_of-unnamed, printed_signature, chunks_of, listed_values, operators-read, type_field-items, export_field-items, function_field-items}
+use Rattle.wasmprinter_reading.proofs.Numbered.{rows}
+use Rattle.wasmprinter_reading.proofs.Fields.Exports.{export_items, read_export-items}
+use Rattle.wasmprinter_reading.proofs.Fields.Functions.{function_items, read_function-items}
+use Rattle.wasmprinter_reading.proofs.Types.Ranged.{IsSingle, IsRangedGroup, IsRangedFunc}
+use Rattle.wasmprinter_reading.proofs.Types.Ranges.{own_signature_ranged}
+use Rattle.wasmprinter_reading.proofs.Types.Trees.{type_items, type_field, type_group_items_by, type_section_items}
+use Rattle.wasmprinter_reading.proofs.Types.Back.{read_group-items, group_members-items}
 
--- ---- fields of one kind
+-- ---- fields of one kind, before others
 
-unfoldable pub rows : List Forest → Forest
-rows [] = End
-rows (g ∷ gs) = Group g (rows gs)
-
--- a row of groups begins with no identifier
-no_identifier_in : (gs : List Forest) → (identified (rows gs)).1 ≡ rows gs
+fields-exports : {A : Type 0} (items : A → Forest) (xs : List A) (f : Forest) (m : Fields) → fields f ≡ Some m →
+    fields (onto (rows (map (λ x. Word (codes "export") (items x)) xs)) f) ≡ Some (record m { exports = map items xs ++ m.exports })
 unfolding rows
-no_identifier_in [] = refl
-no_identifier_in (g ∷ gs) = refl
+fields-exports items [] f m e = e
+fields-exports items (x ∷ xs) f m e = rw (fields-exports items xs f m e)
 
-group_first : (gs : List Forest) (f : Forest) → (identified f).1 ≡ f → (identified (onto (rows gs) f)).1 ≡ onto (rows gs) f
+fields-functions : {A : Type 0} (items : A → Forest) (xs : List A) (f : Forest) (m : Fields) → fields f ≡ Some m →
+    fields (onto (rows (map (λ x. Word (codes "func") (items x)) xs)) f) ≡ Some (record m { functions = map items xs ++ m.functions })
 unfolding rows
-group_first [] f h = h
-group_first (g ∷ gs) f h = refl
+fields-functions items [] f m e = e
+fields-functions items (x ∷ xs) f m e = rw (fields-functions items xs f m e)
 
-adds : List Field → Fields → Option Fields
-adds [] m = Some m
-adds (x ∷ xs) m = adds xs m >>= add x
+-- what the fields of a group's types hold
+abbrev group_bodies : List (Placed TypeGroup) → List (List Forest)
+group_bodies gs = map (λ g. map type_items g.value.types) gs
 
--- fields of one kind, before others
-fields-rows : {A : Type 0} (P : A → Type 0) (write : A → Forest) (make : A → Field) → ((x : A) → P x → field (write x) ≡ Some (make x)) →
-    (xs : List A) (f : Forest) (m : Fields) → AllByRecursion P xs → fields f ≡ Some m → fields (onto (rows (map write xs)) f) ≡ adds (map make xs) m
-unfolding rows adds
-fields-rows P write make law [] f m h e = e
-fields-rows P write make law (x ∷ xs) f m h e = rw (law x h.0, fields-rows P write make law xs f m h.1 e)
+-- a group, written as one or not
+fields-group : (written : Bool) (ts : List SubType) (f : Forest) (m : Fields) → IsSingle written ts → fields f ≡ Some m →
+    fields (onto (type_group_items_by written (rows (map type_field ts))) f) ≡ Some (record m { types = map type_items ts ∷ m.types })
+unfolding rows
+fields-group true ts f m h e = rw (e, group_members-items ts)
+fields-group false (t ∷ []) f m h e = rw e
+fields-group false [] f m h e = absurd h
+fields-group false (t ∷ u ∷ ts) f m h e = absurd h
 
--- Adding fields of one kind puts them before those that there are.
-adds-types : {A : Type 0} (make : A → TypeText) (xs : List A) (m : Fields) → adds (map (λ x. TypeField (make x)) xs) m ≡ Some (record m { types = map make xs ++ m.types })
-unfolding adds
-adds-types make [] m = refl
-adds-types make (x ∷ xs) m = ap (λ n. n >>= add (TypeField (make x))) (adds-types make xs m)
+fields-types : (gs : List (Placed TypeGroup)) (f : Forest) (m : Fields) → AllByRecursion (λ g. IsRangedGroup g.value) gs → fields f ≡ Some m →
+    fields (onto (type_section_items gs) f) ≡ Some (record m { types = group_bodies gs ++ m.types })
+fields-types [] f m h e = e
+fields-types (g ∷ gs) f m h e =
+    let group : Forest = type_group_items_by g.value.written (rows (map type_field g.value.types)) in
+    ap fields (onto_assoc group (type_section_items gs) f)
+    ∙ fields-group g.value.written g.value.types (onto (type_section_items gs) f) _ h.0.single (fields-types gs f m h.1 e)
 
-adds-exports : {A : Type 0} (make : A → ExportText) (xs : List A) (m : Fields) → adds (map (λ x. ExportField (make x)) xs) m ≡ Some (record m { exports = map make xs ++ m.exports })
-unfolding adds
-adds-exports make [] m = refl
-adds-exports make (x ∷ xs) m = ap (λ n. n >>= add (ExportField (make x))) (adds-exports make xs m)
+-- ---- identifiers
 
-adds-functions : {A : Type 0} (make : A → FunctionText) (xs : List A) (m : Fields) → adds (map (λ x. FunctionField (make x)) xs) m ≡ Some (record m { functions = map make xs ++ m.functions })
-unfolding adds
-adds-functions make [] m = refl
-adds-functions make (x ∷ xs) m = ap (λ n. n >>= add (FunctionField (make x))) (adds-functions make xs m)
+-- no identifier stands before these items
+IsUnnamed : Forest → Type 0
+IsUnnamed f = identified f ≡ (None, f)
 
--- ---- signatures
+unnamed_rows : (gs : List Forest) (f : Forest) → IsUnnamed f → IsUnnamed (onto (rows gs) f)
+unfolding rows IsUnnamed
+unnamed_rows [] f h = h
+unnamed_rows (g ∷ gs) f h = refl
 
-same_type_refl : (t : ValType) → same_type t t ≡ true
-same_type_refl types.I32 = refl
-same_type_refl types.I64 = refl
+unnamed_group : (written : Bool) (ts : List SubType) (f : Forest) → IsUnnamed f → IsUnnamed (onto (type_group_items_by written (rows (map type_field ts))) f)
+unfolding IsUnnamed
+unnamed_group true ts f h = refl
+unnamed_group false ts f h = unnamed_rows (map type_field ts) f h
 
-same_types_refl : (ts : List ValType) → same_types ts ts ≡ true
-same_types_refl [] = refl
-same_types_refl (t ∷ ts) = and_from (same_type t t) (same_types ts ts) (same_type_refl t) (same_types_refl ts)
-
-same_func_type_refl : (t : FuncType) → same_func_type t t ≡ true
-same_func_type_refl t = and_from (same_types t.params t.params) (same_types t.results t.results) (same_types_refl t.params) (same_types_refl t.results)
-
--- the signature that stands beside the index of a type is the type's
-own_parameters : (o : Option (Placed FuncType)) (d : Placed FuncType) → o ≡ Some d → parameters (printed_signature (signature_of o)) (option_map (λ t. t.value) o) ≡ Some (ids_of (unnamed (signature_of o).params))
-own_parameters None d e = absurd (cc)
-own_parameters (Some t) d e = rw (types_of-unnamed t.value.params, same_func_type_refl t.value)
-
--- ---- index spaces
+unnamed_types : (gs : List (Placed TypeGroup)) (f : Forest) → IsUnnamed f → IsUnnamed (onto (type_section_items gs) f)
+unfolding IsUnnamed
+unnamed_types [] f h = h
+unnamed_types (g ∷ gs) f h =
+    let group : Forest = type_group_items_by g.value.written (rows (map type_field g.value.types)) in
+    let rest : IsUnnamed (onto (type_section_items gs) f) = unnamed_types gs f h in
+    subst IsUnnamed (sym (onto_assoc group (type_section_items gs) f)) (unnamed_group g.value.written g.value.types _ rest)
 
 -- declarations without identifiers, before others
-unnamed_are_distinct : {A B : Type 0} (id : B → Option (List ℕ)) (make : A → B) → ((x : A) → id (make x) ≡ None) → (xs : List A) (ids : Identifiers) →
-    are_distinct ids ≡ true → are_distinct (map id (map make xs) ++ ids) ≡ true
-unnamed_are_distinct id make none [] ids h = h
-unnamed_are_distinct id make none (x ∷ xs) ids h = rw (none x) (unnamed_are_distinct id make none xs ids h)
+declared_distinct : {A : Type 0} (items : A → Forest) → ((x : A) → (identified (items x)).0 ≡ None) → (xs : List A) (fs : List Forest) →
+    are_distinct (declared fs) ≡ true → are_distinct (declared (map items xs ++ fs)) ≡ true
+declared_distinct items none [] fs h = h
+declared_distinct items none (x ∷ xs) fs h = rw (none x) (declared_distinct items none xs fs h)
 
--- declarations without identifiers are an index space
-unnamed_space : {A B : Type 0} (id : B → Option (List ℕ)) (make : A → B) → ((x : A) → id (make x) ≡ None) → (xs : List A) →
-    index_space (map id (map make xs)) ≡ Some (map id (map make xs))
-unnamed_space id make none xs =
-    let h : are_distinct (map id (map make xs) ++ []) ≡ true = unnamed_are_distinct id make none xs [] refl in
-    let k : are_distinct (map id (map make xs)) ≡ true = rw append-nil at h in
-    rw k
+declared_types : (gs : List (Placed TypeGroup)) → are_distinct (declared (concat (group_bodies gs))) ≡ true
+declared_types [] = refl
+declared_types (g ∷ gs) = declared_distinct type_items (λ t. refl) g.value.types (concat (group_bodies gs)) (declared_types gs)
 
--- so are parameters and locals
-local_space : (ps ls : List ValType) → index_space (ids_of (unnamed ps) ++ ids_of (unnamed ls)) ≡ Some (ids_of (unnamed ps) ++ ids_of (unnamed ls))
-local_space ps ls =
-    let locals : are_distinct (ids_of (unnamed ls) ++ []) ≡ true = unnamed_are_distinct (λ v. v.id) (variable None) (λ t. refl) ls [] refl in
-    let h : are_distinct (ids_of (unnamed ps) ++ ids_of (unnamed ls)) ≡ true =
-    unnamed_are_distinct (λ v. v.id) (variable None) (λ t. refl) ps (ids_of (unnamed ls)) (rw append-nil at locals) in
-    rw h
+-- ---- the types
+
+read_groups-items : (ids : Identifiers) (gs : List (Placed TypeGroup)) → AllByRecursion (λ g. IsRangedGroup g.value) gs → each (read_group ids) (group_bodies gs) ≡ Some (groups_of gs)
+read_groups-items ids [] h = refl
+read_groups-items ids (g ∷ gs) h = rw (read_group-items ids g.value.types h.0.each, read_groups-items ids gs h.1)
 
 -- ---- the module
 
 module _ (m : PlacedModule) where
   -- the signature that is printed with a function
-  unfoldable pub own_type : PlacedFunction → FuncType
-  own_type f = signature_of (slice_get m.types f.type_index)
+  unfoldable pub own_type : PlacedFunction → Option FuncType
+  own_type f = signature_at (all_types (groups_of m.types)) f.type_index
 
-  type_text : Placed FuncType → TypeText
-  type_text t = record { id = None; type = t.value }
-
-  export_text : Placed Export → ExportText
-  export_text e = record { name = e.value.name; function = ByNumber e.value.function }
-
-  function_text : PlacedFunction → FunctionText
-  function_text f = record {
-    id = None;
-    type = ByNumber f.type_index;
-    signature = printed_signature (own_type f);
-    locals = unnamed (expanded f.body.value.locals);
-    code = chunks_of (without_places f.body.value.operators);
-  }
-
-  -- the fields as they are read
-  all_fields : Fields
-  all_fields = record { types = map type_text m.types; exports = map export_text m.exports; functions = map function_text m.functions }
+  pub signatures_ranged : IsRanged m → AreSignaturesInRange (signature_at (all_types (groups_of m.types)))
+  signatures_ranged h i = own_signature_ranged m.types i h.each_group
 
   -- what a module is written as, its functions whole or not
   unfoldable pub module_items : Bool → Forest
   module_items skeleton =
-      onto (rows (map (λ t. type_items t.value) m.types)) (onto (rows (map (λ e. export_items e.value) m.exports))
-      (rows (map (λ f. function_items skeleton (own_type f) f) m.functions)))
+      onto (type_section_items m.types) (onto (rows (map (λ e. Word (codes "export") (export_items e.value)) m.exports))
+      (rows (map (λ f. Word (codes "func") (function_items skeleton (all_types (groups_of m.types)) (own_type f) f)) m.functions)))
 
-  any_type : (ts : List (Placed FuncType)) → AllByRecursion (λ t. Unit {0}) ts
-  any_type [] = tt
-  any_type (t ∷ ts) = (tt, any_type ts)
+  -- the fields as they are sorted
+  all_fields : Fields
+  all_fields = record {
+    types = group_bodies m.types;
+    exports = map (λ e. export_items e.value) m.exports;
+    functions = map (λ f. function_items false (all_types (groups_of m.types)) (own_type f) f) m.functions;
+  }
 
   fields-module_items : IsRanged m → fields (module_items false) ≡ Some all_fields
-  unfolding module_items all_fields type_text export_text function_text
+  unfolding module_items all_fields
   fields-module_items h =
-      let functions : fields (rows (map (λ f. function_items false (own_type f) f) m.functions)) ≡ Some (record no_fields { functions = map function_text m.functions ++ [] }) =
-      rw onto-End at (fields-rows IsRangedFunction (λ f. function_items false (own_type f) f) (λ f. FunctionField (function_text f))
-      (λ f k. function_field-items (own_type f) f k) m.functions End no_fields h.each_function refl)
-      ∙ adds-functions function_text m.functions no_fields in
-      let exports = fields-rows (λ e. IsRangedExport e.value) (λ e. export_items e.value) (λ e. ExportField (export_text e))
-      (λ e k. export_field-items e.value k) m.exports _ _ h.each_export functions ∙ adds-exports export_text m.exports _ in
-      fields-rows (λ t. Unit {0}) (λ t. type_items t.value) (λ t. TypeField (type_text t)) (λ t k. type_field-items t.value) m.types _ _ (any_type m.types) exports
-      ∙ adds-types type_text m.types _
+      let functions : fields (rows (map (λ f. Word (codes "func") (function_items false (all_types (groups_of m.types)) (own_type f) f)) m.functions)) ≡ Some (record no_fields { functions = map (λ f. function_items false (all_types (groups_of m.types)) (own_type f) f) m.functions ++ [] }) =
+      rw onto-End at (fields-functions (λ f. function_items false (all_types (groups_of m.types)) (own_type f) f) m.functions End no_fields refl) in
+      fields-types m.types _ _ h.each_group (fields-exports (λ e. export_items e.value) m.exports _ _ functions)
       ∙ ap (λ v. Some v) (simp append-nil)
 
-  -- the types as they are declared
-  declared : (ts : List (Placed FuncType)) → map (λ t. t.type) (map type_text ts) ≡ map (λ t. t.value) ts
-  unfolding type_text
-  declared [] = refl
-  declared (t ∷ ts) = ap (λ us. t.value ∷ us) (declared ts)
-
-  declared_at : (i : ℕ) → slice_get (map (λ t. t.type) (map type_text m.types)) i ≡ option_map (λ t. t.value) (slice_get m.types i)
-  declared_at i = ap (λ ts. slice_get ts i) (declared m.types) ∙ slice_get-map (λ t. t.value) m.types i
-
-  -- a declared type
-  declared_type : (ts : List (Placed FuncType)) (i : ℕ) → i < length (without_places ts) → (d : Placed FuncType) × (slice_get ts i ≡ Some d)
-  declared_type ts i h = by (slice_get_cases ts i).1
-    where
-      by : (((x : Placed FuncType) × (i < length ts) × (slice_get ts i ≡ Some x) × (get_or ts i x ≡ x)) ⊎ ((length ts ≤ i) × (slice_get ts i ≡ None))) → (d : Placed FuncType) × (slice_get ts i ≡ Some d)
-      by (inl a) = (a.0, a.2)
-      by (inr a) = absurd (omega (arith, h, a.0, length-map ts (λ (t : Placed FuncType). t.value)))
-
   all_spaces : Spaces
-  all_spaces = record { types = map (λ t. t.id) (map type_text m.types); functions = map (λ f. f.id) (map function_text m.functions); locals = [] }
+  all_spaces = record { types = declared (concat (group_bodies m.types)); functions = declared (map (λ f. function_items false (all_types (groups_of m.types)) (own_type f) f) m.functions); tags = []; locals = [] }
 
-  module_spaces-all_fields : module_spaces all_fields ≡ Some all_spaces
-  unfolding all_fields all_spaces type_text function_text
-  module_spaces-all_fields = rw (unnamed_space (λ t. t.id) type_text (λ t. refl) m.types, unnamed_space (λ f. f.id) function_text (λ f. refl) m.functions)
+  spaces_of-all_fields : spaces_of all_fields ≡ Some all_spaces
+  unfolding all_fields all_spaces
+  spaces_of-all_fields =
+      let functions : are_distinct (declared (map (λ f. function_items false (all_types (groups_of m.types)) (own_type f) f) m.functions ++ [])) ≡ true =
+      declared_distinct (λ f. function_items false (all_types (groups_of m.types)) (own_type f) f) (λ f. refl) m.functions [] refl in
+      let plain : are_distinct (declared (map (λ f. function_items false (all_types (groups_of m.types)) (own_type f) f) m.functions)) ≡ true = rw append-nil at functions in
+      rw (declared_types m.types, plain)
 
-  read_function-text : (f : PlacedFunction) → f.type_index < length (without_places m.types) → IsRangedFunction f → read_function all_fields all_spaces (function_text f) ≡ Some (function_of f)
-  unfolding all_fields all_spaces function_text own_type
-  read_function-text f k h =
-      let d = declared_type m.types f.type_index k in
-      rw (
-        declared_at f.type_index,
-        own_parameters (slice_get m.types f.type_index) d.0 d.1,
-        local_space (signature_of (slice_get m.types f.type_index)).params (expanded f.body.value.locals),
-        operators-read _ (without_places f.body.value.operators) (listed_values f.body.value.operators h.operators),
-        types_of-unnamed (expanded f.body.value.locals),
-      )
+  -- what functions and exports are read with
+  abbrev whole_context : Context
+  whole_context = context all_spaces (groups_of m.types)
 
-  read_functions : (fs : List PlacedFunction) → AllByRecursion (IsIndexedFunction (module_of m)) (map function_of fs) → AllByRecursion IsRangedFunction fs → each (read_function all_fields all_spaces) (map function_text fs) ≡ Some (map function_of fs)
-  read_functions [] k h = refl
-  read_functions (f ∷ fs) k h = rw (read_function-text f k.0.type_index h.0, read_functions fs k.1 h.1)
+  read_function-own : (f : PlacedFunction) → IsRanged m → IsIndexedFunction (module_of m) (function_of f) → IsRangedFunction f →
+      read_function whole_context (function_items false (all_types (groups_of m.types)) (own_type f) f) ≡ Some (function_of f)
+  unfolding own_type
+  read_function-own f r k h =
+      let t : FuncType = k.type_index.0 in
+      let own : signature_at (all_types (groups_of m.types)) f.type_index ≡ Some t = k.type_index.1 in
+      let ranged : IsRangedFunc t = subst IsSignatureInRange own (signatures_ranged r f.type_index) in
+      ap (λ s. read_function whole_context (function_items false (all_types (groups_of m.types)) s f)) own
+      ∙ read_function-items whole_context (all_types (groups_of m.types)) (counts_in (module_of m) (function_of f))
+      (record { read = λ i. refl; counted = λ i. refl; in_range = signatures_ranged r }) t f own ranged h k.operators
 
-  read_exports : (es : List (Placed Export)) → each (read_export all_fields all_spaces) (map export_text es) ≡ Some (without_places es)
-  unfolding export_text
-  read_exports [] = refl
-  read_exports (e ∷ es) = rw (read_exports es)
+  read_functions : (fs : List PlacedFunction) → IsRanged m → AllByRecursion (IsIndexedFunction (module_of m)) (map function_of fs) → AllByRecursion IsRangedFunction fs →
+      each (read_function whole_context) (map (λ f. function_items false (all_types (groups_of m.types)) (own_type f) f) fs) ≡ Some (map function_of fs)
+  read_functions [] r k h = refl
+  read_functions (f ∷ fs) r k h = rw (read_function-own f r k.0 h.0, read_functions fs r k.1 h.1)
 
-  resolved-all_fields : IsIndexed (module_of m) → IsRanged m → resolved all_fields ≡ Some (module_of m)
+  read_exports : (es : List (Placed Export)) → AllByRecursion (λ e. IsRangedExport e.value) es → each (read_export whole_context) (map (λ e. export_items e.value) es) ≡ Some (without_places es)
+  read_exports [] h = refl
+  read_exports (e ∷ es) h = rw (read_export-items whole_context e.value h.0, read_exports es h.1)
+
+  module_of-all_fields : IsIndexed (module_of m) → IsRanged m → module_of_fields all_fields ≡ Some (module_of m)
   unfolding all_fields
-  resolved-all_fields k h = rw (module_spaces-all_fields, read_functions m.functions k.functions h.each_function, read_exports m.exports, declared m.types)
+  module_of-all_fields k h =
+      rw (spaces_of-all_fields, read_groups-items all_spaces.types m.types h.each_group, read_functions m.functions h k.functions h.each_function, read_exports m.exports h.each_export)
 
   -- no identifier stands before the fields
   no_identifier : (identified (module_items false)).1 ≡ module_items false
-  unfolding module_items
+  unfolding module_items IsUnnamed
   no_identifier =
-      group_first (map (λ t. type_items t.value) m.types) _
-      (group_first (map (λ e. export_items e.value) m.exports) _
-      (no_identifier_in (map (λ f. function_items false (own_type f) f) m.functions)))
+      ap (λ x. x.1) (unnamed_types m.types _
+      (unnamed_rows (map (λ e. Word (codes "export") (export_items e.value)) m.exports) _
+      (rw onto-End at (unnamed_rows (map (λ f. Word (codes "func") (function_items false (all_types (groups_of m.types)) (own_type f) f)) m.functions) End refl))))
 
   pub module_reads : IsIndexed (module_of m) → IsRanged m → read_forest (Group (Word (codes "module") (module_items false)) End) ≡ Some (module_of m)
-  module_reads k h = rw (no_identifier, fields-module_items h, resolved-all_fields k h)
+  module_reads k h = rw (no_identifier, fields-module_items h, module_of-all_fields k h)

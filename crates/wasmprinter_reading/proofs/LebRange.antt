@@ -5,7 +5,7 @@ use Rattle.std.proofs.lemmas.Nat.{pow-add}
 use Rattle.wasmprinter_spec.specs.Leb.{Unsigned, unsigned, Signed, signed}
 use Rattle.wasmprinter_spec.specs.Binary.{AreBytes}
 use Rattle.wasmprinter_reading.proofs.AllSpelled.{AllSpelled}
-use Rattle.wasmprinter_reading.proofs.Ranged.{IsSigned}
+use Rattle.wasmprinter_reading.specs.Listed.{IsSigned}
 
 -- Seven bits more hold 128 times as much.
 pow_seven : (bits : ℕ) → 7 ≤ bits → 2 ^ bits ≡ 128 * 2 ^ (bits - 7)

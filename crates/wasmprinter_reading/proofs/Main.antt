@@ -1,18 +1,18 @@
 -- Printed text reads back, and its tokens do not depend on places and indent.
-use Rattle.std.proofs.Common.{◌≡◌, ℕ, ◌<◌, ◌^◌, ◌≤◌, ◌+◌, length, cond, List, [], ◌∷◌, None, refl, sym, ap, ◌∙◌, codes, arith, map}
-use Rattle.std.specs.List.{AllByRecursion}
+use Rattle.std.proofs.Common.{◌≡◌, ℕ, ◌<◌, ◌^◌, cond, [], ◌∷◌, None, refl, sym, ap, ◌∙◌, codes, arith}
 use Rattle.std.proofs.lemmas.Str.{is_utf8-from_IsUtf8}
 use Rattle.wasmprinter_spec.specs.Character.{class}
-use Rattle.wasmprinter_spec.specs.Grammar.{Placed, ◌>>=◌}
-use Rattle.wasmprinter_spec.specs.Types.{FuncType}
-use Rattle.wasmprinter_spec.specs.Forest.{Forest, End, Word, Group, forest, cut}
+use Rattle.wasmprinter_spec.specs.Grammar.{◌>>=◌}
+use Rattle.wasmprinter_spec.specs.Types.{all_types}
+use Rattle.wasmprinter_spec.specs.Module.{groups_of}
+use Rattle.wasmprinter_spec.specs.Forest.{End, Word, Group, forest, cut}
 use Rattle.wasmprinter_spec.specs.Token.{tokens}
 use Rattle.wasmprinter_spec.specs.Call.{text_of}
 use Rattle.wasmprinter_spec.specs.Options.{Options, IsBlank}
 use Rattle.wasmprinter_spec.specs.Plain.{IsPlainText}
-use Rattle.wasmprinter_spec.specs.Piece.{Piece, Feed, all_calls, all_tokens}
+use Rattle.wasmprinter_spec.specs.Piece.{Feed, all_calls, all_tokens}
 use Rattle.wasmprinter_spec.specs.Placed.{PlacedModule, PlacedFunction}
-use Rattle.wasmprinter_spec.specs.Layout.{numbered, type_pieces, export_pieces, function_pieces, field_pieces, module_pieces, layout}
+use Rattle.wasmprinter_spec.specs.Layout.{export_pieces, function_pieces, module_field_pieces, module_pieces, layout}
 use Rattle.wasmprinter_spec.specs.Laws.{ReadsBack, TokensStay, PrintsPlainText}
 use Rattle.wasmprinter_spec.specs.Read.{read, read_groups, read_forest, without_customs}
 use Rattle.wasmprinter_lexical.proofs.Pieces.{Free, Bound}
@@ -21,40 +21,33 @@ use Rattle.wasmprinter_lexical.proofs.Plain.{plain_is_utf8}
 use Rattle.wasmprinter_lexical.proofs.PrintedPieces.{text_is_plain}
 use Rattle.wasmprinter_reading.proofs.Ranged.{IsRanged, IsRangedExport, IsRangedFunction}
 use Rattle.wasmprinter_reading.proofs.Ranges.{ranged}
-use Rattle.wasmprinter_reading.proofs.Trees.{type_items, export_items, function_items, type_writes, export_writes, function_writes}
+use Rattle.wasmprinter_reading.proofs.Fields.Exports.{export_items, export_writes}
+use Rattle.wasmprinter_reading.proofs.Fields.Functions.{function_items, function_writes}
+use Rattle.wasmprinter_reading.proofs.Numbered.{numbered_writes}
+use Rattle.wasmprinter_reading.proofs.Types.Trees.{type_section_writes}
 use Rattle.wasmprinter_reading.proofs.Stays.{module_pieces_stay}
-use Rattle.wasmprinter_reading.proofs.Back.{rows, own_type, module_items, module_reads}
-
--- fields of one kind, each with its number
-numbered_writes : {A : Type 0} (P : A → Type 0) (write : ℕ → A → List Piece) (items : A → Forest) → ((i : ℕ) (x : A) → i < 2 ^ 64 → P x → Writes Bound (write i x) Bound (Group (items x) End)) →
-    (i : ℕ) (xs : List A) → i + length xs ≤ 2 ^ 64 → AllByRecursion P xs → Writes Bound (numbered write i xs) Bound (rows (map items xs))
-unfolding numbered rows
-numbered_writes P write items law i [] small h = nothing_writes
-numbered_writes P write items law i (x ∷ xs) small h =
-    both_write (law i x (omega arith) h.0) (numbered_writes P write items law (i + 1) xs (omega arith) h.1)
+use Rattle.wasmprinter_reading.proofs.Back.{own_type, signatures_ranged, module_items, module_reads}
 
 module _ (o : Options) (m : PlacedModule) (h : IsRanged m) where
-  any_type : (ts : List (Placed FuncType)) → AllByRecursion (λ t. Unit {0}) ts
-  any_type [] = tt
-  any_type (t ∷ ts) = (tt, any_type ts)
-
   function_pieces_write : (i : ℕ) (f : PlacedFunction) → i < 2 ^ 64 → IsRangedFunction f →
-      Writes Bound (function_pieces o m.types i f) Bound (Group (function_items o.skeleton (own_type m f) f) End)
+      Writes Bound (function_pieces o (all_types (groups_of m.types)) i f) Bound (Group (Word (codes "func") (function_items o.skeleton (all_types (groups_of m.types)) (own_type m f) f)) End)
   unfolding function_pieces own_type
-  function_pieces_write i f small k = break_writes (function_writes o.skeleton o.offsets (own_type m f) i f small k)
+  function_pieces_write i f small k =
+      let ranged = signatures_ranged m h in
+      break_writes (function_writes refl o.skeleton o.offsets (all_types (groups_of m.types)) ranged (own_type m f) i f small (ranged f.type_index) k)
 
-  field_writes : Writes Bound (field_pieces o m) Bound (module_items m o.skeleton)
-  unfolding field_pieces module_items
+  field_writes : Writes Bound (module_field_pieces o m) Bound (module_items m o.skeleton)
+  unfolding module_field_pieces module_items
   field_writes =
-      both_write (numbered_writes (λ t. Unit {0}) type_pieces (λ t. type_items t.value) (λ i t small k. type_writes i t small) 0 m.types (omega (arith, h.types)) (any_type m.types))
-      (both_write (numbered_writes (λ e. IsRangedExport e.value) (λ i e. export_pieces e) (λ e. export_items e.value) (λ i e small k. export_writes e k) 0 m.exports (omega (arith, h.exports)) h.each_export)
-      (numbered_writes IsRangedFunction (function_pieces o m.types) (λ f. function_items o.skeleton (own_type m f) f) function_pieces_write 0 m.functions (omega (arith, h.functions)) h.each_function))
+      both_write (type_section_writes 0 m.types (omega (arith, h.types)) h.each_group)
+      (both_write (numbered_writes (λ e. IsRangedExport e.value) (λ i e. export_pieces e) (λ e. Word (codes "export") (export_items e.value)) (λ i e small k. export_writes e k) 0 m.exports (omega (arith, h.exports)) h.each_export)
+      (numbered_writes IsRangedFunction (function_pieces o (all_types (groups_of m.types))) (λ f. Word (codes "func") (function_items o.skeleton (all_types (groups_of m.types)) (own_type m f) f)) function_pieces_write 0 m.functions (omega (arith, h.functions)) h.each_function))
 
   pub module_writes : Writes Free (module_pieces o m) Free (Group (Word (codes "module") (module_items m o.skeleton)) End)
   unfolding module_pieces class
   module_writes =
       let last : Writes Bound (Feed ∷ []) Free End = feed_writes nothing_writes in
-      begin_writes (group_at_then o.offsets m.size 0 (codes "module") (field_pieces o m) (Feed ∷ []) refl field_writes last)
+      begin_writes (group_at_then o.offsets m.size 0 (codes "module") (module_field_pieces o m) (Feed ∷ []) refl refl field_writes last)
 
   pub layout_tokens : IsBlank o.indent → tokens (text_of (all_calls o (module_pieces o m))) ≡ all_tokens (module_pieces o m)
   layout_tokens blank = writes_tokens o blank (module_pieces o m) module_writes

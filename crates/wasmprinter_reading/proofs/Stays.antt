@@ -1,12 +1,14 @@
 -- The tokens of a layout do not depend on whether lines begin with their places.
-use Rattle.std.proofs.Common.{◌≡◌, ℕ, ◌+◌, Bool, true, false, ◌||◌, List, [], ◌∷◌, ◌++◌, Option, Some, refl, sym, ap, ◌∙◌, codes, slice_get}
-use Rattle.wasmprinter_spec.specs.Grammar.{Placed}
-use Rattle.wasmprinter_spec.specs.Types.{FuncType}
+use Rattle.std.proofs.Common.{◌≡◌, ℕ, ◌+◌, Bool, true, false, ◌||◌, List, [], ◌∷◌, ◌++◌, Option, Some, refl, sym, ap, ◌∙◌, codes}
+use Rattle.wasmprinter_spec.specs.Types.{FuncType, SubType, all_types, signature_at}
 use Rattle.wasmprinter_spec.specs.Token.{Token, left, right, word}
 use Rattle.wasmprinter_spec.specs.Options.{Options}
 use Rattle.wasmprinter_spec.specs.Piece.{Piece, Feed, all_tokens}
 use Rattle.wasmprinter_spec.specs.Placed.{PlacedFunction, PlacedModule}
-use Rattle.wasmprinter_spec.specs.Layout.{signature_of, header_pieces, local_pieces, body_pieces, group_at, group_gap_at, close, has_break, numbered, type_pieces, export_pieces, function_pieces, function_group, field_pieces, module_pieces}
+use Rattle.wasmprinter_spec.specs.Module.{groups_of}
+use Rattle.wasmprinter_spec.specs.Layout.Groups.{group_at, group_gap_at, close, has_break, numbered}
+use Rattle.wasmprinter_spec.specs.Layout.Types.{type_section_pieces}
+use Rattle.wasmprinter_spec.specs.Layout.{header_pieces, local_pieces, body_pieces, export_pieces, function_pieces, function_group, module_field_pieces, module_pieces}
 use Rattle.wasmprinter_lexical.proofs.Writes.{all_tokens-append, close_tokens}
 
 -- the tokens of a keyword, of what a group holds and of its end
@@ -26,11 +28,11 @@ unfolding group_gap_at
 group_gap_at_tokens offsets place nesting w ps = ap (λ ts. left ∷ (word w ∷ ts)) (closed_tokens ps (Some place) nesting (offsets || has_break ps))
 
 -- a function without regard to places
-function_stays : (skeleton a b : Bool) (t : FuncType) (i : ℕ) (f : PlacedFunction) → all_tokens (function_group skeleton a t i f) ≡ all_tokens (function_group skeleton b t i f)
+function_stays : (skeleton a b : Bool) (ts : List SubType) (t : Option FuncType) (i : ℕ) (f : PlacedFunction) → all_tokens (function_group skeleton a ts t i f) ≡ all_tokens (function_group skeleton b ts t i f)
 unfolding function_group
-function_stays true a b t i f = refl
-function_stays false a b t i f =
-    let ps : List Piece = header_pieces i f.type_index t ++ (local_pieces f.body.value.locals ++ body_pieces f.body.value.operators) in
+function_stays true a b ts t i f = refl
+function_stays false a b ts t i f =
+    let ps : List Piece = header_pieces i f.type_index t ++ (local_pieces f.body.value.locals ++ body_pieces ts f.body.value.operators) in
     group_gap_at_tokens a f.body.value.end 1 (codes "func") ps ∙ sym (group_gap_at_tokens b f.body.value.end 1 (codes "func") ps)
 
 numbered_stays : {A : Type 0} (f g : ℕ → A → List Piece) → ((i : ℕ) (x : A) → all_tokens (f i x) ≡ all_tokens (g i x)) →
@@ -44,31 +46,32 @@ numbered_stays f g law i (x ∷ xs) =
     ∙ sym (all_tokens-append (g i x) (numbered g (i + 1) xs))
 
 module _ (o p : Options) (same : o.skeleton ≡ p.skeleton) where
-  function_pieces_stay : (ts : List (Placed FuncType)) (i : ℕ) (f : PlacedFunction) → all_tokens (function_pieces o ts i f) ≡ all_tokens (function_pieces p ts i f)
+  function_pieces_stay : (ts : List SubType) (i : ℕ) (f : PlacedFunction) → all_tokens (function_pieces o ts i f) ≡ all_tokens (function_pieces p ts i f)
   unfolding function_pieces
   function_pieces_stay ts i f =
-      let t : FuncType = signature_of (slice_get ts f.type_index) in
-      ap (λ s. all_tokens (function_group s o.offsets t i f)) same ∙ function_stays p.skeleton o.offsets p.offsets t i f
+      let t : Option FuncType = signature_at ts f.type_index in
+      ap (λ s. all_tokens (function_group s o.offsets ts t i f)) same ∙ function_stays p.skeleton o.offsets p.offsets ts t i f
 
-  field_pieces_stay : (m : PlacedModule) → all_tokens (field_pieces o m) ≡ all_tokens (field_pieces p m)
-  unfolding field_pieces
-  field_pieces_stay m =
-      let functions = numbered_stays (function_pieces o m.types) (function_pieces p m.types) (function_pieces_stay m.types) 0 m.functions in
+  module_field_pieces_stay : (m : PlacedModule) → all_tokens (module_field_pieces o m) ≡ all_tokens (module_field_pieces p m)
+  unfolding module_field_pieces
+  module_field_pieces_stay m =
+      let ts : List SubType = all_types (groups_of m.types) in
+      let functions = numbered_stays (function_pieces o ts) (function_pieces p ts) (function_pieces_stay ts) 0 m.functions in
       let exports : List Piece = numbered (λ i e. export_pieces e) 0 m.exports in
-      let types : List Piece = numbered type_pieces 0 m.types in
-      all_tokens-append types (exports ++ numbered (function_pieces o m.types) 0 m.functions)
+      let types : List Piece = type_section_pieces 0 m.types in
+      all_tokens-append types (exports ++ numbered (function_pieces o ts) 0 m.functions)
       ∙ ap (λ ts. all_tokens types ++ ts)
-      (all_tokens-append exports (numbered (function_pieces o m.types) 0 m.functions)
+      (all_tokens-append exports (numbered (function_pieces o ts) 0 m.functions)
       ∙ ap (λ ts. all_tokens exports ++ ts) functions
-      ∙ sym (all_tokens-append exports (numbered (function_pieces p m.types) 0 m.functions)))
-      ∙ sym (all_tokens-append types (exports ++ numbered (function_pieces p m.types) 0 m.functions))
+      ∙ sym (all_tokens-append exports (numbered (function_pieces p ts) 0 m.functions)))
+      ∙ sym (all_tokens-append types (exports ++ numbered (function_pieces p ts) 0 m.functions))
 
   pub module_pieces_stay : (m : PlacedModule) → all_tokens (module_pieces o m) ≡ all_tokens (module_pieces p m)
   unfolding module_pieces
   module_pieces_stay m =
-      all_tokens-append (group_at o.offsets m.size 0 (codes "module") (field_pieces o m)) (Feed ∷ [])
+      all_tokens-append (group_at o.offsets m.size 0 (codes "module") (module_field_pieces o m)) (Feed ∷ [])
       ∙ ap (λ ts. ts ++ [])
-      (group_at_tokens o.offsets m.size 0 (codes "module") (field_pieces o m)
-      ∙ ap (group_tokens (codes "module")) (field_pieces_stay m)
-      ∙ sym (group_at_tokens p.offsets m.size 0 (codes "module") (field_pieces p m)))
-      ∙ sym (all_tokens-append (group_at p.offsets m.size 0 (codes "module") (field_pieces p m)) (Feed ∷ []))
+      (group_at_tokens o.offsets m.size 0 (codes "module") (module_field_pieces o m)
+      ∙ ap (group_tokens (codes "module")) (module_field_pieces_stay m)
+      ∙ sym (group_at_tokens p.offsets m.size 0 (codes "module") (module_field_pieces p m)))
+      ∙ sym (all_tokens-append (group_at p.offsets m.size 0 (codes "module") (module_field_pieces p m)) (Feed ∷ []))

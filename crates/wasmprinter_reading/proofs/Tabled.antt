@@ -1,7 +1,6 @@
 -- What the table keeps, by tests over its rows: each is computed once, however many rows there are.
-use Rattle.std.proofs.Common.{◌≡◌, ℕ, ◌<◌, ◌≤◌, ◌^◌, Bool, true, false, ◌&&◌, ◌||◌, not, cond, eqb, leb, List, [], ◌∷◌, Some, refl, sym, ap, ◌∙◌, bytes_eq, subst, decimal, ℤ, pos, negsuc, ◌*◌, ◌+◌, arith, suc}
+use Rattle.std.proofs.Common.{◌≡◌, ℕ, ◌<◌, ◌≤◌, ◌^◌, Bool, true, false, ◌&&◌, ◌||◌, not, cond, eqb, leb, List, [], ◌∷◌, Option, Some, None, refl, sym, ap, ◌∙◌, subst, decimal, ℤ, pos, negsuc, ◌*◌, ◌+◌, arith, suc}
 use Rattle.std.proofs.lemmas.Bool.{and_parts, eqb-true, not-true, eq-eqb, both_ways, false_from_ne_true, le-leb}
-use Rattle.std.proofs.lemmas.Slice.Eq.{bytes_eq-Decides}
 use Rattle.std.specs.Fmt.{signed_decimal}
 use Rattle.std.specs.Int.Signed.{mag}
 use Rattle.std.proofs.lemmas.Fmt.{decimal_is_IsNumeral}
@@ -9,54 +8,86 @@ use Rattle.std.proofs.lemmas.Str.Parse.{digit_at}
 use Rattle.std.specs.Str.Parse.{IsNumeral}
 use Rattle.std.specs.List.{filter}
 use Rattle.wasmprinter_spec.specs.Character.{class}
-use Rattle.wasmprinter_spec.specs.Operator.{Opcode}
-use Rattle.wasmprinter_spec.specs.Row.{Row}
-use Rattle.wasmprinter_spec.specs.Table.{control_rows, number_rows, table, first, has_word, has_opcode, rows_of, by_opcode}
+use Rattle.wasmprinter_spec.specs.Operator.{Operator}
+use Rattle.wasmprinter_spec.specs.Row.{Row, Role, Opens, OpensIf, OpensTry, Shape, NoneShape, BlockShape, TryTableShape, IndexShape, BranchTableShape, I32Shape, I64Shape}
+use Rattle.wasmprinter_spec.specs.Table.{control_rows, variable_rows, number_rows, table, first, has_word, has_opcode, rows_of, by_opcode}
 use Rattle.wasmprinter_lexical.proofs.Runs.{is_word}
+use Rattle.wasmprinter_reading.specs.Listed.{has_shape, has_row_shape, IsListed}
+use Rattle.wasmprinter_reading.proofs.Bytes.{bytes_same}
 
 -- ---- a word as one number, which is compared at once
 
-abbrev key_after : ℕ → List ℕ → ℕ
+abbrev pub key_after : ℕ → List ℕ → ℕ
 key_after k [] = k
 key_after k (b ∷ bs) = key_after (k * 256 + b) bs
 
-abbrev key : Row → ℕ
+abbrev pub key : Row → ℕ
 key r = key_after 0 r.word
 
-abbrev all : (Row → Bool) → List Row → Bool
+abbrev pub all : (Row → Bool) → List Row → Bool
 all p [] = true
 all p (r ∷ rs) = p r && all p rs
-
-abbrev lacks : ℕ → List Row → Bool
-lacks n rs = all (λ r. not (eqb (key r) n)) rs
-
-abbrev distinct : List Row → Bool
-distinct [] = true
-distinct (r ∷ rs) = lacks (key r) rs && distinct rs
 
 -- begins as a number does
 abbrev pub is_number : List ℕ → Bool
 is_number [] = false
 is_number (b ∷ bs) = eqb b 45 || (leb 48 b && leb b 57)
 
+-- an operator that opens a block has a block type
+abbrev pub is_opening : Role → Bool
+is_opening Opens = true
+is_opening OpensIf = true
+is_opening OpensTry = true
+is_opening _ = false
+
+abbrev pub has_block : Shape → Bool
+has_block BlockShape = true
+has_block TryTableShape = true
+has_block _ = false
+
+abbrev pub fits : Role → Shape → Bool
+fits r s = not (is_opening r) || has_block s
+
+-- whether something stands behind the word of each operator of this shape
+abbrev pub is_written : Shape → Bool
+is_written (IndexShape space) = true
+is_written BranchTableShape = true
+is_written I32Shape = true
+is_written I64Shape = true
+is_written _ = false
+
+-- whether no operator of one shape reads what one of another is written as
+abbrev pub refuses : Shape → Shape → Bool
+refuses NoneShape t = is_written t
+refuses _ t = false
+
+-- of two rows that share a word the one in front refuses what the other is written as
+abbrev pub are_told_apart : List Row → Bool
+are_told_apart [] = true
+are_told_apart (r ∷ rs) = all (λ s. not (eqb (key s) (key r)) || refuses r.shape s.shape) rs && are_told_apart rs
+
 -- ---- the tests
 
-words_distinct : distinct table ≡ true
-unfolding table control_rows number_rows
-words_distinct = refl
+pub table_tells_apart : are_told_apart table ≡ true
+unfolding table control_rows variable_rows number_rows
+table_tells_apart = refl
 
 words_are_words : all (λ r. is_word r.word) table ≡ true
-unfolding table control_rows number_rows class
+unfolding table control_rows variable_rows number_rows class
 words_are_words = refl
 
 no_numbers : all (λ r. not (is_number r.word)) table ≡ true
-unfolding table control_rows number_rows
+unfolding table control_rows variable_rows number_rows
 no_numbers = refl
+
+rows_fit : all (λ r. fits r.role r.shape) table ≡ true
+unfolding table control_rows variable_rows number_rows
+rows_fit = refl
 
 -- ---- what they mean
 
 -- r is one of the rows
-data In : Row → List Row → Type 0 where
+pub data In : Row → List Row → Type 0 where
   here : {r : Row} {rs : List Row} → In r (r ∷ rs)
   there : {r s : Row} {rs : List Row} → In r rs → In r (s ∷ rs)
 
@@ -74,54 +105,45 @@ first_gives p (s ∷ rs) r h = by (p s) refl h (first_gives p rs r)
     by true e g more = let same : s ≡ r = cc in (subst (λ x. In x (s ∷ rs)) same here, subst (λ x. p x ≡ true) same e)
     by false e g more = (there (more g).0, (more g).1)
 
-bytes_same : (xs ys : List ℕ) → bytes_eq xs ys ≡ true → xs ≡ ys
-bytes_same xs ys h = (bytes_eq-Decides xs ys).0 h
+-- a row before another of its word refuses what that is written as
+pub refuses_later : (s r : Row) (rs : List Row) → are_told_apart (s ∷ rs) ≡ true → In r rs → has_word r.word s ≡ true → refuses s.shape r.shape ≡ true
+refuses_later s r rs t i e =
+    let parts : (all (λ x. not (eqb (key x) (key s)) || refuses s.shape x.shape) rs ≡ true) × (are_told_apart rs ≡ true) =
+    and_parts (all (λ x. not (eqb (key x) (key s)) || refuses s.shape x.shape) rs) (are_told_apart rs) t in
+    let either : (not (eqb (key r) (key s)) || refuses s.shape r.shape) ≡ true = all_at (λ x. not (eqb (key x) (key s)) || refuses s.shape x.shape) r rs parts.0 i in
+    let same : eqb (key r) (key s) ≡ true = eq-eqb (key r) (key s) (ap (key_after 0) (sym (bytes_same s.word r.word e))) in
+    ap (λ b. not b || refuses s.shape r.shape) (sym same) ∙ either
 
-pub same_bytes : (xs : List ℕ) → bytes_eq xs xs ≡ true
-same_bytes xs = (bytes_eq-Decides xs xs).1 refl
+-- ---- the row of an operator
 
-differ : (m n : ℕ) → not (eqb m n) ≡ true → m ≡ n → ⊥
-differ m n h e = both_ways (eqb m n) (not-true (eqb m n) h) (eq-eqb m n e)
+pub record HasRow (o : Operator) : Type 0 where
+  pub row : Row
+  pub found : by_opcode o.opcode ≡ Some row
+  pub shape : has_shape row.shape o.immediates ≡ true
+  pub prefix : row.prefix ≡ o.opcode.prefix
+  pub number : row.number ≡ o.opcode.number
+  pub in_table : In row table
+  pub is_its_word : is_word row.word ≡ true
+  pub fit : fits row.role row.shape ≡ true
 
--- a row of another key has another word
-other_word : (r s : Row) → (key s ≡ key r → ⊥) → has_word r.word s ≡ false
-other_word r s apart = false_from_ne_true (has_word r.word s) (λ e. apart (ap (key_after 0) (bytes_same s.word r.word e)))
-
-no_other : (r : Row) (rs : List Row) → lacks (key r) rs ≡ true → filter (has_word r.word) rs ≡ []
-no_other r [] h = refl
-no_other r (s ∷ rs) h =
-    let parts : (not (eqb (key s) (key r)) ≡ true) × (lacks (key r) rs ≡ true) = and_parts (not (eqb (key s) (key r))) (lacks (key r) rs) h in
-    ap (λ t. cond t (s ∷ filter (has_word r.word) rs) (filter (has_word r.word) rs)) (other_word r s (differ (key s) (key r) parts.0)) ∙ no_other r rs parts.1
-
--- where words are distinct, a row is the only one of its word
-only_of_word : (rs : List Row) (r : Row) → distinct rs ≡ true → In r rs → filter (has_word r.word) rs ≡ r ∷ []
-only_of_word [] r d i = elim i [ ]
-only_of_word (s ∷ rs) r d here =
-    let parts : (lacks (key s) rs ≡ true) × (distinct rs ≡ true) = and_parts (lacks (key s) rs) (distinct rs) d in
-    ap (λ t. cond t (r ∷ filter (has_word r.word) rs) (filter (has_word r.word) rs)) (same_bytes r.word) ∙ ap (λ t. r ∷ t) (no_other r rs parts.0)
-only_of_word (s ∷ rs) r d (there i) =
-    let parts : (lacks (key s) rs ≡ true) × (distinct rs ≡ true) = and_parts (lacks (key s) rs) (distinct rs) d in
-    let apart : not (eqb (key r) (key s)) ≡ true = all_at (λ x. not (eqb (key x) (key s))) r rs parts.0 i in
-    ap (λ t. cond t (s ∷ filter (has_word r.word) rs) (filter (has_word r.word) rs)) (other_word r s (λ e. differ (key r) (key s) apart (sym e))) ∙ only_of_word rs r parts.1 i
-
--- ---- the row of an opcode
-
-pub record IsRow (o : Opcode) (r : Row) : Type 0 where
-  pub prefix : r.prefix ≡ o.prefix
-  pub number : r.number ≡ o.number
-  pub by_its_word : rows_of r.word ≡ r ∷ []
-  pub is_its_word : is_word r.word ≡ true
-
-pub row_of : (o : Opcode) (r : Row) → by_opcode o ≡ Some r → IsRow o r
-row_of o r h =
-    let found : In r table × (has_opcode o r ≡ true) = first_gives (has_opcode o) table r h in
-    let codes : (eqb r.prefix o.prefix ≡ true) × (eqb r.number o.number ≡ true) = and_parts (eqb r.prefix o.prefix) (eqb r.number o.number) found.1 in
-    record {
-      prefix = eqb-true r.prefix o.prefix codes.0;
-      number = eqb-true r.number o.number codes.1;
-      by_its_word = only_of_word table r words_distinct found.0;
-      is_its_word = all_at (λ x. is_word x.word) r table words_are_words found.0;
-    }
+pub row_for : (o : Operator) → IsListed o → HasRow o
+row_for o h = by (by_opcode o.opcode) refl h.shape
+  where
+    by : (r : Option Row) → by_opcode o.opcode ≡ r → has_row_shape r o.immediates ≡ true → HasRow o
+    by None e l = absurd cc
+    by (Some r) e l =
+        let found : In r table × (has_opcode o.opcode r ≡ true) = first_gives (has_opcode o.opcode) table r e in
+        let codes : (eqb r.prefix o.opcode.prefix ≡ true) × (eqb r.number o.opcode.number ≡ true) = and_parts (eqb r.prefix o.opcode.prefix) (eqb r.number o.opcode.number) found.1 in
+        record {
+          row = r;
+          found = e;
+          shape = l;
+          prefix = eqb-true r.prefix o.opcode.prefix codes.0;
+          number = eqb-true r.number o.opcode.number codes.1;
+          in_table = found.0;
+          is_its_word = all_at (λ x. is_word x.word) r table words_are_words found.0;
+          fit = all_at (λ x. fits x.role x.shape) r table rows_fit found.0;
+        }
 
 -- ---- a number is no word of the table
 

@@ -3,6 +3,7 @@
 #![tactic(auto)]
 
 ghost use Rattle.wasmprinter_spec.specs.Laws.{SpellsOne, ReadsBack, TokensStay, PrintsPlainText, PlainTextIsUtf8, PlainTextHasNoColour, PlainTextsJoin};
+ghost use Rattle.wasmprinter_reading.specs.OperatorLaws.{OperatorsReadBack, NamedLabelsReadBack};
 
 /// Given bytes spell at most one module with its places (section 5.5 of the standard, "Modules").
 pub fn bytes_spell_one_module()
@@ -37,4 +38,14 @@ pub fn plain_text_has_no_colour()
 /// Two such texts, one behind the other, are such a text.
 pub fn plain_texts_join()
     ensures { PlainTextsJoin }
+{}
+
+/// The text that is laid out for nested operators, over lines or in one, reads as exactly them, whatever their labels are called.
+pub fn printed_operators_read_back()
+    ensures { OperatorsReadBack }
+{}
+
+/// The same where labels have the names of a name section, and the others identifiers made up for them, or none.
+pub fn named_labels_read_back()
+    ensures { NamedLabelsReadBack }
 {}

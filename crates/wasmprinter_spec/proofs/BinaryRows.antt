@@ -5,16 +5,16 @@ use Rattle.std.proofs.lemmas.Bool.{and_parts, ltb-true}
 use Rattle.std.specs.List.{list_all}
 use Rattle.std.specs.Char.{encode_utf8}
 use Rattle.std.specs.Str.{is_utf8, chars}
-use Rattle.wasmprinter_spec.specs.Grammar.{from, Placed}
+use Rattle.wasmprinter_spec.specs.Grammar.{input, Placed}
 use Rattle.wasmprinter_spec.specs.Types.{I32}
 use Rattle.wasmprinter_spec.specs.Placed.{LocalEntry, PlacedModule}
 use Rattle.wasmprinter_spec.specs.Binary.{binary, AreBytes, Spells, IsComponent}
 use Rattle.wasmprinter_spec.specs.Limits.{most_functions, IsWithinLimits}
-use Rattle.wasmprinter_spec.specs.Table.{table, control_rows, number_rows}
-use Rattle.wasmprinter_spec.proofs.Samples.{head_bytes, local_get, empty_placed, identity_bytes, identity_placed, stored_bytes_to_end, stored_bytes, stored_placed, mixed_bytes, mixed_placed}
+use Rattle.wasmprinter_spec.specs.Table.{table, control_rows, variable_rows, number_rows}
+use Rattle.wasmprinter_spec.proofs.Samples.{head_bytes, local_get, empty_placed, identity_bytes, identity_placed, stored_bytes_to_end, stored_bytes, stored_placed, mixed_bytes, mixed_placed, func, bare}
 
 abbrev parsed : List ℕ → Option PlacedModule
-parsed bytes = binary.parse (from 0 bytes)
+parsed bytes = binary.parse (input 0 bytes)
 
 -- ---- whole modules
 
@@ -22,15 +22,15 @@ empty_module : parsed head_bytes ≡ Some empty_placed
 empty_module = refl
 
 identity_module : parsed identity_bytes ≡ Some identity_placed
-unfolding table control_rows number_rows is_utf8 chars encode_utf8
+unfolding table control_rows variable_rows number_rows is_utf8 chars encode_utf8
 identity_module = refl
 
 stored_module : parsed stored_bytes ≡ Some stored_placed
-unfolding table control_rows number_rows
+unfolding table control_rows variable_rows number_rows
 stored_module = refl
 
 mixed_module : parsed mixed_bytes ≡ Some mixed_placed
-unfolding table control_rows number_rows is_utf8 chars encode_utf8
+unfolding table control_rows variable_rows number_rows is_utf8 chars encode_utf8
 mixed_module = refl
 
 -- bytes by a test of each
@@ -44,17 +44,17 @@ below_256 (b ∷ bs) h =
 identity_spelled : Spells identity_bytes identity_placed
 identity_spelled = record {
   are_bytes = below_256 identity_bytes refl;
-  spelled = binary.sound (from 0 identity_bytes) identity_placed identity_module;
+  spelled = binary.sound (input 0 identity_bytes) identity_placed identity_module;
 }
 
 -- another byte in place of the last `end`
 without_end : parsed (stored_bytes_to_end ++ (0x0a ∷ [])) ≡ None
-unfolding table control_rows number_rows
+unfolding table control_rows variable_rows number_rows
 without_end = refl
 
 -- where there is no parse nothing is spelled
 unspelled : (bytes : List ℕ) (m : PlacedModule) → parsed bytes ≡ None → Spells bytes m → ⊥
-unspelled bytes m e s = let p : parsed bytes ≡ Some m = binary.complete (from 0 bytes) m s.spelled in absurd (cc (e, p))
+unspelled bytes m e s = let p : parsed bytes ≡ Some m = binary.complete (input 0 bytes) m s.spelled in absurd (cc (e, p))
 
 without_end_unspelled : (m : PlacedModule) → Spells (stored_bytes_to_end ++ (0x0a ∷ [])) m → ⊥
 without_end_unspelled m = unspelled (stored_bytes_to_end ++ (0x0a ∷ [])) m without_end
@@ -70,7 +70,7 @@ lengths_below (suc n) bytes = lengths_below n bytes ++ length_if (parsed (take n
 
 -- of its proper beginnings only two are modules: the head alone, and the head with the type section
 cut_identity : lengths_below 35 identity_bytes ≡ 8 ∷ 16 ∷ []
-unfolding table control_rows number_rows is_utf8 chars encode_utf8
+unfolding table control_rows variable_rows number_rows is_utf8 chars encode_utf8
 cut_identity = refl
 
 -- ---- sizes
@@ -82,7 +82,7 @@ identity_sized size = take 9 identity_bytes ++ size ++ drop 10 identity_bytes
 -- with a byte more in front of all fields
 abbrev identity_moved : PlacedModule
 identity_moved = record {
-  types = record { place = 0xc; value = record { params = I32 ∷ []; results = I32 ∷ [] } } ∷ [];
+  types = bare 0xc (func (I32 ∷ []) (I32 ∷ [])) ∷ [];
   functions =
       record {
         type_index = 0;
@@ -98,7 +98,7 @@ identity_moved = record {
 
 -- a spelling longer than is needed
 padded_size : parsed (identity_sized (0x86 ∷ 0x00 ∷ [])) ≡ Some identity_moved
-unfolding table control_rows number_rows is_utf8 chars encode_utf8
+unfolding table control_rows variable_rows number_rows is_utf8 chars encode_utf8
 padded_size = refl
 
 -- six bytes for a number of 32 bits
@@ -129,37 +129,54 @@ with_body size bytes =
 -- a module with one type and one function, which has no operators
 abbrev with_locals : List (Placed LocalEntry) → ℕ → ℕ → PlacedModule
 with_locals locals end size = record {
-  types = record { place = 0xb; value = record { params = []; results = [] } } ∷ [];
+  types = bare 0xb (func [] []) ∷ [];
   functions = record { type_index = 0; body = record { place = 0x16; value = record { locals = locals; operators = []; end = end } } } ∷ [];
   exports = [];
   size = size;
 }
 
 body_exact : parsed (with_body 2 (0x00 ∷ 0x0b ∷ [])) ≡ Some (with_locals [] 0x17 0x18)
-unfolding table control_rows number_rows
+unfolding table control_rows variable_rows number_rows
 body_exact = refl
 
 -- bytes behind the last `end`, also where they are another `end`
 body_with_more : parsed (with_body 3 (0x00 ∷ 0x0b ∷ 0x0b ∷ [])) ≡ None
-unfolding table control_rows number_rows
+unfolding table control_rows variable_rows number_rows
 body_with_more = refl
 
 body_too_short : parsed (with_body 1 (0x00 ∷ 0x0b ∷ [])) ≡ None
-unfolding table control_rows number_rows
+unfolding table control_rows variable_rows number_rows
 body_too_short = refl
 
 -- a byte that no operator has
 body_unlisted : parsed (with_body 3 (0x00 ∷ 0xff ∷ 0x0b ∷ [])) ≡ None
-unfolding table control_rows number_rows
+unfolding table control_rows variable_rows number_rows
 body_unlisted = refl
+
+-- the body's end alone can't close a block
+body_open_block : parsed (with_body 4 (0x00 ∷ 0x02 ∷ 0x40 ∷ 0x0b ∷ [])) ≡ None
+unfolding table control_rows variable_rows number_rows
+body_open_block = refl
+
+body_else_without_if : parsed (with_body 4 (0x00 ∷ 0x05 ∷ 0x0b ∷ 0x0b ∷ [])) ≡ None
+unfolding table control_rows variable_rows number_rows
+body_else_without_if = refl
+
+body_two_else : parsed (with_body 7 (0x00 ∷ 0x04 ∷ 0x40 ∷ 0x05 ∷ 0x05 ∷ 0x0b ∷ 0x0b ∷ [])) ≡ None
+unfolding table control_rows variable_rows number_rows
+body_two_else = refl
+
+body_catch_in_block : parsed (with_body 7 (0x00 ∷ 0x02 ∷ 0x40 ∷ 0x07 ∷ 0x00 ∷ 0x0b ∷ 0x0b ∷ [])) ≡ None
+unfolding table control_rows variable_rows number_rows
+body_catch_in_block = refl
 
 -- constants of 32 and 64 bits, one bit too long
 body_long_constant : parsed (with_body 8 (0x00 ∷ 0x41 ∷ 0x80 ∷ 0x80 ∷ 0x80 ∷ 0x80 ∷ 0x08 ∷ 0x0b ∷ [])) ≡ None
-unfolding table control_rows number_rows
+unfolding table control_rows variable_rows number_rows
 body_long_constant = refl
 
 body_longer_constant : parsed (with_body 13 (0x00 ∷ 0x42 ∷ 0x80 ∷ 0x80 ∷ 0x80 ∷ 0x80 ∷ 0x80 ∷ 0x80 ∷ 0x80 ∷ 0x80 ∷ 0x80 ∷ 0x01 ∷ 0x0b ∷ [])) ≡ None
-unfolding table control_rows number_rows
+unfolding table control_rows variable_rows number_rows
 body_longer_constant = refl
 
 -- ---- locals
@@ -168,11 +185,11 @@ abbrev many_locals : ℕ → PlacedModule
 many_locals n = with_locals (record { place = 0x17; value = record { count = n; type = I32 } } ∷ []) 0x1b 0x1c
 
 most_locals : parsed (with_body 6 (0x01 ∷ 0xd0 ∷ 0x86 ∷ 0x03 ∷ 0x7f ∷ 0x0b ∷ [])) ≡ Some (many_locals 50000)
-unfolding table control_rows number_rows
+unfolding table control_rows variable_rows number_rows
 most_locals = refl
 
 too_many_locals : parsed (with_body 6 (0x01 ∷ 0xd1 ∷ 0x86 ∷ 0x03 ∷ 0x7f ∷ 0x0b ∷ [])) ≡ Some (many_locals 50001)
-unfolding table control_rows number_rows
+unfolding table control_rows variable_rows number_rows
 too_many_locals = refl
 
 most_locals_within : IsWithinLimits (many_locals 50000)
@@ -190,7 +207,7 @@ function_limit = refl
 
 -- no value type
 local_of_no_type : parsed (with_body 4 (0x01 ∷ 0x01 ∷ 0x40 ∷ 0x0b ∷ [])) ≡ None
-unfolding table control_rows number_rows
+unfolding table control_rows variable_rows number_rows
 local_of_no_type = refl
 
 -- ---- sections
@@ -217,19 +234,19 @@ long_id = refl
 
 -- two functions and one body
 fewer_bodies : parsed (head_bytes ++ (0x03 ∷ 0x03 ∷ 0x02 ∷ 0x00 ∷ 0x00 ∷ 0x0a ∷ 0x04 ∷ 0x01 ∷ 0x02 ∷ 0x00 ∷ 0x0b ∷ [])) ≡ None
-unfolding table control_rows number_rows
+unfolding table control_rows variable_rows number_rows
 fewer_bodies = refl
 
 -- one function and two bodies
 more_bodies : parsed (head_bytes ++ (0x03 ∷ 0x02 ∷ 0x01 ∷ 0x00 ∷ 0x0a ∷ 0x07 ∷ 0x02 ∷ 0x02 ∷ 0x00 ∷ 0x0b ∷ 0x02 ∷ 0x00 ∷ 0x0b ∷ [])) ≡ None
-unfolding table control_rows number_rows
+unfolding table control_rows variable_rows number_rows
 more_bodies = refl
 
 no_code_section : parsed (head_bytes ++ (0x03 ∷ 0x02 ∷ 0x01 ∷ 0x00 ∷ [])) ≡ None
 no_code_section = refl
 
 no_function_section : parsed (head_bytes ++ (0x0a ∷ 0x04 ∷ 0x01 ∷ 0x02 ∷ 0x00 ∷ 0x0b ∷ [])) ≡ None
-unfolding table control_rows number_rows
+unfolding table control_rows variable_rows number_rows
 no_function_section = refl
 
 -- ---- the head

@@ -1,74 +1,82 @@
 -- Worked rows of declared indices (section 2.5 of the standard, "Indices"), and of indents.
-use Rattle.std.specs.Prelude.{ℕ, pos, negsuc, List, [], ◌∷◌, codes, refl}
+use Rattle.std.specs.Prelude.{ℕ, pos, negsuc, List, [], ◌∷◌, codes, Some, refl}
 use Rattle.std.proofs.Common.{arith, inl, inr}
-use Rattle.wasmprinter_spec.specs.Types.{I32}
+use Rattle.wasmprinter_spec.specs.Types.{ValType, I32}
 use Rattle.wasmprinter_spec.specs.Operator as operator
-use Rattle.wasmprinter_spec.specs.Operator.{Opcode, opcode, Immediates, NoImmediates, Index, Operator}
-use Rattle.wasmprinter_spec.specs.Table.{table, control_rows, number_rows}
+use Rattle.wasmprinter_spec.specs.Operator.{Opcode, opcode, Empty, Value, OfType, One, OneRef, All, AllRef, Immediates, NoImmediates, Block, TryTable, Index, BranchTable, Operator}
+use Rattle.wasmprinter_spec.specs.Table.{table, control_rows, variable_rows, number_rows}
 use Rattle.wasmprinter_spec.specs.Module.{Module}
-use Rattle.wasmprinter_spec.specs.Row.{Row, Shape, NoneShape, IndexShape, I32Shape, I64Shape}
-use Rattle.wasmprinter_spec.specs.Indexed.{Counts, IsIndexedOperator, IsIndexed}
+use Rattle.wasmprinter_spec.specs.Row.{Shape, NoneShape, BlockShape, TryTableShape, IndexShape, BranchTableShape, I32Shape, I64Shape}
+use Rattle.wasmprinter_spec.specs.Indexed.{Counts, IsIndexedOperator, IsIndexed, IsDeclaredVal, IsDeclaredSub}
 use Rattle.std.specs.List.{AllByRecursion}
 use Rattle.wasmprinter_spec.specs.Options.{defaults, IsBlank}
-use Rattle.wasmprinter_spec.proofs.Samples.{local_get, local_set, call, drop, return, i32_const, i64_const, empty, identity, stored, mixed}
+use Rattle.wasmprinter_spec.proofs.Samples.{func, local_get, local_set, call, drop, return, i32_const, i64_const, empty, identity, stored, mixed}
 
 empty_indexed : IsIndexed empty
-empty_indexed = record { functions = tt; exports = tt }
+empty_indexed = record { types = tt; functions = tt; exports = tt }
+
+-- a function type in which each type is declared
+plain_func : {n : ℕ} {ps rs : List ValType} → AllByRecursion (IsDeclaredVal n) ps → AllByRecursion (IsDeclaredVal n) rs → IsDeclaredSub n (func ps rs)
+plain_func params results = record { supertypes = tt; composite = record { params = params; results = results } }
 
 identity_indexed : IsIndexed identity
-unfolding table control_rows number_rows
+unfolding table control_rows variable_rows number_rows
 identity_indexed = record {
-  functions = (record { type_index = omega arith; operators = (omega arith, tt) }, tt);
+  types = ((plain_func (tt, tt) (tt, tt), tt), tt);
+  functions = (record { type_index = (_, refl); locals = tt; operators = (omega arith, tt) }, tt);
   exports = (omega arith, tt);
 }
 
 stored_indexed : IsIndexed stored
-unfolding table control_rows number_rows
+unfolding table control_rows variable_rows number_rows
 stored_indexed = record {
-  functions = (record { type_index = omega arith; operators = (tt, (omega arith, (omega arith, tt))) }, tt);
+  types = ((plain_func tt (tt, tt), tt), tt);
+  functions = (record { type_index = (_, refl); locals = (tt, tt); operators = (tt, (omega arith, (omega arith, tt))) }, tt);
   exports = tt;
 }
 
 -- two types, and a function with one local under a name
 abbrev calling : ℕ → List Operator → ℕ → Module
 calling type os exported = record {
-  types = record { params = I32 ∷ []; results = [] } ∷ record { params = []; results = [] } ∷ [];
+  types = (func (I32 ∷ []) [] ∷ []) ∷ (func [] [] ∷ []) ∷ [];
   functions = record { type_index = type; locals = I32 ∷ []; operators = os } ∷ [];
   exports = record { name = codes "f"; function = exported } ∷ [];
 }
 
 -- parameters and locals are one space
 last_indices : IsIndexed (calling 0 (local_get 1 ∷ local_set 1 ∷ call 0 ∷ []) 0)
-unfolding table control_rows number_rows
+unfolding table control_rows variable_rows number_rows
 last_indices = record {
-  functions = (record { type_index = omega arith; operators = (omega arith, (omega arith, (omega arith, tt))) }, tt);
+  types = ((plain_func (tt, tt) tt, tt), ((plain_func tt tt, tt), tt));
+  functions = (record { type_index = (_, refl); locals = (tt, tt); operators = (omega arith, (omega arith, (omega arith, tt))) }, tt);
   exports = (omega arith, tt);
 }
 
 last_type : IsIndexed (calling 1 (local_get 0 ∷ []) 0)
-unfolding table control_rows number_rows
+unfolding table control_rows variable_rows number_rows
 last_type = record {
-  functions = (record { type_index = omega arith; operators = (omega arith, tt) }, tt);
+  types = ((plain_func (tt, tt) tt, tt), ((plain_func tt tt, tt), tt));
+  functions = (record { type_index = (_, refl); locals = (tt, tt); operators = (omega arith, tt) }, tt);
   exports = (omega arith, tt);
 }
 
 no_such_type : IsIndexed (calling 2 [] 0) → ⊥
-no_such_type i = omega (arith, i.functions.0.type_index)
+no_such_type i = absurd (let e = i.functions.0.type_index.1 in cc)
 
 no_such_local : IsIndexed (calling 0 (local_get 2 ∷ []) 0) → ⊥
-unfolding table control_rows number_rows
+unfolding table control_rows variable_rows number_rows
 no_such_local i = omega (arith, i.functions.0.operators.0)
 
 no_parameter : IsIndexed (calling 1 (local_get 1 ∷ []) 0) → ⊥
-unfolding table control_rows number_rows
+unfolding table control_rows variable_rows number_rows
 no_parameter i = omega (arith, i.functions.0.operators.0)
 
 no_such_local_set : IsIndexed (calling 0 (local_set 2 ∷ []) 0) → ⊥
-unfolding table control_rows number_rows
+unfolding table control_rows variable_rows number_rows
 no_such_local_set i = omega (arith, i.functions.0.operators.0)
 
 no_such_callee : IsIndexed (calling 0 (call 1 ∷ []) 0) → ⊥
-unfolding table control_rows number_rows
+unfolding table control_rows variable_rows number_rows
 no_such_callee i = omega (arith, i.functions.0.operators.0)
 
 no_such_function : IsIndexed (calling 0 [] 1) → ⊥
@@ -76,52 +84,112 @@ no_such_function i = omega (arith, i.exports.0)
 
 -- ---- immediates of each shape, and others
 
+abbrev made : ℕ → Immediates → Operator
+made n i = record { opcode = opcode 0 n; immediates = i }
+
 -- a function over i32 with a local whose body is one operator
 abbrev one_operator : Opcode → Immediates → Module
 one_operator o i = calling 0 (record { opcode = o; immediates = i } ∷ []) 0
 
 every_shape : IsIndexed (calling 0 (return ∷ call 0 ∷ drop ∷ local_get 1 ∷ i32_const (negsuc 0) ∷ i64_const (pos 5) ∷ []) 0)
-unfolding table control_rows number_rows
+unfolding table control_rows variable_rows number_rows
 every_shape = record {
-  functions = (record { type_index = omega arith; operators = (tt, (omega arith, (tt, (omega arith, (tt, (tt, tt)))))) }, tt);
+  types = ((plain_func (tt, tt) tt, tt), ((plain_func tt tt, tt), tt));
+  functions = (record { type_index = (_, refl); locals = (tt, tt); operators = (tt, (omega arith, (tt, (omega arith, (tt, (tt, tt)))))) }, tt);
   exports = (omega arith, tt);
 }
 
 index_of_drop : IsIndexed (one_operator (opcode 0 0x1a) (Index 0)) → ⊥
-unfolding table control_rows number_rows
+unfolding table control_rows variable_rows number_rows
 index_of_drop i = i.functions.0.operators.0
 
 no_index_of_local : IsIndexed (one_operator (opcode 0 0x20) NoImmediates) → ⊥
-unfolding table control_rows number_rows
+unfolding table control_rows variable_rows number_rows
 no_index_of_local i = i.functions.0.operators.0
 
 constant_of_local : IsIndexed (one_operator (opcode 0 0x20) (operator.I32 (pos 0))) → ⊥
-unfolding table control_rows number_rows
+unfolding table control_rows variable_rows number_rows
 constant_of_local i = i.functions.0.operators.0
 
 long_constant : IsIndexed (one_operator (opcode 0 0x41) (operator.I64 (pos 0))) → ⊥
-unfolding table control_rows number_rows
+unfolding table control_rows variable_rows number_rows
 long_constant i = i.functions.0.operators.0
 
 short_constant : IsIndexed (one_operator (opcode 0 0x42) (operator.I32 (pos 0))) → ⊥
-unfolding table control_rows number_rows
+unfolding table control_rows variable_rows number_rows
 short_constant i = i.functions.0.operators.0
 
 no_constant : IsIndexed (one_operator (opcode 0 0x42) NoImmediates) → ⊥
-unfolding table control_rows number_rows
+unfolding table control_rows variable_rows number_rows
 no_constant i = i.functions.0.operators.0
 
-unlisted_opcode : IsIndexed (one_operator (opcode 0 0x01) NoImmediates) → ⊥
-unfolding table control_rows number_rows
+unlisted_opcode : IsIndexed (one_operator (opcode 0 0x1d) NoImmediates) → ⊥
+unfolding table control_rows variable_rows number_rows
 unlisted_opcode i = i.functions.0.operators.0
 
-end_opcode : IsIndexed (one_operator (opcode 0 0x0b) NoImmediates) → ⊥
-unfolding table control_rows number_rows
-end_opcode i = i.functions.0.operators.0
+index_of_end : IsIndexed (one_operator (opcode 0 0x0b) (Index 0)) → ⊥
+unfolding table control_rows variable_rows number_rows
+index_of_end i = i.functions.0.operators.0
 
 unlisted_prefix : IsIndexed (one_operator (opcode 0xfc 0x1a) NoImmediates) → ⊥
-unfolding table control_rows number_rows
+unfolding table control_rows variable_rows number_rows
 unlisted_prefix i = i.functions.0.operators.0
+
+-- ---- block types, labels and tags
+
+-- the last type, and a branch that leads nowhere
+blocks_indexed : IsIndexed (calling 0 (made 0x02 (Block (OfType 1)) ∷ made 0x0c (Index 9) ∷ made 0x0b NoImmediates ∷ made 0x03 (Block (Value I32)) ∷ made 0x0e (BranchTable (4294967295 ∷ []) 7) ∷ made 0x0b NoImmediates ∷ []) 0)
+unfolding table control_rows variable_rows number_rows
+blocks_indexed = record {
+  types = ((plain_func (tt, tt) tt, tt), ((plain_func tt tt, tt), tt));
+  functions = (record { type_index = (_, refl); locals = (tt, tt); operators = (tt, (tt, (tt, (tt, (tt, (tt, tt)))))) }, tt);
+  exports = (omega arith, tt);
+}
+
+catches_indexed : IsIndexed (one_operator (opcode 0 0x1f) (TryTable Empty (All 3 ∷ AllRef 0 ∷ [])))
+unfolding table control_rows variable_rows number_rows
+catches_indexed = record {
+  types = ((plain_func (tt, tt) tt, tt), ((plain_func tt tt, tt), tt));
+  functions = (record { type_index = (_, refl); locals = (tt, tt); operators = ((tt, (tt, (tt, tt))), tt) }, tt);
+  exports = (omega arith, tt);
+}
+
+no_such_block_type : IsIndexed (one_operator (opcode 0 0x02) (Block (OfType 2))) → ⊥
+unfolding table control_rows variable_rows number_rows
+no_such_block_type i = i.functions.0.operators.0
+
+no_such_try_table_type : IsIndexed (one_operator (opcode 0 0x1f) (TryTable (OfType 2) [])) → ⊥
+unfolding table control_rows variable_rows number_rows
+no_such_try_table_type i = i.functions.0.operators.0.0
+
+-- no tag is declared
+no_such_tag : IsIndexed (one_operator (opcode 0 0x08) (Index 0)) → ⊥
+unfolding table control_rows variable_rows number_rows
+no_such_tag i = omega (arith, i.functions.0.operators.0)
+
+no_such_caught_tag : IsIndexed (one_operator (opcode 0 0x1f) (TryTable Empty (All 0 ∷ One 0 0 ∷ []))) → ⊥
+unfolding table control_rows variable_rows number_rows
+no_such_caught_tag i = omega (arith, i.functions.0.operators.0.1.1.0)
+
+no_such_caught_tag_ref : IsIndexed (one_operator (opcode 0 0x1f) (TryTable Empty (OneRef 0 0 ∷ []))) → ⊥
+unfolding table control_rows variable_rows number_rows
+no_such_caught_tag_ref i = omega (arith, i.functions.0.operators.0.1.0)
+
+block_without_type : IsIndexed (one_operator (opcode 0 0x02) NoImmediates) → ⊥
+unfolding table control_rows variable_rows number_rows
+block_without_type i = i.functions.0.operators.0
+
+block_with_catches : IsIndexed (one_operator (opcode 0 0x02) (TryTable Empty [])) → ⊥
+unfolding table control_rows variable_rows number_rows
+block_with_catches i = i.functions.0.operators.0
+
+try_table_without_catches : IsIndexed (one_operator (opcode 0 0x1f) (Block Empty)) → ⊥
+unfolding table control_rows variable_rows number_rows
+try_table_without_catches i = i.functions.0.operators.0
+
+branch_table_of_branch : IsIndexed (one_operator (opcode 0 0x0c) (BranchTable [] 0)) → ⊥
+unfolding table control_rows variable_rows number_rows
+branch_table_of_branch i = i.functions.0.operators.0
 
 mixed_not_indexed : IsIndexed mixed → ⊥
 mixed_not_indexed i = omega (arith, i.exports.1.0)
@@ -141,13 +209,16 @@ no_indent = tt
 
 abbrev immediates_of : Shape → Immediates
 immediates_of NoneShape = NoImmediates
+immediates_of BlockShape = Block (OfType 0)
+immediates_of TryTableShape = TryTable (OfType 0) (One 0 0 ∷ OneRef 0 1 ∷ All 2 ∷ AllRef 3 ∷ [])
+immediates_of BranchTableShape = BranchTable (0 ∷ 1 ∷ []) 2
 immediates_of (IndexShape space) = Index 0
 immediates_of I32Shape = operator.I32 (pos 0)
 immediates_of I64Shape = operator.I64 (pos 0)
 
 abbrev one_each : Counts
-one_each = record { functions = 1; locals = 1 }
+one_each = record { functions = 1; tags = 1; locals = 1; types = 1; signature = λ n. Some (record { params = []; results = [] }) }
 
 each_operator : AllByRecursion (λ r. IsIndexedOperator one_each (record { opcode = opcode r.prefix r.number; immediates = immediates_of r.shape })) table
-unfolding table control_rows number_rows
-each_operator = (tt, (omega arith, (tt, (omega arith, (omega arith, (tt, (tt, tt)))))))
+unfolding table control_rows variable_rows number_rows
+each_operator = (tt, (tt, (tt, (tt, (tt, (tt, (tt, (omega arith, (omega arith, (tt, (tt, (tt, (tt, (tt, (tt, (tt, (tt, (tt, ((tt, (omega arith, (omega arith, (tt, (tt, tt))))), (omega arith, (tt, (omega arith, (omega arith, (tt, (tt, tt)))))))))))))))))))))))))

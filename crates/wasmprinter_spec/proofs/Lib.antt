@@ -1,12 +1,17 @@
 pub mod Ordered
+pub mod Fractions
 pub mod Samples
 pub mod LebRows
 pub mod BinaryRows
+pub mod TypeRows
+pub mod TypeTextRows
 pub mod LayoutRows
 pub mod ColourRows
 pub mod PlainRows
 pub mod MeaningRows
 pub mod NumeralRows
+pub mod FloatRows
+pub mod QuotedRows
 pub mod TokenRows
 pub mod ForestRows
 pub mod CodeRows
@@ -14,3 +19,9 @@ pub mod ReadRows
 pub mod UnreadRows
 pub mod IndexedRows
 pub mod TableRows
+pub mod BlockSamples
+pub mod BlockRows
+pub mod BlockTypeRows
+pub mod LabelRows
+pub mod BlockTextRows
+pub mod NestingRows

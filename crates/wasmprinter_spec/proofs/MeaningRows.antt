@@ -1,5 +1,5 @@
 -- Worked rows of a count of faults: it rises by one, up to its greatest value, and stays there.
-use Rattle.std.specs.Prelude.{◌≡◌, List, [], ◌∷◌, map, Some, None, refl}
+use Rattle.std.specs.Prelude.{◌≡◌, [], ◌∷◌, map, Some, None, refl}
 use Rattle.wasmprinter_spec.specs.Meaning.{one_more}
 
 faults_more : map one_more (None ∷ Some 0 ∷ Some 41 ∷ Some 18446744073709551614 ∷ Some 18446744073709551615 ∷ [])

@@ -4,12 +4,12 @@ use Rattle.std.specs.List.{AllByRecursion}
 use Rattle.std.proofs.lemmas.Bool.{and_parts, ltb-true}
 use Rattle.wasmprinter_spec.specs.Grammar.{some_is}
 use Rattle.wasmprinter_spec.specs.Repeated.{some_or}
-use Rattle.wasmprinter_spec.specs.Sections.{Kind, TypeSection, FunctionSection, ExportSection, CodeSection, Content, Section, holds, section_kind, picked, rank, follows, rank_behind, are_above, held_in}
+use Rattle.wasmprinter_spec.specs.Sections.{Kind, TypeSection, FunctionSection, ExportSection, CodeSection, Content, Section, holds, section_kind, content_of, rank, follows, rank_behind, are_above, content_in}
 
 -- ---- of each kind
 
 -- a section is of another kind, or holds what is picked of it
-pub picks : (kind : Kind) (s : Section) → (picked kind s ≡ None) ⊎ ((x : Content kind) × (s ≡ holds kind x))
+pub picks : (kind : Kind) (s : Section) → (content_of kind s ≡ None) ⊎ ((x : Content kind) × (s ≡ holds kind x))
 picks TypeSection (holds TypeSection x) = inr (x, refl)
 picks FunctionSection (holds FunctionSection x) = inr (x, refl)
 picks ExportSection (holds ExportSection x) = inr (x, refl)
@@ -17,19 +17,19 @@ picks CodeSection (holds CodeSection x) = inr (x, refl)
 picks _ _ = inl refl
 
 -- of a section of the kind it is picked
-pub picked_own : (kind : Kind) (x : Content kind) → picked kind (holds kind x) ≡ Some x
+pub picked_own : (kind : Kind) (x : Content kind) → content_of kind (holds kind x) ≡ Some x
 picked_own TypeSection x = refl
 picked_own FunctionSection x = refl
 picked_own ExportSection x = refl
 picked_own CodeSection x = refl
 
 -- what is picked of a section is all that it holds
-pub picked_is : (kind : Kind) (s : Section) (x : Content kind) → picked kind s ≡ Some x → s ≡ holds kind x
+pub picked_is : (kind : Kind) (s : Section) (x : Content kind) → content_of kind s ≡ Some x → s ≡ holds kind x
 picked_is kind s x e =
     elim (picks kind s) [
       | inl other ↦ absurd (let clash : ◌≡◌ {A = Option (Content kind)} None (Some x) = sym other ∙ e in cc)
       | inr own ↦
-          let its : picked kind s ≡ Some own.0 = ap (picked kind) own.1 ∙ picked_own kind own.0 in
+          let its : content_of kind s ≡ Some own.0 = ap (content_of kind) own.1 ∙ picked_own kind own.0 in
           own.1 ∙ ap (holds kind) (some_is own.0 x (sym its ∙ e))
     ]
 
@@ -72,15 +72,15 @@ above_midst low (x ∷ xs) s ys up = above_midst (rank_behind low (rank (section
 module _ (kind : Kind) where
   -- what stands behind one more section
   abbrev pub with_one : Content kind → Section → Content kind
-  with_one d s = some_or (picked kind s) d (λ x. x)
+  with_one d s = some_or (content_of kind s) d (λ x. x)
 
   -- the last of sections counts last
-  pub held_push : (d : Content kind) (ss : List Section) (s : Section) → held_in kind d (ss ++ s ∷ []) ≡ with_one (held_in kind d ss) s
+  pub held_push : (d : Content kind) (ss : List Section) (s : Section) → content_in kind d (ss ++ s ∷ []) ≡ with_one (content_in kind d ss) s
   held_push d [] s = refl
   held_push d (x ∷ xs) s = held_push (with_one d x) xs s
 
   -- what is so of each section, and of one that holds what there is without any, is so of what they hold
-  pub held_each : (P : Section → Type 0) (d : Content kind) (ss : List Section) → AllByRecursion P ss → P (holds kind d) → P (holds kind (held_in kind d ss))
+  pub held_each : (P : Section → Type 0) (d : Content kind) (ss : List Section) → AllByRecursion P ss → P (holds kind d) → P (holds kind (content_in kind d ss))
   held_each P d [] all none = none
   held_each P d (s ∷ ss) all none =
       elim (picks kind s) [
@@ -92,7 +92,7 @@ module _ (kind : Kind) where
 
   module _ (r : ℕ) (ranked : rank kind ≡ Some r) where
     -- sections above its rank hold nothing of it
-    pub held_past : (d : Content kind) (low : ℕ) (ss : List Section) → r ≤ low → are_above low ss ≡ true → held_in kind d ss ≡ d
+    pub held_past : (d : Content kind) (low : ℕ) (ss : List Section) → r ≤ low → are_above low ss ≡ true → content_in kind d ss ≡ d
     held_past d low [] le up = refl
     held_past d low (s ∷ ss) le up =
         let parts = above_parts low s ss up in
@@ -108,16 +108,16 @@ module _ (kind : Kind) where
 
     -- where one stands among sections in order, they hold what it holds
     pub held_midst : (d : Content kind) (low : ℕ) (xs : List Section) (x : Content kind) (ys : List Section) → are_above low (xs ++ holds kind x ∷ ys) ≡ true
-        → held_in kind d (xs ++ holds kind x ∷ ys) ≡ x
+        → content_in kind d (xs ++ holds kind x ∷ ys) ≡ x
     held_midst d low [] x ys up =
         let parts = above_parts low (holds kind x) ys up in
         let behind : are_above r ys ≡ true = ap (λ (o : Option ℕ). are_above (rank_behind low o) ys) (sym ranked) ∙ parts.1 in
-        ap (λ (o : Option (Content kind)). held_in kind (some_or o d (λ y. y)) ys) (picked_own kind x) ∙ held_past x r ys (omega arith) behind
+        ap (λ (o : Option (Content kind)). content_in kind (some_or o d (λ y. y)) ys) (picked_own kind x) ∙ held_past x r ys (omega arith) behind
     held_midst d low (y ∷ xs) x ys up = held_midst (with_one d y) (rank_behind low (rank (section_kind y))) xs x ys (above_parts low y (xs ++ holds kind x ∷ ys) up).1
 
     -- the same of a section of which it is picked
-    pub held_picked : (d : Content kind) (low : ℕ) (xs : List Section) (s : Section) (x : Content kind) (ys : List Section) → picked kind s ≡ Some x
-        → are_above low (xs ++ s ∷ ys) ≡ true → held_in kind d (xs ++ s ∷ ys) ≡ x
+    pub held_picked : (d : Content kind) (low : ℕ) (xs : List Section) (s : Section) (x : Content kind) (ys : List Section) → content_of kind s ≡ Some x
+        → are_above low (xs ++ s ∷ ys) ≡ true → content_in kind d (xs ++ s ∷ ys) ≡ x
     held_picked d low xs s x ys e up =
         let is : s ≡ holds kind x = picked_is kind s x e in
-        ap (λ (y : Section). held_in kind d (xs ++ y ∷ ys)) is ∙ held_midst d low xs x ys (ap (λ (y : Section). are_above low (xs ++ y ∷ ys)) (sym is) ∙ up)
+        ap (λ (y : Section). content_in kind d (xs ++ y ∷ ys)) is ∙ held_midst d low xs x ys (ap (λ (y : Section). are_above low (xs ++ y ∷ ys)) (sym is) ∙ up)

@@ -1,8 +1,10 @@
 -- Modules that the worked rows share, written by hand: their bytes, what the bytes spell with places, their texts, and what these say.
-use Rattle.std.specs.Prelude.{ℕ, ℤ, pos, negsuc, neg_ℤ, List, [], ◌∷◌, ◌++◌, codes}
+use Rattle.std.specs.Prelude.{ℕ, ℤ, pos, negsuc, neg_ℤ, List, [], ◌∷◌, ◌++◌, true, false, codes}
+use Rattle.wasmprinter_spec.specs.Grammar.{Placed}
 use Rattle.wasmprinter_spec.specs.Types as types
+use Rattle.wasmprinter_spec.specs.Types.{HeapType, ref_type, ValType, Ref, FuncComposite, SubType, final_type}
 use Rattle.wasmprinter_spec.specs.Operator.{opcode, NoImmediates, Index, I32, I64, Operator}
-use Rattle.wasmprinter_spec.specs.Placed.{PlacedModule}
+use Rattle.wasmprinter_spec.specs.Placed.{TypeGroup, type_group, PlacedModule}
 use Rattle.wasmprinter_spec.specs.Module.{Module}
 
 -- the magic and the version
@@ -13,6 +15,23 @@ head_bytes = 0x00 ∷ 0x61 ∷ 0x73 ∷ 0x6d ∷ 0x01 ∷ 0x00 ∷ 0x00 ∷ 0x00
 abbrev pub lines : List (List ℕ) → List ℕ
 lines [] = []
 lines (l ∷ ls) = l ++ codes "\n" ++ lines ls
+
+-- ---- types
+
+-- references, which can't be null or may be
+abbrev pub to : HeapType → ValType
+to h = Ref (ref_type false h)
+
+abbrev pub to_null : HeapType → ValType
+to_null h = Ref (ref_type true h)
+
+-- a function type, by its parameters and results
+abbrev pub func : List ValType → List ValType → SubType
+func ps rs = final_type (FuncComposite (record { params = ps; results = rs }))
+
+-- a type that stands by itself, at this place
+abbrev pub bare : ℕ → SubType → Placed TypeGroup
+bare place t = record { place = place; value = type_group false (t ∷ []) }
 
 -- ---- operators
 
@@ -57,7 +76,7 @@ identity_bytes =
 
 abbrev pub identity_placed : PlacedModule
 identity_placed = record {
-  types = record { place = 0xb; value = record { params = types.I32 ∷ []; results = types.I32 ∷ [] } } ∷ [];
+  types = bare 0xb (func (types.I32 ∷ []) (types.I32 ∷ [])) ∷ [];
   functions =
       record {
         type_index = 0;
@@ -73,7 +92,7 @@ identity_placed = record {
 
 abbrev pub identity : Module
 identity = record {
-  types = record { params = types.I32 ∷ []; results = types.I32 ∷ [] } ∷ [];
+  types = (func (types.I32 ∷ []) (types.I32 ∷ []) ∷ []) ∷ [];
   functions = record { type_index = 0; locals = []; operators = local_get 0 ∷ [] } ∷ [];
   exports = record { name = codes "f"; function = 0 } ∷ [];
 }
@@ -114,7 +133,7 @@ stored_bytes = stored_bytes_to_end ++ (0x0b ∷ [])
 
 abbrev pub stored_placed : PlacedModule
 stored_placed = record {
-  types = record { place = 0xb; value = record { params = []; results = types.I64 ∷ [] } } ∷ [];
+  types = bare 0xb (func [] (types.I64 ∷ [])) ∷ [];
   functions =
       record {
         type_index = 0;
@@ -138,7 +157,7 @@ stored_placed = record {
 
 abbrev pub stored : Module
 stored = record {
-  types = record { params = []; results = types.I64 ∷ [] } ∷ [];
+  types = (func [] (types.I64 ∷ []) ∷ []) ∷ [];
   functions =
       record {
         type_index = 0;
@@ -185,8 +204,8 @@ mixed_bytes =
 abbrev pub mixed_placed : PlacedModule
 mixed_placed = record {
   types =
-      record { place = 0xb; value = record { params = []; results = [] } }
-      ∷ record { place = 0xe; value = record { params = types.I32 ∷ types.I64 ∷ []; results = types.I64 ∷ types.I32 ∷ [] } }
+      bare 0xb (func [] [])
+      ∷ bare 0xe (func (types.I32 ∷ types.I64 ∷ []) (types.I64 ∷ types.I32 ∷ []))
       ∷ [];
   functions =
       record { type_index = 0; body = record { place = 0x2b; value = record { locals = []; operators = []; end = 0x2c } } }
@@ -227,7 +246,7 @@ mixed_placed = record {
 -- what it is without places, where its last function uses this type
 abbrev pub mixed_using : ℕ → Module
 mixed_using type = record {
-  types = record { params = []; results = [] } ∷ record { params = types.I32 ∷ types.I64 ∷ []; results = types.I64 ∷ types.I32 ∷ [] } ∷ [];
+  types = (func [] [] ∷ []) ∷ (func (types.I32 ∷ types.I64 ∷ []) (types.I64 ∷ types.I32 ∷ []) ∷ []) ∷ [];
   functions =
       record { type_index = 0; locals = []; operators = [] }
       ∷ record {

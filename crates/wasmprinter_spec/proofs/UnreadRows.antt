@@ -2,12 +2,15 @@
 use Rattle.std.specs.Prelude.{◌≡◌, ℕ, ◌+◌, List, [], ◌∷◌, ◌++◌, map, codes, Option, Some, None, refl}
 use Rattle.std.specs.Char.{encode_utf8}
 use Rattle.std.specs.Str.{is_utf8, chars}
-use Rattle.wasmprinter_spec.specs.Table.{table, control_rows, number_rows}
+use Rattle.wasmprinter_spec.specs.Table.{table, control_rows, variable_rows, number_rows}
 use Rattle.wasmprinter_spec.specs.Module.{Module}
 use Rattle.wasmprinter_spec.specs.Character.{class}
 use Rattle.wasmprinter_spec.specs.Numeral.{numeral, natural, integer}
 use Rattle.wasmprinter_spec.specs.Token.{escape, lex}
-use Rattle.wasmprinter_spec.specs.Read.{groups, read}
+use Rattle.wasmprinter_spec.specs.Code.{head}
+use Rattle.wasmprinter_spec.specs.Text.Types.{heap_of_word, ref_of_word, number_of_word, packed_of_word}
+use Rattle.wasmprinter_spec.specs.Text.Items.{groups}
+use Rattle.wasmprinter_spec.specs.Read.{read}
 use Rattle.wasmprinter_spec.proofs.Samples.{mixed_text}
 
 abbrev number_if : Option Module → ℕ → List ℕ
@@ -24,7 +27,7 @@ numbers_read ts = numbers_from 0 ts
 
 -- a text that reads is seen
 read_among : numbers_read (codes "(module" ∷ codes "(module)" ∷ codes "module" ∷ codes "(module (type (func)))" ∷ []) ≡ 1 ∷ 3 ∷ []
-unfolding lex class escape numeral natural integer groups table control_rows number_rows is_utf8 chars encode_utf8
+unfolding lex class escape numeral natural integer groups table control_rows variable_rows number_rows head is_utf8 chars encode_utf8 heap_of_word ref_of_word number_of_word packed_of_word
 read_among = refl
 
 -- parentheses that don't match, more than one module or none
@@ -41,7 +44,7 @@ unread_groups : numbers_read (
     ∷ codes "((module))"
     ∷ codes "(modules)"
     ∷ []) ≡ []
-unfolding lex class escape numeral natural integer groups table control_rows number_rows is_utf8 chars encode_utf8
+unfolding lex class escape numeral natural integer groups table control_rows variable_rows number_rows head is_utf8 chars encode_utf8 heap_of_word ref_of_word number_of_word packed_of_word
 unread_groups = refl
 
 -- texts and comments that stay open, signs that mean nothing outside annotations, and characters that stand in comments alone
@@ -65,7 +68,7 @@ unread_tokens : numbers_read (
     ∷ (codes "(module " ++ 0xc3 ∷ 0xa9 ∷ codes ")")
     ∷ (codes "(module (; " ++ 0xff ∷ codes " ;))")
     ∷ []) ≡ []
-unfolding lex class escape numeral natural integer groups table control_rows number_rows is_utf8 chars encode_utf8
+unfolding lex class escape numeral natural integer groups table control_rows variable_rows number_rows head is_utf8 chars encode_utf8 heap_of_word ref_of_word number_of_word packed_of_word
 unread_tokens = refl
 
 -- two tokens that touch
@@ -77,12 +80,12 @@ unread_touching : numbers_read (
     ∷ codes "(module (type (func (param i32))) (func (type 0) (param $x i32) local.get$x))"
     ∷ codes "(module (type (func)) (func (type 0) (local $\"x\"i32)))"
     ∷ []) ≡ []
-unfolding lex class escape numeral natural integer groups table control_rows number_rows is_utf8 chars encode_utf8
+unfolding lex class escape numeral natural integer groups table control_rows variable_rows number_rows head is_utf8 chars encode_utf8 heap_of_word ref_of_word number_of_word packed_of_word
 unread_touching = refl
 
 -- custom sections are not read yet
 unread_customs : numbers_read (codes "(module (@custom \"a\" \"b\"))" ∷ codes "(module (type (func)) (@\"custom\" \"a\" (before first) \"b\"))" ∷ []) ≡ []
-unfolding lex class escape numeral natural integer groups table control_rows number_rows is_utf8 chars encode_utf8
+unfolding lex class escape numeral natural integer groups table control_rows variable_rows number_rows head is_utf8 chars encode_utf8 heap_of_word ref_of_word number_of_word packed_of_word
 unread_customs = refl
 
 unread_fields : numbers_read (
@@ -105,7 +108,7 @@ unread_fields : numbers_read (
     ∷ codes "(module (export \"f\" (type 0)))"
     ∷ codes "(module (export \"\\ff\" (func 0)))"
     ∷ []) ≡ []
-unfolding lex class escape numeral natural integer groups table control_rows number_rows is_utf8 chars encode_utf8
+unfolding lex class escape numeral natural integer groups table control_rows variable_rows number_rows head is_utf8 chars encode_utf8 heap_of_word ref_of_word number_of_word packed_of_word
 unread_fields = refl
 
 -- numbers beyond 32 bits, and identifiers without one declaration in their space
@@ -126,7 +129,7 @@ unread_indices : numbers_read (
     ∷ codes "(module (type (func)) (func $f (type 0)) (func (type $f)))"
     ∷ codes "(module (type (func)) (func $f (type 0) (local $l i32) call $l))"
     ∷ []) ≡ []
-unfolding lex class escape numeral natural integer groups table control_rows number_rows is_utf8 chars encode_utf8
+unfolding lex class escape numeral natural integer groups table control_rows variable_rows number_rows head is_utf8 chars encode_utf8 heap_of_word ref_of_word number_of_word packed_of_word
 unread_indices = refl
 
 -- an identifier declared twice in one space, which nothing uses
@@ -142,7 +145,7 @@ unread_identifiers : numbers_read (
     ∷ codes "(module (type (func)) (func (type 0) (local $x i32) (local i32) (local $x i32)))"
     ∷ codes "(module (type (func (param i32))) (func (type 0) (local i32) (local $x i32) (local $x i32)))"
     ∷ []) ≡ []
-unfolding lex class escape numeral natural integer groups table control_rows number_rows is_utf8 chars encode_utf8
+unfolding lex class escape numeral natural integer groups table control_rows variable_rows number_rows head is_utf8 chars encode_utf8 heap_of_word ref_of_word number_of_word packed_of_word
 unread_identifiers = refl
 
 -- a signature beside a type's index is whole and in order
@@ -156,13 +159,17 @@ unread_signatures : numbers_read (
     ∷ codes "(module (type (func (param i32) (result i32))) (func (type 0) (result i32) (param i32)))"
     ∷ codes "(module (type (func (param i32))) (func (type 0) (local i32) (param i32)))"
     ∷ codes "(module (type (func (param i32))) (func (param i32) (type 0)))"
+    ∷ codes "(module (type (func (param funcref))) (func (type 0) (param (ref func))))"
+    ∷ codes "(module (type (func (param funcref))) (func (type 0) (param externref)))"
+    ∷ codes "(module (type (func (param (ref 0)))) (func (type 0) (param (ref 1))))"
+    ∷ codes "(module (type (func (param f32))) (func (type 0) (param f64)))"
     ∷ codes "(module (type (func)) (func (type 0) $f))"
     ∷ codes "(module (type (func)) (func (type 0 0)))"
     ∷ []) ≡ []
-unfolding lex class escape numeral natural integer groups table control_rows number_rows is_utf8 chars encode_utf8
+unfolding lex class escape numeral natural integer groups table control_rows variable_rows number_rows head is_utf8 chars encode_utf8 heap_of_word ref_of_word number_of_word packed_of_word
 unread_signatures = refl
 
--- a function whose type isn't declared, with a signature beside it and without one
+-- a function whose type isn't declared or is no function type, with a signature beside it and without one
 unread_type_uses : numbers_read (
     codes "(module (func (type 0)))"
     ∷ codes "(module (func (type 0) (param i32)))"
@@ -171,10 +178,81 @@ unread_type_uses : numbers_read (
     ∷ codes "(module (type (func)) (type (func (param i32))) (func (type 2) (param i32)))"
     ∷ codes "(module (type (func)) (func (type 4294967295)))"
     ∷ codes "(module (type $t (func)) (func (type $u)))"
+    ∷ codes "(module (type (struct)) (func (type 0)))"
+    ∷ codes "(module (type (array i32)) (type (func)) (func (type 0)))"
+    ∷ codes "(module (rec (type (func)) (type (struct))) (func (type 1)))"
     ∷ mixed_text
     ∷ []) ≡ []
-unfolding lex class escape numeral natural integer groups table control_rows number_rows is_utf8 chars encode_utf8
+unfolding lex class escape numeral natural integer groups table control_rows variable_rows number_rows head is_utf8 chars encode_utf8 heap_of_word ref_of_word number_of_word packed_of_word
 unread_type_uses = refl
+
+-- types that no grammar has, an identifier declared twice in a structure or in groups, a name of no type
+unread_types : numbers_read (
+    codes "(module (type (sub final final (func))))"
+    ∷ codes "(module (type (sub)))"
+    ∷ codes "(module (type (sub final)))"
+    ∷ codes "(module (type (sub (func) (func))))"
+    ∷ codes "(module (type (sub (func) 0)))"
+    ∷ codes "(module (type (sub 0 final (func))))"
+    ∷ codes "(module (type (sub (sub (func)))))"
+    ∷ codes "(module (type (sub $t (func))))"
+    ∷ codes "(module (type (final (func))))"
+    ∷ codes "(module (rec (rec (type (func)))))"
+    ∷ codes "(module (rec (rec)))"
+    ∷ codes "(module (rec $r (type (func))))"
+    ∷ codes "(module (rec (func)))"
+    ∷ codes "(module (rec type))"
+    ∷ codes "(module (type (rec (type (func)))))"
+    ∷ codes "(module (type (array)))"
+    ∷ codes "(module (type (array i32 i32)))"
+    ∷ codes "(module (type (array $x i32)))"
+    ∷ codes "(module (type (array (field i32))))"
+    ∷ codes "(module (type (array (mut (mut i32)))))"
+    ∷ codes "(module (type (array (mut))))"
+    ∷ codes "(module (type (array (mut i32 i32))))"
+    ∷ codes "(module (type (struct i32)))"
+    ∷ codes "(module (type (struct (field $x i32 i32))))"
+    ∷ codes "(module (type (struct (field $x))))"
+    ∷ codes "(module (type (struct (field i24))))"
+    ∷ codes "(module (type (struct (field $x i32) (field $x i64))))"
+    ∷ codes "(module (type (struct (field $x i32) (field i8) (field $\"x\" i32))))"
+    ∷ codes "(module (type (union (field i32))))"
+    ∷ codes "(module (type $t (func)) (rec (type $t (func))))"
+    ∷ codes "(module (rec (type $t (func)) (type $t (func))))"
+    ∷ []) ≡ []
+unfolding lex class escape numeral natural integer groups heap_of_word ref_of_word number_of_word packed_of_word table control_rows variable_rows number_rows is_utf8 chars encode_utf8
+unread_types = refl
+
+-- words of no heap type or of no value type, more than a heap type, and indices that can't be
+unread_references : numbers_read (map (λ t. codes "(module (type $t (func (param " ++ t ++ codes "))))") (
+    codes "(ref)"
+    ∷ codes "(ref null)"
+    ∷ codes "(ref null null func)"
+    ∷ codes "(ref func func)"
+    ∷ codes "(ref func null)"
+    ∷ codes "(ref funcref)"
+    ∷ codes "(ref (ref func))"
+    ∷ codes "(ref (func))"
+    ∷ codes "(ref function)"
+    ∷ codes "(ref i32)"
+    ∷ codes "(ref null none none)"
+    ∷ codes "(ref $u)"
+    ∷ codes "(ref 4294967296)"
+    ∷ codes "(ref -1)"
+    ∷ codes "(null func)"
+    ∷ codes "(funcref)"
+    ∷ codes "(i32)"
+    ∷ codes "(mut i32)"
+    ∷ codes "func"
+    ∷ codes "nullany"
+    ∷ codes "i8"
+    ∷ codes "i16"
+    ∷ codes "0"
+    ∷ codes "$t"
+    ∷ codes "$x i32 (ref func)"
+    ∷ [])) ≡ []
+unfolding lex class escape numeral natural integer groups heap_of_word ref_of_word number_of_word packed_of_word table control_rows variable_rows number_rows is_utf8 chars encode_utf8
+unread_references = refl
 
 -- a text of one function with this code
 abbrev procedure : List ℕ → List ℕ
@@ -198,8 +276,14 @@ unread_code : numbers_read (map procedure (
     ∷ codes "local.get drop"
     ∷ codes "local.get 4294967296"
     ∷ codes "end"
+    ∷ codes "block"
+    ∷ codes "block else end"
+    ∷ codes "br $l"
+    ∷ codes "block $l end br $l"
+    ∷ codes "block (type 0) (param i32) end"
+    ∷ codes "block (type 1) end"
     ∷ [])) ≡ []
-unfolding lex class escape numeral natural integer groups table control_rows number_rows is_utf8 chars encode_utf8
+unfolding lex class escape numeral natural integer groups table control_rows variable_rows number_rows head is_utf8 chars encode_utf8 heap_of_word ref_of_word number_of_word packed_of_word
 unread_code = refl
 
 -- operands stand behind what the operator's word takes, and are folded themselves
@@ -218,9 +302,11 @@ unread_folded : numbers_read (map procedure (
     ∷ codes "(drop (then))"
     ∷ codes "(drop (then drop) (else drop))"
     ∷ codes "(catch_all 0)"
+    ∷ codes "(if (then end) (else))"
+    ∷ codes "(block end block)"
     ∷ codes "(drop (result i32))"
     ∷ codes "(call 0 (type 0))"
     ∷ codes "(drop (drop) (param i32))"
     ∷ [])) ≡ []
-unfolding lex class escape numeral natural integer groups table control_rows number_rows is_utf8 chars encode_utf8
+unfolding lex class escape numeral natural integer groups table control_rows variable_rows number_rows head is_utf8 chars encode_utf8 heap_of_word ref_of_word number_of_word packed_of_word
 unread_folded = refl

@@ -1,12 +1,12 @@
 -- How bytes spell a module (section 5.5 of the standard, "Modules"): a preamble, and sections up to the end.
 use Rattle.std.specs.Prelude.{◌≡◌, ℕ, ◌<◌, List, [], ◌∷◌, ◌++◌, bytes_eq, Option, Some, None, if◌then◌else◌}
 use Rattle.std.specs.List.{AllByRecursion}
-use Rattle.wasmprinter_spec.specs.Grammar.{Grammar, Whole, ◌>>=◌, mapped, Placed}
+use Rattle.wasmprinter_spec.specs.Grammar.{Grammar, Remainder, ◌>>=◌, try_map, Placed}
 use Rattle.wasmprinter_spec.specs.Repeated.{until_end}
-use Rattle.wasmprinter_spec.specs.Sized.{front, headed, concluded}
-use Rattle.wasmprinter_spec.specs.Types.{FuncType}
-use Rattle.wasmprinter_spec.specs.Placed.{Body, Export, PlacedFunction, PlacedModule}
-use Rattle.wasmprinter_spec.specs.Sections.{Section, TypeSection, FunctionSection, ExportSection, CodeSection, section, are_above, held_in}
+use Rattle.wasmprinter_spec.specs.Sized.{take_bytes, headed, concluded}
+use Rattle.wasmprinter_spec.specs.Placed.{TypeGroup, Body, Export, PlacedFunction, PlacedModule}
+use Rattle.wasmprinter_spec.specs.Sections.{Section, TypeSection, FunctionSection, ExportSection, CodeSection, section, are_above, content_in}
+pub mod ValTypes
 pub mod Types
 pub mod Functions
 pub mod Exports
@@ -20,36 +20,36 @@ abbrev pub preamble_bytes : List ℕ
 preamble_bytes = magic ++ (0x01 ∷ 0x00 ∷ 0x00 ∷ 0x00 ∷ [])
 
 abbrev pub preamble : Grammar (List ℕ)
-preamble = mapped (λ bytes. if bytes_eq bytes preamble_bytes then Some bytes else None) (front 8)
+preamble = try_map (λ bytes. if bytes_eq bytes preamble_bytes then Some bytes else None) (take_bytes 8)
 
 -- what the sections hold of each kind
-abbrev pub types_in : List Section → List (Placed FuncType)
-types_in ss = held_in TypeSection [] ss
+abbrev pub types_in : List Section → List (Placed TypeGroup)
+types_in ss = content_in TypeSection [] ss
 
 abbrev pub type_indices_in : List Section → List ℕ
-type_indices_in ss = held_in FunctionSection [] ss
+type_indices_in ss = content_in FunctionSection [] ss
 
 abbrev pub exports_in : List Section → List (Placed Export)
-exports_in ss = held_in ExportSection [] ss
+exports_in ss = content_in ExportSection [] ss
 
 abbrev pub bodies_in : List Section → List (Placed Body)
-bodies_in ss = held_in CodeSection [] ss
+bodies_in ss = content_in CodeSection [] ss
 
 -- the type index of each function with its body, where there are as many of the one as of the other
-abbrev pub paired : List ℕ → List (Placed Body) → Option (List PlacedFunction)
-paired [] [] = Some []
-paired (i ∷ is) (b ∷ bs) = paired is bs >>= λ fs. Some (record { type_index = i; body = b } ∷ fs)
-paired _ _ = None
+abbrev pub function_pairs : List ℕ → List (Placed Body) → Option (List PlacedFunction)
+function_pairs [] [] = Some []
+function_pairs (i ∷ is) (b ∷ bs) = function_pairs is bs >>= λ fs. Some (record { type_index = i; body = b } ∷ fs)
+function_pairs _ _ = None
 
 abbrev pub module_from : ℕ → List Section → List PlacedFunction → PlacedModule
 module_from size ss fs = record { types = types_in ss; functions = fs; exports = exports_in ss; size = size }
 
 -- the module of the sections, which end at this place
-abbrev pub assembled : ℕ → List Section → Option PlacedModule
-assembled size ss = if are_above 0 ss then (paired (type_indices_in ss) (bodies_in ss) >>= λ fs. Some (module_from size ss fs)) else None
+abbrev pub module_of_sections : ℕ → List Section → Option PlacedModule
+module_of_sections size ss = if are_above 0 ss then (function_pairs (type_indices_in ss) (bodies_in ss) >>= λ fs. Some (module_from size ss fs)) else None
 
-abbrev pub binary : Whole PlacedModule
-binary = concluded (λ size x. assembled size x.1) (headed preamble (until_end section))
+abbrev pub binary : Remainder PlacedModule
+binary = concluded (λ size x. module_of_sections size x.1) (headed preamble (until_end section))
 
 -- numbers that are bytes
 abbrev pub AreBytes : List ℕ → Type 0

@@ -1,12 +1,14 @@
 -- Operators in the text format, and folded ones as a flat list (section 6.5 of the standard, "Folded Instructions"): a folded group of an operator
 -- gives its operands, each a group, and then the operator. Branch hints are annotations (Code Metadata, a document beside the standard): each
 -- belongs to the operator or group directly behind it.
-use Rattle.std.specs.Prelude.{ℕ, List, [], ◌∷◌, ◌++◌, Bool, true, false, bytes_eq, codes, cond, Option, Some, None, option_map}
+use Rattle.std.specs.Prelude.{ℕ, List, [], ◌∷◌, ◌++◌, Bool, true, false, bytes_eq, codes, Option, Some, None, option_map, if◌then◌else◌, map}
 use Rattle.std.specs.List.{list_any}
 use Rattle.wasmprinter_spec.specs.Grammar.{◌>>=◌}
 use Rattle.wasmprinter_spec.specs.Forest.{Forest, End, Word, Name, String, Reserved, Group, Note}
-use Rattle.wasmprinter_spec.specs.Row.{Row}
+use Rattle.wasmprinter_spec.specs.Row.{Row, Role, Plain, Opens, OpensIf, Ends}
 use Rattle.wasmprinter_spec.specs.Table.{rows_of}
+use Rattle.wasmprinter_spec.specs.Stepped.{stops}
+use Rattle.wasmprinter_spec.specs.Nesting.{advance, at_start}
 
 -- an operator: the rows of its word, what stands between the word and the next operator, and the hints in front of it
 pub record Chunk : Type 0 where
@@ -17,10 +19,13 @@ pub record Chunk : Type 0 where
 abbrev pub chunk : List Row → Forest → Chunk
 chunk rs f = record { rows = rs; arguments = f; hints = [] }
 
--- An operator by itself, or a folded one: the operators that stand before its own, its own, and those behind it.
+-- An operator by itself, or a folded one: the operators that stand before its own, its own, and those behind it; or what a folded `if` holds in
+-- its groups `then` and `else`.
 pub data Instruction : Type 0 where
   Flat : Chunk → Instruction
   Folded : List Chunk → Chunk → List Chunk → Instruction
+  Then : List Chunk → Instruction
+  Else : List Chunk → Instruction
 
 -- a row as code: what stands before its first operator, and its instructions
 pub record Code : Type 0 where
@@ -44,42 +49,82 @@ with_word (r ∷ rs) w c = option_map (λ c. code_of End (Flat (chunk (r ∷ rs)
 
 -- ---- folded operators
 
+-- an operator of one word
+abbrev pub word_chunk : List ℕ → Chunk
+word_chunk w = chunk (rows_of w) End
+
+-- code holds flat and folded operators, and no group `then` or `else`
+abbrev pub flattened : List Instruction → Option (List Chunk)
+flattened [] = Some []
+flattened (Flat c ∷ is) = option_map (λ cs. c ∷ cs) (flattened is)
+flattened (Folded before own behind ∷ is) = option_map (λ cs. before ++ (own ∷ (behind ++ cs))) (flattened is)
+flattened (_ ∷ is) = None
+
 -- operands are folded too
 abbrev pub operands : List Instruction → Option (List Chunk)
 operands [] = Some []
-operands (Flat c ∷ is) = None
 operands (Folded before own behind ∷ is) = option_map (λ cs. before ++ (own ∷ (behind ++ cs))) (operands is)
+operands (_ ∷ is) = None
 
--- the operator of these rows, folded: nothing stands behind it
-abbrev pub folded : List Row → Code → Option Instruction
-folded rs c = option_map (λ cs. Folded cs (chunk rs c.front) []) (operands c.instructions)
+-- how an operator stands to the blocks around it; operators with one word stand alike
+abbrev pub role_by : List Row → Role
+role_by [] = Plain
+role_by (r ∷ rs) = r.role
+
+-- what a group holds is well nested by itself: its operators neither close a block around it nor leave one open
+abbrev pub if_nested : List Chunk → Option (List Chunk)
+if_nested cs = if stops advance at_start (map (λ c. role_by c.rows) cs) Ends then Some cs else None
+
+-- the operands of an `if`, and what stands in its groups, the second perhaps absent
+abbrev pub branches : List Instruction → Option (List Chunk × List Chunk)
+branches (Then t ∷ []) = Some ([], t)
+branches (Then t ∷ Else e ∷ []) = Some ([], t ++ (word_chunk (codes "else") ∷ e))
+branches (Folded before own behind ∷ is) = option_map (λ x. (before ++ (own ∷ (behind ++ x.0)), x.1)) (branches is)
+branches _ = None
+
+-- The operator of these rows, folded: operands and the operator; the opening operator of a block, what the block holds, and its `end`; for `if`
+-- its operands stand in front. The older `try` isn't folded.
+abbrev pub folded_as : Role → List Row → Code → Option Instruction
+folded_as Plain rs c = option_map (λ cs. Folded cs (chunk rs c.front) []) (operands c.instructions)
+folded_as Opens rs c = option_map (λ cs. Folded [] (chunk rs c.front) (cs ++ (word_chunk (codes "end") ∷ []))) (flattened c.instructions >>= if_nested)
+folded_as OpensIf rs c = option_map (λ x. Folded x.0 (chunk rs c.front) (x.1 ++ (word_chunk (codes "end") ∷ []))) (branches c.instructions)
+folded_as _ rs c = None
 
 -- the words of groups that are parts of the operator in front of them or around them, though the word may be an operator's too
 abbrev pub part_words : List (List ℕ)
 part_words =
-    codes "type" ∷ codes "param" ∷ codes "result" ∷ codes "then" ∷ codes "else"
-    ∷ codes "catch" ∷ codes "catch_ref" ∷ codes "catch_all" ∷ codes "catch_all_ref" ∷ []
+    codes "type" ∷ codes "param" ∷ codes "result" ∷ codes "catch" ∷ codes "catch_ref" ∷ codes "catch_all" ∷ codes "catch_all_ref" ∷ []
 
--- what a group is: a part of an operator, or an operator itself, with the first of its rows and the others
-pub data Role : Type 0 where
-  PartRole : Role
-  OperatorRole : Row → List Row → Role
+-- what a group is: a part of an operator, what `if` holds in a case, or an operator itself, with the first of its rows and the others
+pub data Head : Type 0 where
+  PartHead : Head
+  ThenHead : Head
+  ElseHead : Head
+  OperatorHead : Row → List Row → Head
 
-abbrev pub role_by : List Row → Role
-role_by [] = PartRole
-role_by (r ∷ rs) = OperatorRole r rs
+abbrev pub head_by : List Row → Head
+head_by [] = PartHead
+head_by (r ∷ rs) = OperatorHead r rs
 
--- the role of a group by the word at its head
-abbrev pub role : List ℕ → Role
-role w = cond (list_any (λ v. bytes_eq v w) part_words) PartRole (role_by (rows_of w))
+-- by the word of the group
+unfoldable pub head : List ℕ → Head
+head w =
+    if list_any (λ v. bytes_eq v w) part_words then PartHead else
+    (if bytes_eq w (codes "then") then ThenHead else (if bytes_eq w (codes "else") then ElseHead else head_by (rows_of w)))
 
 -- nothing but instructions stands behind a folded one
 abbrev pub before : Instruction → Code → Option Code
 before i c = option_map (λ is. code_of End (i ∷ is)) (only_instructions c)
 
-abbrev pub with_group : Role → (Forest → Forest) → Option Code → Option Code → Option Code
-with_group PartRole item inner rest = with_front item rest
-with_group (OperatorRole r rs) item inner rest = inner >>= λ c. folded (r ∷ rs) c >>= λ i. rest >>= before i
+-- what a group holds, as a case of an `if`
+abbrev pub branch : (List Chunk → Instruction) → Option Code → Option Code → Option Code
+branch make inner rest = inner >>= only_instructions >>= flattened >>= if_nested >>= λ cs. rest >>= before (make cs)
+
+abbrev pub with_group : Head → (Forest → Forest) → Option Code → Option Code → Option Code
+with_group PartHead item inner rest = with_front item rest
+with_group ThenHead item inner rest = branch Then inner rest
+with_group ElseHead item inner rest = branch Else inner rest
+with_group (OperatorHead r rs) item inner rest = inner >>= folded_as r.role (r ∷ rs) >>= λ i. rest >>= before i
 
 -- ---- hints
 
@@ -94,6 +139,7 @@ abbrev pub hint_first : Forest → List Instruction → List Instruction
 hint_first h [] = []
 hint_first h (Flat c ∷ is) = Flat (hinted h c) ∷ is
 hint_first h (Folded before own behind ∷ is) = Folded before (hinted h own) behind ∷ is
+hint_first h is = is
 
 -- a hint in front of anything but an operator or a group of one is nothing
 abbrev pub with_hint : Forest → Code → Code
@@ -112,15 +158,10 @@ code (Word w f) = with_word (rows_of w) w (code f)
 code (Name s f) = with_front (Name s) (code f)
 code (String s f) = with_front (String s) (code f)
 code (Reserved f) = with_front Reserved (code f)
-code (Group (Word w g) f) = with_group (role w) (Group (Word w g)) (code g) (code f)
+code (Group (Word w g) f) = with_group (head w) (Group (Word w g)) (code g) (code f)
 code (Group g f) = with_front (Group g) (code f)
 code (Note id g f) = with_note (is_hint id) g (code f)
 
-abbrev pub flattened : List Instruction → List Chunk
-flattened [] = []
-flattened (Flat c ∷ is) = c ∷ flattened is
-flattened (Folded before own behind ∷ is) = before ++ (own ∷ (behind ++ flattened is))
-
 -- the operators of a row, folded ones in their flat order
 abbrev pub unfolded : Forest → Option (List Chunk)
-unfolded f = code f >>= only_instructions >>= λ is. Some (flattened is)
+unfolded f = code f >>= only_instructions >>= flattened

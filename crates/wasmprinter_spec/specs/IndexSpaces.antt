@@ -1,7 +1,9 @@
 -- Indices in the text format: a number means itself, an identifier the place of its declaration (sections 6.3, "Identifiers" and
 -- "Contexts", and 6.6, "Indices", of the standard). An index space is given by the identifiers of its declarations, in order.
 use Rattle.std.specs.Prelude.{ℕ, ◌+◌, List, [], ◌∷◌, Bool, true, false, cond, not, ◌&&◌, bytes_eq, Option, Some, None, if◌then◌else◌, option_map}
-use Rattle.wasmprinter_spec.specs.Row.{Space, Func, Local}
+use Rattle.wasmprinter_spec.specs.Row.{Space, Func, Local, Label, Tag}
+use Rattle.wasmprinter_spec.specs.Grammar.{◌>>=◌}
+use Rattle.wasmprinter_spec.specs.Types.{FuncType}
 use Rattle.wasmprinter_spec.specs.Numeral.{natural, below}
 use Rattle.wasmprinter_spec.specs.Forest.{Forest, End, Word, Name}
 
@@ -33,31 +35,27 @@ abbrev pub resolve : List ℕ → Identifiers → Option ℕ
 resolve id [] = None
 resolve id (d ∷ ds) = if declares id d then Some 0 else option_map (λ n. n + 1) (resolve id ds)
 
--- an index as it is written
-pub data Reference : Type 0 where
-  ByNumber : ℕ → Reference
-  ByName : List ℕ → Reference
-
-abbrev pub by_number : Option ℕ → Option Reference
-by_number None = None
-by_number (Some n) = option_map ByNumber (below 32 n)
-
 -- one item that is an index
-abbrev pub reference : Forest → Option Reference
-reference (Word w End) = by_number (natural w)
-reference (Name s End) = Some (ByName s)
-reference _ = None
-
-abbrev pub index_in : Identifiers → Reference → Option ℕ
-index_in ids (ByNumber n) = Some n
-index_in ids (ByName s) = resolve s ids
+abbrev pub index : Identifiers → Forest → Option ℕ
+index ids (Word w End) = natural w >>= below 32
+index ids (Name s End) = resolve s ids
+index ids _ = None
 
 -- the index spaces of a module, and of a function's parameters with its locals
 pub record Spaces : Type 0 where
   pub types : Identifiers
   pub functions : Identifiers
+  pub tags : Identifiers
   pub locals : Identifiers
 
+-- (Labels are found by another rule, with the operators.)
 abbrev pub space_in : Spaces → Space → Identifiers
 space_in s Func = s.functions
 space_in s Local = s.locals
+space_in s Label = []
+space_in s Tag = s.tags
+
+-- what functions and operators are read with: the index spaces, and the signature of each function type
+pub record Context : Type 0 where
+  pub spaces : Spaces
+  pub signature : ℕ → Option FuncType

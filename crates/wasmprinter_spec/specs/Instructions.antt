@@ -1,68 +1,231 @@
--- How bytes spell operators and expressions (section 5.4 of the standard). The grammar so far has no structured operators.
-use Rattle.std.specs.Prelude.{◌≡◌, ℕ, ◌+◌, List, length, ◌∷◌, ◌++◌, Bool, ◌||◌, ◌==◌, Option, Some, None, refl}
-use Rattle.std.proofs.Common.{sym, ap, ◌∙◌, subst}
-use Rattle.wasmprinter_spec.specs.Grammar.{Grammar, byte, seq, as_value, nothing, never, choose, Placed, placed, some_is}
+-- How bytes spell operators and expressions (section 5.4 of the standard). Expressions nest blocks in one another.
+use Rattle.std.specs.Prelude.{◌≡◌, ◌⊎◌, ℕ, ◌+◌, ◌<◌, List, [], length, ◌∷◌, ◌++◌, map, Bool, true, false, cond, ◌||◌, ◌&&◌, ◌==◌, Option, Some, None, refl}
+use Rattle.std.proofs.Common.{sym, ap, ◌∙◌, subst, arith, append-nil, inl, inr, eqb}
+use Rattle.std.proofs.lemmas.Bool.{and_parts, eqb-true}
+use Rattle.std.proofs.lemmas.List.{length-append}
+use Rattle.wasmprinter_spec.specs.Grammar.{input, Grammar, byte, seq, map_value, succeed, fail, choose, Placed, placed, restated, some_is}
+use Rattle.wasmprinter_spec.specs.Repeated.{Items}
 use Rattle.wasmprinter_spec.specs.Leb.{signed}
-use Rattle.wasmprinter_spec.specs.Name.{u32}
-use Rattle.wasmprinter_spec.specs.Operator.{Opcode, opcode, Immediates, NoImmediates, Index, I32, I64, Operator}
-use Rattle.wasmprinter_spec.specs.Row.{Row, Shape, NoneShape, IndexShape, I32Shape, I64Shape}
-use Rattle.wasmprinter_spec.specs.Table.{table, control_rows, number_rows, by_opcode}
-use Rattle.wasmprinter_spec.specs.Terminated.{Closed, closed, BeginsOtherwise}
+use Rattle.wasmprinter_spec.specs.Name.{u32, vec}
+use Rattle.wasmprinter_spec.specs.FirstByte.{announced, peeked}
+use Rattle.wasmprinter_spec.specs.Binary.ValTypes.{signed_index, val_type, begins_val_type}
+use Rattle.wasmprinter_spec.specs.Operator.{Opcode, opcode, BlockType, Empty, Value, OfType, Catch, One, OneRef, All, AllRef, Immediates, NoImmediates, Block, TryTable, Index, BranchTable, I32, I64, Operator}
+use Rattle.wasmprinter_spec.specs.Row.{Row, Shape, NoneShape, BlockShape, TryTableShape, IndexShape, BranchTableShape, I32Shape, I64Shape, Role, Ends}
+use Rattle.wasmprinter_spec.specs.Table.{table, control_rows, variable_rows, number_rows, first, has_opcode, by_opcode, role_of, role_of_row}
+use Rattle.wasmprinter_spec.specs.Stepped.{Move, On, Stop, Never, by_move, stops, Ended, ended, stepped}
+use Rattle.wasmprinter_spec.specs.Nesting.{Nests, Sequence, Open, advance, at_start}
+use Rattle.wasmprinter_spec.specs.NestingSteps.{stops_at_end, nested_to_end}
 
 -- behind these bytes stands a number
 abbrev pub is_prefix : ℕ → Bool
 is_prefix b = (b == 0xfb) || ((b == 0xfc) || ((b == 0xfd) || (b == 0xfe)))
 
 abbrev pub numbered_opcode : ℕ → Grammar Opcode
-numbered_opcode b = choose (is_prefix b) (as_value (opcode b) u32) (nothing (opcode 0 b))
+numbered_opcode b = choose (is_prefix b) (map_value (opcode b) u32) (succeed (opcode 0 b))
 
 -- a byte, or a prefix and a number
 abbrev pub opcode_grammar : Grammar Opcode
-opcode_grammar = as_value (λ x. x.1) (seq byte numbered_opcode)
+opcode_grammar = map_value (λ x. x.1) (seq byte numbered_opcode)
+
+-- 40, a value type, or a type index
+abbrev pub block_type_by : ℕ → Grammar BlockType
+block_type_by b =
+    choose (b == 0x40) (map_value (λ x. Empty) byte) (choose (begins_val_type b) (map_value Value val_type) (map_value OfType signed_index))
+
+abbrev pub block_type : Grammar BlockType
+block_type = peeked block_type_by
+
+-- a tag and a label
+abbrev pub tag_and_label : (ℕ → ℕ → Catch) → Grammar Catch
+tag_and_label c = map_value (λ x. c x.0 x.1) (seq u32 (λ _. u32))
+
+-- behind the byte 00, 01, 02 or 03
+abbrev pub catch_by : ℕ → Grammar Catch
+catch_by k =
+    choose (k == 0) (tag_and_label One)
+    (choose (k == 1) (tag_and_label OneRef) (choose (k == 2) (map_value All u32) (choose (k == 3) (map_value AllRef u32) fail)))
+
+abbrev pub catch : Grammar Catch
+catch = announced catch_by
 
 abbrev pub immediates : Shape → Grammar Immediates
-immediates NoneShape = nothing NoImmediates
-immediates (IndexShape space) = as_value Index u32
-immediates I32Shape = as_value I32 (signed 32)
-immediates I64Shape = as_value I64 (signed 64)
+immediates NoneShape = succeed NoImmediates
+immediates BlockShape = map_value Block block_type
+immediates TryTableShape = map_value (λ x. TryTable x.0 x.1) (seq block_type (λ _. vec catch))
+immediates (IndexShape space) = map_value Index u32
+immediates BranchTableShape = map_value (λ x. BranchTable x.0 x.1) (seq (vec u32) (λ _. u32))
+immediates I32Shape = map_value I32 (signed 32)
+immediates I64Shape = map_value I64 (signed 64)
 
 abbrev pub listed : Option Row → Grammar Immediates
-listed None = never
+listed None = fail
 listed (Some r) = immediates r.shape
 
 -- an opcode that the table lists, and its immediates
 abbrev pub operator : Grammar Operator
-operator = as_value (λ x. record { opcode = x.0; immediates = x.1 }) (seq opcode_grammar (λ o. listed (by_opcode o)))
+operator = map_value (λ x. record { opcode = x.0; immediates = x.1 }) (seq opcode_grammar (λ o. listed (by_opcode o)))
 
--- the byte that closes an expression
+-- ---- expressions
+
+-- the byte of the `end` that closes an expression
 abbrev pub end_byte : ℕ
 end_byte = 0x0b
 
-not_listed : by_opcode (opcode 0 end_byte) ≡ None
-unfolding table control_rows number_rows
-not_listed = refl
+-- operators, and the place of the `end` that closes them
+pub record Closed (A : Type 0) : Type 0 where
+  pub items : List A
+  pub end : ℕ
 
-unlisted_end : (b : ℕ) (o : Opcode) (p q : ℕ) (t u : List ℕ) (i : Immediates) → (numbered_opcode b).spells p t o → (listed (by_opcode o)).spells q u i → b ≡ end_byte → ⊥
-unlisted_end b o p q t u i n l e =
-    let as_end : (numbered_opcode end_byte).spells p t o = subst (λ (c : ℕ). (numbered_opcode c).spells p t o) e n in
-    let held : (listed (by_opcode (opcode 0 end_byte))).spells q u i = subst (λ (c : Opcode). (listed (by_opcode c)).spells q u i) as_end.1 l in
-    let none : (listed None).spells q u i = subst (λ (r : Option Row). (listed r).spells q u i) not_listed held in
-    none
+abbrev pub role_at : Placed Operator → Role
+role_at o = role_of o.value.opcode
 
--- No operator begins with the closing byte.
-pub operator_apart : (p : ℕ) (text : List ℕ) (o : Placed Operator) → (placed operator).spells p text o → BeginsOtherwise end_byte text
-operator_apart p text o s =
+abbrev pub roles : List (Placed Operator) → List Role
+roles ops = map role_at ops
+
+-- operators one after the other, well nested, and the byte 0B behind them
+abbrev pub IsExpression : ℕ → List ℕ → Closed (Placed Operator) → Type 0
+IsExpression p text x = (t : List ℕ) × (text ≡ t ++ end_byte ∷ []) × Items (placed operator) p t x.items × Nests Sequence (roles x.items) × (x.end ≡ p + length t)
+
+-- ---- reading keeps which blocks are open
+
+-- an operator takes a byte
+pub operator_takes : (p : ℕ) (text : List ℕ) (o : Placed Operator) → (placed operator).spells p text o → 0 < length text
+operator_takes p text o s =
     let parts = s.1.2 in
-    let code = parts.3 in
-    let bytes = code.2 in
-    let first : ℕ = code.0.0 in
-    let same : code.0.1 ≡ s.1.0.0 = some_is code.0.1 s.1.0.0 code.1 in
-    let begins : text ≡ first ∷ (bytes.1 ++ parts.1) =
-    parts.2 ∙ ap (λ (r : List ℕ). r ++ parts.1) (bytes.2 ∙ ap (λ (r : List ℕ). r ++ bytes.1) bytes.3) in
-    let apart : first ≡ end_byte → ⊥ = λ e.
-    unlisted_end first code.0.1 _ _ bytes.1 parts.1 s.1.0.1 bytes.4 (subst (λ (c : Opcode). (listed (by_opcode c)).spells (p + length parts.0) parts.1 s.1.0.1) (sym same) parts.4) e in
-    subst (λ (r : List ℕ). BeginsOtherwise end_byte r) (sym begins) apart
+    let bytes = parts.3.2 in
+    omega (arith, ap length parts.2, length-append parts.0 parts.1, ap length bytes.2, length-append bytes.0 bytes.1, ap length bytes.3)
 
--- operators, each with its place, and the byte 0B of `end`, whose place is kept
+abbrev pub advance_by : Open → Placed Operator → Move Open
+advance_by s o = advance s (role_at o)
+
+abbrev pub up_to_end : Grammar (Ended (Placed Operator))
+up_to_end = stepped (placed operator) advance_by operator_takes at_start
+
+abbrev pub closed_as : Ended (Placed Operator) → Closed (Placed Operator)
+closed_as x = record { items = x.items; end = x.last.place }
+
+abbrev pub closed_grammar : Grammar (Closed (Placed Operator))
+closed_grammar = map_value closed_as up_to_end
+
+same_move : {X : Type 0} (m : Move Open) (f h : Open → X) (x y : X) → ((t : Open) → f t ≡ h t) → by_move m f x y ≡ by_move m h x y
+same_move (On t) f h x y e = e t
+same_move Stop f h x y e = refl
+same_move Never f h x y e = refl
+
+stops-roles : (ops : List (Placed Operator)) (last : Placed Operator) (s : Open) → stops advance_by s ops last ≡ stops advance s (roles ops) (role_at last)
+stops-roles [] last s = refl
+stops-roles (o ∷ ops) last s = same_move (advance_by s o) (λ t. stops advance_by t ops last) (λ t. stops advance t (roles ops) (role_at last)) false false (λ t. stops-roles ops last t)
+
+-- ---- no operator but 0B is an `end`
+
+abbrev is_end : Role → Bool
+is_end Ends = true
+is_end _ = false
+
+-- a row that is an `end` is that of the byte
+abbrev fits_end : Row → Bool
+fits_end r = cond (is_end r.role) ((r.prefix == 0) && (r.number == end_byte)) true
+
+abbrev all_fit : List Row → Bool
+all_fit [] = true
+all_fit (r ∷ rs) = fits_end r && all_fit rs
+
+table_fits : all_fit table ≡ true
+unfolding table control_rows variable_rows number_rows
+table_fits = refl
+
+found_or_later : (b : Bool) (r : Row) (x : Option Row) → role_of_row (cond b (Some r) x) ≡ Ends → ((b ≡ true) × (r.role ≡ Ends)) ⊎ (role_of_row x ≡ Ends)
+found_or_later true r x e = inl (refl, e)
+found_or_later false r x e = inr e
+
+row_numbers : (r : Row) → fits_end r ≡ true → r.role ≡ Ends → (r.prefix ≡ 0) × (r.number ≡ end_byte)
+row_numbers r f e =
+    let g : cond (is_end Ends) (eqb r.prefix 0 && eqb r.number end_byte) true ≡ true = ap (λ (x : Role). cond (is_end x) (eqb r.prefix 0 && eqb r.number end_byte) true) (sym e) ∙ f in
+    let parts = and_parts (eqb r.prefix 0) (eqb r.number end_byte) g in
+    (eqb-true r.prefix 0 parts.0, eqb-true r.number end_byte parts.1)
+
+end_in : (o : Opcode) (rs : List Row) → all_fit rs ≡ true → role_of_row (first (has_opcode o) rs) ≡ Ends → o ≡ opcode 0 end_byte
+end_in o [] f e = absurd cc
+end_in o (r ∷ rs) f e =
+    let fit = and_parts (fits_end r) (all_fit rs) f in
+    elim (found_or_later (has_opcode o r) r (first (has_opcode o) rs) e) [
+      | inl here ↦
+          let n = row_numbers r fit.0 here.1 in
+          let same = and_parts (eqb r.prefix o.prefix) (eqb r.number o.number) here.0 in
+          let p : o.prefix ≡ 0 = sym (eqb-true r.prefix o.prefix same.0) ∙ n.0 in
+          let k : o.number ≡ end_byte = sym (eqb-true r.number o.number same.1) ∙ n.1 in
+          ap (λ (q : ℕ). opcode q o.number) p ∙ ap (λ (q : ℕ). opcode 0 q) k
+      | inr later ↦ end_in o rs fit.1 later
+    ]
+
+end_opcode : (o : Opcode) → role_of o ≡ Ends → o ≡ opcode 0 end_byte
+end_opcode o e = end_in o table table_fits e
+
+-- the bytes of that opcode
+code_text : (c : Bool) (b p : ℕ) (t : List ℕ) (o : Opcode) → is_prefix b ≡ c → (choose c (map_value (opcode b) u32) (succeed (opcode 0 b))).spells p t o → o ≡ opcode 0 end_byte → (t ≡ []) × (b ≡ end_byte)
+code_text true b p t o c s e =
+    let same : b ≡ 0 = ap (λ (x : Opcode). x.prefix) (some_is (opcode b s.0) o s.1 ∙ e) in
+    let f : is_prefix 0 ≡ true = ap is_prefix (sym same) ∙ c in
+    absurd cc
+code_text false b p t o c s e = (s.0, ap (λ (x : Opcode). x.number) (sym s.1 ∙ e))
+
+no_immediates : (p : ℕ) (t : List ℕ) (i : Immediates) → (listed (by_opcode (opcode 0 end_byte))).spells p t i → (t ≡ []) × (i ≡ NoImmediates)
+unfolding table control_rows variable_rows number_rows
+no_immediates p t i s = s
+
+-- the operator `end`
+abbrev pub end_operator : Operator
+end_operator = record { opcode = opcode 0 end_byte; immediates = NoImmediates }
+
+end_text : (p : ℕ) (text : List ℕ) (o : Operator) → operator.spells p text o → role_of o.opcode ≡ Ends → text ≡ end_byte ∷ []
+end_text p text o s e =
+    let x : Opcode × Immediates = s.0 in
+    let code : x.0 ≡ o.opcode = ap (λ (x : Operator). x.opcode) (some_is (record { opcode = x.0; immediates = x.1 }) o s.1) in
+    let is : x.0 ≡ opcode 0 end_byte = code ∙ end_opcode o.opcode e in
+    let parts = s.2 in
+    let inner = parts.3 in
+    let same : inner.0.1 ≡ x.0 = some_is inner.0.1 x.0 inner.1 in
+    let bytes = inner.2 in
+    let c = code_text (is_prefix inner.0.0) inner.0.0 _ bytes.1 inner.0.1 refl bytes.4 (same ∙ is) in
+    let behind : (listed (by_opcode (opcode 0 end_byte))).spells (p + length parts.0) parts.1 x.1 = subst (λ (k : Opcode). (listed (by_opcode k)).spells (p + length parts.0) parts.1 x.1) is parts.4 in
+    let n = no_immediates (p + length parts.0) parts.1 x.1 behind in
+    let front : parts.0 ≡ end_byte ∷ [] = bytes.2 ∙ ap (λ (r : List ℕ). r ++ bytes.1) bytes.3 ∙ ap (λ (r : List ℕ). (inner.0.0 ∷ []) ++ r) c.0 ∙ ap (λ (b : ℕ). b ∷ []) c.1 in
+    parts.2 ∙ ap (λ (r : List ℕ). r ++ parts.1) front ∙ ap (λ (r : List ℕ). (end_byte ∷ []) ++ r) n.0
+
+end_read : (p : ℕ) → operator.parse (input p (end_byte ∷ [])) ≡ Some (end_operator, input (p + 1) [])
+unfolding table control_rows variable_rows number_rows
+end_read p = refl
+
+end_spelled : (p : ℕ) → operator.spells p (end_byte ∷ []) end_operator
+end_spelled p =
+    let s = operator.sound (input p (end_byte ∷ [])) (end_operator, input (p + 1) []) (end_read p) in
+    subst (λ (r : List ℕ). operator.spells p r end_operator) (sym (s.parts ∙ append-nil s.text)) s.spelled
+
+end_role : role_of (opcode 0 end_byte) ≡ Ends
+unfolding table control_rows variable_rows number_rows
+end_role = refl
+
+-- ---- both say the same
+
+pub says : (p : ℕ) (text : List ℕ) (x : Closed (Placed Operator)) → closed_grammar.spells p text x → IsExpression p text x
+says p text x s =
+    let a : Ended (Placed Operator) = s.0 in
+    let st = s.2 in
+    let n = nested_to_end (roles a.items) (role_at a.last) (sym (stops-roles a.items a.last at_start) ∙ st.5) in
+    let e : st.1 ≡ end_byte ∷ [] = end_text (p + length st.0) st.1 a.last.value st.4.1 n.1 in
+    subst (λ (y : Closed (Placed Operator)). IsExpression p text y) (some_is (closed_as a) x s.1)
+    (st.0, st.2 ∙ ap (λ (r : List ℕ). st.0 ++ r) e, st.3, n.0, st.4.0)
+
+pub said : (p : ℕ) (text : List ℕ) (x : Closed (Placed Operator)) → IsExpression p text x → closed_grammar.spells p text x
+said p text x s =
+    let last : Placed Operator = record { place = p + length s.0; value = end_operator } in
+    let stop : stops advance (at_start) (roles x.items) Ends ≡ true = stops_at_end (roles x.items) s.3 in
+    let end : stops advance at_start (roles x.items) (role_of (opcode 0 end_byte)) ≡ true = ap (stops advance at_start (roles x.items)) end_role ∙ stop in (
+      ended x.items last,
+      ap (λ (q : ℕ). Some (record { items = x.items; end = q })) (sym s.4),
+      (s.0, end_byte ∷ [], s.1, s.2, (refl, end_spelled (p + length s.0)), stops-roles x.items last at_start ∙ end),
+    )
+
+-- operators, each with its place, and the byte 0B of the last `end`, whose place is kept
 abbrev pub expression : Grammar (Closed (Placed Operator))
-expression = closed end_byte (placed operator) operator_apart
+expression = restated closed_grammar IsExpression says said

@@ -1,5 +1,5 @@
 -- The laws of these definitions. Functions of the crates above have them as their contracts.
-use Rattle.std.specs.Prelude.{◌≡◌, ℕ, List, [], ◌∷◌, ◌++◌, false, Some, chars, IsUtf8}
+use Rattle.std.specs.Prelude.{◌≡◌, ℕ, ◌<◌, ◌^◌, List, [], ◌∷◌, ◌++◌, false, Some, ◌↔◌, chars, IsUtf8}
 use Rattle.wasmprinter_spec.specs.Binary.{AreBytes, Spells}
 use Rattle.wasmprinter_spec.specs.Placed.{PlacedModule}
 use Rattle.wasmprinter_spec.specs.Module.{module_of}
@@ -10,7 +10,9 @@ use Rattle.wasmprinter_spec.specs.Plain.{IsPlainText}
 use Rattle.wasmprinter_spec.specs.Options.{Options, Answers, AreUnclaimed, IsBlank}
 use Rattle.wasmprinter_spec.specs.Layout.{layout}
 use Rattle.wasmprinter_spec.specs.Quoted.{quoted_text, quoted_bytes}
-use Rattle.wasmprinter_spec.specs.Token.{tokens, string}
+use Rattle.wasmprinter_spec.specs.Float.{Width, IsWidth, single, double, Scaled, IsValue, bits_with_value, float}
+use Rattle.wasmprinter_spec.specs.FloatText.{float_text, float_calls}
+use Rattle.wasmprinter_spec.specs.Token.{tokens, word, string}
 use Rattle.wasmprinter_spec.specs.Read.{read}
 
 -- Given bytes spell at most one module with its places.
@@ -28,6 +30,19 @@ QuotedTextReads = (s : List ℕ) → IsUtf8 s → tokens (quoted_text (chars s))
 -- Bytes in quotes read as those bytes.
 abbrev pub QuotedBytesRead : Type 0
 QuotedBytesRead = (bytes : List ℕ) → AreBytes bytes → tokens (quoted_bytes bytes) ≡ string bytes ∷ []
+
+-- What is written of a float is one word, and that word reads as the same bits.
+pub record FloatReads (w : Width) (bits : ℕ) : Type 0 where
+  pub tokens : tokens (text_of (float_calls w bits)) ≡ word (float_text w bits) ∷ []
+  pub reads : float w (float_text w bits) ≡ Some bits
+
+-- Each of the 2 ^ 32 and of the 2 ^ 64 bit patterns reads back, the sign of zero and the payload of NaN with it.
+abbrev pub FloatTextReads : Type 0
+FloatTextReads = ((bits : ℕ) → bits < 2 ^ 32 → FloatReads single bits) × ((bits : ℕ) → bits < 2 ^ 64 → FloatReads double bits)
+
+-- A number reads as the bits of the finite float that is equal to it, and as no bits where there is none.
+abbrev pub FloatsAreExact : Type 0
+FloatsAreExact = (w : Width) (s : Scaled) (bits : ℕ) → IsWidth w → (bits_with_value w (Some s) ≡ Some bits) ↔ IsValue w bits s
 
 -- The reading law: printed text reads back as the module that the bytes spell.
 abbrev pub ReadsBack : Type 0

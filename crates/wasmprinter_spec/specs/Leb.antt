@@ -4,7 +4,7 @@
 use Rattle.std.specs.Prelude.{◌≡◌, ℕ, ℤ, pos, negsuc, ◌+ℤ◌, ◌*ℤ◌, List, [], ◌∷◌, ◌++◌, ◌+◌, ◌*◌, ◌-◌, ◌^◌, ◌<◌, ◌≤◌, ◌⊎◌, length, Option, Some, None, nat_lt, if◌then◌else◌, refl}
 use Rattle.std.proofs.Common.{sym, ap, subst, ◌∙◌, arith, cond, inl, inr, ltb}
 use Rattle.std.proofs.lemmas.Bool.{ltb-true, ltb-false, lt-ltb, le-ltb}
-use Rattle.wasmprinter_spec.specs.Grammar.{At, from, Spans, Grammar, ◌>>=◌, bind_some, some_is}
+use Rattle.wasmprinter_spec.specs.Grammar.{Input, input, Spans, Grammar, ◌>>=◌, bind_some, some_is}
 use Rattle.wasmprinter_spec.specs.Choices.{tested, chosen}
 
 -- an unsigned number of so many bits
@@ -14,33 +14,33 @@ IsUnsigned bits (b ∷ bs) n =
     ((b < 128) × (b < 2 ^ bits) × (bs ≡ []) × (n ≡ b))
     ⊎ ((128 ≤ b) × (7 < bits) × (high : ℕ) × (n ≡ b - 128 + 128 * high) × IsUnsigned (bits - 7) bs high)
 
-abbrev pub unsigned_of : ℕ → ℕ → List ℕ → Option (ℕ × At)
+abbrev pub unsigned_of : ℕ → ℕ → List ℕ → Option (ℕ × Input)
 unsigned_of bits p [] = None
 unsigned_of bits p (b ∷ rest) =
-    if nat_lt b 128 then (if nat_lt b (2 ^ bits) then Some (b, from (p + 1) rest) else None)
+    if nat_lt b 128 then (if nat_lt b (2 ^ bits) then Some (b, input (p + 1) rest) else None)
     else (if nat_lt 7 bits then (unsigned_of (bits - 7) (p + 1) rest >>= λ h. Some (b - 128 + 128 * h.0, h.1)) else None)
 
 module _ (bits : ℕ) where
   abbrev pub Unsigned : ℕ → List ℕ → ℕ → Type 0
   Unsigned p text n = IsUnsigned bits text n
 
-  abbrev pub unsigned_at : At → Option (ℕ × At)
+  abbrev pub unsigned_at : Input → Option (ℕ × Input)
   unsigned_at at = unsigned_of bits at.place at.bytes
 
-unsigned_sound_of : (bits p : ℕ) (bytes : List ℕ) (x : ℕ × At) → unsigned_of bits p bytes ≡ Some x → Spans (Unsigned bits) (from p bytes) x
+unsigned_sound_of : (bits p : ℕ) (bytes : List ℕ) (x : ℕ × Input) → unsigned_of bits p bytes ≡ Some x → Spans (Unsigned bits) (input p bytes) x
 unsigned_sound_of bits p [] x e = absurd cc
 unsigned_sound_of bits p (b ∷ rest) x e =
-    let more : Option (ℕ × At) = unsigned_of (bits - 7) (p + 1) rest >>= λ h. Some (b - 128 + 128 * h.0, h.1) in
-    elim (chosen (ltb b 128) (cond (ltb b (2 ^ bits)) (Some (b, from (p + 1) rest)) None) (cond (ltb 7 bits) more None) (Some x) e) [
+    let more : Option (ℕ × Input) = unsigned_of (bits - 7) (p + 1) rest >>= λ h. Some (b - 128 + 128 * h.0, h.1) in
+    elim (chosen (ltb b 128) (cond (ltb b (2 ^ bits)) (Some (b, input (p + 1) rest)) None) (cond (ltb 7 bits) more None) (Some x) e) [
       | inl last ↦
-          let t = tested (ltb b (2 ^ bits)) (Some (b, from (p + 1) rest)) x last.1 in
-          subst (λ (y : ℕ × At). Spans (Unsigned bits) (from p (b ∷ rest)) y) (some_is (b, from (p + 1) rest) x t.1)
+          let t = tested (ltb b (2 ^ bits)) (Some (b, input (p + 1) rest)) x last.1 in
+          subst (λ (y : ℕ × Input). Spans (Unsigned bits) (input p (b ∷ rest)) y) (some_is (b, input (p + 1) rest) x t.1)
           (record { text = b ∷ []; parts = refl; ends = refl; spelled = inl (ltb-true _ _ last.0, ltb-true _ _ t.0, refl, refl) })
       | inr other ↦
           let t = tested (ltb 7 bits) more x other.1 in
           let h = bind_some (unsigned_of (bits - 7) (p + 1) rest) (λ h. Some (b - 128 + 128 * h.0, h.1)) x t.1 in
           let s = unsigned_sound_of (bits - 7) (p + 1) rest h.0 h.1 in
-          subst (λ (y : ℕ × At). Spans (Unsigned bits) (from p (b ∷ rest)) y) (some_is (b - 128 + 128 * h.0.0, h.0.1) x h.2)
+          subst (λ (y : ℕ × Input). Spans (Unsigned bits) (input p (b ∷ rest)) y) (some_is (b - 128 + 128 * h.0.0, h.0.1) x h.2)
           (record {
             text = b ∷ s.text;
             parts = ap (λ (r : List ℕ). b ∷ r) s.parts;
@@ -49,7 +49,7 @@ unsigned_sound_of bits p (b ∷ rest) x e =
           })
     ]
 
-unsigned_complete_of : (text : List ℕ) (bits p n : ℕ) (rest : List ℕ) → IsUnsigned bits text n → unsigned_of bits p (text ++ rest) ≡ Some (n, from (p + length text) rest)
+unsigned_complete_of : (text : List ℕ) (bits p n : ℕ) (rest : List ℕ) → IsUnsigned bits text n → unsigned_of bits p (text ++ rest) ≡ Some (n, input (p + length text) rest)
 unsigned_complete_of [] bits p n rest s = absurd s
 unsigned_complete_of (b ∷ bs) bits p n rest s =
     elim s [
@@ -57,15 +57,15 @@ unsigned_complete_of (b ∷ bs) bits p n rest s =
           rw (lt-ltb b 128 last.0, lt-ltb b (2 ^ bits) last.1, last.2, last.3) refl
       | inr other ↦
           rw (le-ltb b 128 other.0, lt-ltb 7 bits other.1, unsigned_complete_of bs (bits - 7) (p + 1) other.2 rest other.4, other.3)
-          (ap (λ (q : ℕ). Some (b - 128 + 128 * other.2, from q rest)) (omega arith))
+          (ap (λ (q : ℕ). Some (b - 128 + 128 * other.2, input q rest)) (omega arith))
     ]
 
-pub unsigned_sound : (bits : ℕ) (at : At) (x : ℕ × At) → unsigned_at bits at ≡ Some x → Spans (Unsigned bits) at x
+pub unsigned_sound : (bits : ℕ) (at : Input) (x : ℕ × Input) → unsigned_at bits at ≡ Some x → Spans (Unsigned bits) at x
 unsigned_sound bits at x e = unsigned_sound_of bits at.place at.bytes x e
 
-pub unsigned_complete : (bits : ℕ) (at : At) (x : ℕ × At) → Spans (Unsigned bits) at x → unsigned_at bits at ≡ Some x
+pub unsigned_complete : (bits : ℕ) (at : Input) (x : ℕ × Input) → Spans (Unsigned bits) at x → unsigned_at bits at ≡ Some x
 unsigned_complete bits at x s =
-    rw s.parts (unsigned_complete_of s.text bits at.place x.0 x.1.bytes s.spelled ∙ ap (λ (q : ℕ). Some (x.0, from q x.1.bytes)) (sym s.ends))
+    rw s.parts (unsigned_complete_of s.text bits at.place x.0 x.1.bytes s.spelled ∙ ap (λ (q : ℕ). Some (x.0, input q x.1.bytes)) (sym s.ends))
 
 abbrev pub unsigned : ℕ → Grammar ℕ
 unsigned bits = record { spells = Unsigned bits; parse = unsigned_at bits; sound = unsigned_sound bits; complete = unsigned_complete bits }
@@ -80,37 +80,37 @@ IsSigned bits (b ∷ bs) n =
     ⊎ (((64 ≤ b) × (b < 128) × (127 - b < 2 ^ (bits - 1)) × (bs ≡ []) × (n ≡ negsuc (127 - b)))
     ⊎ ((128 ≤ b) × (7 < bits) × (high : ℤ) × (n ≡ pos (b - 128) +ℤ pos 128 *ℤ high) × IsSigned (bits - 7) bs high))
 
-abbrev pub signed_of : ℕ → ℕ → List ℕ → Option (ℤ × At)
+abbrev pub signed_of : ℕ → ℕ → List ℕ → Option (ℤ × Input)
 signed_of bits p [] = None
 signed_of bits p (b ∷ rest) =
-    if nat_lt b 64 then (if nat_lt b (2 ^ (bits - 1)) then Some (pos b, from (p + 1) rest) else None)
-    else (if nat_lt b 128 then (if nat_lt (127 - b) (2 ^ (bits - 1)) then Some (negsuc (127 - b), from (p + 1) rest) else None)
+    if nat_lt b 64 then (if nat_lt b (2 ^ (bits - 1)) then Some (pos b, input (p + 1) rest) else None)
+    else (if nat_lt b 128 then (if nat_lt (127 - b) (2 ^ (bits - 1)) then Some (negsuc (127 - b), input (p + 1) rest) else None)
     else (if nat_lt 7 bits then (signed_of (bits - 7) (p + 1) rest >>= λ h. Some (pos (b - 128) +ℤ pos 128 *ℤ h.0, h.1)) else None))
 
 module _ (bits : ℕ) where
   abbrev pub Signed : ℕ → List ℕ → ℤ → Type 0
   Signed p text n = IsSigned bits text n
 
-  abbrev pub signed_at : At → Option (ℤ × At)
+  abbrev pub signed_at : Input → Option (ℤ × Input)
   signed_at at = signed_of bits at.place at.bytes
 
-signed_sound_of : (bits p : ℕ) (bytes : List ℕ) (x : ℤ × At) → signed_of bits p bytes ≡ Some x → Spans (Signed bits) (from p bytes) x
+signed_sound_of : (bits p : ℕ) (bytes : List ℕ) (x : ℤ × Input) → signed_of bits p bytes ≡ Some x → Spans (Signed bits) (input p bytes) x
 signed_sound_of bits p [] x e = absurd cc
 signed_sound_of bits p (b ∷ rest) x e =
-    let more : Option (ℤ × At) = signed_of (bits - 7) (p + 1) rest >>= λ h. Some (pos (b - 128) +ℤ pos 128 *ℤ h.0, h.1) in
-    let low : Option (ℤ × At) = Some (pos b, from (p + 1) rest) in
-    let high : Option (ℤ × At) = Some (negsuc (127 - b), from (p + 1) rest) in
-    let P : ℤ × At → Type 0 = λ y. Spans (Signed bits) (from p (b ∷ rest)) y in
+    let more : Option (ℤ × Input) = signed_of (bits - 7) (p + 1) rest >>= λ h. Some (pos (b - 128) +ℤ pos 128 *ℤ h.0, h.1) in
+    let low : Option (ℤ × Input) = Some (pos b, input (p + 1) rest) in
+    let high : Option (ℤ × Input) = Some (negsuc (127 - b), input (p + 1) rest) in
+    let P : ℤ × Input → Type 0 = λ y. Spans (Signed bits) (input p (b ∷ rest)) y in
     elim (chosen (ltb b 64) (cond (ltb b (2 ^ (bits - 1))) low None) (cond (ltb b 128) (cond (ltb (127 - b) (2 ^ (bits - 1))) high None) (cond (ltb 7 bits) more None)) (Some x) e) [
       | inl last ↦
           let t = tested (ltb b (2 ^ (bits - 1))) low x last.1 in
-          subst P (some_is (pos b, from (p + 1) rest) x t.1)
+          subst P (some_is (pos b, input (p + 1) rest) x t.1)
           (record { text = b ∷ []; parts = refl; ends = refl; spelled = inl (ltb-true _ _ last.0, ltb-true _ _ t.0, refl, refl) })
       | inr other ↦
           elim (chosen (ltb b 128) (cond (ltb (127 - b) (2 ^ (bits - 1))) high None) (cond (ltb 7 bits) more None) (Some x) other.1) [
             | inl last ↦
                 let t = tested (ltb (127 - b) (2 ^ (bits - 1))) high x last.1 in
-                subst P (some_is (negsuc (127 - b), from (p + 1) rest) x t.1)
+                subst P (some_is (negsuc (127 - b), input (p + 1) rest) x t.1)
                 (record { text = b ∷ []; parts = refl; ends = refl; spelled = inr (inl (ltb-false _ _ other.0, ltb-true _ _ last.0, ltb-true _ _ t.0, refl, refl)) })
             | inr on ↦
                 let t = tested (ltb 7 bits) more x on.1 in
@@ -126,7 +126,7 @@ signed_sound_of bits p (b ∷ rest) x e =
           ]
     ]
 
-signed_complete_of : (text : List ℕ) (bits p : ℕ) (n : ℤ) (rest : List ℕ) → IsSigned bits text n → signed_of bits p (text ++ rest) ≡ Some (n, from (p + length text) rest)
+signed_complete_of : (text : List ℕ) (bits p : ℕ) (n : ℤ) (rest : List ℕ) → IsSigned bits text n → signed_of bits p (text ++ rest) ≡ Some (n, input (p + length text) rest)
 signed_complete_of [] bits p n rest s = absurd s
 signed_complete_of (b ∷ bs) bits p n rest s =
     elim s [
@@ -134,15 +134,15 @@ signed_complete_of (b ∷ bs) bits p n rest s =
       | inr (inl last) ↦ rw (le-ltb b 64 last.0, lt-ltb b 128 last.1, lt-ltb (127 - b) (2 ^ (bits - 1)) last.2, last.3, last.4) refl
       | inr (inr other) ↦
           rw (le-ltb b 64 (omega (arith, other.0)), le-ltb b 128 other.0, lt-ltb 7 bits other.1, signed_complete_of bs (bits - 7) (p + 1) other.2 rest other.4, other.3)
-          (ap (λ (q : ℕ). Some (pos (b - 128) +ℤ pos 128 *ℤ other.2, from q rest)) (omega arith))
+          (ap (λ (q : ℕ). Some (pos (b - 128) +ℤ pos 128 *ℤ other.2, input q rest)) (omega arith))
     ]
 
-pub signed_sound : (bits : ℕ) (at : At) (x : ℤ × At) → signed_at bits at ≡ Some x → Spans (Signed bits) at x
+pub signed_sound : (bits : ℕ) (at : Input) (x : ℤ × Input) → signed_at bits at ≡ Some x → Spans (Signed bits) at x
 signed_sound bits at x e = signed_sound_of bits at.place at.bytes x e
 
-pub signed_complete : (bits : ℕ) (at : At) (x : ℤ × At) → Spans (Signed bits) at x → signed_at bits at ≡ Some x
+pub signed_complete : (bits : ℕ) (at : Input) (x : ℤ × Input) → Spans (Signed bits) at x → signed_at bits at ≡ Some x
 signed_complete bits at x s =
-    rw s.parts (signed_complete_of s.text bits at.place x.0 x.1.bytes s.spelled ∙ ap (λ (q : ℕ). Some (x.0, from q x.1.bytes)) (sym s.ends))
+    rw s.parts (signed_complete_of s.text bits at.place x.0 x.1.bytes s.spelled ∙ ap (λ (q : ℕ). Some (x.0, input q x.1.bytes)) (sym s.ends))
 
 abbrev pub signed : ℕ → Grammar ℤ
 signed bits = record { spells = Signed bits; parse = signed_at bits; sound = signed_sound bits; complete = signed_complete bits }

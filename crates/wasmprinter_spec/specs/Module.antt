@@ -2,9 +2,9 @@
 -- were grouped are not in it.
 use Rattle.std.specs.Prelude.{ℕ, List, [], ◌∷◌, ◌++◌, map, replicate}
 use Rattle.wasmprinter_spec.specs.Grammar.{Placed}
-use Rattle.wasmprinter_spec.specs.Types.{ValType, FuncType}
+use Rattle.wasmprinter_spec.specs.Types.{ValType, SubType}
 use Rattle.wasmprinter_spec.specs.Operator.{Operator}
-use Rattle.wasmprinter_spec.specs.Placed.{LocalEntry, Export, PlacedFunction, PlacedModule}
+use Rattle.wasmprinter_spec.specs.Placed.{TypeGroup, LocalEntry, Export, PlacedFunction, PlacedModule}
 
 -- a defined function: the types of all its locals, parameters not among them, and its operators without the last `end`
 pub record Function : Type 0 where
@@ -12,29 +12,34 @@ pub record Function : Type 0 where
   pub locals : List ValType
   pub operators : List Operator
 
+-- The types stand in their groups. A type by itself is a group of one.
 pub record Module : Type 0 where
-  pub types : List FuncType
+  pub types : List (List SubType)
   pub functions : List Function
   pub exports : List Export
 
 abbrev pub without_places : {A : Type 0} → List (Placed A) → List A
 without_places xs = map (λ x. x.value) xs
 
+-- the types of each group
+abbrev pub groups_of : List (Placed TypeGroup) → List (List SubType)
+groups_of gs = map (λ g. g.value.types) gs
+
 -- each local by itself
-abbrev pub expanded : List (Placed LocalEntry) → List ValType
-expanded [] = []
-expanded (e ∷ es) = replicate e.value.count e.value.type ++ expanded es
+abbrev pub locals_of : List (Placed LocalEntry) → List ValType
+locals_of [] = []
+locals_of (e ∷ es) = replicate e.value.count e.value.type ++ locals_of es
 
 abbrev pub function_of : PlacedFunction → Function
 function_of f = record {
   type_index = f.type_index;
-  locals = expanded f.body.value.locals;
+  locals = locals_of f.body.value.locals;
   operators = without_places f.body.value.operators;
 }
 
 abbrev pub module_of : PlacedModule → Module
 module_of m = record {
-  types = without_places m.types;
+  types = groups_of m.types;
   functions = map function_of m.functions;
   exports = without_places m.exports;
 }

@@ -1,9 +1,9 @@
 -- Names in the binary format (section 5.2 of the standard, "Names"): a length, and so many bytes of UTF-8.
 use Rattle.std.specs.Prelude.{ℕ, List, Option, Some, None, if◌then◌else◌}
 use Rattle.std.specs.Str.{is_utf8}
-use Rattle.wasmprinter_spec.specs.Grammar.{Grammar, seq, mapped, as_value}
+use Rattle.wasmprinter_spec.specs.Grammar.{Grammar, seq, try_map, map_value}
 use Rattle.wasmprinter_spec.specs.Repeated.{vec_of}
-use Rattle.wasmprinter_spec.specs.Sized.{front}
+use Rattle.wasmprinter_spec.specs.Sized.{take_bytes}
 use Rattle.wasmprinter_spec.specs.Leb.{unsigned}
 
 abbrev pub u32 : Grammar ℕ
@@ -17,4 +17,4 @@ abbrev pub checked_text : List ℕ → Option (List ℕ)
 checked_text bytes = if is_utf8 bytes then Some bytes else None
 
 abbrev pub name : Grammar (List ℕ)
-name = mapped checked_text (as_value (λ x. x.1) (seq u32 (λ n. front n)))
+name = try_map checked_text (map_value (λ x. x.1) (seq u32 (λ n. take_bytes n)))

@@ -59,7 +59,7 @@ abbrev pub with_number : (ℕ → Option ℤ) → Option ℕ → Option ℤ
 with_number f None = None
 with_number f (Some n) = f n
 
--- a constant of so many bits: with a sign, or without one up to 2 ^ bits
+-- a constant of so many bits: with a sign, or without one below 2 ^ bits
 unfoldable pub integer : ℕ → List ℕ → Option ℤ
 integer bits [] = None
 integer bits (b ∷ bs) =

@@ -1,9 +1,9 @@
 -- Pieces: the smallest parts of a layout that read by themselves. Each has its calls on the printer and its tokens.
-use Rattle.std.specs.Prelude.{ℕ, ℤ, zero, suc, ◌-◌, min, List, [], ◌∷◌, ◌++◌, Bool, true, false, codes, decimal, Option, Some, None, replicate, length, encode_utf8_all}
+use Rattle.std.specs.Prelude.{ℕ, ℤ, zero, suc, ◌-◌, min, List, [], ◌∷◌, ◌++◌, Bool, true, false, codes, decimal, Option, Some, None, replicate, length, flat_map, encode_utf8_all}
 use Rattle.std.specs.Fmt.{signed_decimal, digits}
 use Rattle.wasmprinter_spec.specs.Call.{Call, Text, Newline, Line, Start, Style, Literal, Name, Keyword, TypeName, Comment, Reset, text_of}
 use Rattle.wasmprinter_spec.specs.Options.{Options}
-use Rattle.wasmprinter_spec.specs.Quoted.{quoted_text}
+use Rattle.wasmprinter_spec.specs.Quoted.{char_text, quoted_text, identifier_text}
 use Rattle.wasmprinter_spec.specs.Token as token
 use Rattle.wasmprinter_spec.specs.Token.{Token}
 
@@ -14,6 +14,7 @@ pub data Piece : Type 0 where
   Gap : Piece  -- a blank
   Open : List ℕ → Piece  -- a parenthesis and a keyword
   OpenGap : List ℕ → Piece  -- the same and a blank
+  OpenPlain : List ℕ → Piece  -- a parenthesis and a keyword without a style
   Shut : Piece
   Word : List ℕ → Piece
   TypeWord : List ℕ → Piece  -- the word of a type
@@ -21,6 +22,10 @@ pub data Piece : Type 0 where
   Constant : ℤ → Piece  -- a blank and a number with its sign
   Mark : ℕ → Piece  -- (;i;), the number of a declaration
   Quoted : List ℕ → Piece  -- a text in quotes, by its characters
+  Identifier : List ℕ → Piece  -- by the characters behind the dollar sign
+  NameNote : List ℕ → Piece  -- the annotation with a name, by its characters
+  Remark : Bool → List ℕ → Piece  -- a blank and a comment, with a style or without
+  Ending : List ℕ → Piece  -- a comment up to the end of the line
 
 -- the greatest number of levels of which each is indented
 abbrev pub most_indents : ℕ
@@ -55,6 +60,7 @@ calls o (Break place nesting) = Newline ∷ (Line place ∷ (place_calls o.offse
 calls o Gap = Text (codes " ") ∷ []
 calls o (Open w) = Text (codes "(") ∷ styled Keyword w
 calls o (OpenGap w) = Text (codes "(") ∷ styled Keyword (w ++ codes " ")
+calls o (OpenPlain w) = Text (codes "(" ++ w) ∷ []
 calls o Shut = Text (codes ")") ∷ []
 calls o (Word w) = Text w ∷ []
 calls o (TypeWord w) = styled TypeName w
@@ -62,16 +68,24 @@ calls o (Number n) = styled Name (decimal n)
 calls o (Constant z) = styled Literal (32 ∷ signed_decimal z)
 calls o (Mark n) = styled Name (codes "(;" ++ (decimal n ++ codes ";)"))
 calls o (Quoted cs) = styled Literal (quoted_text cs)
+calls o (Identifier cs) = Text (identifier_text cs) ∷ []
+calls o (NameNote cs) = Text (codes "(") ∷ (styled Keyword (codes "@name \"") ++ (Text (flat_map char_text cs) ∷ (Text (codes "\")") ∷ [])))
+calls o (Remark true s) = styled Comment (codes " (;" ++ (s ++ codes ";)"))
+calls o (Remark false s) = Text (codes " (;" ++ (s ++ codes ";)")) ∷ []
+calls o (Ending s) = styled Comment (codes ";; " ++ s)
 
 abbrev pub piece_tokens : Piece → List Token
 piece_tokens (Open w) = token.left ∷ (token.word w ∷ [])
 piece_tokens (OpenGap w) = token.left ∷ (token.word w ∷ [])
+piece_tokens (OpenPlain w) = token.left ∷ (token.word w ∷ [])
 piece_tokens Shut = token.right ∷ []
 piece_tokens (Word w) = token.word w ∷ []
 piece_tokens (TypeWord w) = token.word w ∷ []
 piece_tokens (Number n) = token.word (decimal n) ∷ []
 piece_tokens (Constant z) = token.word (signed_decimal z) ∷ []
 piece_tokens (Quoted cs) = token.string (encode_utf8_all cs) ∷ []
+piece_tokens (Identifier cs) = token.name (encode_utf8_all cs) ∷ []
+piece_tokens (NameNote cs) = token.left_note (codes "name") ∷ (token.string (encode_utf8_all cs) ∷ (token.right ∷ []))
 piece_tokens _ = []
 
 abbrev pub text : Options → Piece → List ℕ

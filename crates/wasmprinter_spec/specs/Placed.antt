@@ -1,9 +1,17 @@
 -- A module as its bytes lay it out: what the sections hold, with the places that the text can show. All places are counted
 -- from the module's first byte.
-use Rattle.std.specs.Prelude.{ℕ, List}
+use Rattle.std.specs.Prelude.{ℕ, List, Bool}
 use Rattle.wasmprinter_spec.specs.Grammar.{Placed}
-use Rattle.wasmprinter_spec.specs.Types.{ValType, FuncType}
+use Rattle.wasmprinter_spec.specs.Types.{ValType, SubType}
 use Rattle.wasmprinter_spec.specs.Operator.{Operator}
+
+-- A group of types: written as one, or a single type that stands by itself.
+pub record TypeGroup : Type 0 where
+  pub written : Bool
+  pub types : List SubType
+
+abbrev pub type_group : Bool → List SubType → TypeGroup
+type_group written ts = record { written = written; types = ts }
 
 -- so many locals of one type
 pub record LocalEntry : Type 0 where
@@ -28,7 +36,7 @@ pub record Export : Type 0 where
 
 -- `size` is the number of the module's bytes
 pub record PlacedModule : Type 0 where
-  pub types : List (Placed FuncType)
+  pub types : List (Placed TypeGroup)
   pub functions : List PlacedFunction
   pub exports : List (Placed Export)
   pub size : ℕ

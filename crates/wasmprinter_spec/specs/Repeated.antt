@@ -4,7 +4,7 @@ use Rattle.std.specs.Prelude.{◌≡◌, ℕ, zero, suc, List, [], ◌∷◌, �
 use Rattle.std.proofs.Common.{sym, ap, subst, ◌∙◌, arith, append_assoc, cond, eqb, ltb, inl, inr}
 use Rattle.std.proofs.lemmas.Bool.{eqb-true, eq-eqb, ne_eqb, ltb-true, lt-ltb}
 use Rattle.std.proofs.lemmas.List.{length-append, nil_from_length}
-use Rattle.wasmprinter_spec.specs.Grammar.{At, from, Spans, Grammar, Whole, ◌>>=◌, bind_some, some_is, seq, as_value}
+use Rattle.wasmprinter_spec.specs.Grammar.{Input, input, Spans, Grammar, Remainder, ◌>>=◌, bind_some, some_is, seq, map_value}
 use Rattle.wasmprinter_spec.specs.Choices.{chosen, tested}
 
 -- ---- what code that reads items in a loop needs to say
@@ -14,24 +14,24 @@ abbrev pub some_or : {A B : Type 0} → Option A → B → (A → B) → B
 some_or None d f = d
 some_or (Some x) d f = f x
 
-module _ {A : Type 0} (parse : At → Option (A × At)) where
+module _ {A : Type 0} (parse : Input → Option (A × Input)) where
   -- n items
-  abbrev pub items_at : ℕ → At → Option (List A × At)
+  abbrev pub items_at : ℕ → Input → Option (List A × Input)
   items_at zero at = Some ([], at)
   items_at (suc n) at = parse at >>= λ a. items_at n a.1 >>= λ b. Some (a.0 ∷ b.0, b.1)
 
   -- the items, none from the first that can't be read
-  abbrev pub items_of : ℕ → At → List A
+  abbrev pub items_of : ℕ → Input → List A
   items_of zero at = []
   items_of (suc n) at = some_or (parse at) [] (λ x. x.0 ∷ items_of n x.1)
 
   -- where reading stands behind n items
-  abbrev pub skip_at : ℕ → At → Option At
+  abbrev pub skip_at : ℕ → Input → Option Input
   skip_at zero at = Some at
   skip_at (suc n) at = parse at >>= λ x. skip_at n x.1
 
   -- n items stand there
-  abbrev pub HasItems : ℕ → At → Type 0
+  abbrev pub HasItems : ℕ → Input → Type 0
   HasItems zero at = Unit {0}
   HasItems (suc n) at = MatchOption (parse at) ⊥ (λ x. HasItems n x.1)
 
@@ -46,15 +46,15 @@ module _ {A : Type 0} (g : Grammar A) where
   abbrev pub Times : ℕ → ℕ → List ℕ → List A → Type 0
   Times n p text xs = (length xs ≡ n) × Items p text xs
 
-  pub times_sound : (n : ℕ) (at : At) (x : List A × At) → items_at g.parse n at ≡ Some x → Spans (Times n) at x
+  pub times_sound : (n : ℕ) (at : Input) (x : List A × Input) → items_at g.parse n at ≡ Some x → Spans (Times n) at x
   times_sound zero at x e =
-      subst (λ (y : List A × At). Spans (Times 0) at y) (some_is ([], at) x e) (record { text = []; parts = refl; ends = omega arith; spelled = (refl, refl) })
+      subst (λ (y : List A × Input). Spans (Times 0) at y) (some_is ([], at) x e) (record { text = []; parts = refl; ends = omega arith; spelled = (refl, refl) })
   times_sound (suc n) at x e =
       let a = bind_some (g.parse at) (λ a. items_at g.parse n a.1 >>= λ b. Some (a.0 ∷ b.0, b.1)) x e in
       let b = bind_some (items_at g.parse n a.0.1) (λ b. Some (a.0.0 ∷ b.0, b.1)) x a.2 in
       let s = g.sound at a.0 a.1 in
       let t = times_sound n a.0.1 b.0 b.1 in
-      subst (λ (y : List A × At). Spans (Times (suc n)) at y) (some_is (a.0.0 ∷ b.0.0, b.0.1) x b.2)
+      subst (λ (y : List A × Input). Spans (Times (suc n)) at y) (some_is (a.0.0 ∷ b.0.0, b.0.1) x b.2)
       (record {
         text = s.text ++ t.text;
         parts = s.parts ∙ ap (λ (r : List ℕ). s.text ++ r) t.parts ∙ sym (append_assoc s.text t.text b.0.1.bytes);
@@ -62,16 +62,16 @@ module _ {A : Type 0} (g : Grammar A) where
         spelled = (ap suc t.spelled.0, (s.text, t.text, refl, s.spelled, subst (λ (p : ℕ). Items p t.text b.0.0) s.ends t.spelled.1));
       })
 
-  pub items_complete : (xs : List A) (at after : At) → Spans Items at (xs, after) → items_at g.parse (length xs) at ≡ Some (xs, after)
+  pub items_complete : (xs : List A) (at after : Input) → Spans Items at (xs, after) → items_at g.parse (length xs) at ≡ Some (xs, after)
   items_complete [] at after s =
       let e : at.bytes ≡ after.bytes = s.parts ∙ ap (λ (t : List ℕ). t ++ after.bytes) s.spelled in
       let l : after.place ≡ at.place = omega (arith, s.ends, ap length s.spelled) in
-      let same : at ≡ after = ap (λ (p : ℕ). from p at.bytes) (sym l) ∙ ap (λ (bs : List ℕ). from after.place bs) e in
-      ap (λ (y : At). Some ([], y)) same
+      let same : at ≡ after = ap (λ (p : ℕ). input p at.bytes) (sym l) ∙ ap (λ (bs : List ℕ). input after.place bs) e in
+      ap (λ (y : Input). Some ([], y)) same
   items_complete (x ∷ xs) at after s =
       let t = s.spelled.0 in
       let u = s.spelled.1 in
-      let mid : At = from (at.place + length t) (u ++ after.bytes) in
+      let mid : Input = input (at.place + length t) (u ++ after.bytes) in
       let e : g.parse at ≡ Some (x, mid) = g.complete at (x, mid) (record {
         text = t;
         parts = s.parts ∙ ap (λ (r : List ℕ). r ++ after.bytes) s.spelled.2 ∙ append_assoc t u after.bytes;
@@ -86,7 +86,7 @@ module _ {A : Type 0} (g : Grammar A) where
       }) in
       rw (e, f) refl
 
-  pub times_complete : (n : ℕ) (at : At) (x : List A × At) → Spans (Times n) at x → items_at g.parse n at ≡ Some x
+  pub times_complete : (n : ℕ) (at : Input) (x : List A × Input) → Spans (Times n) at x → items_at g.parse n at ≡ Some x
   times_complete n at x s =
       rw (← s.spelled.0) (items_complete x.0 at x.1 (record { text = s.text; parts = s.parts; ends = s.ends; spelled = s.spelled.1 }))
 
@@ -95,7 +95,7 @@ module _ {A : Type 0} (g : Grammar A) where
 
 -- a count, and so many items
 abbrev pub vec_of : {A : Type 0} → Grammar ℕ → Grammar A → Grammar (List A)
-vec_of count g = as_value (λ x. x.1) (seq count (λ n. times g n))
+vec_of count g = map_value (λ x. x.1) (seq count (λ n. times g n))
 
 -- ---- items up to the end of the bytes
 
@@ -106,18 +106,18 @@ module _ {A : Type 0} (g : Grammar A) where
   Entries p text (x ∷ xs) = (t u : List ℕ) × (text ≡ t ++ u) × (0 < length t) × g.spells p t x × Entries (p + length t) u xs
 
   -- no more than n items, since each takes a byte
-  abbrev pub entries_at : ℕ → At → Option (List A)
+  abbrev pub entries_at : ℕ → Input → Option (List A)
   entries_at zero at = if length at.bytes == 0 then Some [] else None
   entries_at (suc n) at =
       if length at.bytes == 0 then Some []
       else (g.parse at >>= λ x. if nat_lt (length x.1.bytes) (length at.bytes) then (entries_at n x.1 >>= λ xs. Some (x.0 ∷ xs)) else None)
 
-  pub entries_sound : (n : ℕ) (at : At) (xs : List A) → entries_at n at ≡ Some xs → Entries at.place at.bytes xs
+  pub entries_sound : (n : ℕ) (at : Input) (xs : List A) → entries_at n at ≡ Some xs → Entries at.place at.bytes xs
   entries_sound zero at xs e =
       let t = tested (eqb (length at.bytes) 0) (Some []) xs e in
       subst (λ (ys : List A). Entries at.place at.bytes ys) (some_is [] xs t.1) (nil_from_length at.bytes (eqb-true _ _ t.0))
   entries_sound (suc n) at xs e =
-      let more : (A × At) → Option (List A) = λ x. cond (ltb (length x.1.bytes) (length at.bytes)) (entries_at n x.1 >>= λ ys. Some (x.0 ∷ ys)) None in
+      let more : (A × Input) → Option (List A) = λ x. cond (ltb (length x.1.bytes) (length at.bytes)) (entries_at n x.1 >>= λ ys. Some (x.0 ∷ ys)) None in
       elim (chosen (eqb (length at.bytes) 0) (Some []) (g.parse at >>= more) (Some xs) e) [
         | inl done ↦ subst (λ (ys : List A). Entries at.place at.bytes ys) (some_is [] xs done.1) (nil_from_length at.bytes (eqb-true _ _ done.0))
         | inr on ↦
@@ -130,22 +130,22 @@ module _ {A : Type 0} (g : Grammar A) where
             (s.text, x.0.1.bytes, s.parts, omega (arith, ap length s.parts, length-append s.text x.0.1.bytes, less), s.spelled, subst (λ (p : ℕ). Entries p x.0.1.bytes ys.0) s.ends (entries_sound n x.0.1 ys.0 ys.1))
       ]
 
-  empty_at : (n : ℕ) (at : At) → at.bytes ≡ [] → entries_at n at ≡ Some []
+  empty_at : (n : ℕ) (at : Input) → at.bytes ≡ [] → entries_at n at ≡ Some []
   empty_at zero at e = rw (eq-eqb (length at.bytes) 0 (ap length e)) refl
   empty_at (suc n) at e = rw (eq-eqb (length at.bytes) 0 (ap length e)) refl
 
-  pub entries_complete : (xs : List A) (n : ℕ) (at : At) → length at.bytes ≤ n → Entries at.place at.bytes xs → entries_at n at ≡ Some xs
+  pub entries_complete : (xs : List A) (n : ℕ) (at : Input) → length at.bytes ≤ n → Entries at.place at.bytes xs → entries_at n at ≡ Some xs
   entries_complete [] n at le s = empty_at n at s
   entries_complete (x ∷ xs) zero at le s = absurd (omega (arith, ap length s.2, length-append s.0 s.1, s.3))
   entries_complete (x ∷ xs) (suc n) at le s =
-      let after : At = from (at.place + length s.0) s.1 in
+      let after : Input = input (at.place + length s.0) s.1 in
       let some : 0 < length at.bytes = omega (arith, ap length s.2, length-append s.0 s.1, s.3) in
       let p : g.parse at ≡ Some (x, after) = g.complete at (x, after) (record { text = s.0; parts = s.2; ends = refl; spelled = s.4 }) in
       let less : length s.1 < length at.bytes = omega (arith, ap length s.2, length-append s.0 s.1, s.3) in
       let r : entries_at n after ≡ Some xs = entries_complete xs n after (omega (arith, less)) s.5 in
       rw (ne_eqb (length at.bytes) 0 (λ z. omega arith), p, lt-ltb (length s.1) (length at.bytes) less, r) refl
 
-  abbrev pub until_end : Whole (List A)
+  abbrev pub until_end : Remainder (List A)
   until_end = record {
     spells = Entries;
     parse = λ at. entries_at (length at.bytes) at;

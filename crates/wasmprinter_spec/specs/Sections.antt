@@ -2,12 +2,11 @@
 -- far has the type, function, export and code sections. What is said of each kind stands here, one line for each; how the content of a kind
 -- is spelled stands in a file of its own, in `Binary`.
 use Rattle.std.specs.Prelude.{ℕ, List, [], ◌∷◌, Bool, true, ◌&&◌, nat_lt, ◌==◌, Option, Some, None, if◌then◌else◌}
-use Rattle.wasmprinter_spec.specs.Grammar.{Grammar, Whole, byte, seq, as_value, mapped, Placed}
+use Rattle.wasmprinter_spec.specs.Grammar.{Grammar, Remainder, byte, seq, map_value, try_map, Placed}
 use Rattle.wasmprinter_spec.specs.Repeated.{some_or}
 use Rattle.wasmprinter_spec.specs.Sized.{exactly}
 use Rattle.wasmprinter_spec.specs.Name.{u32}
-use Rattle.wasmprinter_spec.specs.Types.{FuncType}
-use Rattle.wasmprinter_spec.specs.Placed.{Body, Export}
+use Rattle.wasmprinter_spec.specs.Placed.{TypeGroup, Body, Export}
 use Rattle.wasmprinter_spec.specs.Binary.Types.{type_section}
 use Rattle.wasmprinter_spec.specs.Binary.Functions.{function_section}
 use Rattle.wasmprinter_spec.specs.Binary.Exports.{export_section}
@@ -37,13 +36,13 @@ rank CodeSection = Some 12
 
 -- what a section of the kind holds
 abbrev pub Content : Kind → Type 0
-Content TypeSection = List (Placed FuncType)
+Content TypeSection = List (Placed TypeGroup)
 Content FunctionSection = List ℕ
 Content ExportSection = List (Placed Export)
 Content CodeSection = List (Placed Body)
 
 -- how it is spelled, by all the bytes of the section
-abbrev pub content : (kind : Kind) → Whole (Content kind)
+abbrev pub content : (kind : Kind) → Remainder (Content kind)
 content TypeSection = type_section
 content FunctionSection = function_section
 content ExportSection = export_section
@@ -56,20 +55,20 @@ abbrev pub section_kind : Section → Kind
 section_kind (holds kind x) = kind
 
 -- what the section holds, if it is of this kind
-abbrev pub picked : (kind : Kind) → Section → Option (Content kind)
-picked TypeSection (holds TypeSection x) = Some x
-picked FunctionSection (holds FunctionSection x) = Some x
-picked ExportSection (holds ExportSection x) = Some x
-picked CodeSection (holds CodeSection x) = Some x
-picked _ _ = None
+abbrev pub content_of : (kind : Kind) → Section → Option (Content kind)
+content_of TypeSection (holds TypeSection x) = Some x
+content_of FunctionSection (holds FunctionSection x) = Some x
+content_of ExportSection (holds ExportSection x) = Some x
+content_of CodeSection (holds CodeSection x) = Some x
+content_of _ _ = None
 
 -- an id, which is that of a kind
 abbrev pub section_id : Grammar Kind
-section_id = mapped kind_of byte
+section_id = try_map kind_of byte
 
 -- a kind, a size, and content of exactly so many bytes
 abbrev pub section : Grammar Section
-section = as_value (λ x. x.1) (seq section_id (λ k. as_value (λ x. holds k x.1) (seq u32 (λ size. exactly (content k) size))))
+section = map_value (λ x. x.1) (seq section_id (λ k. map_value (λ x. holds k x.1) (seq u32 (λ size. exactly (content k) size))))
 
 -- ---- sections one after the other
 
@@ -87,6 +86,6 @@ are_above low [] = true
 are_above low (s ∷ ss) = follows low (rank (section_kind s)) && are_above (rank_behind low (rank (section_kind s))) ss
 
 -- What the section of the kind holds, and where there is none, this. (Each kind that has a rank comes at most once.)
-abbrev pub held_in : (kind : Kind) → Content kind → List Section → Content kind
-held_in kind none [] = none
-held_in kind none (s ∷ ss) = held_in kind (some_or (picked kind s) none (λ x. x)) ss
+abbrev pub content_in : (kind : Kind) → Content kind → List Section → Content kind
+content_in kind none [] = none
+content_in kind none (s ∷ ss) = content_in kind (some_or (content_of kind s) none (λ x. x)) ss

@@ -4,7 +4,7 @@ use Rattle.std.specs.Prelude.{◌≡◌, ℕ, List, [], ◌∷◌, ◌++◌, ◌
 use Rattle.std.proofs.Common.{sym, ap, subst, ◌∙◌, arith, ltb}
 use Rattle.std.proofs.lemmas.Bool.{ltb-false, le-ltb}
 use Rattle.std.proofs.lemmas.List.{length-append, length-take-le, take-append-drop, take_at, drop_at, append-nil}
-use Rattle.wasmprinter_spec.specs.Grammar.{At, from, Spans, Grammar, Whole, ◌>>=◌, bind_some, some_is}
+use Rattle.wasmprinter_spec.specs.Grammar.{Input, input, Spans, Grammar, Remainder, ◌>>=◌, bind_some, some_is}
 use Rattle.wasmprinter_spec.specs.Choices.{untested}
 
 -- n bytes
@@ -12,18 +12,18 @@ module _ (n : ℕ) where
   abbrev pub Front : ℕ → List ℕ → List ℕ → Type 0
   Front p text bytes = (length text ≡ n) × (bytes ≡ text)
 
-  abbrev pub front_at : At → Option (List ℕ × At)
-  front_at at = if nat_lt (length at.bytes) n then None else Some (take n at.bytes, from (at.place + n) (drop n at.bytes))
+  abbrev pub front_at : Input → Option (List ℕ × Input)
+  front_at at = if nat_lt (length at.bytes) n then None else Some (take n at.bytes, input (at.place + n) (drop n at.bytes))
 
-  pub front_sound : (at : At) (x : List ℕ × At) → front_at at ≡ Some x → Spans Front at x
+  pub front_sound : (at : Input) (x : List ℕ × Input) → front_at at ≡ Some x → Spans Front at x
   front_sound at x e =
-      let t = untested (ltb (length at.bytes) n) (Some (take n at.bytes, from (at.place + n) (drop n at.bytes))) x e in
+      let t = untested (ltb (length at.bytes) n) (Some (take n at.bytes, input (at.place + n) (drop n at.bytes))) x e in
       let long : n ≤ length at.bytes = ltb-false _ _ t.0 in
       let len : length (take n at.bytes) ≡ n = length-take-le n at.bytes long in
-      subst (λ (y : List ℕ × At). Spans Front at y) (some_is (take n at.bytes, from (at.place + n) (drop n at.bytes)) x t.1)
+      subst (λ (y : List ℕ × Input). Spans Front at y) (some_is (take n at.bytes, input (at.place + n) (drop n at.bytes)) x t.1)
       (record { text = take n at.bytes; parts = sym (take-append-drop n at.bytes); ends = ap (λ (k : ℕ). at.place + k) (sym len); spelled = (len, refl) })
 
-  pub front_complete : (at : At) (x : List ℕ × At) → Spans Front at x → front_at at ≡ Some x
+  pub front_complete : (at : Input) (x : List ℕ × Input) → Spans Front at x → front_at at ≡ Some x
   front_complete at x s =
       let len : length s.text ≡ n = s.spelled.0 in
       let long : ltb (length at.bytes) n ≡ false = le-ltb _ _ (omega (arith, ap length s.parts, length-append s.text x.1.bytes)) in
@@ -32,30 +32,30 @@ module _ (n : ℕ) where
       let l : at.place + n ≡ x.1.place = ap (λ (k : ℕ). at.place + k) (sym len) ∙ sym s.ends in
       rw (long, t, d, l) refl
 
-  abbrev pub front : Grammar (List ℕ)
-  front = record { spells = Front; parse = front_at; sound = front_sound; complete = front_complete }
+  abbrev pub take_bytes : Grammar (List ℕ)
+  take_bytes = record { spells = Front; parse = front_at; sound = front_sound; complete = front_complete }
 
 -- a value that takes exactly n bytes
-module _ {A : Type 0} (w : Whole A) where
+module _ {A : Type 0} (w : Remainder A) where
   module _ (n : ℕ) where
     abbrev pub Exactly : ℕ → List ℕ → A → Type 0
     Exactly p text a = (length text ≡ n) × w.spells p text a
 
-    abbrev pub exactly_at : At → Option (A × At)
-    exactly_at at = front_at n at >>= λ x. w.parse (from at.place x.0) >>= λ a. Some (a, x.1)
+    abbrev pub exactly_at : Input → Option (A × Input)
+    exactly_at at = front_at n at >>= λ x. w.parse (input at.place x.0) >>= λ a. Some (a, x.1)
 
-    pub exactly_sound : (at : At) (x : A × At) → exactly_at at ≡ Some x → Spans Exactly at x
+    pub exactly_sound : (at : Input) (x : A × Input) → exactly_at at ≡ Some x → Spans Exactly at x
     exactly_sound at x e =
-        let f = bind_some (front_at n at) (λ x. w.parse (from at.place x.0) >>= λ a. Some (a, x.1)) x e in
-        let a = bind_some (w.parse (from at.place f.0.0)) (λ a. Some (a, f.0.1)) x f.2 in
+        let f = bind_some (front_at n at) (λ x. w.parse (input at.place x.0) >>= λ a. Some (a, x.1)) x e in
+        let a = bind_some (w.parse (input at.place f.0.0)) (λ a. Some (a, f.0.1)) x f.2 in
         let s = front_sound n at f.0 f.1 in
-        subst (λ (y : A × At). Spans Exactly at y) (some_is (a.0, f.0.1) x a.2)
-        (record { text = s.text; parts = s.parts; ends = s.ends; spelled = (s.spelled.0, subst (λ (t : List ℕ). w.spells at.place t a.0) s.spelled.1 (w.sound (from at.place f.0.0) a.0 a.1)) })
+        subst (λ (y : A × Input). Spans Exactly at y) (some_is (a.0, f.0.1) x a.2)
+        (record { text = s.text; parts = s.parts; ends = s.ends; spelled = (s.spelled.0, subst (λ (t : List ℕ). w.spells at.place t a.0) s.spelled.1 (w.sound (input at.place f.0.0) a.0 a.1)) })
 
-    pub exactly_complete : (at : At) (x : A × At) → Spans Exactly at x → exactly_at at ≡ Some x
+    pub exactly_complete : (at : Input) (x : A × Input) → Spans Exactly at x → exactly_at at ≡ Some x
     exactly_complete at x s =
         let f : front_at n at ≡ Some (s.text, x.1) = front_complete n at (s.text, x.1) (record { text = s.text; parts = s.parts; ends = s.ends; spelled = (s.spelled.0, refl) }) in
-        let a : w.parse (from at.place s.text) ≡ Some x.0 = w.complete (from at.place s.text) x.0 s.spelled.1 in
+        let a : w.parse (input at.place s.text) ≡ Some x.0 = w.complete (input at.place s.text) x.0 s.spelled.1 in
         rw (f, a) refl
 
     abbrev pub exactly : Grammar A
@@ -68,14 +68,14 @@ ended (b ∷ bs) a = None
 
 -- a value and nothing behind it
 module _ {A : Type 0} (g : Grammar A) where
-  abbrev pub alone_at : At → Option A
+  abbrev pub alone_at : Input → Option A
   alone_at at = g.parse at >>= λ x. ended x.1.bytes x.0
 
   ended_some : (bytes : List ℕ) (a b : A) → ended bytes a ≡ Some b → (bytes ≡ []) × (a ≡ b)
   ended_some [] a b e = (refl, some_is a b e)
   ended_some (c ∷ cs) a b e = absurd cc
 
-  pub alone_sound : (at : At) (a : A) → alone_at at ≡ Some a → g.spells at.place at.bytes a
+  pub alone_sound : (at : Input) (a : A) → alone_at at ≡ Some a → g.spells at.place at.bytes a
   alone_sound at a e =
       let x = bind_some (g.parse at) (λ x. ended x.1.bytes x.0) a e in
       let d = ended_some x.0.1.bytes x.0.0 a x.2 in
@@ -83,23 +83,23 @@ module _ {A : Type 0} (g : Grammar A) where
       let t : s.text ≡ at.bytes = sym (s.parts ∙ ap (λ (r : List ℕ). s.text ++ r) d.0 ∙ append-nil s.text) in
       subst (λ (b : A). g.spells at.place at.bytes b) d.1 (subst (λ (r : List ℕ). g.spells at.place r x.0.0) t s.spelled)
 
-  pub alone_complete : (at : At) (a : A) → g.spells at.place at.bytes a → alone_at at ≡ Some a
+  pub alone_complete : (at : Input) (a : A) → g.spells at.place at.bytes a → alone_at at ≡ Some a
   alone_complete at a s =
-      let e : g.parse at ≡ Some (a, from (at.place + length at.bytes) []) = g.complete at (a, from (at.place + length at.bytes) []) (record { text = at.bytes; parts = sym (append-nil at.bytes); ends = refl; spelled = s }) in
+      let e : g.parse at ≡ Some (a, input (at.place + length at.bytes) []) = g.complete at (a, input (at.place + length at.bytes) []) (record { text = at.bytes; parts = sym (append-nil at.bytes); ends = refl; spelled = s }) in
       rw e refl
 
-  abbrev pub alone : Whole A
+  abbrev pub alone : Remainder A
   alone = record { spells = g.spells; parse = alone_at; sound = alone_sound; complete = alone_complete }
 
 -- a value, and then one that takes all other bytes
-module _ {A B : Type 0} (g : Grammar A) (w : Whole B) where
+module _ {A B : Type 0} (g : Grammar A) (w : Remainder B) where
   abbrev pub Headed : ℕ → List ℕ → A × B → Type 0
   Headed p text x = (t u : List ℕ) × (text ≡ t ++ u) × g.spells p t x.0 × w.spells (p + length t) u x.1
 
-  abbrev pub headed_at : At → Option (A × B)
+  abbrev pub headed_at : Input → Option (A × B)
   headed_at at = g.parse at >>= λ a. w.parse a.1 >>= λ b. Some (a.0, b)
 
-  pub headed_sound : (at : At) (x : A × B) → headed_at at ≡ Some x → Headed at.place at.bytes x
+  pub headed_sound : (at : Input) (x : A × B) → headed_at at ≡ Some x → Headed at.place at.bytes x
   headed_sound at x e =
       let a = bind_some (g.parse at) (λ a. w.parse a.1 >>= λ b. Some (a.0, b)) x e in
       let b = bind_some (w.parse a.0.1) (λ b. Some (a.0.0, b)) x a.2 in
@@ -107,31 +107,31 @@ module _ {A B : Type 0} (g : Grammar A) (w : Whole B) where
       subst (λ (y : A × B). Headed at.place at.bytes y) (some_is (a.0.0, b.0) x b.2)
       (s.text, a.0.1.bytes, s.parts, s.spelled, subst (λ (p : ℕ). w.spells p a.0.1.bytes b.0) s.ends (w.sound a.0.1 b.0 b.1))
 
-  pub headed_complete : (at : At) (x : A × B) → Headed at.place at.bytes x → headed_at at ≡ Some x
+  pub headed_complete : (at : Input) (x : A × B) → Headed at.place at.bytes x → headed_at at ≡ Some x
   headed_complete at x s =
-      let after : At = from (at.place + length s.0) s.1 in
+      let after : Input = input (at.place + length s.0) s.1 in
       let e : g.parse at ≡ Some (x.0, after) = g.complete at (x.0, after) (record { text = s.0; parts = s.2; ends = refl; spelled = s.3 }) in
       let f : w.parse after ≡ Some x.1 = w.complete after x.1 s.4 in
       rw (e, f) refl
 
-  abbrev pub headed : Whole (A × B)
+  abbrev pub headed : Remainder (A × B)
   headed = record { spells = Headed; parse = headed_at; sound = headed_sound; complete = headed_complete }
 
 -- the values of a whole under a function, which may refuse and is told where the bytes end
-module _ {A B : Type 0} (f : ℕ → A → Option B) (w : Whole A) where
+module _ {A B : Type 0} (f : ℕ → A → Option B) (w : Remainder A) where
   abbrev pub Concluded : ℕ → List ℕ → B → Type 0
   Concluded p text b = (a : A) × (f (p + length text) a ≡ Some b) × w.spells p text a
 
-  abbrev pub concluded_at : At → Option B
+  abbrev pub concluded_at : Input → Option B
   concluded_at at = w.parse at >>= λ a. f (at.place + length at.bytes) a
 
-  pub concluded_sound : (at : At) (b : B) → concluded_at at ≡ Some b → Concluded at.place at.bytes b
+  pub concluded_sound : (at : Input) (b : B) → concluded_at at ≡ Some b → Concluded at.place at.bytes b
   concluded_sound at b e =
       let a = bind_some (w.parse at) (λ a. f (at.place + length at.bytes) a) b e in
       (a.0, a.2, w.sound at a.0 a.1)
 
-  pub concluded_complete : (at : At) (b : B) → Concluded at.place at.bytes b → concluded_at at ≡ Some b
+  pub concluded_complete : (at : Input) (b : B) → Concluded at.place at.bytes b → concluded_at at ≡ Some b
   concluded_complete at b s = rw (w.complete at s.0 s.2) s.1
 
-  abbrev pub concluded : Whole B
+  abbrev pub concluded : Remainder B
   concluded = record { spells = Concluded; parse = concluded_at; sound = concluded_sound; complete = concluded_complete }

@@ -15,6 +15,17 @@ const OPERATORS: [(u64, u32, &str, Immediates); 7] = [
     (0x44, 0x0f, "return", Immediates::None),
 ];
 
+/// Whether two operators without blocks and branches have the same immediates.
+fn are_alike(one: &Immediates<'_>, other: &Immediates<'_>) -> bool {
+    match (one, other) {
+        (Immediates::None, Immediates::None) => true,
+        (Immediates::Index(m), Immediates::Index(n)) => m == n,
+        (Immediates::I32(m), Immediates::I32(n)) => m == n,
+        (Immediates::I64(m), Immediates::I64(n)) => m == n,
+        _ => false,
+    }
+}
+
 #[test]
 fn counts_the_functions_that_are_defined(rt: HostRuntime) -> Result<(), Fail> {
     let empty: Module<'_> = decode(rt.alloc(), &PREAMBLE)?;
@@ -40,7 +51,7 @@ fn walks_over_operators(rt: HostRuntime) -> Result<(), Fail> {
         assert_eq!(rt; place, wanted_place);
         assert_eq!(rt; operator.opcode, Opcode { prefix: 0, number });
         assert_eq!(rt; operator.opcode.word(), word);
-        assert_eq!(rt; operator.immediates, immediates);
+        assert!(rt; are_alike(&operator.immediates, &immediates));
     }
     assert!(rt; reader.next().is_none());
     // a second walk over the same body begins at its first operator
@@ -52,7 +63,7 @@ fn walks_over_operators(rt: HostRuntime) -> Result<(), Fail> {
 #[test]
 fn has_no_words_for_opcodes_that_are_not_listed(rt: HostRuntime) {
     for (prefix, number) in [
-        (0, 0x06),
+        (0, 0x27),
         (0, 0x100),
         (0, u32::MAX),
         (0xfc, 0x10),
@@ -125,7 +136,9 @@ fn gives_shapes_to_listed_opcodes(rt: HostRuntime) -> Result<(), Fail> {
         (0x21, "Some(Index(Local))"),
         (0x41, "Some(I32)"),
         (0x42, "Some(I64)"),
-        (0x06, "None"),
+        (0x06, "Some(Block)"),
+        (0x0d, "Some(Index(Label))"),
+        (0x27, "None"),
     ];
     for (number, shape) in shapes {
         let found = Opcode { prefix: 0, number }.shape();

@@ -1,13 +1,21 @@
-//! Tests that cross crates, through the paths of the crate `wasmprinter` alone: whole texts, refusals, limits, decoded modules, and calls
+//! Tests that cross crates, through the paths of the crate `wasmprinter` alone: whole texts, single values, refusals, limits, decoded modules, and calls
 //! on printers that record them or fail. What is expected is typed by hand.
 #![tactic(auto)]
 
 #[cfg(test)]
+mod byte_writers;
+#[cfg(test)]
 mod calls;
+#[cfg(test)]
+mod colors;
+#[cfg(test)]
+mod control;
 #[cfg(test)]
 mod decoding;
 #[cfg(test)]
 mod example;
+#[cfg(test)]
+mod floats;
 #[cfg(test)]
 mod limits;
 #[cfg(test)]
@@ -20,5 +28,7 @@ mod refusals;
 mod strings;
 #[cfg(test)]
 mod texts;
+#[cfg(test)]
+mod types;
 #[cfg(test)]
 mod writers;

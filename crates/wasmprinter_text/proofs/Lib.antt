@@ -1,3 +1,3 @@
-pub mod LocalLines
+pub mod Composites
 pub mod Signatures
 pub mod TypeLists

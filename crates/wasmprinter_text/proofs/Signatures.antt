@@ -1,42 +1,55 @@
--- Types and signatures stand on one line.
-use Rattle.std.specs.Prelude.{◌≡◌, ℕ, List, [], ◌∷◌, ◌++◌, false, codes, refl}
-use Rattle.std.proofs.Common.{sym, ap, ap₂, ◌∙◌}
-use Rattle.wasmprinter_spec.specs.Types.{ValType, FuncType}
-use Rattle.wasmprinter_spec.specs.Piece.{Gap, Open, Shut}
-use Rattle.wasmprinter_spec.specs.Layout.{has_break, type_list, type_group, signature_pieces}
-use Rattle.wasmprinter_lines.proofs.Groups.{line-append, group-line, line-group}
+-- Types stand on one line.
+use Rattle.std.specs.Prelude.{◌≡◌, ℕ, List, [], ◌∷◌, ◌++◌, Bool, true, false, codes, refl}
+use Rattle.wasmprinter_spec.specs.Types as defined
+use Rattle.wasmprinter_spec.specs.Types.{HeapType, RefType, ValType, StorageType, FieldType, FuncType, CompositeType, FuncComposite, ArrayComposite, StructComposite, SubType}
+use Rattle.wasmprinter_spec.specs.Piece.{Piece, Gap, Open, OpenGap, OpenPlain, Number, Shut, Mark}
+use Rattle.wasmprinter_spec.specs.Layout.Groups.{has_break, line_group, line_group_gap}
+use Rattle.wasmprinter_spec.specs.Layout.Types.{heap_pieces, null_ref_pieces, ref_pieces_by, ref_pieces, val_pieces, type_list, list_group, signature_pieces, storage_pieces, field_pieces_by, field_pieces, struct_pieces, composite_pieces, final_pieces, supertype_pieces, sub_group, sub_pieces_by, sub_pieces, type_pieces}
+use Rattle.wasmprinter_lines.proofs.Groups.{line-append}
 
--- types stand on one line
+-- groups of what stands on one line
+group-line : (w : List ℕ) (ps : List Piece) → has_break ps ≡ false → has_break (line_group w ps) ≡ false
+unfolding line_group
+group-line w ps e = line-append ps (Shut ∷ []) e refl
+
+group_gap-line : (w : List ℕ) (ps : List Piece) → has_break ps ≡ false → has_break (line_group_gap w ps) ≡ false
+unfolding line_group_gap
+group_gap-line w ps e = line-append ps (Shut ∷ []) e refl
+
+-- a heap type
+heap-line : (h : HeapType) → has_break (heap_pieces h) ≡ false
+unfolding heap_pieces
+heap-line (defined.Index n) = refl
+heap-line _ = refl
+
+null_ref-line : (h : HeapType) → has_break (null_ref_pieces h) ≡ false
+unfolding null_ref_pieces heap_pieces line_group
+null_ref-line (defined.Index n) = refl
+null_ref-line _ = refl
+
+ref_by-line : (null : Bool) (h : HeapType) → has_break (ref_pieces_by null h) ≡ false
+ref_by-line true h = null_ref-line h
+ref_by-line false h = group_gap-line (codes "ref") (heap_pieces h) (heap-line h)
+
+-- a value type
+val-line : (t : ValType) → has_break (val_pieces t) ≡ false
+unfolding val_pieces ref_pieces
+val-line (defined.Ref r) = ref_by-line r.nullable r.heap
+val-line _ = refl
+
+-- value types
 pub types-line : (ts : List ValType) → has_break (type_list ts) ≡ false
 unfolding type_list
 types-line [] = refl
-types-line (t ∷ ts) = types-line ts
+types-line (t ∷ ts) = line-append (val_pieces t) (type_list ts) (val-line t) (types-line ts)
 
--- a group of types, written out
-pub type_group-some : (nesting : ℕ) (w : List ℕ) (t : ValType) (ts : List ValType) → type_group nesting w (t ∷ ts) ≡ Gap ∷ (Open w ∷ (type_list (t ∷ ts) ++ (Shut ∷ [])))
-unfolding type_group
-type_group-some nesting w t ts = ap (λ ps. Gap ∷ ps) (group-line nesting w (type_list (t ∷ ts)) (types-line (t ∷ ts)))
+list_group-line : (w : List ℕ) (ts : List ValType) → has_break (list_group w ts) ≡ false
+unfolding list_group
+list_group-line w [] = refl
+list_group-line w (t ∷ ts) = group-line w (type_list (t ∷ ts)) (types-line (t ∷ ts))
 
--- a group of types stands on one line
-pub type_group-line : (nesting : ℕ) (w : List ℕ) (ts : List ValType) → has_break (type_group nesting w ts) ≡ false
-unfolding type_group
-type_group-line nesting w [] = refl
-type_group-line nesting w (t ∷ ts) = line-group nesting w (type_list (t ∷ ts)) (types-line (t ∷ ts))
-
--- how deep it is nested doesn't matter
-pub type_group-nesting : (m n : ℕ) (w : List ℕ) (ts : List ValType) → type_group m w ts ≡ type_group n w ts
-unfolding type_group
-type_group-nesting m n w [] = refl
-type_group-nesting m n w (t ∷ ts) = type_group-some m w t ts ∙ sym (type_group-some n w t ts)
-
--- a signature stands on one line
-pub signature-line : (nesting : ℕ) (t : FuncType) → has_break (signature_pieces nesting t) ≡ false
+-- a signature
+pub signature-line : (t : FuncType) → has_break (signature_pieces t) ≡ false
 unfolding signature_pieces
-signature-line nesting t =
-    line-append (type_group nesting (codes "param") t.params) (type_group nesting (codes "result") t.results) (type_group-line nesting (codes "param") t.params) (type_group-line nesting (codes "result") t.results)
-
--- how deep it is nested doesn't matter
-pub signature-nesting : (m n : ℕ) (t : FuncType) → signature_pieces m t ≡ signature_pieces n t
-unfolding signature_pieces
-signature-nesting m n t =
-    ap₂ (λ xs ys. xs ++ ys) (type_group-nesting m n (codes "param") t.params) (type_group-nesting m n (codes "result") t.results)
+signature-line t =
+    line-append (list_group (codes "param") t.params) (list_group (codes "result") t.results) (list_group-line (codes "param") t.params) (list_group-line (codes "result") t.results)

@@ -1,36 +1,44 @@
--- The layout of types, one by one.
-use Rattle.std.specs.Prelude.{◌≡◌, ℕ, List, [], ◌∷◌, ◌++◌, map}
-use Rattle.std.proofs.Common.{sym, ap, ◌∙◌}
+-- The layout of types, one by one, and of lists of them.
+use Rattle.std.specs.Prelude.{◌≡◌, ℕ, List, [], ◌∷◌, ◌++◌, length, map, refl}
+use Rattle.std.proofs.Common.{sym, ap, ◌∙◌, append_assoc, append-nil}
 use Rattle.wasmprinter_spec.specs.Types.{ValType as DefinedType}
 use Rattle.wasmprinter_spec.specs.Piece.{Gap, Open, Shut}
-use Rattle.wasmprinter_spec.specs.Layout.{type_list, type_group}
-use Rattle.wasmprinter_text.proofs.Signatures.{type_group-some as some_types}
-use Rattle.wasmprinter_ops.specs.ValTypes.{type_seen}
+use Rattle.wasmprinter_spec.specs.Layout.Groups.{line_group}
+use Rattle.wasmprinter_spec.specs.Layout.Types.{val_pieces, type_list, list_group}
+use Rattle.wasmprinter_ops.specs.ValTypes.{type_view, types_view}
 use Rattle.wasmprinter_ops.specs.declared.types.ValType.{ValType}
 
--- no type is left
-pub types-none : (ts : List ValType) → ts ≡ [] → type_list (map type_seen ts) ≡ []
+-- one type
+pub one_type : (t : DefinedType) → type_list (t ∷ []) ≡ Gap ∷ val_pieces t
 unfolding type_list
-types-none ts e = ap (λ xs. type_list (map type_seen xs)) e
+one_type t = ap (λ ps. Gap ∷ ps) (append-nil (val_pieces t))
+
+-- types, in two parts
+pub type_list-append : (ts us : List DefinedType) → type_list (ts ++ us) ≡ type_list ts ++ type_list us
+unfolding type_list
+type_list-append [] us = refl
+type_list-append (t ∷ ts) us =
+    ap (λ ps. Gap ∷ (val_pieces t ++ ps)) (type_list-append ts us) ∙ sym (ap (λ ps. Gap ∷ ps) (append_assoc (val_pieces t) (type_list ts) (type_list us)))
+
+-- no type is left
+pub types-none : (ts : List ValType) → ts ≡ [] → type_list (types_view ts) ≡ []
+unfolding type_list
+types-none ts e = ap (λ xs. type_list (types_view xs)) e
 
 -- the next type, and the others
 pub types-next : (ts rest : List ValType) (t : ValType) → ts ≡ t ∷ rest →
-    type_list (map type_seen ts) ≡ type_list (type_seen t ∷ []) ++ type_list (map type_seen rest)
-unfolding type_list
-types-next ts rest t e = ap (λ xs. type_list (map type_seen xs)) e
+    type_list (types_view ts) ≡ type_list (type_view t ∷ []) ++ type_list (types_view rest)
+types-next ts rest t e = ap (λ xs. type_list (types_view xs)) e ∙ type_list-append (type_view t ∷ []) (types_view rest)
 
 -- a group of no types
-pub type_group-none : (nesting : ℕ) (w : List ℕ) (ts : List ValType) → ts ≡ [] → type_group nesting w (map type_seen ts) ≡ []
-unfolding type_group
-type_group-none nesting w ts e = ap (λ xs. type_group nesting w (map type_seen xs)) e
-
-of_types : (nesting : ℕ) (w : List ℕ) (us vs : List DefinedType) (u : DefinedType) → us ≡ u ∷ vs →
-    type_group nesting w us ≡ Gap ∷ (Open w ∷ (type_list us ++ (Shut ∷ [])))
-of_types nesting w us vs u e =
-    ap (type_group nesting w) e ∙ some_types nesting w u vs ∙ sym (ap (λ xs. Gap ∷ (Open w ∷ (type_list xs ++ (Shut ∷ [])))) e)
+pub list_group-none : (w : List ℕ) (ts : List ValType) → length ts ≡ 0 → list_group w (types_view ts) ≡ []
+unfolding list_group
+list_group-none w [] e = refl
+list_group-none w (t ∷ ts) e = absurd cc
 
 -- a group of types
-pub type_group-some : (nesting : ℕ) (w : List ℕ) (ts rest : List ValType) (t : ValType) → ts ≡ t ∷ rest →
-    type_group nesting w (map type_seen ts) ≡ Gap ∷ (Open w ∷ (type_list (map type_seen ts) ++ (Shut ∷ [])))
-type_group-some nesting w ts rest t e =
-    of_types nesting w (map type_seen ts) (map type_seen rest) (type_seen t) (ap (map type_seen) e)
+pub list_group-some : (w : List ℕ) (ts : List ValType) → (length ts ≡ 0 → ⊥) →
+    list_group w (types_view ts) ≡ Gap ∷ (Open w ∷ (type_list (types_view ts) ++ (Shut ∷ [])))
+unfolding list_group line_group
+list_group-some w [] e = absurd (e refl)
+list_group-some w (t ∷ ts) e = refl

@@ -1,5 +1,5 @@
-//! Types and locals (sections 6.4 and 6.6 of the WebAssembly Core Specification), over any printer.
+//! Types (section 6.4 of the WebAssembly Core Specification), over any printer.
 #![tactic(auto)]
 
-pub mod locals;
+pub mod signature;
 pub mod types;

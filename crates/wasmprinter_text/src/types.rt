@@ -1,39 +1,148 @@
-//! Types (section 6.4 of the WebAssembly Core Specification).
-ghost use Rattle.std.specs.Prelude.{◌≡◌, [], ◌∷◌, ◌++◌, map};
+//! Heap types, reference types and value types (section 6.4 of the WebAssembly Core Specification), and what functions and blocks take
+//! and leave.
+ghost use Rattle.std.specs.Prelude.{◌≡◌, [], ◌∷◌, ◌++◌, codes};
 ghost use Rattle.wasmprinter_spec.specs.Options.{Options};
 ghost use Rattle.wasmprinter_spec.specs.Piece.{Gap, Open, Shut};
-ghost use Rattle.wasmprinter_spec.specs.Layout.{type_word as word_of_type, type_list as list_of_types, type_group as group_of_types, signature_pieces};
-ghost use Rattle.wasmprinter_bytes.specs.Prints.{Prints};
-ghost use Rattle.wasmprinter_ops.specs.ValTypes.{type_seen};
+ghost use Rattle.wasmprinter_spec.specs.Types.{Index};
+ghost use Rattle.wasmprinter_spec.specs.Layout.Types.{heap_word, ref_word, heap_pieces, null_ref_pieces, ref_pieces_by, ref_pieces, val_pieces, type_list as list_of_types, list_group as group_of_types, signature_pieces};
+ghost use Rattle.wasmprinter_spec.specs.Layout.Groups.{line_group_gap};
+ghost use Rattle.wasmprinter_print.specs.Prints.{Prints};
+ghost use Rattle.wasmprinter_ops.specs.ValTypes.{heap_view, ref_view, type_view, types_view};
+
+pub mod composite;
 
 use std::io;
-use wasmprinter_bytes::print::Print;
-use wasmprinter_ops::types::{ValType, ValTypes};
-use wasmprinter_wasm::FuncType;
-use wasmprinter_words::words::{gap, open, shut, type_word};
+use wasmprinter_ops::types::composite::FuncType;
+use wasmprinter_ops::types::{HeapType, RefType, ValType, ValTypes};
+use wasmprinter_print::Print;
+use wasmprinter_words::numbers::number;
+use wasmprinter_words::words::{gap, open, open_gap, shut, type_word, word};
 
-/// The word of a value type.
-fn word_of(value_type: ValType) -> &'static str
-    ensures { result.now ≡ word_of_type (type_seen value_type) }
+/// The word of an abstract heap type, empty of an index.
+fn heap_word(heap: HeapType) -> &'static str
+    ensures { result.now ≡ heap_word (heap_view heap) }
+{
+    match heap {
+        HeapType::Exn => "exn",
+        HeapType::Array => "array",
+        HeapType::Struct => "struct",
+        HeapType::I31 => "i31",
+        HeapType::Eq => "eq",
+        HeapType::Any => "any",
+        HeapType::Extern => "extern",
+        HeapType::Func => "func",
+        HeapType::NoAny => "none",
+        HeapType::NoExtern => "noextern",
+        HeapType::NoFunc => "nofunc",
+        HeapType::NoExn => "noexn",
+        HeapType::Index(_) => "",
+    }
+}
+
+/// The word of a reference to an abstract heap type that may be null, empty of an index.
+fn ref_word(heap: HeapType) -> &'static str
+    ensures { result.now ≡ ref_word (heap_view heap) }
+{
+    match heap {
+        HeapType::Exn => "exnref",
+        HeapType::Array => "arrayref",
+        HeapType::Struct => "structref",
+        HeapType::I31 => "i31ref",
+        HeapType::Eq => "eqref",
+        HeapType::Any => "anyref",
+        HeapType::Extern => "externref",
+        HeapType::Func => "funcref",
+        HeapType::NoAny => "nullref",
+        HeapType::NoExtern => "nullexternref",
+        HeapType::NoFunc => "nullfuncref",
+        HeapType::NoExn => "nullexnref",
+        HeapType::Index(_) => "",
+    }
+}
+
+/// Writes a heap type.
+#[tactic(auto, unfolding(wasmprinter_spec::specs::Layout::Types::heap_pieces))]
+pub fn write_heap_type<P: Print>(p: &mut P, heap: HeapType) -> io::Result<()>
+    ensures { (o : Options) → Prints P.meaning o p.old p.new result (heap_pieces (heap_view heap)) }
+{
+    match heap {
+        HeapType::Index(index) => number(p, u64::from(index)),
+        _ => type_word(p, heap_word(heap)),
+    }
+}
+
+/// Writes the type of references to a type by its index that may be null.
+#[tactic(auto, unfolding(wasmprinter_spec::specs::Layout::Types::null_ref_pieces, wasmprinter_spec::specs::Layout::Types::heap_pieces, wasmprinter_spec::specs::Layout::Groups::line_group))]
+fn write_null_index<P: Print>(p: &mut P, index: u32) -> io::Result<()>
+    ensures { (o : Options) → Prints P.meaning o p.old p.new result (null_ref_pieces (Index index)) }
+{
+    open(p, "ref")?;
+    gap(p)?;
+    word(p, "null")?;
+    gap(p)?;
+    number(p, u64::from(index))?;
+    shut(p)
+}
+
+/// Writes the type of references that may be null: one word but for those to a type by its index.
+#[tactic(auto, unfolding(wasmprinter_spec::specs::Layout::Types::null_ref_pieces))]
+fn write_null_ref<P: Print>(p: &mut P, heap: HeapType) -> io::Result<()>
+    ensures { (o : Options) → Prints P.meaning o p.old p.new result (null_ref_pieces (heap_view heap)) }
+{
+    match heap {
+        HeapType::Index(index) => write_null_index(p, index),
+        _ => type_word(p, ref_word(heap)),
+    }
+}
+
+/// Writes the type of references that can't be null.
+#[tactic(auto, unfolding(wasmprinter_spec::specs::Layout::Groups::line_group_gap))]
+fn write_some_ref<P: Print>(p: &mut P, heap: HeapType) -> io::Result<()>
+    ensures { (o : Options) → Prints P.meaning o p.old p.new result (line_group_gap (codes "ref") (heap_pieces (heap_view heap))) }
+{
+    open_gap(p, "ref")?;
+    write_heap_type(p, heap)?;
+    shut(p)
+}
+
+/// Writes a reference type.
+#[tactic(auto, unfolding(wasmprinter_spec::specs::Layout::Types::ref_pieces))]
+pub fn write_ref_type<P: Print>(p: &mut P, ref_type: RefType) -> io::Result<()>
+    ensures { (o : Options) → Prints P.meaning o p.old p.new result (ref_pieces (ref_view ref_type)) }
+{
+    if ref_type.nullable {
+        write_null_ref(p, ref_type.heap)
+    } else {
+        write_some_ref(p, ref_type.heap)
+    }
+}
+
+/// Writes a value type.
+#[tactic(auto, unfolding(wasmprinter_spec::specs::Layout::Types::val_pieces))]
+pub fn write_val_type<P: Print>(p: &mut P, value_type: ValType) -> io::Result<()>
+    ensures { (o : Options) → Prints P.meaning o p.old p.new result (val_pieces (type_view value_type)) }
 {
     match value_type {
-        ValType::I32 => "i32",
-        ValType::I64 => "i64",
+        ValType::I32 => type_word(p, "i32"),
+        ValType::I64 => type_word(p, "i64"),
+        ValType::F32 => type_word(p, "f32"),
+        ValType::F64 => type_word(p, "f64"),
+        ValType::V128 => type_word(p, "v128"),
+        ValType::Ref(ref_type) => write_ref_type(p, ref_type),
     }
 }
 
 /// Writes a blank and a value type.
-#[tactic(auto, unfolding(wasmprinter_spec::specs::Layout::type_list))]
 pub fn write_type<P: Print>(p: &mut P, value_type: ValType) -> io::Result<()>
-    ensures { (o : Options) → Prints P.meaning o p.old p.new result (list_of_types (type_seen value_type ∷ [])) }
+    ensures { (o : Options) → Prints P.meaning o p.old p.new result (list_of_types (type_view value_type ∷ [])) }
 {
     gap(p)?;
-    type_word(p, word_of(value_type))
+    write_val_type(p, value_type)
 }
 
 /// Writes value types, a blank before each.
 fn type_list<P: Print>(p: &mut P, types: &ValTypes<'_>) -> io::Result<()>
-    ensures { (o : Options) → Prints P.meaning o p.old p.new result (list_of_types (map type_seen types.now)) }
+    ensures { (o : Options) → Prints P.meaning o p.old p.new result (list_of_types (types_view types.now)) }
 {
     for value_type in types.iter() {
         write_type(p, value_type)?;
@@ -42,7 +151,7 @@ fn type_list<P: Print>(p: &mut P, types: &ValTypes<'_>) -> io::Result<()>
 }
 
 fn write_group<P: Print>(p: &mut P, keyword: &str, types: &ValTypes<'_>) -> io::Result<()>
-    ensures { (o : Options) → Prints P.meaning o p.old p.new result (Gap ∷ Open keyword.now ∷ (list_of_types (map type_seen types.now) ++ (Shut ∷ []))) }
+    ensures { (o : Options) → Prints P.meaning o p.old p.new result (Gap ∷ (Open keyword.now ∷ (list_of_types (types_view types.now) ++ (Shut ∷ [])))) }
 {
     gap(p)?;
     open(p, keyword)?;
@@ -51,20 +160,21 @@ fn write_group<P: Print>(p: &mut P, keyword: &str, types: &ValTypes<'_>) -> io::
 }
 
 /// Writes a blank and a group of types behind a keyword, and nothing where there are none.
-fn type_group<P: Print>(p: &mut P, keyword: &str, types: &ValTypes<'_>) -> io::Result<()>
-    ensures { (o : Options) → Prints P.meaning o p.old p.new result (group_of_types 2 keyword.now (map type_seen types.now)) }
+fn list_group<P: Print>(p: &mut P, keyword: &str, types: &ValTypes<'_>) -> io::Result<()>
+    ensures { (o : Options) → Prints P.meaning o p.old p.new result (group_of_types keyword.now (types_view types.now)) }
 {
-    match types.iter().next() {
-        None => Ok(()),
-        Some(_) => write_group(p, keyword, types),
+    if types.len() == 0 {
+        Ok(())
+    } else {
+        write_group(p, keyword, types)
     }
 }
 
-/// Writes the types of parameters and results.
-#[tactic(auto, unfolding(wasmprinter_spec::specs::Layout::signature_pieces))]
+/// Writes the types of parameters and results, each kind as a group with a blank before it.
+#[tactic(auto, unfolding(wasmprinter_spec::specs::Layout::Types::signature_pieces))]
 pub fn signature<P: Print>(p: &mut P, func_type: &FuncType<'_>) -> io::Result<()>
-    ensures { (o : Options) → Prints P.meaning o p.old p.new result (signature_pieces 2 func_type.now.value) }
+    ensures { (o : Options) → Prints P.meaning o p.old p.new result (signature_pieces func_type.now) }
 {
-    type_group(p, "param", &func_type.params())?;
-    type_group(p, "result", &func_type.results())
+    list_group(p, "param", &func_type.params())?;
+    list_group(p, "result", &func_type.results())
 }

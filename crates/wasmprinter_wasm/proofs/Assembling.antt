@@ -3,40 +3,39 @@ use Rattle.std.proofs.Common.{◌≡◌, ℕ, ◌+◌, ◌<◌, ◌≤◌, true,
 use Rattle.std.specs.Prelude.{Result, Ok, Err, IsOk, IsOkUnless}
 use Rattle.std.proofs.lemmas.List.{nil_from_length}
 use Rattle.std.specs.List.{AllByRecursion}
-use Rattle.wasmprinter_spec.specs.Grammar.{At, from, ◌>>=◌, bind_some, some_is, Placed}
+use Rattle.wasmprinter_spec.specs.Grammar.{Input, input, ◌>>=◌, bind_some, some_is, Placed}
 use Rattle.wasmprinter_spec.specs.Choices.{tested}
 use Rattle.wasmprinter_spec.specs.Repeated.{until_end}
 use Rattle.wasmprinter_spec.specs.Sized.{headed}
-use Rattle.wasmprinter_spec.specs.Placed.{Export, PlacedFunction, PlacedModule}
-use Rattle.wasmprinter_spec.specs.Types.{FuncType}
+use Rattle.wasmprinter_spec.specs.Placed.{TypeGroup, Export, PlacedFunction, PlacedModule}
 use Rattle.wasmprinter_spec.specs.Sections.{FunctionSection, TypeSection, ExportSection, CodeSection, Section, section, are_above}
-use Rattle.wasmprinter_spec.specs.Binary.{AreBytes, preamble, types_in, type_indices_in, exports_in, bodies_in, paired, module_from, assembled, binary, Spells}
+use Rattle.wasmprinter_spec.specs.Binary.{AreBytes, preamble, types_in, type_indices_in, exports_in, bodies_in, function_pairs, module_from, module_of_sections, binary, Spells}
 use Rattle.wasmprinter_spec.specs.Limits.{HasFewLocals, IsWithinLimits, most_functions}
 use Rattle.wasmprinter_bytes.specs.Reads.{end_of}
-use Rattle.wasmprinter_bytes.specs.declared.error.Error.{Error}
-use Rattle.wasmprinter_bytes.specs.declared.error.Error.TheVariants as e
-use Rattle.wasmprinter_bytes.specs.Reasons.{HasReason}
-use Rattle.wasmprinter_bytes.proofs.Reasons.{reason_implied, memory_alone}
+use Rattle.wasmprinter_error.specs.declared.error.Error.{Error}
+use Rattle.wasmprinter_error.specs.declared.error.Error.TheVariants as e
+use Rattle.wasmprinter_error.specs.Reasons.{HasReason}
+use Rattle.wasmprinter_error.proofs.Reasons.{reason_implied, memory_alone}
 use Rattle.wasmprinter_wasm.specs.Refusals.{AnyIsOver}
 use Rattle.wasmprinter_wasm.specs.Contents.{HasFew}
 use Rattle.wasmprinter_wasm.specs.Gathering.{Gathered, sections_at, item_count_in, HoldsSections, sections_reasons}
-use Rattle.wasmprinter_wasm.specs.Modules.{functions_of, module_seen, bodies_of, IsPaired}
+use Rattle.wasmprinter_wasm.specs.Modules.{functions_of, module_view, bodies_of, IsPaired}
 use Rattle.wasmprinter_wasm.specs.Decoding.{HoldsSome, HoldsNothing, module_reasons, IsFaultOf, TakesModule}
 use Rattle.wasmprinter_wasm.proofs.Later.{Later, later_none, later_more, many_later, section_later, items_later}
 use Rattle.wasmprinter_wasm.proofs.Pairing.{Paired, Pairs, paired_of, paired_length, pairs_of}
 use Rattle.wasmprinter_wasm.proofs.Held.{HoldsFew, few_held}
 
 -- what the bytes of a module are: a preamble, and sections in order with as many type indices as bodies
-record Spelled (at : At) (m : PlacedModule) (size : ℕ) : Type 0 where
+record Spelled (at : Input) (m : PlacedModule) (size : ℕ) : Type 0 where
   sections : List Section
   read : sections_at at ≡ Some sections
   rise : are_above 0 sections ≡ true
   functions : List PlacedFunction
-  pairs : paired (type_indices_in sections) (bodies_in sections) ≡ Some functions
+  pairs : function_pairs (type_indices_in sections) (bodies_in sections) ≡ Some functions
   is : module_from size sections functions ≡ m
 
 -- modules of the same parts
-alike : (ts ts' : List (Placed FuncType)) (fs fs' : List PlacedFunction) (es es' : List (Placed Export)) (n n' : ℕ) → ts ≡ ts' → fs ≡ fs' → es ≡ es' → n ≡ n'
+alike : (ts ts' : List (Placed TypeGroup)) (fs fs' : List PlacedFunction) (es es' : List (Placed Export)) (n n' : ℕ) → ts ≡ ts' → fs ≡ fs' → es ≡ es' → n ≡ n'
     → ◌≡◌ {A = PlacedModule} (record { types = ts; functions = fs; exports = es; size = n }) (record { types = ts'; functions = fs'; exports = es'; size = n' })
 alike ts ts' fs fs' es es' n n' a b c d = rw (a, b, c, d) refl
 
@@ -45,32 +44,32 @@ few_functions : (fs : List PlacedFunction) → AllByRecursion HasFew (bodies_of 
 few_functions [] all = tt
 few_functions (f ∷ fs) all = (all.0, few_functions fs all.1)
 
-module _ (bytes pre : List ℕ) (at : At) (first : preamble.parse (from 0 bytes) ≡ Some (pre, at)) where
+module _ (bytes pre : List ℕ) (at : Input) (first : preamble.parse (input 0 bytes) ≡ Some (pre, at)) where
   -- the number of bytes, as the definitions count it
   abbrev size : ℕ
   size = 0 + length bytes
 
   -- what was put together
-  assembled_of : (ss : List Section) (m : PlacedModule) → sections_at at ≡ Some ss → assembled size ss ≡ Some m → Spelled at m size
+  assembled_of : (ss : List Section) (m : PlacedModule) → sections_at at ≡ Some ss → module_of_sections size ss ≡ Some m → Spelled at m size
   assembled_of ss m read e =
-      let t = tested (are_above 0 ss) (paired (type_indices_in ss) (bodies_in ss) >>= λ fs. Some (module_from size ss fs)) m e in
-      let p = bind_some (paired (type_indices_in ss) (bodies_in ss)) (λ fs. Some (module_from size ss fs)) m t.1 in
+      let t = tested (are_above 0 ss) (function_pairs (type_indices_in ss) (bodies_in ss) >>= λ fs. Some (module_from size ss fs)) m e in
+      let p = bind_some (function_pairs (type_indices_in ss) (bodies_in ss)) (λ fs. Some (module_from size ss fs)) m t.1 in
       record { sections = ss; read = read; rise = t.0; functions = p.0; pairs = p.1; is = some_is (module_from size ss p.0) m p.2 }
 
   -- what the bytes of a module are
   spelled_of : (m : PlacedModule) → Spells bytes m → Spelled at m size
   spelled_of m s =
-      let read = binary.complete (from 0 bytes) m s.spelled in
-      let a = bind_some ((headed preamble (until_end section)).parse (from 0 bytes)) (λ x. assembled size x.1) m read in
-      let b = bind_some (preamble.parse (from 0 bytes)) (λ a. sections_at a.1 >>= λ ss. Some (a.0, ss)) a.0 a.1 in
+      let read = binary.complete (input 0 bytes) m s.spelled in
+      let a = bind_some ((headed preamble (until_end section)).parse (input 0 bytes)) (λ x. module_of_sections size x.1) m read in
+      let b = bind_some (preamble.parse (input 0 bytes)) (λ a. sections_at a.1 >>= λ ss. Some (a.0, ss)) a.0 a.1 in
       let c = bind_some (sections_at b.0.1) (λ ss. Some (b.0.0, ss)) a.0 b.2 in
-      let there : b.0.1 ≡ at = ap (λ (x : List ℕ × At). x.1) (some_is b.0 (pre, at) (sym b.1 ∙ first)) in
+      let there : b.0.1 ≡ at = ap (λ (x : List ℕ × Input). x.1) (some_is b.0 (pre, at) (sym b.1 ∙ first)) in
       let same : c.0 ≡ a.0.1 = ap (λ (x : List ℕ × List Section). x.1) (some_is (b.0.0, c.0) a.0 c.2) in
-      assembled_of c.0 m (ap sections_at (sym there) ∙ c.1) (ap (assembled size) same ∙ a.2)
+      assembled_of c.0 m (ap sections_at (sym there) ∙ c.1) (ap (module_of_sections size) same ∙ a.2)
 
   -- the sections stand behind the preamble
-  later : Later (from 0 bytes) at
-  later = later_more preamble (from 0 bytes) (from 0 bytes) at pre first (later_none (from 0 bytes))
+  later : Later (input 0 bytes) at
+  later = later_more preamble (input 0 bytes) (input 0 bytes) at pre first (later_none (input 0 bytes))
 
   -- the functions are those of its sections
   functions_are : (m : PlacedModule) (s : Spelled at m size) → Paired (type_indices_in s.sections) (bodies_in s.sections) m.functions
@@ -91,14 +90,14 @@ module _ (bytes pre : List ℕ) (at : At) (first : preamble.parse (from 0 bytes)
     malformed = λ place h. (λ m s. let p = spelled_of m s in h.0 p.sections p.read p.rise, omega (arith, h.1, ends));
     component = λ h. h;
     locals = λ place h. (
-      many_later (from 0 bytes) at place later h.0,
+      many_later (input 0 bytes) at place later h.0,
       λ m s.
           let p = spelled_of m s in
           subst (AnyIsOver place) (sym (functions_are m p).bodies) (h.1 p.sections p.read p.rise),
     );
     functions = λ count h.
-        (section_later (from 0 bytes) at FunctionSection count later h.0, h.1, λ m s. let p = spelled_of m s in (functions_are m p).count ∙ h.2 p.sections p.read p.rise);
-    memory = λ h. (items_later (from 0 bytes) at later h.0, λ m s. let p = spelled_of m s in holds_some m p (h.1 p.sections p.read p.rise));
+        (section_later (input 0 bytes) at FunctionSection count later h.0, h.1, λ m s. let p = spelled_of m s in (functions_are m p).count ∙ h.2 p.sections p.read p.rise);
+    memory = λ h. (items_later (input 0 bytes) at later h.0, λ m s. let p = spelled_of m s in holds_some m p (h.1 p.sections p.read p.rise));
   })
 
   -- the sections stand there
@@ -126,7 +125,7 @@ module _ (bytes pre : List ℕ) (at : At) (first : preamble.parse (from 0 bytes)
 
       -- the module that is put together
       abbrev seen : PlacedModule
-      seen = module_seen g.types g.type_indices g.exports g.bodies (length bytes)
+      seen = module_view g.types g.type_indices g.exports g.bodies (length bytes)
 
       -- the functions that are paired
       made : Pairs g.type_indices g.bodies
@@ -137,18 +136,18 @@ module _ (bytes pre : List ℕ) (at : At) (first : preamble.parse (from 0 bytes)
       functions_made = rw made.are refl
 
       -- and those of the sections
-      pairs : paired (type_indices_in h.sections) (bodies_in h.sections) ≡ Some made.functions
-      pairs = ap (λ (is : List ℕ). paired is (bodies_in h.sections)) (sym (h.held FunctionSection)) ∙ ap (paired g.type_indices) (sym (h.held CodeSection)) ∙ made.are
+      pairs : function_pairs (type_indices_in h.sections) (bodies_in h.sections) ≡ Some made.functions
+      pairs = ap (λ (is : List ℕ). function_pairs is (bodies_in h.sections)) (sym (h.held FunctionSection)) ∙ ap (function_pairs g.type_indices) (sym (h.held CodeSection)) ∙ made.are
 
       -- the definitions read a module of them
-      read : binary.parse (from 0 bytes) ≡ Some (module_from size h.sections made.functions)
+      read : binary.parse (input 0 bytes) ≡ Some (module_from size h.sections made.functions)
       read = rw (first, h.read, h.rise, pairs) refl
 
       -- the bytes spell the module
       pub module_spelled : AreBytes bytes → Spells bytes seen
       module_spelled all =
           let same_module : module_from size h.sections made.functions ≡ seen = alike _ _ _ _ _ _ _ _ (sym (h.held TypeSection)) (sym functions_made) (sym (h.held ExportSection)) (omega arith) in
-          record { are_bytes = all; spelled = binary.sound (from 0 bytes) seen (read ∙ ap (λ (m : PlacedModule). Some m) same_module) }
+          record { are_bytes = all; spelled = binary.sound (input 0 bytes) seen (read ∙ ap (λ (m : PlacedModule). Some m) same_module) }
 
       -- the module is within the limits
       pub module_within : IsWithinLimits seen

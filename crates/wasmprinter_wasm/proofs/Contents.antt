@@ -1,24 +1,24 @@
 -- Faults of what a section holds are faults of the section.
 use Rattle.std.proofs.Common.{◌≡◌, ℕ, ◌<◌, ◌≤◌, List, [], ◌∷◌, ◌++◌, length, Option, Some, None, refl, sym, ap, subst, ◌∙◌, arith, length-append, append_assoc}
 use Rattle.std.specs.Prelude.{Result, Ok, Err}
-use Rattle.wasmprinter_spec.specs.Grammar.{At, ◌>>=◌, bind_some, some_is, byte}
+use Rattle.wasmprinter_spec.specs.Grammar.{Input, ◌>>=◌, bind_some, some_is, byte}
 use Rattle.wasmprinter_spec.specs.Name.{u32}
 use Rattle.wasmprinter_spec.specs.Sized.{front_at}
 use Rattle.wasmprinter_spec.specs.Sections.{Kind, kind_of, Content, Section, holds, content, section}
 use Rattle.wasmprinter_bytes.specs.Reads.{end_of}
-use Rattle.wasmprinter_bytes.specs.declared.error.Error.{Error}
-use Rattle.wasmprinter_bytes.specs.Reasons.{HasReason}
+use Rattle.wasmprinter_error.specs.declared.error.Error.{Error}
+use Rattle.wasmprinter_error.specs.Reasons.{HasReason}
 use Rattle.wasmprinter_bytes.specs.Lists.{reader_reasons}
-use Rattle.wasmprinter_bytes.proofs.Reasons.{reason_implied}
+use Rattle.wasmprinter_error.proofs.Reasons.{reason_implied}
 use Rattle.wasmprinter_wasm.specs.declared.sections.Section.{Section as SectionRead}
 use Rattle.wasmprinter_wasm.specs.Refusals.{BeginsSection}
-use Rattle.wasmprinter_wasm.specs.Contents.{section_seen, HasOver, HasCount, item_count, Counts, content_reasons, section_reasons, TakesContent, TakesSection}
+use Rattle.wasmprinter_wasm.specs.Contents.{section_view, HasOver, HasCount, item_count, Counts, content_reasons, section_reasons, TakesContent, TakesSection}
 use Rattle.wasmprinter_wasm.proofs.Parts.{sized, sized_is, sized_none, sized_some, old_parts, part_within}
 use Rattle.wasmprinter_wasm.proofs.Over.{many_in_part}
 use Rattle.wasmprinter_wasm.proofs.Later.{Later, later_none, later_more, many_later}
 
 -- an id and a size were read, and so many bytes cut out
-module _ (old behind mid part new : At) (id size : ℕ) (id_read : byte.parse old ≡ Some (id, behind)) (size_read : u32.parse behind ≡ Some (size, mid))
+module _ (old behind mid part new : Input) (id size : ℕ) (id_read : byte.parse old ≡ Some (id, behind)) (size_read : u32.parse behind ≡ Some (size, mid))
     (cut : front_at size mid ≡ Some (part.bytes, new)) (begins : part.place ≡ mid.place) where
   -- the size stands behind the id
   later : Later old behind
@@ -37,19 +37,19 @@ module _ (old behind mid part new : At) (id size : ℕ) (id_read : byte.parse ol
   -- the id is that of a kind
   module _ (kind : Kind) (is : kind_of id ≡ Some kind) where
     -- the section with what was read
-    abbrev made : Option ((ℕ × Content kind) × At) → Option (Section × At)
+    abbrev made : Option ((ℕ × Content kind) × Input) → Option (Section × Input)
     made r = r >>= λ a. Some (holds kind a.0.1, a.1)
 
     -- the kind in front of the section
-    abbrev with_kind : Option (Section × At) → Option ((Kind × Section) × At)
+    abbrev with_kind : Option (Section × Input) → Option ((Kind × Section) × Input)
     with_kind r = r >>= λ b. Some ((kind, b.0), b.1)
 
     -- the section alone
-    abbrev behind_kind : Option (Section × At) → Option (Section × At)
+    abbrev behind_kind : Option (Section × Input) → Option (Section × Input)
     behind_kind r = with_kind r >>= λ y. Some (y.0.1, y.1)
 
     -- to put the kind in front and to take it off is nothing
-    regroup : (r : Option (Section × At)) → behind_kind r ≡ r
+    regroup : (r : Option (Section × Input)) → behind_kind r ≡ r
     regroup None = refl
     regroup (Some a) = refl
 
@@ -62,13 +62,13 @@ module _ (old behind mid part new : At) (id size : ℕ) (id_read : byte.parse ol
     section_read c e = into ∙ ap made (sized_is behind mid part new size size_read cut begins (content kind)) ∙ rw e refl
 
     -- the section that stands there is read of the part
-    section_content : (x : Section × At) → section.parse old ≡ Some x → (c : Content kind) × ((content kind).parse part ≡ Some c) × (holds kind c ≡ x.0)
+    section_content : (x : Section × Input) → section.parse old ≡ Some x → (c : Content kind) × ((content kind).parse part ≡ Some c) × (holds kind c ≡ x.0)
     section_content x r =
         let a = bind_some ((sized behind mid part new size size_read cut begins (content kind)).parse behind) (λ a. Some (holds kind a.0.1, a.1)) x (sym into ∙ r) in
-        (a.0.0.1, sized_some behind mid part new size size_read cut begins (content kind) a.0 a.1, ap (λ (y : Section × At). y.0) (some_is (holds kind a.0.0.1, a.0.1) x a.2))
+        (a.0.0.1, sized_some behind mid part new size size_read cut begins (content kind) a.0 a.1, ap (λ (y : Section × Input). y.0) (some_is (holds kind a.0.0.1, a.0.1) x a.2))
 
     -- what is so of the section, if the part spells one, is so of the section that stands there
-    of_section : (P : Section → Type 0) → ((c : Content kind) → (content kind).parse part ≡ Some c → P (holds kind c)) → (x : Section × At) → section.parse old ≡ Some x → P x.0
+    of_section : (P : Section → Type 0) → ((c : Content kind) → (content kind).parse part ≡ Some c → P (holds kind c)) → (x : Section × Input) → section.parse old ≡ Some x → P x.0
     of_section P h x r = let c = section_content x r in subst P c.2 (h c.0 c.1)
 
     -- a section of the kind and a count begins there
@@ -120,8 +120,8 @@ module _ (old behind mid part new : At) (id size : ℕ) (id_read : byte.parse ol
   -- what was taken of the part is taken of the whole
   section_taken : (o : Option Kind) → kind_of id ≡ o → (r : Result SectionRead Error) → TakesContent o part r → TakesSection old r new
   section_taken (Some kind) is (Ok s) h =
-      let c = bind_some ((content kind).parse part) (λ x. Some (holds kind x)) (section_seen s) h.0 in
-      (section_read kind is c.0 c.1 ∙ ap (λ (x : Section). Some (x, new)) (some_is (holds kind c.0) (section_seen s) c.2), h.1)
+      let c = bind_some ((content kind).parse part) (λ x. Some (holds kind x)) (section_view s) h.0 in
+      (section_read kind is c.0 c.1 ∙ ap (λ (x : Section). Some (x, new)) (some_is (holds kind c.0) (section_view s) c.2), h.1)
   section_taken (Some kind) is (Err f) h = kind_fault kind is f h
   section_taken None none (Ok s) h = absurd h
   section_taken None none (Err f) h = none_fault none f h

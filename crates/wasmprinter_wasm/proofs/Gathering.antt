@@ -1,30 +1,30 @@
 -- The loop over the sections of a module.
 use Rattle.std.proofs.Common.{◌≡◌, ℕ, ◌<◌, true, false, List, [], ◌∷◌, ◌++◌, length, Option, Some, None, refl, sym, ap, subst, ◌∙◌, arith, append_assoc, append-nil, length-append}
 use Rattle.std.specs.List.{AllByRecursion}
-use Rattle.wasmprinter_spec.specs.Grammar.{At, bind_some, some_is}
+use Rattle.wasmprinter_spec.specs.Grammar.{Input, bind_some, some_is}
 use Rattle.wasmprinter_spec.specs.Sections.{FunctionSection, Content, Section, section, section_kind, rank, follows, rank_behind, are_above}
 use Rattle.wasmprinter_spec.specs.Binary.{type_indices_in, bodies_in}
 use Rattle.wasmprinter_spec.proofs.Ordered.{last_rank, last_rank_push, above_push, above_midst, with_one, held_push}
 use Rattle.wasmprinter_bytes.specs.Reads.{end_of}
-use Rattle.wasmprinter_bytes.specs.declared.error.Error.{Error}
-use Rattle.wasmprinter_bytes.specs.Reasons.{HasReason}
-use Rattle.wasmprinter_bytes.proofs.Reasons.{reason_implied}
+use Rattle.wasmprinter_error.specs.declared.error.Error.{Error}
+use Rattle.wasmprinter_error.specs.Reasons.{HasReason}
+use Rattle.wasmprinter_error.proofs.Reasons.{reason_implied}
 use Rattle.wasmprinter_wasm.specs.Refusals.{AnyIsOver}
 use Rattle.wasmprinter_wasm.specs.Contents.{IsSmall, HasCount, HasOver, item_count, section_reasons}
-use Rattle.wasmprinter_wasm.specs.Gathering.{Gathered, none_gathered, kept, added, IsHeld, sections_at, item_count_in, HoldsSections, sections_reasons}
+use Rattle.wasmprinter_wasm.specs.Gathering.{Gathered, none_gathered, content_kept, with_section, IsHeld, sections_at, item_count_in, HoldsSections, sections_reasons}
 use Rattle.wasmprinter_wasm.proofs.Later.{Later, later_none, later_more, many_later, section_later, items_later}
 use Rattle.wasmprinter_wasm.proofs.Until.{in_front, until_item, until_fault, until_done}
 use Rattle.wasmprinter_wasm.proofs.Held.{rank_added, kept_added, some_midst, count_midst, over_midst}
 
 -- a section takes a byte
-pub takes_byte : (at : At) (x : Section × At) → section.parse at ≡ Some x → length x.1.bytes < length at.bytes
+pub takes_byte : (at : Input) (x : Section × Input) → section.parse at ≡ Some x → length x.1.bytes < length at.bytes
 takes_byte at x r =
     let s = section.sound at x r in
     let q = s.spelled.2 in
     omega (arith, ap length s.parts, length-append s.text x.1.bytes, ap length q.2, length-append q.0 q.1, ap length q.3.2)
 
 -- sections that were read, from the start to a place
-pub record Gathering (start at : At) (g : Gathered) : Type 0 where
+pub record Gathering (start at : Input) (g : Gathered) : Type 0 where
   pub sections : List Section
   pub is : sections_at start ≡ in_front sections (sections_at at)
   pub rise : are_above 0 sections ≡ true
@@ -40,14 +40,14 @@ front_nil None = refl
 front_nil (Some ss) = refl
 
 -- before the loop none was read
-pub gathering_none : (at : At) (g : Gathered) → g ≡ none_gathered → Gathering at at g
+pub gathering_none : (at : Input) (g : Gathered) → g ≡ none_gathered → Gathering at at g
 gathering_none at g same = record {
   sections = [];
   is = front_nil (sections_at at);
   rise = refl;
   small = tt;
   rank = ap (λ (x : Gathered). x.rank) same;
-  held = λ kind. ap (kept kind) same;
+  held = λ kind. ap (content_kept kind) same;
   later = later_none at;
   ends = refl;
 }
@@ -63,13 +63,13 @@ small-push [] s all small = (small, tt)
 small-push (x ∷ xs) s all small = (all.0, small-push xs s all.1 small)
 
 -- a section was read
-module _ (start at after : At) (g : Gathered) (s : Section) (read : section.parse at ≡ Some (s, after)) (k : Gathering start at g) where
+module _ (start at after : Input) (g : Gathered) (s : Section) (read : section.parse at ≡ Some (s, after)) (k : Gathering start at g) where
   -- what is read behind it
   one_more : sections_at start ≡ in_front (k.sections ++ s ∷ []) (sections_at after)
   one_more = k.is ∙ ap (in_front k.sections) (until_item section takes_byte at after s read) ∙ front_front k.sections s (sections_at after)
 
   -- it stands in order
-  pub gathering_more : IsSmall s → follows g.rank (rank (section_kind s)) ≡ true → end_of after ≡ end_of at → (next : Gathered) → next ≡ added g s → Gathering start after next
+  pub gathering_more : IsSmall s → follows g.rank (rank (section_kind s)) ≡ true → end_of after ≡ end_of at → (next : Gathered) → next ≡ with_section g s → Gathering start after next
   gathering_more small on ends next same = record {
     sections = k.sections ++ s ∷ [];
     is = one_more;
@@ -77,7 +77,7 @@ module _ (start at after : At) (g : Gathered) (s : Section) (read : section.pars
     small = small-push k.sections s k.small small;
     rank = ap (λ (x : Gathered). x.rank) same ∙ rank_added g s ∙ ap (λ (r : ℕ). rank_behind r (rank (section_kind s))) k.rank ∙ sym (last_rank_push 0 k.sections s);
     held = λ kind.
-        ap (kept kind) same ∙ kept_added kind g s ∙ ap (λ (c : Content kind). with_one kind c s) (k.held kind) ∙ sym (held_push kind (kept kind none_gathered) k.sections s);
+        ap (content_kept kind) same ∙ kept_added kind g s ∙ ap (λ (c : Content kind). with_one kind c s) (k.held kind) ∙ sym (held_push kind (content_kept kind none_gathered) k.sections s);
     later = later_more section start at after s read k.later;
     ends = ends ∙ k.ends;
   }
@@ -92,17 +92,17 @@ module _ (start at after : At) (g : Gathered) (s : Section) (read : section.pars
       absurd (let clash : false ≡ true = sym off ∙ on in cc)
 
 -- a section was refused
-module _ (start at : At) (g : Gathered) (some : at.bytes ≡ [] → ⊥) (k : Gathering start at g) where
+module _ (start at : Input) (g : Gathered) (some : at.bytes ≡ [] → ⊥) (k : Gathering start at g) where
   -- the section that stands there, if sections up to the end do
   record Next (ss : List Section) : Type 0 where
     item : Section
-    after : At
+    after : Input
     rest : List Section
     first : section.parse at ≡ Some (item, after)
     all : k.sections ++ item ∷ rest ≡ ss
 
   -- there is one where sections up to the end were read
-  next_of : (r : Option (Section × At)) → section.parse at ≡ r → (ss : List Section) → sections_at start ≡ Some ss → Next ss
+  next_of : (r : Option (Section × Input)) → section.parse at ≡ r → (ss : List Section) → sections_at start ≡ Some ss → Next ss
   next_of None e ss read =
       let none : sections_at start ≡ None = k.is ∙ ap (in_front k.sections) (until_fault section takes_byte at some e) in
       absurd (let clash : ◌≡◌ {A = Option (List Section)} None (Some ss) = sym none ∙ read in cc)
@@ -112,7 +112,7 @@ module _ (start at : At) (g : Gathered) (some : at.bytes ≡ [] → ⊥) (k : Ga
 
   -- what is so of the section, if one stands there, is so of sections in order, if they do
   of_sections : (P : Section → Type 0) (Q : List Section → Type 0) → ((xs : List Section) (s : Section) (ys : List Section) → are_above 0 (xs ++ s ∷ ys) ≡ true → P s → Q (xs ++ s ∷ ys))
-      → ((x : Section × At) → section.parse at ≡ Some x → P x.0) → (ss : List Section) → sections_at start ≡ Some ss → are_above 0 ss ≡ true → Q ss
+      → ((x : Section × Input) → section.parse at ≡ Some x → P x.0) → (ss : List Section) → sections_at start ≡ Some ss → are_above 0 ss ≡ true → Q ss
   of_sections P Q midst h ss read up =
       let n = next_of (section.parse at) refl ss read in
       let rise : are_above 0 (k.sections ++ n.item ∷ n.rest) ≡ true = ap (are_above 0) n.all ∙ up in
@@ -123,7 +123,7 @@ module _ (start at : At) (g : Gathered) (some : at.bytes ≡ [] → ⊥) (k : Ga
   malformed_fault place h = (
     λ ss read up.
         let n = next_of (section.parse at) refl ss read in
-        let clash : ◌≡◌ {A = Option (Section × At)} None (Some (n.item, n.after)) = sym h.0 ∙ n.first in
+        let clash : ◌≡◌ {A = Option (Section × Input)} None (Some (n.item, n.after)) = sym h.0 ∙ n.first in
         cc,
     omega (arith, h.1, k.ends),
   )
@@ -143,7 +143,7 @@ module _ (start at : At) (g : Gathered) (some : at.bytes ≡ [] → ⊥) (k : Ga
   })
 
 -- nothing is left
-pub gathering_done : (start at : At) (g : Gathered) → at.bytes ≡ [] → Gathering start at g → HoldsSections start g
+pub gathering_done : (start at : Input) (g : Gathered) → at.bytes ≡ [] → Gathering start at g → HoldsSections start g
 gathering_done start at g none k = record {
   sections = k.sections;
   read = k.is ∙ ap (in_front k.sections) (until_done section takes_byte at none) ∙ ap (λ (ss : List Section). Some ss) (append-nil k.sections);

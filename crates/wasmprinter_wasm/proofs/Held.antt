@@ -7,19 +7,19 @@ use Rattle.wasmprinter_spec.specs.Limits.{most_functions}
 use Rattle.wasmprinter_spec.proofs.Ordered.{with_one, held_each, held_midst, held_picked}
 use Rattle.wasmprinter_wasm.specs.Refusals.{AnyIsOver}
 use Rattle.wasmprinter_wasm.specs.Contents.{HasFew, IsSmall, HasCount, HasOver, item_count}
-use Rattle.wasmprinter_wasm.specs.Gathering.{Gathered, kept, added, IsHeld, item_count_in}
+use Rattle.wasmprinter_wasm.specs.Gathering.{Gathered, content_kept, with_section, IsHeld, item_count_in}
 
 -- ---- of each kind
 
 -- the rank that is kept is that of the last section that has one
-pub rank_added : (g : Gathered) (s : Section) → (added g s).rank ≡ rank_behind g.rank (rank (section_kind s))
+pub rank_added : (g : Gathered) (s : Section) → (with_section g s).rank ≡ rank_behind g.rank (rank (section_kind s))
 rank_added g (holds TypeSection x) = refl
 rank_added g (holds FunctionSection x) = refl
 rank_added g (holds ExportSection x) = refl
 rank_added g (holds CodeSection x) = refl
 
 -- a section sets what is kept of its kind, and leaves the rest
-pub kept_added : (kind : Kind) (g : Gathered) (s : Section) → kept kind (added g s) ≡ with_one kind (kept kind g) s
+pub kept_added : (kind : Kind) (g : Gathered) (s : Section) → content_kept kind (with_section g s) ≡ with_one kind (content_kept kind g) s
 kept_added TypeSection g (holds TypeSection x) = refl
 kept_added FunctionSection g (holds FunctionSection x) = refl
 kept_added ExportSection g (holds ExportSection x) = refl

@@ -1,22 +1,22 @@
 -- Reading that has come to a later place.
 use Rattle.std.proofs.Common.{◌≡◌, ℕ, ◌+◌, List, [], ◌∷◌, ◌++◌, length, Some, refl, sym, ap, ◌∙◌, arith, append_assoc, append-nil, length-append}
-use Rattle.wasmprinter_spec.specs.Grammar.{At, Grammar}
+use Rattle.wasmprinter_spec.specs.Grammar.{Input, Grammar}
 use Rattle.wasmprinter_spec.specs.Sections.{Kind}
 use Rattle.wasmprinter_wasm.specs.Refusals.{HasManyLocals, BeginsSection, BeginsItems}
 use Rattle.wasmprinter_wasm.proofs.Over.{many_in_part}
 
 -- the bytes from the second place on end those from the first
-pub record Later (start at : At) : Type 0 where
+pub record Later (start at : Input) : Type 0 where
   pub text : List ℕ
   pub parts : start.bytes ≡ text ++ at.bytes
   pub begins : at.place ≡ start.place + length text
 
 -- where nothing was read
-pub later_none : (at : At) → Later at at
+pub later_none : (at : Input) → Later at at
 later_none at = record { text = []; parts = refl; begins = omega arith }
 
 -- behind what was read
-pub later_more : {A : Type 0} (g : Grammar A) (start at after : At) (x : A) → g.parse at ≡ Some (x, after) → Later start at → Later start after
+pub later_more : {A : Type 0} (g : Grammar A) (start at after : Input) (x : A) → g.parse at ≡ Some (x, after) → Later start at → Later start after
 later_more g start at after x e l =
     let s = g.sound at (x, after) e in
     record {
@@ -26,11 +26,11 @@ later_more g start at after x e l =
     }
 
 -- what is among the later bytes is among all of them
-pub many_later : (start at : At) (place : ℕ) → Later start at → HasManyLocals at place → HasManyLocals start place
+pub many_later : (start at : Input) (place : ℕ) → Later start at → HasManyLocals at place → HasManyLocals start place
 many_later start at place l m = many_in_part start at l.text [] place (l.parts ∙ ap (λ (bs : List ℕ). l.text ++ bs) (sym (append-nil at.bytes))) l.begins m
 
 -- the same of a section that begins
-pub section_later : (start at : At) (kind : Kind) (count : ℕ) → Later start at → BeginsSection at kind count → BeginsSection start kind count
+pub section_later : (start at : Input) (kind : Kind) (count : ℕ) → Later start at → BeginsSection at kind count → BeginsSection start kind count
 section_later start at kind count l h = record {
   id = h.id;
   of_kind = h.of_kind;
@@ -45,5 +45,5 @@ section_later start at kind count l h = record {
 }
 
 -- and of one with items that are kept
-pub items_later : (start at : At) → Later start at → BeginsItems at → BeginsItems start
+pub items_later : (start at : Input) → Later start at → BeginsItems at → BeginsItems start
 items_later start at l h = record { kind = h.kind; count = h.count; some = h.some; begins = section_later start at h.kind h.count l h.begins }

@@ -1,4 +1,5 @@
 pub mod Parts
+pub mod Opening
 pub mod Over
 pub mod Later
 pub mod Listing
@@ -7,6 +8,8 @@ pub mod Wholes
 pub mod Contents
 pub mod Pairing
 pub mod Functions
+pub mod GroupPlaces
+pub mod Flattening
 pub mod Until
 pub mod Held
 pub mod Gathering

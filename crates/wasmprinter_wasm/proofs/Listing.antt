@@ -1,15 +1,15 @@
 -- A loop that reads the bodies of a code section.
 use Rattle.std.proofs.Common.{◌≡◌, ℕ, suc, ◌+◌, ◌-◌, ◌<◌, List, [], ◌∷◌, ◌++◌, Option, Some, None, refl, sym, ap, subst, ◌∙◌, arith, inl, inr}
 use Rattle.std.specs.List.{AllByRecursion}
-use Rattle.wasmprinter_spec.specs.Grammar.{At, Grammar, ◌>>=◌, bind_some, some_is, Placed}
+use Rattle.wasmprinter_spec.specs.Grammar.{Input, Grammar, ◌>>=◌, bind_some, some_is, Placed}
 use Rattle.wasmprinter_spec.specs.Name.{u32, vec}
 use Rattle.wasmprinter_spec.specs.Repeated.{items_at}
 use Rattle.wasmprinter_spec.specs.Placed.{Body}
 use Rattle.wasmprinter_spec.specs.Binary.Code.{code_entry}
 use Rattle.wasmprinter_bytes.specs.Reads.{end_of}
-use Rattle.wasmprinter_bytes.specs.declared.error.Error.{Error}
-use Rattle.wasmprinter_bytes.specs.Reasons.{HasReason}
-use Rattle.wasmprinter_bytes.proofs.Reasons.{reason_implied}
+use Rattle.wasmprinter_error.specs.declared.error.Error.{Error}
+use Rattle.wasmprinter_error.specs.Reasons.{HasReason}
+use Rattle.wasmprinter_error.proofs.Reasons.{reason_implied}
 use Rattle.wasmprinter_bytes.proofs.Fronts.{with_front}
 use Rattle.wasmprinter_wasm.specs.Refusals.{HasManyLocals, IsOver, AnyIsOver}
 use Rattle.wasmprinter_wasm.specs.Bodies.{body_reasons}
@@ -28,38 +28,38 @@ any_behind place (x ∷ xs) rest b over = inr (any_behind place xs rest b over)
 
 module _ {A : Type 0} (g : Grammar A) where
   -- the count kept beside the items
-  abbrev with_count : ℕ → Option (List A × At) → Option ((ℕ × List A) × At)
+  abbrev with_count : ℕ → Option (List A × Input) → Option ((ℕ × List A) × Input)
   with_count n r = r >>= λ xs. Some ((n, xs.0), xs.1)
 
   -- the items alone
-  abbrev uncounted : ℕ → Option (List A × At) → Option (List A × At)
+  abbrev uncounted : ℕ → Option (List A × Input) → Option (List A × Input)
   uncounted n r = with_count n r >>= λ x. Some (x.0.1, x.1)
 
   -- the count changes nothing
-  uncount : (n : ℕ) (r : Option (List A × At)) → uncounted n r ≡ r
+  uncount : (n : ℕ) (r : Option (List A × Input)) → uncounted n r ≡ r
   uncount n None = refl
   uncount n (Some x) = refl
 
   -- a vector is read as so many items are
-  pub vec_is : (old start : At) (count : ℕ) → u32.parse old ≡ Some (count, start) → (vec g).parse old ≡ items_at g.parse count start
+  pub vec_is : (old start : Input) (count : ℕ) → u32.parse old ≡ Some (count, start) → (vec g).parse old ≡ items_at g.parse count start
   vec_is old start count e = rw e (uncount count (items_at g.parse count start))
 
 -- no bodies in front change nothing
-front_nil : {A : Type 0} (r : Option (List A × At)) → with_front [] r ≡ r
+front_nil : {A : Type 0} (r : Option (List A × Input)) → with_front [] r ≡ r
 front_nil None = refl
 front_nil (Some x) = refl
 
 -- before the loop no entry is read
-pub front_start : (count : ℕ) (start at : At) → start ≡ at → with_front [] (items_at code_entry.parse (count - 0) at) ≡ items_at code_entry.parse count start
+pub front_start : (count : ℕ) (start at : Input) → start ≡ at → with_front [] (items_at code_entry.parse (count - 0) at) ≡ items_at code_entry.parse count start
 front_start count start at e =
     let k : count - 0 ≡ count = omega arith in
     front_nil (items_at code_entry.parse (count - 0) at) ∙ ap (λ (n : ℕ). items_at code_entry.parse n at) k ∙ ap (items_at code_entry.parse count) (sym e)
 
 -- reading an entry
-abbrev P : At → Option (Placed Body × At)
+abbrev P : Input → Option (Placed Body × Input)
 P = code_entry.parse
 
-module _ (old start at : At) (count i : ℕ) (front : List (Placed Body)) (counted : u32.parse old ≡ Some (count, start)) (lt : i < count)
+module _ (old start at : Input) (count i : ℕ) (front : List (Placed Body)) (counted : u32.parse old ≡ Some (count, start)) (lt : i < count)
     (so_far : with_front front (items_at P (count - i) at) ≡ items_at P count start) (later : Later start at) (ends : end_of at ≡ end_of old) where
   -- what is read of the entry that comes next
   one_more : (vec code_entry).parse old ≡ with_front front (items_at P (suc (count - (i + 1))) at)
@@ -68,14 +68,14 @@ module _ (old start at : At) (count i : ℕ) (front : List (Placed Body)) (count
       vec_is code_entry old start count counted ∙ sym so_far ∙ ap (λ (n : ℕ). with_front front (items_at P n at)) k
 
   -- an entry with too many locals is one of all
-  any_over : (place : ℕ) → ((x : Placed Body × At) → P at ≡ Some x → IsOver place x.0) → (x : List (Placed Body) × At) → (vec code_entry).parse old ≡ Some x → AnyIsOver place x.0
+  any_over : (place : ℕ) → ((x : Placed Body × Input) → P at ≡ Some x → IsOver place x.0) → (x : List (Placed Body) × Input) → (vec code_entry).parse old ≡ Some x → AnyIsOver place x.0
   any_over place over x r =
       let m : ℕ = count - (i + 1) in
       let y = bind_some (items_at P (suc m) at) (λ z. Some (front ++ z.0, z.1)) x (sym one_more ∙ r) in
       let a = bind_some (P at) (λ a. items_at P m a.1 >>= λ b. Some (a.0 ∷ b.0, b.1)) y.0 y.1 in
       let b = bind_some (items_at P m a.0.1) (λ b. Some (a.0.0 ∷ b.0, b.1)) y.0 a.2 in
-      let first : a.0.0 ∷ b.0.0 ≡ y.0.0 = ap (λ (z : List (Placed Body) × At). z.0) (some_is (a.0.0 ∷ b.0.0, b.0.1) y.0 b.2) in
-      let all : front ++ y.0.0 ≡ x.0 = ap (λ (z : List (Placed Body) × At). z.0) (some_is (front ++ y.0.0, y.0.1) x y.2) in
+      let first : a.0.0 ∷ b.0.0 ≡ y.0.0 = ap (λ (z : List (Placed Body) × Input). z.0) (some_is (a.0.0 ∷ b.0.0, b.0.1) y.0 b.2) in
+      let all : front ++ y.0.0 ≡ x.0 = ap (λ (z : List (Placed Body) × Input). z.0) (some_is (front ++ y.0.0, y.0.1) x y.2) in
       let here : AnyIsOver place (front ++ a.0.0 ∷ b.0.0) = any_behind place front b.0.0 a.0.0 (over a.0 a.1) in
       let there : AnyIsOver place (front ++ y.0.0) = subst (λ (bs : List (Placed Body)). AnyIsOver place (front ++ bs)) first here in
       subst (λ (bs : List (Placed Body)). AnyIsOver place bs) all there
@@ -89,5 +89,5 @@ module _ (old start at : At) (count i : ℕ) (front : List (Placed Body)) (count
         let from_start : HasManyLocals start place = many_later start at place later h.0 in
         (many_later old start place (later_more u32 old old start count counted (later_none old)) from_start, any_over place h.1);
     functions = λ count h. h;
-    memory = λ h. absurd h;
+    memory = λ h. record { count = count; after = start; counted = counted; some = omega arith };
   })

@@ -5,7 +5,7 @@ use Rattle.std.specs.Prelude.{slice_get}
 use Rattle.std.proofs.lemmas.Option.{slice_get-get_or, slice_get_past}
 use Rattle.wasmprinter_spec.specs.Grammar.{Placed, some_is, bind_some}
 use Rattle.wasmprinter_spec.specs.Placed.{Body, PlacedFunction}
-use Rattle.wasmprinter_spec.specs.Binary.{paired}
+use Rattle.wasmprinter_spec.specs.Binary.{function_pairs}
 use Rattle.wasmprinter_wasm.specs.Modules.{functions_of, bodies_of, body_at}
 
 -- a function's body
@@ -15,7 +15,7 @@ body_of f = f.body
 -- there are functions, and their bodies are these
 pub record Pairs (is : List ℕ) (bs : List (Placed Body)) : Type 0 where
   pub functions : List PlacedFunction
-  pub are : paired is bs ≡ Some functions
+  pub are : function_pairs is bs ≡ Some functions
   pub bodies : bodies_of functions ≡ bs
 
 -- where the numbers are the same there are functions
@@ -52,18 +52,18 @@ pub record Paired (is : List ℕ) (bs : List (Placed Body)) (fs : List PlacedFun
   pub count : length fs ≡ length is
 
 -- what was paired is so
-pub paired_of : (is : List ℕ) (bs : List (Placed Body)) (fs : List PlacedFunction) → paired is bs ≡ Some fs → Paired is bs fs
+pub paired_of : (is : List ℕ) (bs : List (Placed Body)) (fs : List PlacedFunction) → function_pairs is bs ≡ Some fs → Paired is bs fs
 paired_of [] [] fs e = subst (Paired [] []) (some_is [] fs e) (record { bodies = refl; count = refl })
 paired_of [] (b ∷ bs) fs e = absurd cc
 paired_of (i ∷ is) [] fs e = absurd cc
 paired_of (i ∷ is) (b ∷ bs) fs e =
-    let rest = bind_some (paired is bs) (λ xs. Some (record { type_index = i; body = b } ∷ xs)) fs e in
+    let rest = bind_some (function_pairs is bs) (λ xs. Some (record { type_index = i; body = b } ∷ xs)) fs e in
     let p = paired_of is bs rest.0 rest.1 in
     subst (Paired (i ∷ is) (b ∷ bs)) (some_is (record { type_index = i; body = b } ∷ rest.0) fs rest.2)
     (record { bodies = ap (λ (xs : List (Placed Body)). b ∷ xs) p.bodies; count = ap suc p.count })
 
 -- there are as many type indices as bodies
-pub paired_length : (is : List ℕ) (bs : List (Placed Body)) (fs : List PlacedFunction) → paired is bs ≡ Some fs → length is ≡ length bs
+pub paired_length : (is : List ℕ) (bs : List (Placed Body)) (fs : List PlacedFunction) → function_pairs is bs ≡ Some fs → length is ≡ length bs
 paired_length is bs fs e =
     let p = paired_of is bs fs e in
     sym p.count ∙ sym (length-map fs body_of) ∙ ap length p.bodies

@@ -1,20 +1,20 @@
 -- A size, and a value of exactly so many bytes, which are cut out and read apart.
 use Rattle.std.proofs.Common.{◌≡◌, ℕ, ◌+◌, ◌≤◌, List, [], ◌∷◌, ◌++◌, length, Option, Some, None, refl, sym, ap, ◌∙◌, arith, length-append}
-use Rattle.wasmprinter_spec.specs.Grammar.{At, from, Grammar, Whole, ◌>>=◌, bind_some, some_is, seq}
+use Rattle.wasmprinter_spec.specs.Grammar.{Input, input, Grammar, Remainder, ◌>>=◌, bind_some, some_is, seq}
 use Rattle.wasmprinter_spec.specs.Sized.{front_at, front_sound, exactly, alone, ended}
 use Rattle.wasmprinter_spec.specs.Name.{u32}
 use Rattle.wasmprinter_bytes.specs.Reads.{end_of}
 
 -- ---- a value with nothing behind it
 
-module _ {A : Type 0} (g : Grammar A) (at : At) where
+module _ {A : Type 0} (g : Grammar A) (at : Input) where
   -- it is what was read
   ended_is : (bytes : List ℕ) (a b : A) → ended bytes a ≡ Some b → a ≡ b
   ended_is [] a b e = some_is a b e
   ended_is (c ∷ cs) a b e = absurd cc
 
   -- where a value stands alone, it stands
-  pub alone_some : (a : A) → (alone g).parse at ≡ Some a → (after : At) × (g.parse at ≡ Some (a, after))
+  pub alone_some : (a : A) → (alone g).parse at ≡ Some a → (after : Input) × (g.parse at ≡ Some (a, after))
   alone_some a e =
       let b = bind_some (g.parse at) (λ y. ended y.1.bytes y.0) a e in
       (b.0.1, b.1 ∙ ap (λ (v : A). Some (v, b.0.1)) (ended_is b.0.1.bytes b.0.0 a b.2))
@@ -24,7 +24,7 @@ module _ {A : Type 0} (g : Grammar A) (at : At) where
   alone_none e = rw e refl
 
   -- a value that was read, with nothing behind it
-  pub alone_read : (a : A) (after : At) → g.parse at ≡ Some (a, after) → after.bytes ≡ [] → (alone g).parse at ≡ Some a
+  pub alone_read : (a : A) (after : Input) → g.parse at ≡ Some (a, after) → after.bytes ≡ [] → (alone g).parse at ≡ Some a
   alone_read a after e none = rw (e, none) refl
 
   -- something is left behind the value
@@ -32,12 +32,12 @@ module _ {A : Type 0} (g : Grammar A) (at : At) where
   left_none [] a some = absurd (some refl)
   left_none (c ∷ cs) a some = refl
 
-  pub alone_left : (a : A) (after : At) → g.parse at ≡ Some (a, after) → (after.bytes ≡ [] → ⊥) → (alone g).parse at ≡ None
+  pub alone_left : (a : A) (after : Input) → g.parse at ≡ Some (a, after) → (after.bytes ≡ [] → ⊥) → (alone g).parse at ≡ None
   alone_left a after e some = rw e (left_none after.bytes a some)
 
 -- ---- what was cut out: the size, and where reading goes on behind the part
 
-module _ (old mid part new : At) (size : ℕ) (size_read : u32.parse old ≡ Some (size, mid)) (cut : front_at size mid ≡ Some (part.bytes, new)) (begins : part.place ≡ mid.place) where
+module _ (old mid part new : Input) (size : ℕ) (size_read : u32.parse old ≡ Some (size, mid)) (cut : front_at size mid ≡ Some (part.bytes, new)) (begins : part.place ≡ mid.place) where
   -- the size, the part, and the rest
   pub old_parts : (t : List ℕ) × (old.bytes ≡ t ++ (part.bytes ++ new.bytes)) × (part.place ≡ old.place + length t) × u32.spells old.place t size
   old_parts =
@@ -50,21 +50,21 @@ module _ (old mid part new : At) (size : ℕ) (size_read : u32.parse old ≡ Som
   pub part_within : end_of part ≤ end_of old
   part_within = omega (arith, ap length old_parts.1, old_parts.2, length-append old_parts.0 (part.bytes ++ new.bytes), length-append part.bytes new.bytes)
 
-  module _ {A : Type 0} (w : Whole A) where
+  module _ {A : Type 0} (w : Remainder A) where
     -- a size and a value of so many bytes
     abbrev pub sized : Grammar (ℕ × A)
     sized = seq u32 (λ size. exactly w size)
 
     -- the size in front of what was read of the part
-    abbrev with_size : Option A → Option ((ℕ × A) × At)
+    abbrev with_size : Option A → Option ((ℕ × A) × Input)
     with_size r = r >>= λ a. Some ((size, a), new)
 
     -- reading goes on behind the part
-    abbrev cut_out : Option A → Option (A × At)
+    abbrev cut_out : Option A → Option (A × Input)
     cut_out r = r >>= λ a. Some (a, new)
 
     -- the size in front of what was read
-    abbrev behind_size : Option (A × At) → Option ((ℕ × A) × At)
+    abbrev behind_size : Option (A × Input) → Option ((ℕ × A) × Input)
     behind_size r = r >>= λ b. Some ((size, b.0), b.1)
 
     -- the same in two steps
@@ -73,8 +73,8 @@ module _ (old mid part new : At) (size : ℕ) (size_read : u32.parse old ≡ Som
     regroup (Some a) = refl
 
     -- the part is read from its own place
-    there : from mid.place part.bytes ≡ part
-    there = ap (λ (p : ℕ). from p part.bytes) (sym begins)
+    there : input mid.place part.bytes ≡ part
+    there = ap (λ (p : ℕ). input p part.bytes) (sym begins)
 
     -- what is read is what is read of the part
     pub sized_is : sized.parse old ≡ with_size (w.parse part)
@@ -85,8 +85,8 @@ module _ (old mid part new : At) (size : ℕ) (size_read : u32.parse old ≡ Som
     sized_none e = sized_is ∙ ap with_size e
 
     -- and what is read is read of the part
-    pub sized_some : (x : (ℕ × A) × At) → sized.parse old ≡ Some x → w.parse part ≡ Some x.0.1
+    pub sized_some : (x : (ℕ × A) × Input) → sized.parse old ≡ Some x → w.parse part ≡ Some x.0.1
     sized_some x e =
         let a = bind_some (w.parse part) (λ a. Some ((size, a), new)) x (sym sized_is ∙ e) in
-        let value : a.0 ≡ x.0.1 = ap (λ (y : (ℕ × A) × At). y.0.1) (some_is ((size, a.0), new) x a.2) in
+        let value : a.0 ≡ x.0.1 = ap (λ (y : (ℕ × A) × Input). y.0.1) (some_is ((size, a.0), new) x a.2) in
         a.1 ∙ ap (λ (v : A). Some v) value

@@ -1,25 +1,25 @@
 -- Items up to the end of the bytes, read one at a time.
 use Rattle.std.proofs.Common.{◌≡◌, ℕ, zero, suc, ◌<◌, ◌≤◌, cond, eqb, ltb, List, [], ◌∷◌, ◌++◌, length, Option, Some, None, refl, ap, ◌∙◌, arith}
 use Rattle.std.proofs.lemmas.Bool.{ne_eqb, eq-eqb, lt-ltb}
-use Rattle.wasmprinter_spec.specs.Grammar.{At, Grammar, ◌>>=◌}
+use Rattle.wasmprinter_spec.specs.Grammar.{Input, Grammar, ◌>>=◌}
 use Rattle.wasmprinter_spec.specs.Repeated.{entries_at, until_end}
-use Rattle.wasmprinter_ops.proofs.Closing.{bind_same}
+use Rattle.wasmprinter_ops.proofs.Stepping.{bind_same}
 
 -- what is read, behind other items
 abbrev pub in_front : {A : Type 0} → List A → Option (List A) → Option (List A)
 in_front xs r = r >>= λ ys. Some (xs ++ ys)
 
-module _ {A : Type 0} (g : Grammar A) (takes_byte : (at : At) (x : A × At) → g.parse at ≡ Some x → length x.1.bytes < length at.bytes) where
+module _ {A : Type 0} (g : Grammar A) (takes_byte : (at : Input) (x : A × Input) → g.parse at ≡ Some x → length x.1.bytes < length at.bytes) where
   -- items up to the end
-  abbrev items : At → Option (List A)
+  abbrev items : Input → Option (List A)
   items at = (until_end g).parse at
 
   -- the item in front, and what `rest` reads behind it
-  abbrev item_and : (At → Option (List A)) → At → A × At → Option (List A)
+  abbrev item_and : (Input → Option (List A)) → Input → A × Input → Option (List A)
   item_and rest at x = cond (ltb (length x.1.bytes) (length at.bytes)) (in_front (x.0 ∷ []) (rest x.1)) None
 
   -- it doesn't matter how many items are allowed, if there are as many as bytes
-  enough : (n m : ℕ) (at : At) → length at.bytes ≤ n → length at.bytes ≤ m → entries_at g n at ≡ entries_at g m at
+  enough : (n m : ℕ) (at : Input) → length at.bytes ≤ n → length at.bytes ≤ m → entries_at g n at ≡ entries_at g m at
   enough zero zero at le lf = refl
   enough zero (suc m) at le lf = let none : length at.bytes ≡ 0 = omega arith in rw (eq-eqb (length at.bytes) 0 none) refl
   enough (suc n) zero at le lf = let none : length at.bytes ≡ 0 = omega arith in rw (eq-eqb (length at.bytes) 0 none) refl
@@ -30,7 +30,7 @@ module _ {A : Type 0} (g : Grammar A) (takes_byte : (at : At) (x : A × At) → 
       ap (λ (r : Option (List A)). cond (ltb (length x.1.bytes) (length at.bytes)) (in_front (x.0 ∷ []) r) None) (enough n m x.1 (omega arith) (omega arith))))
 
   -- where a byte is left an item is read
-  more : (n : ℕ) (at : At) → length at.bytes ≡ suc n → items at ≡ (g.parse at >>= λ x. item_and items at x)
+  more : (n : ℕ) (at : Input) → length at.bytes ≡ suc n → items at ≡ (g.parse at >>= λ x. item_and items at x)
   more n at l =
       ap (λ (k : ℕ). entries_at g k at) l
       ∙ rw (ne_eqb (length at.bytes) 0 (λ z. omega arith))
@@ -44,16 +44,16 @@ module _ {A : Type 0} (g : Grammar A) (takes_byte : (at : At) (x : A × At) → 
   some_length (b ∷ bs) some = (length bs, omega arith)
 
   -- an item stands in front
-  pub until_item : (at after : At) (x : A) → g.parse at ≡ Some (x, after) → items at ≡ in_front (x ∷ []) (items after)
+  pub until_item : (at after : Input) (x : A) → g.parse at ≡ Some (x, after) → items at ≡ in_front (x ∷ []) (items after)
   until_item at after x e =
       let lt : length after.bytes < length at.bytes = takes_byte at (x, after) e in
       let n = some_length at.bytes (λ z. omega (arith, ap length z)) in
       more n.0 at n.1 ∙ rw (e, lt-ltb (length after.bytes) (length at.bytes) lt) refl
 
   -- no item stands in front
-  pub until_fault : (at : At) → (at.bytes ≡ [] → ⊥) → g.parse at ≡ None → items at ≡ None
+  pub until_fault : (at : Input) → (at.bytes ≡ [] → ⊥) → g.parse at ≡ None → items at ≡ None
   until_fault at some e = let n = some_length at.bytes some in more n.0 at n.1 ∙ rw e refl
 
   -- nothing is left
-  pub until_done : (at : At) → at.bytes ≡ [] → items at ≡ Some []
+  pub until_done : (at : Input) → at.bytes ≡ [] → items at ≡ Some []
   until_done at e = ap (λ (k : ℕ). entries_at g k at) (ap length e) ∙ rw (eq-eqb (length at.bytes) 0 (ap length e)) refl

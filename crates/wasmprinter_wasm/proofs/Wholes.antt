@@ -1,24 +1,24 @@
 -- Lists that are all that a section holds.
 use Rattle.std.proofs.Common.{◌≡◌, ℕ, ◌<◌, List, length, Some, None, refl, sym, ap, ◌∙◌, arith}
-use Rattle.wasmprinter_spec.specs.Grammar.{At, Grammar, some_is}
+use Rattle.wasmprinter_spec.specs.Grammar.{Input, Grammar, some_is}
 use Rattle.wasmprinter_spec.specs.Sized.{alone}
 use Rattle.wasmprinter_spec.specs.Name.{u32, vec}
 use Rattle.wasmprinter_spec.specs.Binary.Code.{code_entry}
 use Rattle.wasmprinter_spec.specs.Sections.{Section, FunctionSection, CodeSection}
-use Rattle.wasmprinter_bytes.specs.declared.error.Error.{Error}
-use Rattle.wasmprinter_bytes.specs.Reasons.{HasReason}
+use Rattle.wasmprinter_error.specs.declared.error.Error.{Error}
+use Rattle.wasmprinter_error.specs.Reasons.{HasReason}
 use Rattle.wasmprinter_bytes.specs.Lists.{CountsItems, BeginsList, reader_reasons}
-use Rattle.wasmprinter_bytes.proofs.Reasons.{reason_implied}
+use Rattle.wasmprinter_error.proofs.Reasons.{reason_implied}
 use Rattle.wasmprinter_wasm.specs.Contents.{item_count, whole_reasons, content_reasons, bodies_reasons, indices_reasons}
 use Rattle.wasmprinter_wasm.proofs.Parts.{alone_some, alone_none}
-use Rattle.wasmprinter_wasm.proofs.Counting.{vec_counted, vec_some}
+use Rattle.wasmprinter_wasm.proofs.Counting.{vec_counted, counts_items, vec_some}
 
 -- a list that stands alone behind a count above zero has items
-alone_items : {A : Type 0} (g : Grammar A) (at : At) → CountsItems at → (x : List A) → (alone (vec g)).parse at ≡ Some x → 0 < length x
+alone_items : {A : Type 0} (g : Grammar A) (at : Input) → CountsItems at → (x : List A) → (alone (vec g)).parse at ≡ Some x → 0 < length x
 alone_items g at c x e = let s = alone_some (vec g) at x e in vec_some g at (x, s.0) s.1 c
 
 -- a fault of a list is one of the section that is the list
-pub list_fault : {A : Type 0} (g : Grammar A) (made : List A → Section) (functions : Type 0) → ((xs : List A) → item_count (made xs) ≡ length xs) → (at : At) (f : Error)
+pub list_fault : {A : Type 0} (g : Grammar A) (made : List A → Section) (functions : Type 0) → ((xs : List A) → item_count (made xs) ≡ length xs) → (at : Input) (f : Error)
     → HasReason (reader_reasons ((vec g).parse at ≡ None) (BeginsList g.parse at) at) f → HasReason (whole_reasons (alone (vec g)) made functions at) f
 list_fault g made functions counts at = reason_implied (reader_reasons ((vec g).parse at ≡ None) (BeginsList g.parse at) at) (whole_reasons (alone (vec g)) made functions at) (record {
   malformed = λ place h. (alone_none (vec g) at h.0, h.1);
@@ -28,8 +28,15 @@ list_fault g made functions counts at = reason_implied (reader_reasons ((vec g).
   memory = λ h. (h.counts, λ x e. let some = alone_items g at h.counts x e in omega (arith, counts x));
 })
 
+-- memory was wanting for what a list holds, which has items
+pub list_grown : {A : Type 0} (g : Grammar A) (made : List A → Section) (functions : Type 0) → ((xs : List A) → item_count (made xs) ≡ length xs) → (at : Input) (x : List A × Input)
+    → (vec g).parse at ≡ Some x → 0 < length x.0 → (whole_reasons (alone (vec g)) made functions at).memory
+list_grown g made functions counts at x read some =
+    let c = counts_items g at x read some in
+    (c, λ y e. let items = alone_items g at c y e in omega (arith, counts y))
+
 -- a fault of bodies is one of the code section
-pub code_fault : (at : At) (f : Error) → HasReason (bodies_reasons at) f → HasReason (content_reasons CodeSection at) f
+pub code_fault : (at : Input) (f : Error) → HasReason (bodies_reasons at) f → HasReason (content_reasons CodeSection at) f
 code_fault at = reason_implied (bodies_reasons at) (content_reasons CodeSection at) (record {
   malformed = λ place h. (alone_none (vec code_entry) at h.0, h.1);
   component = λ h. h;
@@ -39,7 +46,7 @@ code_fault at = reason_implied (bodies_reasons at) (content_reasons CodeSection 
 })
 
 -- a fault of type indices is one of the function section
-pub functions_fault : (at : At) (f : Error) → HasReason (indices_reasons at) f → HasReason (content_reasons FunctionSection at) f
+pub functions_fault : (at : Input) (f : Error) → HasReason (indices_reasons at) f → HasReason (content_reasons FunctionSection at) f
 functions_fault at = reason_implied (indices_reasons at) (content_reasons FunctionSection at) (record {
   malformed = λ place h. (alone_none (vec u32) at h.0, h.1);
   component = λ h. h;
@@ -50,7 +57,7 @@ functions_fault at = reason_implied (indices_reasons at) (content_reasons Functi
     h.many,
     λ x e.
         let s = alone_some (vec u32) at x e in
-        let same : x ≡ h.indices = ap (λ (y : List ℕ × At). y.0) (some_is (x, s.0) (h.indices, h.after) (sym s.1 ∙ h.read)) in
+        let same : x ≡ h.indices = ap (λ (y : List ℕ × Input). y.0) (some_is (x, s.0) (h.indices, h.after) (sym s.1 ∙ h.read)) in
         (x, refl, ap length same ∙ h.counted),
   );
   memory = λ h. (h, λ x e. alone_items u32 at h x e);

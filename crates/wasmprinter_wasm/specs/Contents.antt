@@ -1,16 +1,16 @@
 -- Reading sections and what they hold.
 use Rattle.std.specs.Prelude.{◌≡◌, ℕ, ◌<◌, ◌≤◌, List, length, Option, Some, None, Result, Ok, Err}
 use Rattle.std.specs.List.{AllByRecursion}
-use Rattle.wasmprinter_spec.specs.Grammar.{At, Whole, ◌>>=◌, Placed}
+use Rattle.wasmprinter_spec.specs.Grammar.{Input, Remainder, ◌>>=◌, Placed}
 use Rattle.wasmprinter_spec.specs.Name.{u32, vec}
 use Rattle.wasmprinter_spec.specs.Placed.{Body}
 use Rattle.wasmprinter_spec.specs.Binary.Code.{code_entry}
-use Rattle.wasmprinter_spec.specs.Sections.{Kind, TypeSection, FunctionSection, ExportSection, CodeSection, Content, content, holds, picked, section}
+use Rattle.wasmprinter_spec.specs.Sections.{Kind, TypeSection, FunctionSection, ExportSection, CodeSection, Content, content, holds, content_of, section}
 use Rattle.wasmprinter_spec.specs.Sections.{Section as SectionValue}
 use Rattle.wasmprinter_spec.specs.Limits.{local_count, most_locals, most_functions}
 use Rattle.wasmprinter_bytes.specs.Reads.{end_of}
-use Rattle.wasmprinter_bytes.specs.declared.error.Error.{Error}
-use Rattle.wasmprinter_bytes.specs.Reasons.{Reasons, HasReason}
+use Rattle.wasmprinter_error.specs.declared.error.Error.{Error}
+use Rattle.wasmprinter_error.specs.Reasons.{Reasons, HasReason}
 use Rattle.wasmprinter_bytes.specs.Lists.{CountsItems, reader_reasons}
 use Rattle.wasmprinter_wasm.specs.declared.sections.Section.{Section}
 use Rattle.wasmprinter_wasm.specs.declared.sections.Section.TheVariants as s
@@ -19,11 +19,11 @@ use Rattle.wasmprinter_wasm.specs.Refusals.{HasManyLocals, BeginsSection, Begins
 -- ---- of each kind
 
 -- the section of the definitions
-abbrev pub section_seen : Section → SectionValue
-section_seen (s.Types ts) = holds TypeSection ts.items
-section_seen (s.Functions is) = holds FunctionSection is.items
-section_seen (s.Exports es) = holds ExportSection es.items
-section_seen (s.Code bs) = holds CodeSection bs.items
+abbrev pub section_view : Section → SectionValue
+section_view (s.Types ts) = holds TypeSection ts
+section_view (s.Functions is) = holds FunctionSection is.items
+section_view (s.Exports es) = holds ExportSection es.items
+section_view (s.Code bs) = holds CodeSection bs.items
 
 -- a body of no more locals than are allowed
 abbrev pub HasFew : Placed Body → Type 0
@@ -45,39 +45,39 @@ item_count (holds CodeSection bs) = length bs
 
 -- the section holds the type indices of so many functions
 abbrev pub HasCount : ℕ → SectionValue → Type 0
-HasCount count s = (is : List ℕ) × (picked FunctionSection s ≡ Some is) × (length is ≡ count)
+HasCount count s = (is : List ℕ) × (content_of FunctionSection s ≡ Some is) × (length is ≡ count)
 
 -- it holds bodies of which one begins at the place and has too many locals
 abbrev pub HasOver : ℕ → SectionValue → Type 0
-HasOver place s = (bs : List (Placed Body)) × (picked CodeSection s ≡ Some bs) × AnyIsOver place bs
+HasOver place s = (bs : List (Placed Body)) × (content_of CodeSection s ≡ Some bs) × AnyIsOver place bs
 
 -- ---- what stands in front of the end of a section
 
 -- the bodies of a code section
-abbrev pub bodies_reasons : At → Reasons
+abbrev pub bodies_reasons : Input → Reasons
 bodies_reasons at = record {
   malformed = λ place. ((vec code_entry).parse at ≡ None) × (place ≤ end_of at);
   component = ⊥;
-  locals = λ place. HasManyLocals at place × ((x : List (Placed Body) × At) → (vec code_entry).parse at ≡ Some x → AnyIsOver place x.0);
+  locals = λ place. HasManyLocals at place × ((x : List (Placed Body) × Input) → (vec code_entry).parse at ≡ Some x → AnyIsOver place x.0);
   functions = λ count. ⊥;
   memory = CountsItems at;
 }
 
 -- bodies of few locals are read, or the refusal is true
-abbrev pub TakesBodies : {X : Type 0} → (X → List (Placed Body)) → At → Result X Error → At → Type 0
+abbrev pub TakesBodies : {X : Type 0} → (X → List (Placed Body)) → Input → Result X Error → Input → Type 0
 TakesBodies items old (Ok v) new = ((vec code_entry).parse old ≡ Some (items v, new)) × AllByRecursion HasFew (items v)
 TakesBodies items old (Err e) new = HasReason (bodies_reasons old) e
 
 -- type indices stand there, more than functions are allowed
-pub record AreTooMany (at : At) (count : ℕ) : Type 0 where
+pub record AreTooMany (at : Input) (count : ℕ) : Type 0 where
   pub indices : List ℕ
-  pub after : At
+  pub after : Input
   pub read : (vec u32).parse at ≡ Some (indices, after)
   pub counted : length indices ≡ count
   pub many : most_functions < count
 
 -- the type indices of a function section
-abbrev pub indices_reasons : At → Reasons
+abbrev pub indices_reasons : Input → Reasons
 indices_reasons at = record {
   malformed = λ place. ((vec u32).parse at ≡ None) × (place ≤ end_of at);
   component = ⊥;
@@ -87,20 +87,20 @@ indices_reasons at = record {
 }
 
 -- no more type indices than are allowed are read, or the refusal is true
-abbrev pub TakesIndices : {X : Type 0} → (X → List ℕ) → At → Result X Error → At → Type 0
+abbrev pub TakesIndices : {X : Type 0} → (X → List ℕ) → Input → Result X Error → Input → Type 0
 TakesIndices items old (Ok v) new = ((vec u32).parse old ≡ Some (items v, new)) × (length (items v) ≤ most_functions)
 TakesIndices items old (Err e) new = HasReason (indices_reasons old) e
 
 -- ---- all that a section holds
 
 -- a count stands there, and it is this
-pub record Counts (at : At) (count : ℕ) : Type 0 where
-  pub after : At
+pub record Counts (at : Input) (count : ℕ) : Type 0 where
+  pub after : Input
   pub counted : u32.parse at ≡ Some (count, after)
 
 -- Why the content of a section may be refused, which is spelled so and makes this section. `functions` says whether it may be for its
 -- functions. What is said of the content is true of what stands there, if it is spelled at all.
-abbrev pub whole_reasons : {C : Type 0} → Whole C → (C → SectionValue) → Type 0 → At → Reasons
+abbrev pub whole_reasons : {C : Type 0} → Remainder C → (C → SectionValue) → Type 0 → Input → Reasons
 whole_reasons {C} w made functions at = record {
   malformed = λ place. (w.parse at ≡ None) × (place ≤ end_of at);
   component = ⊥;
@@ -110,17 +110,17 @@ whole_reasons {C} w made functions at = record {
 }
 
 -- the content of a section of the kind
-abbrev pub content_reasons : Kind → At → Reasons
+abbrev pub content_reasons : Kind → Input → Reasons
 content_reasons kind at = whole_reasons (content kind) (holds kind) (kind ≡ FunctionSection) at
 
 -- content of the kind within the limits takes all bytes, or the refusal is true
-abbrev pub TakesHeld : (kind : Kind) → {X : Type 0} → (X → Content kind) → At → Result X Error → Type 0
+abbrev pub TakesHeld : (kind : Kind) → {X : Type 0} → (X → Content kind) → Input → Result X Error → Type 0
 TakesHeld kind view at (Ok v) = ((content kind).parse at ≡ Some (view v)) × IsSmall (holds kind (view v))
 TakesHeld kind view at (Err e) = HasReason (content_reasons kind at) e
 
 -- the same of a section of the kind, which may be none
-abbrev pub TakesContent : Option Kind → At → Result Section Error → Type 0
-TakesContent (Some kind) at (Ok s) = (((content kind).parse at >>= λ x. Some (holds kind x)) ≡ Some (section_seen s)) × IsSmall (section_seen s)
+abbrev pub TakesContent : Option Kind → Input → Result Section Error → Type 0
+TakesContent (Some kind) at (Ok s) = (((content kind).parse at >>= λ x. Some (holds kind x)) ≡ Some (section_view s)) × IsSmall (section_view s)
 TakesContent (Some kind) at (Err e) = HasReason (content_reasons kind at) e
 TakesContent None at (Ok s) = ⊥
 TakesContent None at (Err e) = HasReason (reader_reasons (Unit {0}) ⊥ at) e
@@ -128,16 +128,16 @@ TakesContent None at (Err e) = HasReason (reader_reasons (Unit {0}) ⊥ at) e
 -- ---- sections
 
 -- a section
-abbrev pub section_reasons : At → Reasons
+abbrev pub section_reasons : Input → Reasons
 section_reasons at = record {
   malformed = λ place. (section.parse at ≡ None) × (place ≤ end_of at);
   component = ⊥;
-  locals = λ place. HasManyLocals at place × ((x : SectionValue × At) → section.parse at ≡ Some x → HasOver place x.0);
-  functions = λ count. BeginsSection at FunctionSection count × (most_functions < count) × ((x : SectionValue × At) → section.parse at ≡ Some x → HasCount count x.0);
-  memory = BeginsItems at × ((x : SectionValue × At) → section.parse at ≡ Some x → 0 < item_count x.0);
+  locals = λ place. HasManyLocals at place × ((x : SectionValue × Input) → section.parse at ≡ Some x → HasOver place x.0);
+  functions = λ count. BeginsSection at FunctionSection count × (most_functions < count) × ((x : SectionValue × Input) → section.parse at ≡ Some x → HasCount count x.0);
+  memory = BeginsItems at × ((x : SectionValue × Input) → section.parse at ≡ Some x → 0 < item_count x.0);
 }
 
 -- a section within the limits is read, or the refusal is true
-abbrev pub TakesSection : At → Result Section Error → At → Type 0
-TakesSection old (Ok s) new = (section.parse old ≡ Some (section_seen s, new)) × IsSmall (section_seen s)
+abbrev pub TakesSection : Input → Result Section Error → Input → Type 0
+TakesSection old (Ok s) new = (section.parse old ≡ Some (section_view s, new)) × IsSmall (section_view s)
 TakesSection old (Err e) new = HasReason (section_reasons old) e

@@ -1,20 +1,20 @@
 -- Why a module is refused.
 use Rattle.std.specs.Prelude.{◌≡◌, ℕ, ◌+◌, ◌<◌, ◌≤◌, List, length, Result, Ok, Err}
-use Rattle.wasmprinter_spec.specs.Grammar.{from}
+use Rattle.wasmprinter_spec.specs.Grammar.{input}
 use Rattle.wasmprinter_spec.specs.Placed.{PlacedModule}
 use Rattle.wasmprinter_spec.specs.Binary.{Spells, IsComponent}
 use Rattle.wasmprinter_spec.specs.Sections.{FunctionSection}
 use Rattle.wasmprinter_spec.specs.Limits.{IsWithinLimits, most_functions}
-use Rattle.wasmprinter_bytes.specs.declared.error.Error.{Error}
-use Rattle.wasmprinter_bytes.specs.Reasons.{Reasons, HasReason}
+use Rattle.wasmprinter_error.specs.declared.error.Error.{Error}
+use Rattle.wasmprinter_error.specs.Reasons.{Reasons, HasReason}
 use Rattle.wasmprinter_wasm.specs.Refusals.{HasManyLocals, BeginsSection, BeginsItems, AnyIsOver}
 use Rattle.wasmprinter_wasm.specs.Modules.{bodies_of}
 
--- how many types, functions and exports it has
+-- how many groups of types, functions and exports it has
 abbrev pub items_held : PlacedModule → ℕ
 items_held m = length m.types + length m.functions + length m.exports
 
--- it has a type, a function or an export
+-- it has a group of types, a function or an export
 abbrev pub HoldsSome : PlacedModule → Type 0
 HoldsSome m = 0 < items_held m
 
@@ -29,9 +29,9 @@ abbrev pub module_reasons : List ℕ → Type 0 → Reasons
 module_reasons bytes component = record {
   malformed = λ place. ((m : PlacedModule) → Spells bytes m → ⊥) × (place ≤ length bytes);
   component = component;
-  locals = λ place. HasManyLocals (from 0 bytes) place × ((m : PlacedModule) → Spells bytes m → AnyIsOver place (bodies_of m.functions));
-  functions = λ count. BeginsSection (from 0 bytes) FunctionSection count × (most_functions < count) × ((m : PlacedModule) → Spells bytes m → length m.functions ≡ count);
-  memory = BeginsItems (from 0 bytes) × ((m : PlacedModule) → Spells bytes m → HoldsSome m);
+  locals = λ place. HasManyLocals (input 0 bytes) place × ((m : PlacedModule) → Spells bytes m → AnyIsOver place (bodies_of m.functions));
+  functions = λ count. BeginsSection (input 0 bytes) FunctionSection count × (most_functions < count) × ((m : PlacedModule) → Spells bytes m → length m.functions ≡ count);
+  memory = BeginsItems (input 0 bytes) × ((m : PlacedModule) → Spells bytes m → HoldsSome m);
 }
 
 -- the refusal is true of the bytes, if they are no component

@@ -1,7 +1,7 @@
 -- Why a module that is not malformed may be refused: a function has more locals than are allowed, there are more functions, or a growth
 -- was refused, which comes only where something is to be kept.
 use Rattle.std.specs.Prelude.{◌≡◌, ℕ, ◌+◌, ◌<◌, ◌⊎◌, List, [], ◌∷◌, ◌++◌, length, Some}
-use Rattle.wasmprinter_spec.specs.Grammar.{At, Placed, placed}
+use Rattle.wasmprinter_spec.specs.Grammar.{Input, Placed, placed}
 use Rattle.wasmprinter_spec.specs.Name.{u32, vec}
 use Rattle.wasmprinter_spec.specs.Placed.{LocalEntry, Body}
 use Rattle.wasmprinter_spec.specs.Sections.{Kind, kind_of}
@@ -9,7 +9,7 @@ use Rattle.wasmprinter_spec.specs.Binary.Code.{local_entry}
 use Rattle.wasmprinter_spec.specs.Limits.{local_count, most_locals}
 
 -- among the bytes begin at the place a count and so many entries of locals, which add up to more than are allowed
-pub record HasManyLocals (at : At) (place : ℕ) : Type 0 where
+pub record HasManyLocals (at : Input) (place : ℕ) : Type 0 where
   pub before : List ℕ
   pub text : List ℕ
   pub behind : List ℕ
@@ -20,7 +20,7 @@ pub record HasManyLocals (at : At) (place : ℕ) : Type 0 where
   pub many : most_locals < local_count locals
 
 -- among the bytes begins a section of the kind, an id and a size, with the count
-pub record BeginsSection (at : At) (kind : Kind) (count : ℕ) : Type 0 where
+pub record BeginsSection (at : Input) (kind : Kind) (count : ℕ) : Type 0 where
   pub before : List ℕ
   pub id : ℕ
   pub of_kind : kind_of id ≡ Some kind
@@ -33,7 +33,7 @@ pub record BeginsSection (at : At) (kind : Kind) (count : ℕ) : Type 0 where
   pub counted : u32.spells (at.place + length before + 1 + length size_text) count_text count
 
 -- among the bytes begins a section, of a kind whose items are kept as all are so far, with a count above zero
-pub record BeginsItems (at : At) : Type 0 where
+pub record BeginsItems (at : Input) : Type 0 where
   pub kind : Kind
   pub count : ℕ
   pub some : 0 < count

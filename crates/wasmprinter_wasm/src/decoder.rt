@@ -5,19 +5,19 @@ ghost use Rattle.wasmprinter_spec.specs.Binary.{Spells, IsComponent, preamble, p
 ghost use Rattle.wasmprinter_spec.specs.Sections.{section_kind, rank, follows};
 ghost use Rattle.wasmprinter_spec.specs.Limits.{IsWithinLimits};
 ghost use Rattle.wasmprinter_bytes.specs.Reads.{Reads, IsWithin, end_of};
-ghost use Rattle.wasmprinter_wasm.specs.Contents.{section_seen};
-ghost use Rattle.wasmprinter_wasm.specs.Gathering.{none_gathered, added, TakesSections};
+ghost use Rattle.wasmprinter_wasm.specs.Contents.{section_view};
+ghost use Rattle.wasmprinter_wasm.specs.Gathering.{none_gathered, with_section, TakesSections};
 ghost use Rattle.wasmprinter_wasm.specs.Decoding.{IsRefusal, HoldsNothing, TakesModule};
 
 use crate::module::Module;
 use crate::sections::Section;
 use crate::sections::code::Body;
 use crate::sections::exports::Export;
-use crate::sections::types::FuncType;
+use crate::sections::types::Types;
 use std::alloc::Global;
 use std::marker::Model;
 use wasmprinter_bytes::bytes::Cursor;
-use wasmprinter_bytes::{Error, Malformed};
+use wasmprinter_error::{Error, Malformed};
 
 /// The magic and the version.
 const PREAMBLE: [u8; 8] = [0x00, 0x61, 0x73, 0x6d, 0x01, 0x00, 0x00, 0x00];
@@ -49,7 +49,7 @@ fn read_preamble(cursor: &mut Cursor) -> Result<(), Malformed>
 struct Gathered<'a> {
     /// Where the last section stands in the order of sections.
     rank: u8,
-    types: Vec<FuncType<'a>>,
+    types: Types<'a>,
     type_indices: Vec<u32>,
     exports: Vec<Export<'a>>,
     bodies: Vec<Body<'a>>,
@@ -62,7 +62,7 @@ impl<'a> Model for Gathered<'a> {
 
     ghost view = { λ g. record {
       rank = g.rank;
-      types = g.types.items;
+      types = g.types;
       type_indices = g.type_indices.items;
       exports = g.exports.items;
       bodies = g.bodies.items;
@@ -76,7 +76,7 @@ impl<'a> Gathered<'a> {
     {
         Gathered {
             rank: 0,
-            types: Vec::new(alloc),
+            types: Types::new(alloc),
             type_indices: Vec::new(alloc),
             exports: Vec::new(alloc),
             bodies: Vec::new(alloc),
@@ -85,7 +85,7 @@ impl<'a> Gathered<'a> {
 
     /// Whether the section may stand behind those that were read.
     fn may_precede(&self, section: &Section) -> bool
-        ensures { result ≡ follows self.now.rank (rank (section_kind (section_seen section.now))) }
+        ensures { result ≡ follows self.now.rank (rank (section_kind (section_view section.now))) }
     {
         match section.rank() {
             Some(rank) => self.rank < rank,
@@ -95,11 +95,11 @@ impl<'a> Gathered<'a> {
 
     /// Keeps what a section holds.
     fn add(&mut self, section: Section<'a>)
-        ensures { self.new ≡ added self.old (section_seen section.entry) }
+        ensures { self.new ≡ with_section self.old (section_view section.entry) }
     {
         self.rank = section.rank().unwrap_or(self.rank);
         match section {
-            Section::Types(types) => self.types = types,
+            Section::Types(types) => self.types.replace(types),
             Section::Functions(type_indices) => self.type_indices = type_indices,
             Section::Exports(exports) => self.exports = exports,
             Section::Code(bodies) => self.bodies = bodies,
@@ -158,7 +158,7 @@ pub fn decode<'a>(alloc: Global, wasm: &'a [u8]) -> Result<Module<'a>, Error>
     // Bytes that spell a module within the limits are refused for memory alone.
     ensures within { (m : PlacedModule) → Spells wasm.now m → IsWithinLimits m → IsOkUnless result Error.Memory }
 
-    // Bytes that spell a module without types, functions and exports are never refused.
+    // Bytes that spell a module without groups of types, functions and exports are never refused.
     ensures empty { (m : PlacedModule) → Spells wasm.now m → HoldsNothing m → IsOk result }
 {
     if is_component(wasm) {

@@ -11,7 +11,7 @@ pub use module::Module;
 pub use readers::Function;
 pub use sections::code::{Body, LocalEntry, Locals};
 pub use sections::exports::Export;
-pub use sections::types::FuncType;
+pub use sections::types::TypeGroup;
 
 #[cfg(test)]
 mod tests;

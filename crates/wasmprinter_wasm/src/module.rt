@@ -4,13 +4,13 @@ ghost use Rattle.wasmprinter_wasm.specs.Modules.{body_at};
 
 use crate::sections::code::Body;
 use crate::sections::exports::Export;
-use crate::sections::types::FuncType;
+use crate::sections::types::Types;
 use std::marker::Model;
 
 /// A module; names and bodies are slices of the bytes that were decoded.
 #[derive(Drop)]
 pub struct Module<'a> {
-    pub(crate) types: Vec<FuncType<'a>>,
+    pub(crate) types: Types<'a>,
     pub(crate) type_indices: Vec<u32>,
     pub(crate) exports: Vec<Export<'a>>,
     pub(crate) bodies: Vec<Body<'a>>,
@@ -19,11 +19,11 @@ pub struct Module<'a> {
 
 impl<'a> Model for Module<'a> {
     ghost use Rattle.wasmprinter_spec.specs.Placed.{PlacedModule};
-    ghost use Rattle.wasmprinter_wasm.specs.Modules.{module_seen, IsPaired};
+    ghost use Rattle.wasmprinter_wasm.specs.Modules.{module_view, IsPaired};
 
     ghost Value = { PlacedModule };
 
-    ghost view = { λ m. module_seen m.types.items m.type_indices.items m.exports.items m.bodies.items m.size };
+    ghost view = { λ m. module_view m.types m.type_indices.items m.exports.items m.bodies.items m.size };
 
     ghost invariant = { λ m. IsPaired m.type_indices.items m.bodies.items };
 }

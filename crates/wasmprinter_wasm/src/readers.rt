@@ -1,11 +1,14 @@
 //! What a decoded module holds, for those that print it.
-ghost use Rattle.std.specs.Prelude.{◌≡◌, ◌<◌, length, Some, slice_get};
+ghost use Rattle.std.specs.Prelude.{◌≡◌, ◌<◌, ◌^◌, length, Some, slice_get};
+ghost use Rattle.wasmprinter_spec.specs.Types.{all_types, signature_at};
+ghost use Rattle.wasmprinter_spec.specs.Module.{groups_of};
 
 use crate::module::Module;
 use crate::sections::code::Body;
 use crate::sections::exports::Export;
-use crate::sections::types::FuncType;
+use crate::sections::types::TypeGroup;
 use std::marker::Model;
+use wasmprinter_ops::types::composite::FuncType;
 
 /// A defined function.
 #[derive(Drop)]
@@ -39,11 +42,21 @@ impl<'a> Function<'a> {
 }
 
 impl<'a> Module<'a> {
-    /// The types.
-    pub fn types(&self) -> &[FuncType<'a>]
-        ensures { result.now ≡ self.now.types }
+    /// The types, in their groups.
+    pub fn types(&self) -> &[TypeGroup<'a>]
+        ensures all { result.now ≡ self.now.types }
+        ensures few { length (all_types (groups_of self.now.types)) < 2 ^ 64 }
     {
-        &self.types
+        self.types.groups()
+    }
+
+    /// The function type with the index, `None` where there is no such type or it is of another kind.
+    ///
+    /// Type indices count the types of all groups. It takes the same time for each index.
+    pub fn signature(&self, index: u32) -> Option<FuncType<'a>>
+        ensures { result ≡ signature_at (all_types (groups_of self.now.types)) index }
+    {
+        self.types.signature(index)
     }
 
     /// The exports.

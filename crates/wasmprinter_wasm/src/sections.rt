@@ -1,9 +1,9 @@
 //! Sections (section 5.5, "Sections"): an id, a size, and content of exactly so many bytes.
 ghost use Rattle.std.specs.Prelude.{◌≡◌, ◌≤◌, [], MatchResult};
 ghost use Rattle.wasmprinter_spec.specs.Sections.{kind_of, section_kind, rank};
-ghost use Rattle.wasmprinter_spec.specs.Types.{only};
+ghost use Rattle.wasmprinter_spec.specs.FirstByte.{only};
 ghost use Rattle.wasmprinter_bytes.specs.Reads.{Reads, IsWithin, end_of};
-ghost use Rattle.wasmprinter_wasm.specs.Contents.{section_seen, TakesContent, TakesSection};
+ghost use Rattle.wasmprinter_wasm.specs.Contents.{section_view, TakesContent, TakesSection};
 
 pub mod code;
 pub mod exports;
@@ -13,10 +13,10 @@ pub mod types;
 use crate::sections::code::{Body, read_code};
 use crate::sections::exports::{Export, read_exports};
 use crate::sections::functions::read_functions;
-use crate::sections::types::{FuncType, read_types};
+use crate::sections::types::Types;
 use std::alloc::Global;
 use wasmprinter_bytes::bytes::Cursor;
-use wasmprinter_bytes::{Error, Malformed};
+use wasmprinter_error::{Error, Malformed};
 
 const TYPE: u8 = 1;
 
@@ -29,8 +29,8 @@ const CODE: u8 = 10;
 /// What a section holds.
 #[derive(Drop)]
 pub(crate) enum Section<'a> {
-    /// Function types.
-    Types(Vec<FuncType<'a>>),
+    /// Types.
+    Types(Types<'a>),
     /// The type index of each defined function.
     Functions(Vec<u32>),
     /// Exports.
@@ -72,7 +72,7 @@ fn read_content<'a>(alloc: Global, id: u8, cursor: &mut Cursor<'a>) -> Result<Se
     ensures { TakesContent (kind_of id) cursor.old result }
 {
     match id {
-        TYPE => Ok(Section::Types(read_types(alloc, cursor)?)),
+        TYPE => Ok(Section::Types(Types::read(alloc, cursor)?)),
         FUNCTION => Ok(Section::Functions(read_functions(alloc, cursor)?)),
         EXPORT => Ok(Section::Exports(read_exports(alloc, cursor)?)),
         CODE => Ok(Section::Code(read_code(alloc, cursor)?)),
@@ -96,7 +96,7 @@ impl<'a> Section<'a> {
 
     /// Where sections of this kind stand in the order that a module keeps, `None` for those that may stand anywhere.
     pub(crate) fn rank(&self) -> Option<u8>
-        ensures { result ≡ rank (section_kind (section_seen self.now)) }
+        ensures { result ≡ rank (section_kind (section_view self.now)) }
     {
         match self {
             Section::Types(_) => Some(1),

@@ -3,7 +3,8 @@
 use crate::decoder::decode;
 use std::alloc::{AllocError, Global};
 use std::test::Fail;
-use wasmprinter_bytes::Error;
+use wasmprinter_error::Error;
+use wasmprinter_ops::types::ValType;
 
 /// The magic and the version.
 const PREAMBLE: [u8; 8] = [0x00, 0x61, 0x73, 0x6d, 0x01, 0x00, 0x00, 0x00];
@@ -133,6 +134,52 @@ fn malformed_modules_are_refused(rt: HostRuntime) -> Result<(), Fail> {
     Ok(())
 }
 
+/// A module with one function, whose code section this is.
+fn with_code(alloc: Global, code: &[u8]) -> Result<Vec<u8>, AllocError> {
+    module(alloc, &[&TYPES, &FUNCTIONS, code])
+}
+
+#[test]
+fn bodies_end_at_the_end_that_closes_them(rt: HostRuntime) -> Result<(), Fail> {
+    let alloc = rt.alloc();
+    // block end end
+    let closed = [0x0a, 0x07, 0x01, 0x05, 0x00, 0x02, 0x40, 0x0b, 0x0b];
+    assert!(rt; is_accepted(alloc, &with_code(alloc, &closed)?));
+    // block end
+    let in_a_block = [0x0a, 0x06, 0x01, 0x04, 0x00, 0x02, 0x40, 0x0b];
+    assert!(rt; is_malformed(alloc, &with_code(alloc, &in_a_block)?));
+    // block end end end
+    let behind_the_last = [0x0a, 0x08, 0x01, 0x06, 0x00, 0x02, 0x40, 0x0b, 0x0b, 0x0b];
+    assert!(rt; is_malformed(alloc, &with_code(alloc, &behind_the_last)?));
+    // if else else end end
+    let two_elses = [
+        0x0a, 0x09, 0x01, 0x07, 0x00, 0x04, 0x40, 0x05, 0x05, 0x0b, 0x0b,
+    ];
+    assert!(rt; is_malformed(alloc, &with_code(alloc, &two_elses)?));
+    Ok(())
+}
+
+#[test]
+fn blocks_nest_deep(rt: HostRuntime) -> Result<(), Fail> {
+    // a section of 300006 bytes with one body of 300002
+    let head = [0x0a, 0xe6, 0xa7, 0x12, 0x01, 0xe2, 0xa7, 0x12, 0x00];
+    let mut bytes = with_code(rt.alloc(), &head)?;
+    for _ in 0..100_000 {
+        bytes.extend_from_slice(&[0x02, 0x40])?;
+    }
+    for _ in 0..100_001 {
+        bytes.push(0x0b)?;
+    }
+    let decoded = decode(rt.alloc(), &bytes)?;
+    let body = decoded.body(0).ok_or("no body")?;
+    let mut reader = body.operators();
+    for number in 0..200_000 {
+        assert!(rt; reader.next().is_some(), "operator {number}");
+    }
+    assert!(rt; reader.next().is_none());
+    Ok(())
+}
+
 #[test]
 fn components_are_refused(rt: HostRuntime) {
     let component = [0x00, 0x61, 0x73, 0x6d, 0x0d, 0x00, 0x01, 0x00];
@@ -171,5 +218,70 @@ fn operators_have_their_places(rt: HostRuntime) -> Result<(), Fail> {
         assert_eq!(rt; operator.opcode.word(), word);
     }
     assert!(rt; reader.next().is_none());
+    Ok(())
+}
+
+/// Whether a module with this type section alone is accepted.
+fn is_type_section(alloc: Global, section: &[u8]) -> Result<bool, AllocError> {
+    Ok(is_accepted(alloc, &module(alloc, &[section])?))
+}
+
+#[test]
+fn type_sections_hold_groups(rt: HostRuntime) -> Result<(), Fail> {
+    let alloc = rt.alloc();
+    let group = [0x01, 0x06, 0x01, 0x4e, 0x01, 0x60, 0x00, 0x00];
+    let structure = [0x01, 0x07, 0x01, 0x5f, 0x02, 0x78, 0x01, 0x7f, 0x00];
+    let open = [0x01, 0x06, 0x01, 0x50, 0x00, 0x5e, 0x7f, 0x00];
+    let below = [0x01, 0x07, 0x01, 0x4f, 0x01, 0x00, 0x60, 0x00, 0x00];
+    let empty = [0x01, 0x03, 0x01, 0x4e, 0x00];
+    assert!(rt; is_type_section(alloc, &group)?);
+    assert!(rt; is_type_section(alloc, &structure)?);
+    assert!(rt; is_type_section(alloc, &open)?);
+    assert!(rt; is_type_section(alloc, &below)?);
+    assert!(rt; is_type_section(alloc, &empty)?);
+    let nested = [0x01, 0x05, 0x01, 0x4e, 0x01, 0x4e, 0x00];
+    let other_storage = [0x01, 0x04, 0x01, 0x5e, 0x79, 0x00];
+    let other_mutability = [0x01, 0x04, 0x01, 0x5e, 0x7f, 0x02];
+    let other_type = [0x01, 0x02, 0x01, 0x5d];
+    assert!(rt; !is_type_section(alloc, &nested)?);
+    assert!(rt; !is_type_section(alloc, &other_storage)?);
+    assert!(rt; !is_type_section(alloc, &other_mutability)?);
+    assert!(rt; !is_type_section(alloc, &other_type)?);
+    Ok(())
+}
+
+#[test]
+fn type_indices_count_the_types_of_all_groups(rt: HostRuntime) -> Result<(), Fail> {
+    let section = [
+        0x01, 0x13, 0x04, 0x4e, 0x00, 0x5f, 0x00, 0x4e, 0x02, 0x60, 0x01, 0x7d, 0x00, 0x50, 0x00,
+        0x60, 0x00, 0x00, 0x5e, 0x78, 0x01,
+    ];
+    let bytes = module(rt.alloc(), &[&section])?;
+    let Ok(decoded) = decode(rt.alloc(), &bytes) else {
+        assert!(rt; false);
+        return Ok(());
+    };
+    let wanted = [
+        (0x0b, true, 0),
+        (0x0d, false, 1),
+        (0x0f, true, 2),
+        (0x1a, false, 1),
+    ];
+    assert_eq!(rt; decoded.types().len(), wanted.len());
+    for (group, (place, is_written, len)) in decoded.types().iter().zip(wanted.iter().copied()) {
+        assert_eq!(rt; group.place(), place);
+        assert_eq!(rt; group.is_written(), is_written);
+        assert_eq!(rt; group.types().len(), len);
+    }
+    assert!(rt; decoded.signature(0).is_none());
+    let Some(signature) = decoded.signature(1) else {
+        assert!(rt; false);
+        return Ok(());
+    };
+    assert_eq!(rt; signature.params().next(), Some(ValType::F32));
+    assert_eq!(rt; signature.results().len(), 0);
+    assert!(rt; decoded.signature(2).is_some());
+    assert!(rt; decoded.signature(3).is_none());
+    assert!(rt; decoded.signature(4).is_none());
     Ok(())
 }

@@ -4,8 +4,8 @@ use Rattle.std.specs.declared.io.Error.{Error as IoError}
 use Rattle.std.proofs.Common.{sym, ap, ◌∙◌}
 use Rattle.wasmprinter_spec.specs.Call.{Call, Text, atoms}
 use Rattle.wasmprinter_spec.specs.Meaning.{Meaning}
-use Rattle.wasmprinter_bytes.specs.Emits.{Emits, Made, Through, AtCall, Owes}
-use Rattle.wasmprinter_bytes.specs.EmitsLaws.{atoms-text, ends, owes_alike, owes_none, pays, settles}
+use Rattle.wasmprinter_print.specs.Emits.{Emits, Made, Through, AtCall, Owes}
+use Rattle.wasmprinter_print.specs.EmitsLaws.{atoms-text, ends, owes_alike, owes_none, pays, settles}
 
 -- what is owed of a text, in two parts
 parted : {P : Type 0} (m : Meaning P) {a s : P} {whole : List Call} (x y z : List ℕ) → z ≡ x ++ y →

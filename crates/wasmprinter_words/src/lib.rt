@@ -1,7 +1,8 @@
-//! Words, numbers and strings of the text format (sections 6.2 and 6.3 of the WebAssembly Core Specification), each in its style,
+//! Words, numbers, strings and comments of the text format (sections 6.2 and 6.3 of the WebAssembly Core Specification), each in its style,
 //! over any printer.
 #![tactic(auto)]
 
+pub mod comments;
 pub mod numbers;
 pub mod strings;
 pub mod words;

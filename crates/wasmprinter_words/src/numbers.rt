@@ -1,19 +1,19 @@
 //! Whole numbers (section 6.3 of the WebAssembly Core Specification, "Integers").
-ghost use Rattle.std.specs.Prelude.{◌≡◌, ◌<◌, ◌≤◌, false, [], ◌∷◌, ◌++◌, decimal, length};
+ghost use Rattle.std.specs.Prelude.{ℕ, ◌≡◌, ◌<◌, ◌≤◌, false, [], ◌∷◌, ◌++◌, decimal, length};
 ghost use Rattle.std.specs.Fmt.{digits, digit_glyph, signed_decimal};
 ghost use Rattle.wasmprinter_spec.specs.Call.{Text};
 ghost use Rattle.wasmprinter_spec.specs.Options.{Options};
-ghost use Rattle.wasmprinter_spec.specs.Piece.{Number, Mark, Constant};
-ghost use Rattle.wasmprinter_spec.specs.Layout.{group_gap};
-ghost use Rattle.wasmprinter_bytes.specs.Emits.{Emits};
-ghost use Rattle.wasmprinter_bytes.specs.Prints.{Prints};
+ghost use Rattle.wasmprinter_spec.specs.Piece.{Word, Number, Mark, Constant};
+ghost use Rattle.wasmprinter_spec.specs.Layout.Groups.{group_gap, line_group_gap};
+ghost use Rattle.wasmprinter_print.specs.Emits.{Emits};
+ghost use Rattle.wasmprinter_print.specs.Prints.{Prints};
 
 use crate::words::{open_gap, shut};
 use std::io;
-use wasmprinter_bytes::print::{Print, Style, reset, start, text};
+use wasmprinter_print::{Print, Style, reset, start, text};
 
 /// The base of decimal numbers.
-const DECIMAL: u64 = 10;
+pub const DECIMAL: u64 = 10;
 
 /// The base of hexadecimal numbers.
 pub const HEXADECIMAL: u64 = 16;
@@ -30,7 +30,8 @@ fn glyph_of(digit: u8) -> u8
     }
 }
 
-fn write_digit<P: Print>(p: &mut P, digit: u8) -> io::Result<()>
+/// Writes a digit, with the letters from a to f for those from ten on.
+pub fn write_digit<P: Print>(p: &mut P, digit: u8) -> io::Result<()>
     requires { digit < 16 }
     ensures { Emits P.meaning p.old p.new result (Text (digit_glyph false digit ∷ []) ∷ []) }
 {
@@ -86,10 +87,18 @@ pub fn number<P: Print>(p: &mut P, n: u64) -> io::Result<()>
     reset(p)
 }
 
+/// Writes a number as a word without a style.
+pub fn number_word<P: Print>(p: &mut P, n: u64) -> io::Result<()>
+    ensures { (o : Options) → Prints P.meaning o p.old p.new result (Word (decimal n) ∷ []) }
+{
+    write_digits(p, DECIMAL, n)
+}
+
 /// Writes an index as a group behind a keyword.
-#[tactic(auto, unfolding(wasmprinter_spec::specs::Layout::group_gap))]
+#[tactic(auto, unfolding(wasmprinter_spec::specs::Layout::Groups::group_gap, wasmprinter_spec::specs::Layout::Groups::line_group_gap))]
 pub fn write_index_group<P: Print>(p: &mut P, keyword: &str, index: u32) -> io::Result<()>
-    ensures { (o : Options) → Prints P.meaning o p.old p.new result (group_gap 2 keyword.now (Number index ∷ [])) }
+    ensures in_line { (o : Options) → Prints P.meaning o p.old p.new result (line_group_gap keyword.now (Number index ∷ [])) }
+    ensures nested { (o : Options) (nesting : ℕ) → Prints P.meaning o p.old p.new result (group_gap nesting keyword.now (Number index ∷ [])) }
 {
     open_gap(p, keyword)?;
     number(p, u64::from(index))?;

@@ -3,14 +3,14 @@ ghost use Rattle.std.specs.Prelude.{◌≡◌, [], ◌∷◌, flat_map, chars};
 ghost use Rattle.wasmprinter_spec.specs.Call.{Text, Literal};
 ghost use Rattle.wasmprinter_spec.specs.Options.{Options};
 ghost use Rattle.wasmprinter_spec.specs.Piece.{Quoted, styled};
-ghost use Rattle.wasmprinter_spec.specs.Quoted.{is_plain, char_text, quoted_text};
-ghost use Rattle.wasmprinter_bytes.specs.Emits.{Emits, EmitsOrFails};
-ghost use Rattle.wasmprinter_bytes.specs.Prints.{Prints};
+ghost use Rattle.wasmprinter_spec.specs.Quoted.{is_plain, char_text, byte_text, quoted_text, quoted_bytes};
+ghost use Rattle.wasmprinter_print.specs.Emits.{Emits, EmitsOrFails};
+ghost use Rattle.wasmprinter_print.specs.Prints.{Prints};
 
-use crate::numbers::{HEXADECIMAL, write_digits_between};
+use crate::numbers::{HEXADECIMAL, write_digit, write_digits_between};
 use std::io;
-use wasmprinter_bytes::Error;
-use wasmprinter_bytes::print::{Print, Style, reset, start, text};
+use wasmprinter_error::Error;
+use wasmprinter_print::{Print, Style, reset, start, text};
 
 /// Whether a character stands for itself in quotes.
 fn is_plain(c: char) -> bool
@@ -61,5 +61,52 @@ pub fn write_quoted<P: Print>(p: &mut P, s: &str) -> Result<(), Error>
     ensures { EmitsOrFails P.meaning p.old p.new result (styled Literal (quoted_text (chars s.now))) }
 {
     write_string(p, s)?;
+    Ok(())
+}
+
+#[tactic(auto, unfolding(wasmprinter_spec::specs::Quoted::byte_text))]
+fn write_byte<P: Print>(p: &mut P, byte: u8) -> io::Result<()>
+    ensures { Emits P.meaning p.old p.new result (Text (byte_text byte) ∷ []) }
+{
+    let c = char::from(byte);
+    if is_plain(c) {
+        return text(p, c.encode_utf8(&mut [0; 4]));
+    }
+    text(p, "\\")?;
+    write_digit(p, byte / 16)?;
+    write_digit(p, byte % 16)
+}
+
+fn write_each_byte<P: Print>(p: &mut P, bytes: &[u8]) -> io::Result<()>
+    ensures { Emits P.meaning p.old p.new result (Text (flat_map byte_text bytes.now) ∷ []) }
+{
+    for &byte in bytes {
+        write_byte(p, byte)?;
+    }
+    Ok(())
+}
+
+/// Writes bytes in quotes, with what isn't printable by its hexadecimal digits.
+#[tactic(auto, unfolding(wasmprinter_spec::specs::Quoted::quoted_bytes))]
+fn write_byte_string<P: Print>(p: &mut P, bytes: &[u8]) -> io::Result<()>
+    ensures { Emits P.meaning p.old p.new result (styled Literal (quoted_bytes bytes.now)) }
+{
+    start(p, Style::Literal)?;
+    text(p, "\"")?;
+    write_each_byte(p, bytes)?;
+    text(p, "\"")?;
+    reset(p)
+}
+
+/// Writes bytes in quotes, as the text of a module writes them: those of printable ASCII as they are but for `"` and `\`, any
+/// other byte as `\hh` with its two hexadecimal digits (section 6.3 of the standard, "Strings").
+///
+/// # Errors
+///
+/// `Printer` where a call on the printer failed, with that call's error, and no other.
+pub fn write_bytes<P: Print>(p: &mut P, bytes: &[u8]) -> Result<(), Error>
+    ensures { EmitsOrFails P.meaning p.old p.new result (styled Literal (quoted_bytes bytes.now)) }
+{
+    write_byte_string(p, bytes)?;
     Ok(())
 }

@@ -1,11 +1,11 @@
 //! Parentheses, blanks and words.
 ghost use Rattle.std.specs.Prelude.{[], ◌∷◌};
 ghost use Rattle.wasmprinter_spec.specs.Options.{Options};
-ghost use Rattle.wasmprinter_spec.specs.Piece.{Gap, Open, OpenGap, Shut, Word, TypeWord};
-ghost use Rattle.wasmprinter_bytes.specs.Prints.{Prints};
+ghost use Rattle.wasmprinter_spec.specs.Piece.{Gap, Open, OpenGap, OpenPlain, Shut, Word, TypeWord};
+ghost use Rattle.wasmprinter_print.specs.Prints.{Prints};
 
 use std::io;
-use wasmprinter_bytes::print::{Print, Style, reset, start, styled, text};
+use wasmprinter_print::{Print, Style, reset, start, styled, text};
 
 /// Opens a group: a parenthesis and a keyword.
 pub fn open<P: Print>(p: &mut P, keyword: &str) -> io::Result<()>
@@ -24,6 +24,14 @@ pub fn open_gap<P: Print>(p: &mut P, keyword: &str) -> io::Result<()>
     text(p, keyword)?;
     text(p, " ")?;
     reset(p)
+}
+
+/// Opens a group whose keyword has no style.
+pub fn open_plain<P: Print>(p: &mut P, unstyled: &str) -> io::Result<()>
+    ensures { (o : Options) → Prints P.meaning o p.old p.new result (OpenPlain unstyled.now ∷ []) }
+{
+    text(p, "(")?;
+    text(p, unstyled)
 }
 
 /// Closes a group on the line where it ends.

@@ -2,12 +2,13 @@
 ghost use Rattle.std.specs.Prelude.{[], ◌∷◌, ◌++◌, chars, codes};
 ghost use Rattle.wasmprinter_spec.specs.Options.{Options};
 ghost use Rattle.wasmprinter_spec.specs.Piece.{Gap, OpenGap, Shut, Number, Quoted};
-ghost use Rattle.wasmprinter_spec.specs.Layout.{group_gap, export_pieces};
-ghost use Rattle.wasmprinter_bytes.specs.Prints.{Prints};
+ghost use Rattle.wasmprinter_spec.specs.Layout.{export_pieces};
+ghost use Rattle.wasmprinter_spec.specs.Layout.Groups.{group_gap};
+ghost use Rattle.wasmprinter_print.specs.Prints.{Prints};
 
 use crate::sections::{FIELD_NESTING, Field};
 use std::io;
-use wasmprinter_bytes::print::Print;
+use wasmprinter_print::Print;
 use wasmprinter_lines::lines::break_line;
 use wasmprinter_lines::options::PrintOptions;
 use wasmprinter_wasm::Export;

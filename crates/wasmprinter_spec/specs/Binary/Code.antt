@@ -1,27 +1,26 @@
 -- The code section (section 5.5 of the standard, "Code Section"): a list of bodies of functions, each behind its size.
 use Rattle.std.specs.Prelude.{List}
-use Rattle.wasmprinter_spec.specs.Grammar.{Grammar, Whole, seq, as_value, Placed, placed}
+use Rattle.wasmprinter_spec.specs.Grammar.{Grammar, Remainder, seq, map_value, Placed, placed}
 use Rattle.wasmprinter_spec.specs.Sized.{exactly, alone}
-use Rattle.wasmprinter_spec.specs.Terminated.{Closed}
 use Rattle.wasmprinter_spec.specs.Name.{u32, vec}
-use Rattle.wasmprinter_spec.specs.Types.{val_type}
+use Rattle.wasmprinter_spec.specs.Binary.ValTypes.{val_type}
 use Rattle.wasmprinter_spec.specs.Operator.{Operator}
-use Rattle.wasmprinter_spec.specs.Instructions.{expression}
+use Rattle.wasmprinter_spec.specs.Instructions.{Closed, expression}
 use Rattle.wasmprinter_spec.specs.Placed.{LocalEntry, Body}
 
 abbrev pub local_entry : Grammar LocalEntry
-local_entry = as_value (λ x. record { count = x.0; type = x.1 }) (seq u32 (λ _. val_type))
+local_entry = map_value (λ x. record { count = x.0; type = x.1 }) (seq u32 (λ _. val_type))
 
 abbrev pub body_from : List (Placed LocalEntry) → Closed (Placed Operator) → Body
 body_from locals code = record { locals = locals; operators = code.items; end = code.end }
 
 -- locals and an expression
 abbrev pub body : Grammar Body
-body = as_value (λ x. body_from x.0 x.1) (seq (vec (placed local_entry)) (λ _. expression))
+body = map_value (λ x. body_from x.0 x.1) (seq (vec (placed local_entry)) (λ _. expression))
 
 -- a size, and a body of exactly so many bytes
 abbrev pub code_entry : Grammar (Placed Body)
-code_entry = as_value (λ x. x.1) (seq u32 (λ size. exactly (alone (placed body)) size))
+code_entry = map_value (λ x. x.1) (seq u32 (λ size. exactly (alone (placed body)) size))
 
-abbrev pub code_section : Whole (List (Placed Body))
+abbrev pub code_section : Remainder (List (Placed Body))
 code_section = alone (vec code_entry)

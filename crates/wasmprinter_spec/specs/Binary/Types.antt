@@ -1,9 +1,67 @@
--- The type section (section 5.5 of the standard, "Type Section"): a list of types.
-use Rattle.std.specs.Prelude.{List}
-use Rattle.wasmprinter_spec.specs.Grammar.{Whole, Placed, placed}
+-- How bytes spell composite types, subtypes and their groups (section 5.3 of the standard), and the type section (section 5.5, "Type Section"):
+-- a list of groups.
+use Rattle.std.specs.Prelude.{ℕ, List, [], ◌∷◌, Bool, true, false, ◌==◌, is_some, Option}
+use Rattle.wasmprinter_spec.specs.Grammar.{Grammar, Remainder, byte, seq, try_map, map_value, fail, choose, Placed, placed}
+use Rattle.wasmprinter_spec.specs.FirstByte.{announced}
 use Rattle.wasmprinter_spec.specs.Sized.{alone}
-use Rattle.wasmprinter_spec.specs.Name.{vec}
-use Rattle.wasmprinter_spec.specs.Types.{FuncType, func_type}
+use Rattle.wasmprinter_spec.specs.Name.{u32, vec}
+use Rattle.wasmprinter_spec.specs.Types.{StorageType, Val, I8, I16, FieldType, field_type, FuncType, CompositeType, FuncComposite, ArrayComposite, StructComposite, SubType, sub_type, final_type}
+use Rattle.wasmprinter_spec.specs.Binary.ValTypes.{lookup, given, val_type, val_type_behind}
+use Rattle.wasmprinter_spec.specs.Placed.{TypeGroup, type_group}
 
-abbrev pub type_section : Whole (List (Placed FuncType))
-type_section = alone (vec (placed func_type))
+abbrev pub packed_type_of : ℕ → Option StorageType
+packed_type_of b = lookup ((0x78, I8) ∷ (0x77, I16) ∷ []) b
+
+-- behind its first byte: a packed type, or a value type
+abbrev pub storage_type_behind : ℕ → Grammar StorageType
+storage_type_behind b = choose (is_some (packed_type_of b)) (given (packed_type_of b)) (map_value Val (val_type_behind b))
+
+abbrev pub storage_type : Grammar StorageType
+storage_type = announced storage_type_behind
+
+-- whether a field can be changed
+abbrev pub mutability : Grammar Bool
+mutability = try_map (λ b. lookup ((0x00, false) ∷ (0x01, true) ∷ []) b) byte
+
+abbrev pub field : Grammar FieldType
+field = map_value (λ x. field_type x.1 x.0) (seq storage_type (λ _. mutability))
+
+-- the parameters, the results
+abbrev pub signature : Grammar FuncType
+signature = map_value (λ x. record { params = x.0; results = x.1 }) (seq (vec val_type) (λ _. vec val_type))
+
+-- behind its first byte: 5E and a field, 5F and fields, 60 and a signature
+abbrev pub composite_behind : ℕ → Grammar CompositeType
+composite_behind b =
+    choose (b == 0x5e) (map_value ArrayComposite field)
+    (choose (b == 0x5f) (map_value StructComposite (vec field))
+    (choose (b == 0x60) (map_value FuncComposite signature) fail))
+
+abbrev pub composite : Grammar CompositeType
+composite = announced composite_behind
+
+-- supertypes, and a composite type
+abbrev pub sub_type_parts : Bool → Grammar SubType
+sub_type_parts final = map_value (λ x. sub_type final x.0 x.1) (seq (vec u32) (λ _. composite))
+
+-- behind its first byte: 50 where it is not final, 4F where it is, or a composite type, which is final and has no supertypes
+abbrev pub sub_type_behind : ℕ → Grammar SubType
+sub_type_behind b =
+    choose (b == 0x50) (sub_type_parts false)
+    (choose (b == 0x4f) (sub_type_parts true)
+    (map_value final_type (composite_behind b)))
+
+abbrev pub subtype : Grammar SubType
+subtype = announced sub_type_behind
+
+-- behind its first byte: 4E and types, or a type by itself
+abbrev pub group_behind : ℕ → Grammar TypeGroup
+group_behind b =
+    choose (b == 0x4e) (map_value (type_group true) (vec subtype))
+    (map_value (λ t. type_group false (t ∷ [])) (sub_type_behind b))
+
+abbrev pub group : Grammar TypeGroup
+group = announced group_behind
+
+abbrev pub type_section : Remainder (List (Placed TypeGroup))
+type_section = alone (vec (placed group))

@@ -2,9 +2,11 @@
 ghost use Rattle.std.specs.Prelude.{◌≡◌, ◌<◌, ◌↔◌, IsTrue};
 ghost use Rattle.wasmprinter_spec.specs.Grammar.{placed};
 ghost use Rattle.wasmprinter_spec.specs.Binary.Code.{local_entry};
+ghost use Rattle.wasmprinter_spec.specs.Instructions.{roles};
 ghost use Rattle.wasmprinter_spec.specs.Limits.{local_count, most_locals};
+ghost use Rattle.wasmprinter_spec.specs.Nesting.{Nests, Sequence};
 ghost use Rattle.wasmprinter_bytes.specs.Reads.{Reads, IsWithin, end_of};
-ghost use Rattle.wasmprinter_ops.specs.ValTypes.{type_seen};
+ghost use Rattle.wasmprinter_ops.specs.ValTypes.{type_view};
 ghost use Rattle.wasmprinter_spec.specs.Sections.{CodeSection};
 ghost use Rattle.wasmprinter_wasm.specs.Bodies.{TakesBody, TakesEntry};
 ghost use Rattle.wasmprinter_wasm.specs.Contents.{TakesBodies, TakesHeld};
@@ -14,7 +16,7 @@ use std::alloc::Global;
 use std::marker::Model;
 use wasmprinter_bytes::bytes::Cursor;
 use wasmprinter_bytes::lists::{Items, Spelled};
-use wasmprinter_bytes::{Error, Malformed};
+use wasmprinter_error::{Error, Malformed};
 use wasmprinter_ops::expression::{Expression, OperatorsReader};
 use wasmprinter_ops::types::{ValType, read_type};
 
@@ -32,11 +34,11 @@ pub struct LocalEntry {
 impl Model for LocalEntry {
     ghost use Rattle.wasmprinter_spec.specs.Grammar.{Placed};
     ghost use Rattle.wasmprinter_spec.specs.Placed.{LocalEntry as LocalEntryValue};
-    ghost use Rattle.wasmprinter_ops.specs.ValTypes.{type_seen};
+    ghost use Rattle.wasmprinter_ops.specs.ValTypes.{type_view};
 
     ghost Value = { Placed LocalEntryValue };
 
-    ghost view = { λ e. record { place = e.place; value = record { count = e.count; type = type_seen e.val_type } } };
+    ghost view = { λ e. record { place = e.place; value = record { count = e.count; type = type_view e.val_type } } };
 }
 
 impl Spelled for LocalEntry {
@@ -71,7 +73,7 @@ impl LocalEntry {
 
     /// Their type.
     pub fn val_type(&self) -> ValType
-        ensures { type_seen result ≡ self.now.value.type }
+        ensures { type_view result ≡ self.now.value.type }
     {
         self.val_type
     }
@@ -114,7 +116,7 @@ impl<'a> Model for Body<'a> {
 
 impl<'a> Body<'a> {
     /// Reads locals, which may not be too many, and an expression.
-    fn read(cursor: &mut Cursor<'a>) -> Result<Self, Error>
+    fn read(alloc: Global, cursor: &mut Cursor<'a>) -> Result<Self, Error>
         ensures reads { TakesBody cursor.old result cursor.new }
         ensures end { end_of cursor.new ≡ end_of cursor.old }
     {
@@ -123,7 +125,7 @@ impl<'a> Body<'a> {
         if are_too_many(&locals) {
             return Err(Error::TooManyLocals { place });
         }
-        let code = Expression::read(cursor)?;
+        let code = Expression::read(alloc, cursor)?;
         Ok(Body {
             place,
             locals,
@@ -132,13 +134,13 @@ impl<'a> Body<'a> {
     }
 
     /// Reads an entry of a code section: a size, and a body of exactly so many bytes.
-    fn read_entry(cursor: &mut Cursor<'a>) -> Result<Self, Error>
+    fn read_entry(alloc: Global, cursor: &mut Cursor<'a>) -> Result<Self, Error>
         ensures reads { TakesEntry cursor.old result cursor.new }
         ensures end { end_of cursor.new ≡ end_of cursor.old }
     {
         let size = cursor.u32()?;
         let mut part = cursor.part(size as usize)?;
-        let body = Body::read(&mut part)?;
+        let body = Body::read(alloc, &mut part)?;
         if part.is_empty() {
             Ok(body)
         } else {
@@ -161,9 +163,18 @@ impl<'a> Body<'a> {
 
     /// The operators in order, each with its place, without the last `end`.
     pub fn operators(&self) -> OperatorsReader<'a>
-        ensures { result ≡ self.now.value.operators }
+        ensures all { result ≡ self.now.value.operators }
+        ensures nested { Nests Sequence (roles self.now.value.operators) }
     {
         self.code.operators()
+    }
+
+    /// The operators as an expression.
+    pub fn expression(&self) -> &Expression<'a>
+        ensures operators { result.now.items ≡ self.now.value.operators }
+        ensures end { result.now.end ≡ self.now.value.end }
+    {
+        &self.code
     }
 
     /// The place of the body's first byte.
@@ -196,7 +207,7 @@ fn read_bodies<'a>(alloc: Global, cursor: &mut Cursor<'a>) -> Result<Vec<Body<'a
     let count = cursor.u32()?;
     let mut bodies = Vec::new(alloc);
     for _ in 0..count {
-        bodies.push(Body::read_entry(cursor)?)?;
+        bodies.push(Body::read_entry(alloc, cursor)?)?;
     }
     Ok(bodies)
 }

@@ -10,7 +10,7 @@ use std::alloc::Global;
 use std::marker::Model;
 use wasmprinter_bytes::bytes::Cursor;
 use wasmprinter_bytes::lists::{SpelledIn, read_list};
-use wasmprinter_bytes::{Error, Malformed};
+use wasmprinter_error::{Error, Malformed};
 
 /// The kind of a function that is exported.
 const FUNC_KIND: u8 = 0x00;

@@ -6,9 +6,9 @@ ghost use Rattle.wasmprinter_wasm.specs.Contents.{TakesIndices, TakesHeld};
 
 use crate::sections::expect_end;
 use std::alloc::Global;
-use wasmprinter_bytes::Error;
 use wasmprinter_bytes::bytes::Cursor;
 use wasmprinter_bytes::lists::Items;
+use wasmprinter_error::Error;
 
 /// The most functions that a module may define.
 const MOST_FUNCTIONS: u32 = 1_000_000;

@@ -1,4 +1,4 @@
-use Rattle.wasmprinter_bytes.specs.PrintsLaws.{lacks_none, next_written, next_fails}
+use Rattle.wasmprinter_print.specs.PrintsLaws.{lacks_none, next_written, next_fails}
 use Rattle.wasmprinter.proofs.Fields.{numbered-next, numbered-none}
 use Rattle.wasmprinter.proofs.sections.write_each.Goals as goal
 

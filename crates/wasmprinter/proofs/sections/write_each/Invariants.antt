@@ -1,6 +1,6 @@
 use Rattle.std.specs.Prelude.{drop}
-use Rattle.wasmprinter_spec.specs.Layout.{numbered}
-use Rattle.wasmprinter_bytes.specs.Prints.{Lacks}
+use Rattle.wasmprinter_spec.specs.Layout.Groups.{numbered}
+use Rattle.wasmprinter_print.specs.Prints.{Lacks}
 use Rattle.wasmprinter.proofs.sections.write_each.Given as goal
 
 abbrev pub invariant-loop-number : goal.invariant-loop-number

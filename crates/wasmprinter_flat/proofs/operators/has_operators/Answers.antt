@@ -1,6 +1,7 @@
 use Rattle.std.proofs.Common.{sym, ◌∙◌}
-use Rattle.wasmprinter_flat.proofs.Bodies.{operators-break}
+use Rattle.wasmprinter_flat.proofs.Walking.{operators-break}
 use Rattle.wasmprinter_flat.proofs.operators.has_operators.Goals as goal
 
 pub returns : goal.returns
-returns c = c.is_some.ensures ∙ sym (operators-break c.args.operators c.next.new.self c.next.result c.next.ensures.steps)
+returns c signature nesting =
+    rw (← c.operators.ensures.all) (c.is_some.ensures ∙ sym (operators-break signature nesting c.operators.result c.next.new.self c.next.result c.next.ensures.steps))

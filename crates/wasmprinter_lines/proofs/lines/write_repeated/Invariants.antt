@@ -1,7 +1,7 @@
 use Rattle.std.proofs.Common.{◌-◌, ◌∷◌, []}
 use Rattle.wasmprinter_spec.specs.Call.{Text}
 use Rattle.wasmprinter_spec.specs.Piece.{repeated}
-use Rattle.wasmprinter_bytes.specs.Emits.{Owes}
+use Rattle.wasmprinter_print.specs.Emits.{Owes}
 use Rattle.wasmprinter_lines.proofs.lines.write_repeated.Given as goal
 
 abbrev pub invariant-loop : goal.invariant-loop

@@ -1,16 +1,20 @@
-use Rattle.wasmprinter_ops.proofs.Skipping.{skipped_none, skipped_more, skipped_all, takes_byte, at_end}
+use Rattle.std.proofs.Common.{subst, ap, sym}
+use Rattle.wasmprinter_spec.specs.Operator.{Operator}
+use Rattle.wasmprinter_spec.specs.Nesting.{Open, advance}
+use Rattle.wasmprinter_ops.specs.Shapes.{role_view}
+use Rattle.wasmprinter_ops.specs.Nesting.{Steps}
+use Rattle.wasmprinter_ops.specs.declared.nesting.Step.{Step}
+use Rattle.wasmprinter_ops.proofs.Skipping.{Skipped, skipped_none, takes_byte, on_more}
 use Rattle.wasmprinter_ops.proofs.expression.skip_operators.Goals as goal
 
-pub loop-cursor-init : goal.loop-cursor-init
-loop-cursor-init c = skipped_none c.args.cursor.now
+pub loop-blocks-init : goal.loop-blocks-init
+loop-blocks-init c = subst (λ (s : Open). Skipped c.args.cursor.now s c.args.cursor.now) (sym c.new-blocks.ensures) (skipped_none c.args.cursor.now)
 
-pub loop-cursor-smaller : goal.loop-cursor-smaller
-loop-cursor-smaller c = takes_byte c.loop-cursor.cursor c.read.new.cursor c.in_ok-read.field-0 c.in_ok-read.ensures.reads
+pub loop-blocks-smaller : goal.loop-blocks-smaller
+loop-blocks-smaller c = takes_byte c.loop-blocks.cursor c.read.new.cursor c.in_ok-operator.operator c.in_ok-operator.ensures.reads
 
-pub loop-cursor-preserved : goal.loop-cursor-preserved
-loop-cursor-preserved c = skipped_more c.args.cursor.now c.loop-cursor.cursor c.read.new.cursor c.in_ok-read.field-0 c.in_ok-read.ensures.reads c.loop-cursor.invariant
-
-pub returns-clause-reads : goal.returns-clause-reads
-returns-clause-reads c =
-    let e = at_end c.loop-cursor.cursor.bytes c.peek.result c.peek.ensures c.loop-cursor-test.ensures in
-    skipped_all c.args.cursor.now c.loop-cursor.cursor e.0 e.1 c.loop-cursor.invariant
+pub loop-blocks-preserved : goal.loop-blocks-preserved
+loop-blocks-preserved c =
+    on_more c.args.cursor.now c.loop-blocks.blocks c.loop-blocks.cursor c.read.new.cursor c.in_ok-operator.operator c.operator.inside.opcode (role_view c.role.result) c.advance.new.self
+    c.in_ok-operator.ensures.reads c.loop-blocks.invariant c.role.ensures (ap (λ (x : Operator). x.opcode) c.operator.view_is)
+    (subst (λ (t : Step). Steps (advance c.loop-blocks.blocks (role_view c.role.result)) t c.advance.new.self) c.in-On.is c.in_ok-advance.ensures)

@@ -1,4 +1,4 @@
-use Rattle.wasmprinter_bytes.specs.PrintsLaws.{lacks_none, next_written, next_fails}
+use Rattle.wasmprinter_print.specs.PrintsLaws.{lacks_none, next_written, next_fails}
 use Rattle.wasmprinter_text.proofs.TypeLists.{types-none, types-next}
 use Rattle.wasmprinter_text.proofs.types.type_list.Goals as goal
 

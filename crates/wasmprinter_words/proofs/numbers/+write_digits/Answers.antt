@@ -1,5 +1,5 @@
 use Rattle.std.proofs.Common.{arith}
-use Rattle.wasmprinter_bytes.specs.EmitsLaws.{then_text, ends_text}
+use Rattle.wasmprinter_print.specs.EmitsLaws.{then_text, ends_text}
 use Rattle.wasmprinter_words.proofs.Digits.{digits-one, digits-more, fits-base}
 use Rattle.wasmprinter_words.proofs.numbers.+write_digits.Goals as goal
 

@@ -3,7 +3,7 @@ use Rattle.std.specs.Prelude.{flat_map}
 use Rattle.std.specs.Str.Iter.{chars_rest}
 use Rattle.wasmprinter_spec.specs.Call.{Text}
 use Rattle.wasmprinter_spec.specs.Quoted.{char_text}
-use Rattle.wasmprinter_bytes.specs.Emits.{Owes}
+use Rattle.wasmprinter_print.specs.Emits.{Owes}
 use Rattle.wasmprinter_words.proofs.strings.write_chars.Given as goal
 
 abbrev pub invariant-loop-c : goal.invariant-loop-c

@@ -33,3 +33,8 @@ pub returns-clause-printed : goal.returns-clause-printed
 returns-clause-printed g c =
     written_printed g.P.Print.meaning c.args.self.now c.args.wasm.now c.in_ok-module.module c.in_ok-module.ensures.ok.0 c.in_ok-module.ensures.ok.1 c.args.printer.now c.write_module.new.p
     (rw c.self.view_is at c.in_ok-write_module.ensures)
+
+pub returns-in_err-write_module-clause-refused : goal.returns-in_err-write_module-clause-refused
+returns-in_err-write_module-clause-refused g c =
+    handed_on (IsTrueOf c.args.wasm.now) c.from_residual-in_err-write_module.result _ c.from_residual-in_err-write_module.ensures.1
+    (record { placed = c.in_ok-module.module; spelled = c.in_ok-module.ensures.ok.0; within = c.in_ok-module.ensures.ok.1 })

@@ -1,20 +1,20 @@
 use Rattle.std.proofs.Common.{arith, sym, ◌∙◌}
 use Rattle.std.proofs.lemmas.Result.{err_from_is_err_and}
-use Rattle.wasmprinter_wasm.specs.Contents.{section_seen}
+use Rattle.wasmprinter_wasm.specs.Contents.{section_view}
 use Rattle.wasmprinter_wasm.proofs.Gathering.{takes_byte, gathering_more, gathering_unordered, gathering_fault}
 use Rattle.wasmprinter_wasm.proofs.decoder.Gathered.read.Goals as goal
 
 pub sections-smaller : goal.sections-smaller
-sections-smaller c = takes_byte c.sections.cursor (section_seen c.in_ok-section.section, c.read.new.cursor) c.in_ok-section.ensures.reads.0
+sections-smaller c = takes_byte c.sections.cursor (section_view c.in_ok-section.section, c.read.new.cursor) c.in_ok-section.ensures.reads.0
 
 pub sections-preserved : goal.sections-preserved
 sections-preserved c =
-    gathering_more c.args.cursor.now c.sections.cursor c.read.new.cursor c.sections.gathered (section_seen c.in_ok-section.section) c.in_ok-section.ensures.reads.0 c.sections.invariant
+    gathering_more c.args.cursor.now c.sections.cursor c.read.new.cursor c.sections.gathered (section_view c.in_ok-section.section) c.in_ok-section.ensures.reads.0 c.sections.invariant
     c.in_ok-section.ensures.reads.1 (sym c.may_precede.ensures ∙ c.if-not-may_precede.false) c.in_ok-section.ensures.end c.add.new.self c.add.ensures
 
 pub returns-then-not-may_precede : goal.returns-then-not-may_precede
 returns-then-not-may_precede c = (
-  gathering_unordered c.args.cursor.now c.sections.cursor c.read.new.cursor c.sections.gathered (section_seen c.in_ok-section.section) c.in_ok-section.ensures.reads.0 c.sections.invariant (sym c.may_precede.ensures ∙ c.if-not-may_precede.true),
+  gathering_unordered c.args.cursor.now c.sections.cursor c.read.new.cursor c.sections.gathered (section_view c.in_ok-section.section) c.in_ok-section.ensures.reads.0 c.sections.invariant (sym c.may_precede.ensures ∙ c.if-not-may_precede.true),
   omega (arith, c.sections.invariant.ends, c.place-place.ensures),
 )
 

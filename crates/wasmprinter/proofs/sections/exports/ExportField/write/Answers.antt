@@ -1,4 +1,4 @@
-use Rattle.wasmprinter_bytes.specs.PrintsLaws.{both_pieces, pieces_end}
+use Rattle.wasmprinter_print.specs.PrintsLaws.{both_pieces, pieces_end}
 use Rattle.wasmprinter.proofs.Fields.{export-out}
 use Rattle.wasmprinter.proofs.sections.exports.ExportField.write.Goals as goal
 

@@ -1,0 +1,47 @@
+-- The digits of a fraction, one after another.
+use Rattle.std.proofs.Common.{◌≡◌, ℕ, zero, suc, ◌+◌, ◌*◌, ◌/◌, ◌%◌, ◌^◌, ◌-◌, ◌<◌, ◌≤◌, [], ◌∷◌, refl, ap, ◌∙◌, arith, pow_pos, pow-add, mod-lt, mul-le-mul_left, ne_eqb, false}
+use Rattle.std.proofs.Math.Nat.{pow-zero}
+use Rattle.std.proofs.lemmas.Nat.{div_below}
+use Rattle.std.specs.Fmt.{digit_glyph}
+use Rattle.wasmprinter_spec.specs.Float.{Width}
+use Rattle.wasmprinter_spec.specs.FloatText.{digits_behind, digit_count, fraction_digits, behind_point}
+use Rattle.wasmprinter_spec.proofs.Fractions.{power_16, filled_fraction-below}
+
+pub digits_behind-none : (count : ℕ) → digits_behind count 0 ≡ []
+unfolding digits_behind
+digits_behind-none zero = refl
+digits_behind-none (suc count) = refl
+
+-- a number that is not 0 has a digit
+pub count_some : (count n : ℕ) → 0 < n → n < 16 ^ count → 1 ≤ count
+count_some zero n some h = absurd (omega (arith, pow-zero 16))
+count_some (suc count) n some h = omega arith
+
+-- the first digit, and those of the rest
+pub digits_behind-more : (count n : ℕ) → 0 < n → n < 16 ^ count →
+    digits_behind count n ≡ digit_glyph false (n / 2 ^ (4 * (count - 1))) ∷ digits_behind (count - 1) (n % 2 ^ (4 * (count - 1)))
+unfolding digits_behind
+digits_behind-more zero n some h = absurd (omega (arith, pow-zero 16))
+digits_behind-more (suc count) n some h =
+    let last : suc count - 1 ≡ count = omega arith in
+    rw (last, ne_eqb n 0 (λ e. omega arith), power_16 count)
+
+pub digit_below : (count n : ℕ) → 1 ≤ count → n < 16 ^ count → n / 2 ^ (4 * (count - 1)) < 16
+digit_below count n some h =
+    let next : 4 * count ≡ 4 * (count - 1) + 4 = omega arith in
+    let top : 16 ^ count ≡ 2 ^ (4 * (count - 1)) * 16 = power_16 count ∙ ap (λ t. 2 ^ t) next ∙ pow-add 2 (4 * (count - 1)) 4 in
+    div_below n (2 ^ (4 * (count - 1))) 16 (pow_pos (4 * (count - 1))) (omega arith)
+
+pub rest_below : (count n : ℕ) → n % 2 ^ (4 * (count - 1)) < 16 ^ (count - 1)
+rest_below count n = rw (power_16 (count - 1)) (mod-lt n (pow_pos (4 * (count - 1))))
+
+pub behind_point-none : (w : Width) → behind_point (fraction_digits w 0) ≡ []
+behind_point-none w =
+    let none : 0 * 2 ^ (4 * digit_count w - w.fraction) ≡ 0 = omega arith in
+    rw (none, digits_behind-none (digit_count w))
+
+pub behind_point-some : (w : Width) (fraction : ℕ) → 0 < fraction → fraction < 2 ^ w.fraction → behind_point (fraction_digits w fraction) ≡ 46 ∷ fraction_digits w fraction
+behind_point-some w fraction some h =
+    let up : fraction * 1 ≤ fraction * 2 ^ (4 * digit_count w - w.fraction) = mul-le-mul_left fraction (pow_pos (4 * digit_count w - w.fraction)) in
+    let more = digits_behind-more (digit_count w) (fraction * 2 ^ (4 * digit_count w - w.fraction)) (omega arith) (filled_fraction-below w fraction h) in
+    rw more

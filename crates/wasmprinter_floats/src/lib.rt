@@ -1,0 +1,6 @@
+//! Floating point numbers of the text format (section 6.3 of the WebAssembly Core Specification, "Floating-Point"), by their
+//! bits, in their styles, over any printer. All arithmetic is on whole numbers.
+#![tactic(auto)]
+
+pub mod floats;
+mod format;

@@ -1,0 +1,60 @@
+-- The calls of a float lex to one word, its text: a remark behind it is a comment.
+use Rattle.std.proofs.Common.{◌≡◌, ℕ, ◌<◌, ◌*◌, ◌/◌, ◌%◌, ◌^◌, ◌-◌, Bool, true, false, cond, eqb, ltb, List, [], ◌∷◌, ◌++◌, refl, sym, ap, ◌∙◌, append_assoc, append-nil, codes}
+use Rattle.wasmprinter_spec.specs.Character.{class}
+use Rattle.wasmprinter_spec.specs.Call.{Text, text_of}
+use Rattle.wasmprinter_spec.specs.Token.{word, Clear, lex}
+use Rattle.wasmprinter_spec.specs.Float.{Width, IsWidth, greatest_exponent, sign_bit}
+use Rattle.wasmprinter_spec.specs.FloatText.{special_text, finite_text, unsigned_text, float_text, remark, special_calls, finite_calls, unsigned_calls, float_calls}
+use Rattle.wasmprinter_lexical.proofs.Runs.{is_word, delimited, word_lexes}
+use Rattle.wasmprinter_lexical.proofs.Floats.{is_word-float_text}
+
+-- a blank and the remark are nothing
+remark_lexes : (negative : Bool) (fraction : ℕ) (rest : List ℕ) → lex Clear (32 ∷ (remark negative fraction ++ rest)) ≡ lex Clear rest
+unfolding lex class
+remark_lexes negative fraction rest = by (eqb fraction 0) negative
+  where
+    by : (b c : Bool) → lex Clear (32 ∷ (cond b (cond c (codes "(;=-inf;)") (codes "(;=inf;)")) (codes "(;=NaN;)") ++ rest)) ≡ lex Clear rest
+    by true true = refl
+    by true false = refl
+    by false c = refl
+
+special_lexes : (w : Width) (front : List ℕ) (negative : Bool) (fraction : ℕ) (rest : List ℕ) → is_word (front ++ special_text w fraction) ≡ true →
+    lex Clear (front ++ (text_of (special_calls w negative fraction) ++ rest)) ≡ word (front ++ special_text w fraction) ∷ lex Clear rest
+unfolding class
+special_lexes w front negative fraction rest h =
+    let t : List ℕ = special_text w fraction in
+    let r : List ℕ = remark negative fraction in
+    let shape : front ++ (text_of (special_calls w negative fraction) ++ rest) ≡ (front ++ t) ++ (32 ∷ (r ++ rest)) =
+    simp (append_assoc, append-nil) in
+    ap (lex Clear) shape ∙ word_lexes (front ++ t) (32 ∷ (r ++ rest)) h refl ∙ ap (λ x. word (front ++ t) ∷ x) (remark_lexes negative fraction rest)
+
+finite_lexes : (w : Width) (front : List ℕ) (exponent fraction : ℕ) (rest : List ℕ) → is_word (front ++ finite_text w exponent fraction) ≡ true → delimited rest ≡ true →
+    lex Clear (front ++ (text_of (finite_calls w exponent fraction) ++ rest)) ≡ word (front ++ finite_text w exponent fraction) ∷ lex Clear rest
+finite_lexes w front exponent fraction rest h d =
+    let t : List ℕ = finite_text w exponent fraction in
+    let shape : front ++ (text_of (finite_calls w exponent fraction) ++ rest) ≡ (front ++ t) ++ rest =
+    ap (λ x. front ++ (x ++ rest)) (append-nil t) ∙ sym (append_assoc front t rest) in
+    ap (lex Clear) shape ∙ word_lexes (front ++ t) rest h d
+
+unsigned_lexes : (w : Width) (front : List ℕ) (negative : Bool) (exponent fraction : ℕ) (rest : List ℕ) → is_word (front ++ unsigned_text w exponent fraction) ≡ true → delimited rest ≡ true →
+    lex Clear (front ++ (text_of (unsigned_calls w negative exponent fraction) ++ rest)) ≡ word (front ++ unsigned_text w exponent fraction) ∷ lex Clear rest
+unfolding unsigned_calls unsigned_text
+unsigned_lexes w front negative exponent fraction rest h d = by (eqb exponent (greatest_exponent w)) h
+  where
+    by : (b : Bool) → is_word (front ++ cond b (special_text w fraction) (finite_text w exponent fraction)) ≡ true
+        → lex Clear (front ++ (text_of (cond b (special_calls w negative fraction) (finite_calls w exponent fraction)) ++ rest)) ≡ word (front ++ cond b (special_text w fraction) (finite_text w exponent fraction)) ∷ lex Clear rest
+    by true h = special_lexes w front negative fraction rest h
+    by false h = finite_lexes w front exponent fraction rest h d
+
+-- the text of a float's calls is one word
+pub float_lexes : (w : Width) → IsWidth w → (bits : ℕ) (rest : List ℕ) → bits < 2 * sign_bit w → delimited rest ≡ true →
+    lex Clear (text_of (float_calls w bits) ++ rest) ≡ word (float_text w bits) ∷ lex Clear rest
+unfolding float_calls float_text
+float_lexes w is bits rest h d = by (ltb bits (sign_bit w)) (is_word-float_text w is bits h)
+  where
+    by : (b : Bool)
+        → is_word (cond b (unsigned_text w (bits / 2 ^ w.fraction) (bits % 2 ^ w.fraction)) (45 ∷ unsigned_text w ((bits - sign_bit w) / 2 ^ w.fraction) ((bits - sign_bit w) % 2 ^ w.fraction))) ≡ true
+        → lex Clear (text_of (cond b (unsigned_calls w false (bits / 2 ^ w.fraction) (bits % 2 ^ w.fraction)) (Text (codes "-") ∷ unsigned_calls w true ((bits - sign_bit w) / 2 ^ w.fraction) ((bits - sign_bit w) % 2 ^ w.fraction))) ++ rest)
+        ≡ word (cond b (unsigned_text w (bits / 2 ^ w.fraction) (bits % 2 ^ w.fraction)) (45 ∷ unsigned_text w ((bits - sign_bit w) / 2 ^ w.fraction) ((bits - sign_bit w) % 2 ^ w.fraction))) ∷ lex Clear rest
+    by true k = unsigned_lexes w [] false (bits / 2 ^ w.fraction) (bits % 2 ^ w.fraction) rest k d
+    by false k = unsigned_lexes w (45 ∷ []) true ((bits - sign_bit w) / 2 ^ w.fraction) ((bits - sign_bit w) % 2 ^ w.fraction) rest k d

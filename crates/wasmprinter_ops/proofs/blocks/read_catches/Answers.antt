@@ -1,0 +1,15 @@
+use Rattle.std.proofs.Common.{◌≡◌, refl}
+use Rattle.wasmprinter_spec.specs.Operator.{Catch, One, OneRef, All, AllRef}
+use Rattle.wasmprinter_spec.specs.Instructions.{catch}
+use Rattle.wasmprinter_ops.specs.Blocks.{catch_view, catch_of_view}
+use Rattle.wasmprinter_ops.proofs.Made.{reads_made}
+use Rattle.wasmprinter_ops.proofs.blocks.read_catches.Goals as goal
+
+seen_made : (c : Catch) → catch_view (catch_of_view c) ≡ c
+seen_made (One tag label) = refl
+seen_made (OneRef tag label) = refl
+seen_made (All label) = refl
+seen_made (AllRef label) = refl
+
+pub returns-clause-reads : goal.returns-clause-reads
+returns-clause-reads c = reads_made catch_of_view catch_view seen_made catch.parse c.args.cursor.now c.read.new.cursor c.read.result c.read.ensures.reads

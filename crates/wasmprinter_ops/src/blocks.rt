@@ -1,0 +1,95 @@
+//! What operators say of blocks: their types, catch clauses and the labels of `br_table` (sections 2.4 and 5.4).
+ghost use Rattle.std.specs.Prelude.{◌≡◌};
+ghost use Rattle.wasmprinter_spec.specs.Name.{vec};
+ghost use Rattle.wasmprinter_spec.specs.Instructions.{block_type, catch};
+ghost use Rattle.wasmprinter_bytes.specs.Reads.{Reads, IsWithin, end_of};
+ghost use Rattle.wasmprinter_ops.specs.Blocks.{block_type_view, catch_at, catches_view};
+
+use crate::types::{HeapType, ValType, read_type};
+use wasmprinter_bytes::bytes::Cursor;
+use wasmprinter_bytes::lists::{Items, Spelled};
+use wasmprinter_error::Malformed;
+
+/// The first byte of a block type without results.
+const EMPTY: u8 = 0x40;
+
+/// The type of a block (section 5.4, "Control Instructions").
+#[derive(Clone, Copy, Debug, PartialEq, Eq)]
+pub enum BlockType {
+    /// No parameters and no results.
+    Empty,
+    /// One result.
+    Value(ValType),
+    /// The function type with the index.
+    Func(u32),
+}
+
+/// A catch clause of `try_table` (section 5.4, "Control Instructions"): a tag, if it names one, and the label to which it branches.
+#[derive(Clone, Copy, Debug, PartialEq, Eq)]
+pub enum Catch {
+    /// `catch`, of the tag, to the label.
+    One(u32, u32),
+    /// `catch_ref`, of the tag, to the label.
+    OneRef(u32, u32),
+    /// `catch_all`, to the label.
+    All(u32),
+    /// `catch_all_ref`, to the label.
+    AllRef(u32),
+}
+
+/// The labels of a `br_table` (section 5.4, "Control Instructions"), without the one for all other numbers. They are read again as they
+/// are asked for.
+pub type Targets<'a> = Items<'a, u32>;
+
+/// The catch clauses of a `try_table` (section 5.4, "Control Instructions"). They are read again as they are asked for.
+pub type Catches<'a> = Items<'a, Catch>;
+
+impl Spelled for Catch {
+    ghost parse = { catch_at };
+
+    fn read(cursor: &mut Cursor) -> Result<Catch, Malformed> {
+        let place = cursor.place();
+        match cursor.u8()? {
+            0x00 => {
+                let tag = cursor.u32()?;
+                Ok(Catch::One(tag, cursor.u32()?))
+            }
+            0x01 => {
+                let tag = cursor.u32()?;
+                Ok(Catch::OneRef(tag, cursor.u32()?))
+            }
+            0x02 => Ok(Catch::All(cursor.u32()?)),
+            0x03 => Ok(Catch::AllRef(cursor.u32()?)),
+            _ => Err(Malformed { place }),
+        }
+    }
+}
+
+/// Reads a count and so many catch clauses.
+pub(crate) fn read_catches<'a>(cursor: &mut Cursor<'a>) -> Result<Catches<'a>, Malformed>
+    ensures reads { Reads catches_view (vec catch).parse cursor.old result cursor.new }
+    ensures within { IsWithin cursor.old result }
+    ensures end { end_of cursor.new ≡ end_of cursor.old }
+{
+    Catches::read(cursor)
+}
+
+/// Reads the type of a block: the byte 40, a value type, or a type index.
+pub(crate) fn read_block_type(cursor: &mut Cursor) -> Result<BlockType, Malformed>
+    ensures reads { Reads block_type_view block_type.parse cursor.old result cursor.new }
+    ensures within { IsWithin cursor.old result }
+    ensures end { end_of cursor.new ≡ end_of cursor.old }
+{
+    let place = cursor.place();
+    let Some(first) = cursor.peek() else {
+        return Err(Malformed { place });
+    };
+    if first == EMPTY {
+        cursor.u8()?;
+        Ok(BlockType::Empty)
+    } else if ValType::begins(first) {
+        Ok(BlockType::Value(read_type(cursor)?))
+    } else {
+        Ok(BlockType::Func(HeapType::read_index(cursor)?))
+    }
+}

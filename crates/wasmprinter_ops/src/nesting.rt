@@ -1,0 +1,121 @@
+//! How operators nest (section 5.4, "Control Instructions"): which blocks are open behind the operators that were read.
+ghost use Rattle.std.specs.Prelude.{◌≡◌, IfOk};
+ghost use Rattle.wasmprinter_spec.specs.Nesting.{Enter, Become, at_start, left, turned};
+ghost use Rattle.wasmprinter_ops.specs.Nesting.{frame_view, Steps, Advances};
+ghost use Rattle.wasmprinter_ops.specs.Shapes.{role_view};
+
+use crate::opcode::Role;
+use std::alloc::{AllocError, Global};
+use std::marker::Model;
+
+/// An open block, by what may close it or go on with it.
+#[derive(Clone, Copy, Debug, PartialEq, Eq)]
+enum Frame {
+    /// Only `end` closes it.
+    Block,
+    /// An `if`, which may get an `else`.
+    If,
+    /// A `try` before its first handler, which `delegate` may close.
+    Try,
+    /// A `catch`, behind which other handlers may stand.
+    Catch,
+}
+
+/// What an operator does to the blocks that are open.
+#[derive(Clone, Copy, Debug, PartialEq, Eq)]
+pub(crate) enum Step {
+    /// Blocks are open behind it.
+    On,
+    /// It closes the last of them.
+    Stop,
+    /// It can't stand there.
+    Refused,
+}
+
+/// The blocks that are open.
+#[derive(Drop)]
+pub(crate) struct Blocks {
+    innermost: Frame,
+    /// Those around the innermost, from the outside on.
+    outer: Vec<Frame>,
+}
+
+impl Model for Blocks {
+    ghost use Rattle.wasmprinter_spec.specs.Nesting.{Open, opened};
+    ghost use Rattle.wasmprinter_ops.specs.Nesting.{frame_view, frames_view};
+
+    ghost Value = { Open };
+
+    ghost view = { λ b. opened (frame_view b.innermost) (frames_view b.outer.items) };
+}
+
+impl Blocks {
+    /// An expression of which nothing has been read.
+    pub(crate) fn new(alloc: Global) -> Self
+        ensures { result ≡ at_start }
+    {
+        Blocks {
+            innermost: Frame::Block,
+            outer: Vec::new(alloc),
+        }
+    }
+
+    /// Opens a block.
+    fn enter(&mut self, frame: Frame) -> Result<Step, AllocError>
+        ensures { IfOk result (λ s. Steps (turned (Enter (frame_view frame)) self.old) s self.new) }
+    {
+        self.outer.push(self.innermost)?;
+        self.innermost = frame;
+        Ok(Step::On)
+    }
+
+    /// Goes on with the innermost block.
+    fn go_on(&mut self, frame: Frame) -> Step
+        ensures { Steps (turned (Become (frame_view frame)) self.old) result self.new }
+    {
+        self.innermost = frame;
+        Step::On
+    }
+
+    /// Closes the innermost block.
+    fn leave(&mut self) -> Step
+        ensures { Steps (left self.old.outer) result self.new }
+    {
+        match self.outer.pop() {
+            Some(frame) => {
+                self.innermost = frame;
+                Step::On
+            }
+            None => Step::Stop,
+        }
+    }
+
+    /// Passes by an operator of the role. Memory is needed for one that opens a block.
+    pub(crate) fn advance(&mut self, role: Role) -> Result<Step, AllocError>
+        ensures { Advances self.old (role_view role) result self.new }
+    {
+        match role {
+            Role::Plain => Ok(Step::On),
+            Role::Opens => self.enter(Frame::Block),
+            Role::OpensIf => self.enter(Frame::If),
+            Role::OpensTry => self.enter(Frame::Try),
+            Role::Ends => Ok(self.leave()),
+            Role::Turns => match self.innermost {
+                Frame::If => Ok(self.go_on(Frame::Block)),
+                Frame::Block | Frame::Try | Frame::Catch => Ok(Step::Refused),
+            },
+            Role::Catches => match self.innermost {
+                Frame::Try | Frame::Catch => Ok(self.go_on(Frame::Catch)),
+                Frame::Block | Frame::If => Ok(Step::Refused),
+            },
+            Role::CatchesAll => match self.innermost {
+                Frame::Try | Frame::Catch => Ok(self.go_on(Frame::Block)),
+                Frame::Block | Frame::If => Ok(Step::Refused),
+            },
+            Role::Delegates => match self.innermost {
+                Frame::Try => Ok(self.leave()),
+                Frame::Block | Frame::If | Frame::Catch => Ok(Step::Refused),
+            },
+        }
+    }
+}

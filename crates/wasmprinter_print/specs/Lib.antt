@@ -1,0 +1,6 @@
+pub mod Emits
+pub mod EmitsLaws
+pub mod Prints
+pub mod PrintsLaws
+pub mod Styles
+pub mod Writers

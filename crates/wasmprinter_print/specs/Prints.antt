@@ -1,0 +1,25 @@
+-- What generic code has made of a layout of pieces.
+use Rattle.std.specs.Prelude.{◌≡◌, List, ◌++◌, Result}
+use Rattle.std.specs.declared.io.Error.{Error as IoError}
+use Rattle.wasmprinter_spec.specs.Options.{Options}
+use Rattle.wasmprinter_spec.specs.Piece.{Piece, all_calls}
+use Rattle.wasmprinter_spec.specs.Meaning.{Meaning}
+use Rattle.wasmprinter_print.specs.Emits.{Made, Ending, Through, ending}
+
+-- the calls of pieces were made, or a beginning of them
+unfoldable pub Laid : {P : Type 0} → Meaning P → Options → P → P → Ending → List Piece → Type 0
+Laid m o old new r pieces = Made m old new r (all_calls o pieces)
+
+-- the same, under the name by which lemmas go
+pub record Written {P : Type 0} (m : Meaning P) (o : Options) (old new : P) (r : Ending) (pieces : List Piece) : Type 0 where
+  pub laid : Laid m o old new r pieces
+
+-- the calls that a function with this result has made are those of the pieces: `Emits` for their calls
+abbrev pub Prints : {P T : Type 0} → Meaning P → Options → P → P → Result T IoError → List Piece → Type 0
+Prints m o old new r pieces = Written m o old new (ending r) pieces
+
+-- so far a function has written `whole` but for the pieces of `rest`
+pub record Lacks {P : Type 0} (m : Meaning P) (o : Options) (old new : P) (whole rest : List Piece) : Type 0 where
+  pub front : List Piece
+  pub written : Written m o old new Through front
+  pub joined : front ++ rest ≡ whole

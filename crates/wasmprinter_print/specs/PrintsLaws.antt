@@ -1,0 +1,78 @@
+-- What follows from `Written`, for any printer: how pieces go together.
+use Rattle.std.specs.Prelude.{◌≡◌, List, [], ◌∷◌, ◌++◌, Result, IsErrAnd}
+use Rattle.std.specs.declared.io.Error.{Error as IoError}
+use Rattle.std.proofs.Common.{refl, sym, ap, ◌∙◌, subst, append_assoc, append-nil}
+use Rattle.wasmprinter_spec.specs.Call.{Call}
+use Rattle.wasmprinter_spec.specs.Options.{Options}
+use Rattle.wasmprinter_spec.specs.Piece.{Piece, calls, all_calls}
+use Rattle.wasmprinter_spec.specs.Meaning.{Meaning}
+use Rattle.wasmprinter_print.specs.Emits.{Made, Ending, Through, AtCall, ending}
+use Rattle.wasmprinter_print.specs.EmitsLaws.{then, ends, fails, nothing}
+use Rattle.wasmprinter_print.specs.Prints.{Laid, Written, Prints, Lacks}
+
+-- calls go through `++`
+pub all_calls-append : (o : Options) (xs ys : List Piece) → all_calls o (xs ++ ys) ≡ all_calls o xs ++ all_calls o ys
+all_calls-append o [] ys = refl
+all_calls-append o (x ∷ xs) ys =
+    ap (λ l. calls o x ++ l) (all_calls-append o xs ys) ∙ sym (append_assoc (calls o x) (all_calls o xs) (all_calls o ys))
+
+-- what was written of pieces was made of their calls
+pub written : {P : Type 0} (m : Meaning P) {o : Options} {a t : P} {r : Ending} {xs : List Piece} →
+    Written m o a t r xs → Made m a t r (all_calls o xs)
+unfolding Laid
+written m v = v.laid
+
+-- and the other way round
+pub writes : {P : Type 0} (m : Meaning P) (o : Options) {a t : P} {r : Ending} (xs : List Piece) →
+    Made m a t r (all_calls o xs) → Written m o a t r xs
+unfolding Laid
+writes m o xs v = record { laid = v }
+
+-- no piece
+pub no_piece : {P : Type 0} (m : Meaning P) (o : Options) (a : P) → Written m o a a Through []
+no_piece m o a = writes m o [] (nothing m a)
+
+-- one piece
+pub one_piece : {P : Type 0} (m : Meaning P) (o : Options) {a t : P} {r : Ending} (x : Piece) →
+    Made m a t r (calls o x) → Written m o a t r (x ∷ [])
+one_piece m o {a} {t} {r} x v =
+    writes m o (x ∷ []) (subst (λ (l : List Call). Made m a t r l) (sym (append-nil (calls o x))) v)
+
+-- pieces, and then others
+pub both_pieces : {P : Type 0} (m : Meaning P) {o : Options} {a s t : P} {r : Ending} {xs ys : List Piece} →
+    Written m o a s Through xs → Written m o s t r ys → Written m o a t r (xs ++ ys)
+both_pieces m {o} {a} {t = t} {r} {xs} {ys} v w =
+    writes m o (xs ++ ys) (subst (λ (l : List Call). Made m a t r l) (sym (all_calls-append o xs ys)) (then m (written m v) (written m w)))
+
+-- pieces of which one failed, whatever would have come after them
+pub pieces_end : {P U : Type 0} (m : Meaning P) {o : Options} {a t : P} (r : Result U IoError) {e : IoError} {xs : List Piece} (ys : List Piece) →
+    IsErrAnd r (λ y. y ≡ e) → Written m o a t (AtCall e) xs → Prints m o a t r (xs ++ ys)
+pieces_end m {o} {a} {t} r {xs = xs} ys f v =
+    writes m o (xs ++ ys) (subst (λ (l : List Call). Made m a t (ending r) l) (sym (all_calls-append o xs ys)) (ends m r (all_calls o ys) f (written m v)))
+
+-- the last pieces, of which one failed
+pub last_pieces_end : {P U : Type 0} (m : Meaning P) {o : Options} {a t : P} (r : Result U IoError) {e : IoError} {xs : List Piece} →
+    IsErrAnd r (λ y. y ≡ e) → Written m o a t (AtCall e) xs → Prints m o a t r xs
+last_pieces_end m {o} r {xs = xs} f v = writes m o xs (fails m r f (written m v))
+
+-- in the end nothing is lacking
+pub lacks_none : {P : Type 0} (m : Meaning P) {o : Options} {a t : P} (whole : List Piece) → Lacks m o a t whole [] → Written m o a t Through whole
+lacks_none m {o} {a} {t} whole l =
+    subst (λ (xs : List Piece). Written m o a t Through xs) (sym (append-nil l.front) ∙ l.joined) l.written
+
+-- the next of what is lacking was written
+pub next_written : {P : Type 0} (m : Meaning P) {o : Options} {a s t : P} {whole : List Piece} (xs ys : List Piece) →
+    Lacks m o a s whole (xs ++ ys) → Written m o s t Through xs → Lacks m o a t whole ys
+next_written m xs ys l v =
+    record { front = l.front ++ xs; written = both_pieces m l.written v; joined = append_assoc l.front xs ys ∙ l.joined }
+
+-- all that was lacking was written, or a beginning of it
+pub rest_written : {P : Type 0} (m : Meaning P) {o : Options} {a s t : P} {r : Ending} {whole : List Piece} (rest : List Piece) →
+    Lacks m o a s whole rest → Written m o s t r rest → Written m o a t r whole
+rest_written m {o} {a} {t = t} {r} rest l v =
+    subst (λ (xs : List Piece). Written m o a t r xs) l.joined (both_pieces m l.written v)
+
+-- writing the next of what is lacking failed
+pub next_fails : {P U : Type 0} (m : Meaning P) {o : Options} {a s t : P} {whole : List Piece} (xs ys : List Piece) (r : Result U IoError) {e : IoError} →
+    Lacks m o a s whole (xs ++ ys) → Written m o s t (AtCall e) xs → IsErrAnd r (λ y. y ≡ e) → Prints m o a t r whole
+next_fails m xs ys r l v f = rest_written m (xs ++ ys) l (pieces_end m r ys f v)

@@ -1,0 +1,13 @@
+-- The styles that code chooses, as calls on a printer know them.
+use Rattle.wasmprinter_spec.specs.Call as call
+use Rattle.wasmprinter_spec.specs.Call.{Style}
+use Rattle.wasmprinter_print.specs.declared.calls.Style.{Style as Chosen}
+use Rattle.wasmprinter_print.specs.declared.calls.Style.TheVariants.{Literal, Name, Keyword, TypeName, Comment}
+
+-- the style that is chosen
+abbrev pub style_of : Chosen → Style
+style_of Literal = call.Literal
+style_of Name = call.Name
+style_of Keyword = call.Keyword
+style_of TypeName = call.TypeName
+style_of Comment = call.Comment

@@ -1,0 +1,66 @@
+//! The calls of a printer, each with what it makes of a layout.
+ghost use Rattle.std.specs.Prelude.{[], ◌∷◌};
+ghost use Rattle.wasmprinter_spec.specs.Call.{Text, Newline, Start, Reset};
+ghost use Rattle.wasmprinter_print.specs.Emits.{Emits};
+ghost use Rattle.wasmprinter_print.specs.Styles.{style_of};
+ghost use Rattle.wasmprinter_spec.specs.Piece.{styled};
+
+use crate::Print;
+use std::io;
+
+/// What a style call chooses, `reset_color` apart.
+#[derive(Clone, Copy)]
+pub enum Style {
+    Literal,
+    Name,
+    Keyword,
+    TypeName,
+    Comment,
+}
+
+/// Writes a piece of text.
+pub fn text<P: Print>(p: &mut P, s: &str) -> io::Result<()>
+    ensures { Emits P.meaning p.old p.new result (Text s.now ∷ []) }
+{
+    p.write_str(s)?;
+    Ok(())
+}
+
+/// Ends a line.
+pub fn feed<P: Print>(p: &mut P) -> io::Result<()>
+    ensures { Emits P.meaning p.old p.new result (Newline ∷ []) }
+{
+    p.newline()?;
+    Ok(())
+}
+
+/// Chooses a style.
+pub fn start<P: Print>(p: &mut P, style: Style) -> io::Result<()>
+    ensures { Emits P.meaning p.old p.new result (Start (style_of style) ∷ []) }
+{
+    match style {
+        Style::Literal => p.start_literal()?,
+        Style::Name => p.start_name()?,
+        Style::Keyword => p.start_keyword()?,
+        Style::TypeName => p.start_type()?,
+        Style::Comment => p.start_comment()?,
+    }
+    Ok(())
+}
+
+/// Goes back to text without a style.
+pub fn reset<P: Print>(p: &mut P) -> io::Result<()>
+    ensures { Emits P.meaning p.old p.new result (Start Reset ∷ []) }
+{
+    p.reset_color()?;
+    Ok(())
+}
+
+/// Writes a piece of text in a style.
+pub fn styled<P: Print>(p: &mut P, style: Style, s: &str) -> io::Result<()>
+    ensures { Emits P.meaning p.old p.new result (styled (style_of style) s.now) }
+{
+    start(p, style)?;
+    text(p, s)?;
+    reset(p)
+}

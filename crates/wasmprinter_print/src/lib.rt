@@ -1,0 +1,139 @@
+//! Printers: what a layout hands its text, lines and styles to.
+ghost use Rattle.std.specs.Prelude.{◌≡◌, ℕ, List, [], ◌∷◌, ◌++◌, Bool, false, Result, IsErrAnd, IsTrue, refl};
+ghost use Rattle.std.specs.declared.io.Error.{Error as IoError};
+ghost use Rattle.wasmprinter_spec.specs.Call.{Call, Text, Newline, Line, Start, Literal, Name, Keyword, TypeName, Comment, Reset};
+ghost use Rattle.wasmprinter_spec.specs.Meaning.{Meaning, Succeeded, Failed};
+ghost use Rattle.wasmprinter_print.specs.Emits.{Does, Claims, Emits, Made, Ending, Through, AtCall};
+ghost use Rattle.wasmprinter_print.specs.EmitsLaws.{then, ends, fails, called, call_fails, nothing, then_text, ends_text};
+ghost use Rattle.wasmprinter_print.specs.Prints.{Written, Prints};
+ghost use Rattle.wasmprinter_print.specs.PrintsLaws.{no_piece, one_piece, both_pieces, pieces_end, last_pieces_end};
+ghost use Rattle.wasmprinter_spec.specs.Options.{Options};
+ghost use Rattle.wasmprinter_spec.specs.Piece.{Piece, calls};
+
+mod calls;
+mod fmt_write;
+
+pub use calls::{Style, feed, reset, start, styled, text};
+pub use fmt_write::PrintFmtWrite;
+use std::io;
+
+/// A destination for the text of a module.
+///
+/// An implementation states what its calls mean: the state that each leaves, when it may fail, and what a failed call leaves.
+/// All that prints is proved against this meaning.
+pub trait Print {
+    ghost meaning: { Meaning Self };
+
+    ghost colors: { Self → Type 0 };
+
+    /// Writes a piece of text.
+    fn write_str(&mut self, s: &str) -> io::Result<()>
+        ensures { Does meaning self.old (Text s.now) self.new result };
+
+    /// Ends a line.
+    fn newline(&mut self) -> io::Result<()>
+        ensures { Does meaning self.old Newline self.new result };
+
+    /// Begins a line, which stands for what lies at this place of the module's bytes, if for anything.
+    fn start_line(&mut self, binary_offset: Option<u64>)
+        ensures { Succeeded meaning self.old (Line binary_offset) self.new };
+
+    /// Asks whether the printer takes a custom section itself, which is then not printed: its name, the place of its data in the
+    /// module's bytes, and the data.
+    fn print_custom_section(
+        &mut self,
+        name: &str,
+        binary_offset: u64,
+        bytes: &[u8],
+    ) -> io::Result<bool>
+        ensures { Claims meaning self.old name.now binary_offset bytes.now self.new result };
+
+    /// Numbers and strings follow.
+    fn start_literal(&mut self) -> io::Result<()>
+        ensures { Does meaning self.old (Start Literal) self.new result };
+
+    /// The name or the number of an item follows.
+    fn start_name(&mut self) -> io::Result<()>
+        ensures { Does meaning self.old (Start Name) self.new result };
+
+    /// A keyword follows.
+    fn start_keyword(&mut self) -> io::Result<()>
+        ensures { Does meaning self.old (Start Keyword) self.new result };
+
+    /// The word of a type follows.
+    fn start_type(&mut self) -> io::Result<()>
+        ensures { Does meaning self.old (Start TypeName) self.new result };
+
+    /// A comment follows.
+    fn start_comment(&mut self) -> io::Result<()>
+        ensures { Does meaning self.old (Start Comment) self.new result };
+
+    /// Text without a style follows.
+    fn reset_color(&mut self) -> io::Result<()>
+        ensures { Does meaning self.old (Start Reset) self.new result };
+
+    /// Whether colours can be written as text, later than they were chosen.
+    fn supports_async_color(&self) -> bool
+        ensures { IsTrue result → colors self.now }
+    {
+        false
+    }
+
+    // The laws follow from `meaning` alone. They stand here so that the proofs of generic code find them.
+
+    // a part of a layout, and then the rest
+    ghost goes_on: { (a s t : Self) (r : Ending) (l k : List Call) → Made meaning a s Through l → Made meaning s t r k → Made meaning a t r (l ++ k) } = { λ a s t r l k x y. then meaning x y };
+
+    // a part that failed, whatever would have come after it
+    ghost breaks_off: { (a t : Self) (r : Result (Unit {0}) IoError) (e : IoError) (l k : List Call) → Made meaning a t (AtCall e) l → IsErrAnd r (λ y. y ≡ e) → Emits meaning a t r (l ++ k) } = { λ a t r e l k x f. ends meaning r k f x };
+
+    // the last part failed
+    ghost fails_at_last: { (a t : Self) (r : Result (Unit {0}) IoError) (e : IoError) (l : List Call) → Made meaning a t (AtCall e) l → IsErrAnd r (λ y. y ≡ e) → Emits meaning a t r l } = { λ a t r e l x f. fails meaning r f x };
+
+    // one call, and then the rest
+    ghost call_then: { (a s t : Self) (r : Ending) (c : Call) (k : List Call) → Made meaning a s Through (c ∷ []) → Made meaning s t r k → Made meaning a t r (c ∷ k) } = { λ a s t r c k x y. then meaning x y };
+
+    // one call that failed, whatever would have come after it
+    ghost call_breaks_off: { (a t : Self) (r : Result (Unit {0}) IoError) (e : IoError) (c : Call) (k : List Call) → Made meaning a t (AtCall e) (c ∷ []) → IsErrAnd r (λ y. y ≡ e) → Emits meaning a t r (c ∷ k) } = { λ a t r e c k x f. ends meaning r k f x };
+
+    // the first part of a text, and then the rest
+    ghost text_then: { (a s t : Self) (r : Ending) (x y : List ℕ) (k : List Call) → Made meaning a s Through (Text x ∷ []) → Made meaning s t r (Text y ∷ k) → Made meaning a t r (Text (x ++ y) ∷ k) } = { λ a s t r x y k v w. then_text meaning v w };
+
+    // the first part of a text that failed, whatever would have come after it
+    ghost text_breaks_off: { (a t : Self) (r : Result (Unit {0}) IoError) (e : IoError) (x y : List ℕ) (k : List Call) → Made meaning a t (AtCall e) (Text x ∷ []) → IsErrAnd r (λ z. z ≡ e) → Emits meaning a t r (Text (x ++ y) ∷ k) } = { λ a t r e x y k v f. ends_text meaning r y k f v };
+
+    // the first byte of a text, and then the rest
+    ghost byte_then: { (a s t : Self) (r : Ending) (x : ℕ) (y : List ℕ) (k : List Call) → Made meaning a s Through (Text (x ∷ []) ∷ []) → Made meaning s t r (Text y ∷ k) → Made meaning a t r (Text (x ∷ y) ∷ k) } = { λ a s t r x y k v w. then_text meaning v w };
+
+    // the first byte of a text that failed, whatever would have come after it
+    ghost byte_breaks_off: { (a t : Self) (r : Result (Unit {0}) IoError) (e : IoError) (x : ℕ) (y : List ℕ) (k : List Call) → Made meaning a t (AtCall e) (Text (x ∷ []) ∷ []) → IsErrAnd r (λ z. z ≡ e) → Emits meaning a t r (Text (x ∷ y) ∷ k) } = { λ a t r e x y k v f. ends_text meaning r y k f v };
+
+    // a call on the printer
+    ghost call_done: { (a t : Self) (c : Call) → Succeeded meaning a c t → Made meaning a t Through (c ∷ []) } = { λ a t c s. called meaning s };
+
+    ghost call_failed: { (a t : Self) (r : Result (Unit {0}) IoError) (e : IoError) (c : Call) → Failed meaning a c e t → IsErrAnd r (λ y. y ≡ e) → Emits meaning a t r (c ∷ []) } = { λ a t r e c v f. call_fails meaning r e f v };
+
+    // no call
+    ghost idle: { (a : Self) → Made meaning a a Through [] } = { λ a. nothing meaning a };
+
+    // a piece, and then the rest
+    ghost piece_then: { (o : Options) (a s t : Self) (r : Ending) (x : Piece) (xs : List Piece) → Written meaning o a s Through (x ∷ []) → Written meaning o s t r xs → Written meaning o a t r (x ∷ xs) } = { λ o a s t r x xs v w. both_pieces meaning v w };
+
+    // a piece that failed, whatever would have come after it
+    ghost piece_breaks_off: { (o : Options) (a t : Self) (r : Result (Unit {0}) IoError) (e : IoError) (x : Piece) (xs : List Piece) → Written meaning o a t (AtCall e) (x ∷ []) → IsErrAnd r (λ y. y ≡ e) → Prints meaning o a t r (x ∷ xs) } = { λ o a t r e x xs v f. pieces_end meaning r xs f v };
+
+    // the last piece
+    ghost piece_done: { (o : Options) (a t : Self) (r : Ending) (x : Piece) → Made meaning a t r (calls o x) → Written meaning o a t r (x ∷ []) } = { λ o a t r x v. one_piece meaning o x v };
+
+    // pieces, and then the rest
+    ghost pieces_then: { (o : Options) (a s t : Self) (r : Ending) (xs ys : List Piece) → Written meaning o a s Through xs → Written meaning o s t r ys → Written meaning o a t r (xs ++ ys) } = { λ o a s t r xs ys v w. both_pieces meaning v w };
+
+    // pieces of which one failed, whatever would have come after them
+    ghost pieces_break_off: { (o : Options) (a t : Self) (r : Result (Unit {0}) IoError) (e : IoError) (xs ys : List Piece) → Written meaning o a t (AtCall e) xs → IsErrAnd r (λ y. y ≡ e) → Prints meaning o a t r (xs ++ ys) } = { λ o a t r e xs ys v f. pieces_end meaning r ys f v };
+
+    // the last pieces, of which one failed
+    ghost pieces_fail_at_last: { (o : Options) (a t : Self) (r : Result (Unit {0}) IoError) (e : IoError) (xs : List Piece) → Written meaning o a t (AtCall e) xs → IsErrAnd r (λ y. y ≡ e) → Prints meaning o a t r xs } = { λ o a t r e xs v f. last_pieces_end meaning r f v };
+
+    // no piece
+    ghost no_pieces: { (o : Options) (a : Self) → Written meaning o a a Through [] } = { λ o a. no_piece meaning o a };
+}

@@ -1,0 +1,79 @@
+-- What readers of rows of items read: single items, items in a row, declarations without identifiers.
+use Rattle.std.proofs.Common.{◌≡◌, ◌⊎◌, inl, inr, ℕ, ◌<◌, ◌^◌, true, List, [], ◌∷◌, ◌++◌, Option, Some, None, ap, refl, decimal, arith, append-nil, map}
+use Rattle.std.proofs.lemmas.Bool.{lt-ltb}
+use Rattle.wasmprinter_spec.specs.Forest.{Forest, End, Word, Group, onto}
+use Rattle.wasmprinter_spec.specs.IndexSpaces.{Identifiers, are_distinct, index_space, index}
+use Rattle.wasmprinter_spec.specs.Text.Items.{one_item, all_items, groups, Declaration, declaration, declarations, ids_of, types_of}
+use Rattle.wasmprinter_lexical.proofs.Numbers.{natural-decimal}
+
+-- ---- one item
+
+-- one word, which is read so
+pub record IsReadWord {A : Type 0} (word : List ℕ → Option A) (f : Forest) (x : A) : Type 0 where
+  pub name : List ℕ
+  pub is : f ≡ Word name End
+  pub reads : word name ≡ Some x
+
+-- one group, which is read so
+pub record IsReadGroup {A : Type 0} (group : Forest → Option A) (f : Forest) (x : A) : Type 0 where
+  pub held : Forest
+  pub is : f ≡ Group held End
+  pub reads : group held ≡ Some x
+
+abbrev pub ReadsItem : {A : Type 0} → (List ℕ → Option A) → (Forest → Option A) → Forest → A → Type 0
+ReadsItem word group f x = IsReadWord word f x ⊎ IsReadGroup group f x
+
+pub one_item-reads : {A : Type 0} (word : List ℕ → Option A) (group : Forest → Option A) (f : Forest) (x : A) → ReadsItem word group f x → one_item word group f ≡ Some x
+one_item-reads word group f x (inl r) = rw (r.is, r.reads)
+one_item-reads word group f x (inr r) = rw (r.is, r.reads)
+
+-- an item before others
+pub all_items-reads : {A : Type 0} (word : List ℕ → Option A) (group : Forest → Option A) (f : Forest) (x : A) (g : Forest) (xs : List A) → ReadsItem word group f x →
+    all_items word group g ≡ Some xs → all_items word group (onto f g) ≡ Some (x ∷ xs)
+all_items-reads word group f x g xs (inl r) e = rw (r.is, r.reads, e)
+all_items-reads word group f x g xs (inr r) e = rw (r.is, r.reads, e)
+
+-- an index in decimal, whatever is declared
+pub index-decimal : (ids : Identifiers) (n : ℕ) → n < 2 ^ 32 → index ids (Word (decimal n) End) ≡ Some n
+index-decimal ids n h = rw (natural-decimal n (omega arith), lt-ltb n (2 ^ 32) h)
+
+-- ---- declarations
+
+-- printed parameters, locals and fields have no identifiers
+abbrev pub unnamed : {A : Type 0} → List A → List (Declaration A)
+unnamed xs = map (declaration None) xs
+
+-- declarations that begin with an item have no identifier
+pub declarations-items : {A : Type 0} (read : Forest → Option (List A)) (word : List ℕ → Option A) (group : Forest → Option A) (f : Forest) (x : A) (g : Forest) (xs : List A) →
+    ReadsItem word group f x → read (onto f g) ≡ Some xs → declarations read (onto f g) ≡ Some (unnamed xs)
+declarations-items read word group f x g xs (inl r) e = let e2 : read (Word r.name g) ≡ Some xs = rw r.is at e in rw (r.is, e2)
+declarations-items read word group f x g xs (inr r) e = let e2 : read (Group r.held g) ≡ Some xs = rw r.is at e in rw (r.is, e2)
+
+pub types_of-unnamed : {A : Type 0} (xs : List A) → types_of (unnamed xs) ≡ xs
+types_of-unnamed [] = refl
+types_of-unnamed (x ∷ xs) = ap (λ ys. x ∷ ys) (types_of-unnamed xs)
+
+-- Declarations without identifiers, before others, are distinct if those are.
+pub unnamed_are_distinct : {A : Type 0} (xs : List A) (ids : Identifiers) → are_distinct ids ≡ true → are_distinct (ids_of (unnamed xs) ++ ids) ≡ true
+unnamed_are_distinct [] ids h = h
+unnamed_are_distinct (x ∷ xs) ids h = unnamed_are_distinct xs ids h
+
+pub unnamed_space : {A : Type 0} (xs : List A) → index_space (ids_of (unnamed xs)) ≡ Some (ids_of (unnamed xs))
+unnamed_space xs =
+    let h : are_distinct (ids_of (unnamed xs) ++ []) ≡ true = unnamed_are_distinct xs [] refl in
+    let k : are_distinct (ids_of (unnamed xs)) ≡ true = rw append-nil at h in
+    rw k
+
+-- two kinds of them are one space too
+pub unnamed_spaces : {A B : Type 0} (xs : List A) (ys : List B) → index_space (ids_of (unnamed xs) ++ ids_of (unnamed ys)) ≡ Some (ids_of (unnamed xs) ++ ids_of (unnamed ys))
+unnamed_spaces xs ys =
+    let second : are_distinct (ids_of (unnamed ys) ++ []) ≡ true = unnamed_are_distinct ys [] refl in
+    let h : are_distinct (ids_of (unnamed xs) ++ ids_of (unnamed ys)) ≡ true = unnamed_are_distinct xs (ids_of (unnamed ys)) (rw append-nil at second) in
+    rw h
+
+-- ---- groups
+
+-- where nothing stands, no group does
+pub no_groups : {A : Type 0} (read : Forest → Option (List A)) (w : List ℕ) → groups read w End ≡ Some ([], End)
+unfolding groups
+no_groups read w = refl

@@ -1,0 +1,20 @@
+-- Rows of groups: the fields of one kind, and what is printed for each with its number.
+use Rattle.std.proofs.Common.{ℕ, ◌<◌, ◌^◌, ◌≤◌, ◌+◌, length, List, [], ◌∷◌, arith, map}
+use Rattle.std.specs.List.{AllByRecursion}
+use Rattle.wasmprinter_spec.specs.Forest.{Forest, End, Group}
+use Rattle.wasmprinter_spec.specs.Piece.{Piece}
+use Rattle.wasmprinter_spec.specs.Layout.Groups.{numbered}
+use Rattle.wasmprinter_lexical.proofs.Pieces.{Bound}
+use Rattle.wasmprinter_lexical.proofs.Writes.{Writes, both_write, nothing_writes}
+
+unfoldable pub rows : List Forest → Forest
+rows [] = End
+rows (g ∷ gs) = Group g (rows gs)
+
+-- fields of one kind, each with its number
+pub numbered_writes : {A : Type 0} (P : A → Type 0) (write : ℕ → A → List Piece) (items : A → Forest) → ((i : ℕ) (x : A) → i < 2 ^ 64 → P x → Writes Bound (write i x) Bound (Group (items x) End)) →
+    (i : ℕ) (xs : List A) → i + length xs ≤ 2 ^ 64 → AllByRecursion P xs → Writes Bound (numbered write i xs) Bound (rows (map items xs))
+unfolding numbered rows
+numbered_writes P write items law i [] small h = nothing_writes
+numbered_writes P write items law i (x ∷ xs) small h =
+    both_write (law i x (omega arith) h.0) (numbered_writes P write items law (i + 1) xs (omega arith) h.1)

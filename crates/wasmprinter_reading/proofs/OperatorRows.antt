@@ -1,0 +1,134 @@
+-- Worked rows: lists of operators that meet what their law asks for, and the texts that therefore read back.
+use Rattle.std.proofs.Common.{◌≡◌, ℕ, zero, suc, pos, inl, ◌∷◌, [], List, Option, Some, None, true, false, refl, sym, ap, ◌∙◌, codes, arith}
+use Rattle.std.specs.Fmt.{digits}
+use Rattle.std.specs.Str.{chars}
+use Rattle.std.proofs.lemmas.Int.{ints}
+use Rattle.wasmprinter_spec.specs.Grammar.{Placed}
+use Rattle.wasmprinter_spec.specs.Types as types
+use Rattle.wasmprinter_spec.specs.Types.{FuncType}
+use Rattle.wasmprinter_spec.specs.Operator.{opcode, Empty, Value, OfType, Immediates, NoImmediates, Block, Index, I32, Operator}
+use Rattle.wasmprinter_spec.specs.Table.{table, control_rows, variable_rows, number_rows}
+use Rattle.wasmprinter_spec.specs.Nesting.{none, plain, block}
+use Rattle.wasmprinter_spec.specs.Module.{without_places}
+use Rattle.wasmprinter_spec.specs.Indexed.{Counts}
+use Rattle.wasmprinter_spec.specs.LabelNames.{label_naming}
+use Rattle.wasmprinter_spec.specs.Quoted.{identifier_text}
+use Rattle.wasmprinter_spec.specs.Character.{class}
+use Rattle.wasmprinter_spec.specs.Call.{text_of}
+use Rattle.wasmprinter_spec.specs.Options.{defaults, IsBlank}
+use Rattle.wasmprinter_spec.specs.Piece.{all_calls, repeated}
+use Rattle.wasmprinter_spec.specs.Layout.Groups.{line_group, line_group_gap}
+use Rattle.wasmprinter_spec.specs.Layout.Types.{heap_pieces, ref_pieces, val_pieces, type_list, list_group, signature_pieces}
+use Rattle.wasmprinter_spec.specs.Layout.Operators.{Form, OverLines, InLine, Setting, mark_pieces, label_pieces, id_pieces, ending_pieces, block_pieces, index_pieces, immediate_pieces, operator_pieces, operators_pieces, expression_pieces}
+use Rattle.wasmprinter_spec.specs.IndexSpaces.{Context}
+use Rattle.wasmprinter_reading.specs.Listed.{AreSignaturesInRange}
+use Rattle.wasmprinter_reading.specs.OperatorLaws.{HaveSameTypes, AreOperators, read_alone}
+use Rattle.wasmprinter_reading.proofs.Operators.ReadBack.{named_labels_read_back}
+
+abbrev operator : ℕ → Immediates → Placed Operator
+operator n i = record { place = 0; value = record { opcode = opcode 0 n; immediates = i } }
+
+-- one type, of a function of one i32
+abbrev signature : ℕ → Option FuncType
+signature zero = Some (record { params = types.I32 ∷ []; results = [] })
+signature (suc n) = None
+
+abbrev setting : Form → Setting
+setting form = record { form = form; signature = signature; nesting = 2 }
+
+abbrev context : Context
+context = record { spaces = record { types = []; functions = []; tags = []; locals = [] }; signature = signature }
+
+abbrev counts : Counts
+counts = record { functions = 0; tags = 0; locals = 0; types = 1; signature = signature }
+
+signatures_in_range : AreSignaturesInRange signature
+signatures_in_range zero = record { params = (tt, tt); results = tt }
+signatures_in_range (suc n) = tt
+
+same_types : (form : Form) → HaveSameTypes (setting form) context counts
+same_types form = record { read = λ i. refl; counted = λ i. refl; in_range = signatures_in_range }
+
+abbrev unnamed : ℕ → Option (List ℕ)
+unnamed n = None
+
+two_blanks : IsBlank defaults.indent
+two_blanks = (inl refl, (inl refl, tt))
+
+-- ---- in one line
+
+abbrev one_result : List (Placed Operator)
+one_result = operator 0x02 (Block (Value types.I32)) ∷ operator 0x41 (I32 (pos 1)) ∷ operator 0x0b NoImmediates ∷ []
+
+one_result_is : AreOperators counts one_result
+unfolding table control_rows variable_rows number_rows
+one_result_is = record {
+  listed = (record { shape = refl; range = tt }, (record { shape = refl; range = (omega (arith, ints), omega (arith, ints)) }, (record { shape = refl; range = tt }, tt)));
+  nested = block (plain none) none;
+  count = omega arith;
+  indexed = (tt, (tt, (tt, tt)));
+}
+
+one_result_text : text_of (all_calls defaults (expression_pieces (setting InLine) (label_naming false unnamed) one_result)) ≡ codes "block (result i32)  (; label = @1 ;) i32.const 1 end"
+unfolding table control_rows variable_rows number_rows expression_pieces operators_pieces operator_pieces immediate_pieces id_pieces block_pieces val_pieces ending_pieces line_group_gap digits
+one_result_text = refl
+
+one_result_reads : read_alone context (codes "block (result i32)  (; label = @1 ;) i32.const 1 end") ≡ Some (without_places one_result)
+one_result_reads =
+    ap (read_alone context) (sym one_result_text) ∙ named_labels_read_back unnamed false (λ i s e. absurd cc) (setting InLine) context counts (same_types InLine) one_result one_result_is defaults two_blanks
+
+-- the result of a block may name a type by its index
+abbrev reference_result : List (Placed Operator)
+reference_result = operator 0x02 (Block (Value (types.Ref (types.ref_type false (types.Index 0))))) ∷ operator 0x0b NoImmediates ∷ []
+
+reference_result_is : AreOperators counts reference_result
+unfolding table control_rows variable_rows number_rows
+reference_result_is = record {
+  listed = (record { shape = refl; range = omega arith }, (record { shape = refl; range = tt }, tt));
+  nested = block none none;
+  count = omega arith;
+  indexed = (omega arith, (tt, tt));
+}
+
+reference_result_text : text_of (all_calls defaults (expression_pieces (setting InLine) (label_naming false unnamed) reference_result)) ≡ codes "block (result (ref 0))  (; label = @1 ;) end"
+unfolding table control_rows variable_rows number_rows expression_pieces operators_pieces operator_pieces immediate_pieces id_pieces block_pieces val_pieces ref_pieces heap_pieces ending_pieces line_group_gap digits
+reference_result_text = refl
+
+reference_result_reads : read_alone context (codes "block (result (ref 0))  (; label = @1 ;) end") ≡ Some (without_places reference_result)
+reference_result_reads =
+    ap (read_alone context) (sym reference_result_text)
+    ∙ named_labels_read_back unnamed false (λ i s e. absurd cc) (setting InLine) context counts (same_types InLine) reference_result reference_result_is defaults two_blanks
+
+-- ---- over lines
+
+abbrev branches : List (Placed Operator)
+branches = operator 0x03 (Block (OfType 0)) ∷ operator 0x02 (Block Empty) ∷ operator 0x0c (Index 1) ∷ operator 0x0b NoImmediates ∷ operator 0x0c (Index 1) ∷ operator 0x0b NoImmediates ∷ []
+
+abbrev branches_text : List ℕ
+branches_text = codes "\n    loop $#label0 (type 0) (param i32)\n      block $#label1\n        br $#label0\n      end\n      br 1\n    end"
+
+branches_are : AreOperators counts branches
+unfolding table control_rows variable_rows number_rows
+branches_are = record {
+  listed = (
+    record { shape = refl; range = omega arith },
+    (
+      record { shape = refl; range = tt },
+      (
+        record { shape = refl; range = omega arith },
+        (record { shape = refl; range = tt }, (record { shape = refl; range = omega arith }, (record { shape = refl; range = tt }, tt))),
+      ),
+    ),
+  );
+  nested = block (block (plain none) (plain none)) none;
+  count = omega arith;
+  indexed = (tt, (tt, (tt, (tt, (tt, (tt, tt))))));
+}
+
+branches_print : text_of (all_calls defaults (expression_pieces (setting OverLines) (label_naming true unnamed) branches)) ≡ branches_text
+unfolding table control_rows variable_rows number_rows expression_pieces operators_pieces operator_pieces immediate_pieces index_pieces label_pieces mark_pieces id_pieces block_pieces signature_pieces list_group type_list val_pieces ending_pieces line_group line_group_gap digits repeated identifier_text chars class
+branches_print = refl
+
+branches_read : read_alone context branches_text ≡ Some (without_places branches)
+branches_read =
+    ap (read_alone context) (sym branches_print) ∙ named_labels_read_back unnamed true (λ i s e. absurd cc) (setting OverLines) context counts (same_types OverLines) branches branches_are defaults two_blanks

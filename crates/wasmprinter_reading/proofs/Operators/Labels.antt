@@ -1,0 +1,250 @@
+-- Labels: a label that is printed by its identifier means the block that is meant, and one that is printed by its number too.
+use Rattle.std.proofs.Common.{◌≡◌, ℕ, zero, suc, ◌<◌, ◌-◌, ◌^◌, Bool, true, false, ◌||◌, cond, List, [], ◌∷◌, Option, Some, None, refl, ap, ◌∙◌, subst, map, length, bytes_eq, chars, decimal, arith, option_map, encode_utf8_all}
+use Rattle.std.specs.Prelude.{IsUtf8}
+use Rattle.std.specs.List.{AllByRecursion}
+use Rattle.std.proofs.Math.Utf8.{scalars}
+use Rattle.std.proofs.lemmas.Bool.{or_parts, both_ways, false_from_ne_true, lt-ltb}
+use Rattle.std.proofs.lemmas.Str.{encodes-chars, scalars-chars, is_utf8-from_IsUtf8}
+use Rattle.wasmprinter_spec.specs.Character.{class}
+use Rattle.wasmprinter_spec.specs.Token.{is_name}
+use Rattle.wasmprinter_spec.specs.Forest.{Forest, End, Word, Name, onto}
+use Rattle.wasmprinter_spec.specs.Labels.{Named, Label, Naming, same_name, hides, is_hidden, AreApart, Target, Around, Own, Nothing, behind, target}
+use Rattle.wasmprinter_spec.specs.IndexSpaces.{Identifiers, declares}
+use Rattle.wasmprinter_spec.specs.Text.Operators.{depth, labels, label, last_apart}
+use Rattle.wasmprinter_spec.specs.Piece.{Gap, Identifier, NameNote}
+use Rattle.wasmprinter_spec.specs.Layout.Operators.{given_pieces, mark_pieces, named_pieces, target_pieces, label_pieces, labels_pieces}
+use Rattle.wasmprinter_lexical.proofs.Runs.{is_word}
+use Rattle.wasmprinter_lexical.proofs.Grown.{onto-End}
+use Rattle.wasmprinter_lexical.proofs.Numbers.{natural-decimal, is_word-decimal}
+use Rattle.wasmprinter_lexical.proofs.Printed.{is_remark, is_remark-decimal}
+use Rattle.wasmprinter_lexical.proofs.Pieces.{Free, Bound}
+use Rattle.wasmprinter_lexical.proofs.Writes.{Writes, writing, then, identifier_writes}
+use Rattle.wasmprinter_reading.specs.Listed.{IsU32}
+use Rattle.wasmprinter_reading.specs.OperatorLaws.{IsGiven, IsNamed, AreNames}
+use Rattle.wasmprinter_reading.proofs.Bytes.{bytes_same, same_bytes}
+use Rattle.wasmprinter_reading.proofs.Operators.Arguments.{AreArguments, arguments_onto}
+use Rattle.wasmprinter_reading.proofs.Operators.Numbers.{index_is_no_word}
+
+-- ---- which labels are open
+
+-- what a reader keeps of labels
+abbrev pub id : Label → Option (List ℕ)
+id None = None
+id (Some n) = Some n.content
+
+abbrev pub ids : List Label → Identifiers
+ids xs = map id xs
+
+-- labels that are open in a list of operators, each named by the blocks around it
+abbrev pub Opened : Naming → List Label → Type 0
+Opened naming [] = Unit {0}
+Opened naming (x ∷ xs) = ((i : ℕ) × (naming i (length xs) ≡ x)) × (length xs < 2 ^ 64) × Opened naming xs
+
+module _ (naming : Naming) (apart : AreApart naming) where
+  -- a label around another is one of a block with fewer blocks around it
+  further_out : (l : ℕ) (xs : List Label) (y : Label) (further : List Label) → Opened naming xs → target l xs ≡ Around y further →
+      (i : ℕ) × (d : ℕ) × (d < length xs) × (naming i d ≡ y)
+  further_out zero [] y further o e = absurd cc
+  further_out (suc l) [] y further o e = absurd cc
+  further_out zero (x ∷ xs) y further o e = let same : x ≡ y = cc in (o.0.0, length xs, omega arith, o.0.1 ∙ same)
+  further_out (suc l) (x ∷ xs) y further o e = by (target l xs) refl e (λ z f. further_out l xs z f o.2)
+    where
+      by : (t : Target) → target l xs ≡ t → behind x t ≡ Around y further →
+          ((z : Label) (f : List Label) → target l xs ≡ Around z f → (i : ℕ) × (d : ℕ) × (d < length xs) × (naming i d ≡ z)) →
+          (i : ℕ) × (d : ℕ) × (d < suc (length xs)) × (naming i d ≡ y)
+      by (Around z f) same g more =
+          let r = more z f same in
+          let zy : z ≡ y = cc in
+          (r.0, r.1, omega (arith, r.2), r.3 ∙ zy)
+      by Own same g more = absurd cc
+      by Nothing same g more = absurd cc
+
+  -- an identifier that is not hidden is not that of a label further in
+  not_declared : (x : Label) (xs : List Label) (n : Named) (i j d : ℕ) → d < length xs → length xs < 2 ^ 64 → naming i d ≡ Some n → naming j (length xs) ≡ x → hides n x ≡ false → declares n.content (id x) ≡ false
+  not_declared None xs n i j d lt small outer inner h = refl
+  not_declared (Some m) xs n i j d lt small outer inner h =
+      false_from_ne_true (bytes_eq m.content n.content)
+      (λ e. both_ways (same_name m.given n.given) h (apart i j d (length xs) n m lt small outer inner (bytes_same m.content n.content e)))
+
+  -- an identifier that nothing hides is found at the number of its label
+  depth-target : (l : ℕ) (xs : List Label) (n : Named) (further : List Label) → Opened naming xs → target l xs ≡ Around (Some n) further → is_hidden n further ≡ false →
+      depth n.content (ids xs) ≡ Some l
+  depth-target zero [] n further o e h = absurd cc
+  depth-target (suc l) [] n further o e h = absurd cc
+  depth-target zero (x ∷ xs) n further o e h =
+      let same : Some n ≡ x = cc in
+      subst (λ y. depth n.content (ids (y ∷ xs)) ≡ Some 0) same
+      (ap (λ t. cond t (Some 0) (option_map suc (depth n.content (ids xs)))) (same_bytes n.content))
+  depth-target (suc l) (x ∷ xs) n further o e h = by (target l xs) refl e (λ f. depth-target l xs n f o.2)
+    where
+      by : (t : Target) → target l xs ≡ t → behind x t ≡ Around (Some n) further →
+          ((f : List Label) → target l xs ≡ Around (Some n) f → is_hidden n f ≡ false → depth n.content (ids xs) ≡ Some l) →
+          depth n.content (ids (x ∷ xs)) ≡ Some (suc l)
+      by (Around z f) same g more =
+          let zn : z ≡ Some n = cc in
+          let fs : further ≡ x ∷ f = cc in
+          let around : target l xs ≡ Around (Some n) f = same ∙ ap (λ y. Around y f) zn in
+          let parts : (hides n x ≡ false) × (is_hidden n f ≡ false) = or_parts (hides n x) (is_hidden n f) (subst (λ t. is_hidden n t ≡ false) fs h) in
+          let r = further_out l xs (Some n) f o.2 around in
+          let no : declares n.content (id x) ≡ false = not_declared x xs n r.0 o.0.0 r.1 r.2 o.1 r.3 o.0.1 parts.0 in
+          ap (λ t. cond t (Some 0) (option_map suc (depth n.content (ids xs)))) no ∙ ap (option_map suc) (more f around parts.1)
+      by Own same g more = absurd cc
+      by Nothing same g more = absurd cc
+
+-- ---- what labels are written as
+
+abbrev pub named_items : ℕ → Named → Bool → Forest
+named_items l n true = Word (decimal l) End
+named_items l n false = Name n.content End
+
+-- inner: the labels further in than those that the operator may mean
+abbrev pub target_items : List Label → ℕ → Target → Forest
+target_items inner l (Around (Some n) further) = named_items l n (is_hidden n further || is_hidden n inner)
+target_items inner l (Around None further) = Word (decimal l) End
+target_items inner l Own = Word (decimal l) End
+target_items inner l Nothing = Word (decimal l) End
+
+abbrev pub label_items : List Label → List Label → ℕ → Forest
+label_items inner xs l = target_items inner l (target l xs)
+
+abbrev pub labels_items : List Label → List Label → List ℕ → ℕ → Forest
+labels_items inner xs [] l = label_items inner xs l
+labels_items inner xs (m ∷ ms) l = onto (label_items inner xs m) (labels_items inner xs ms l)
+
+-- ---- they are arguments
+
+pub label_arguments : (inner xs : List Label) (l : ℕ) → IsU32 l → AreArguments (label_items inner xs l)
+label_arguments inner xs l h = by (target l xs)
+  where
+    named : (n : Named) (t : Bool) → AreArguments (named_items l n t)
+    named n true = (index_is_no_word l h, tt)
+    named n false = tt
+
+    by : (t : Target) → AreArguments (target_items inner l t)
+    by (Around (Some n) further) = named n (is_hidden n further || is_hidden n inner)
+    by (Around None further) = (index_is_no_word l h, tt)
+    by Own = (index_is_no_word l h, tt)
+    by Nothing = (index_is_no_word l h, tt)
+
+pub labels_arguments : (inner xs : List Label) (ls : List ℕ) (l : ℕ) → AllByRecursion IsU32 ls → IsU32 l → AreArguments (labels_items inner xs ls l)
+labels_arguments inner xs [] l hs h = label_arguments inner xs l h
+labels_arguments inner xs (m ∷ ms) l hs h = arguments_onto (label_items inner xs m) (labels_items inner xs ms l) (label_arguments inner xs m hs.0) (labels_arguments inner xs ms l hs.1 h)
+
+-- ---- they read back
+
+number_first : (is : Identifiers) (l : ℕ) (f : Forest) (ls : List ℕ) → IsU32 l → labels is f ≡ Some ls → labels is (onto (Word (decimal l) End) f) ≡ Some (l ∷ ls)
+number_first is l f ls small e = rw (natural-decimal l (omega arith), lt-ltb l (2 ^ 32) small, e)
+
+abbrev pub targets : List ℕ → ℕ → List ℕ
+targets [] l = l ∷ []
+targets (m ∷ ms) l = m ∷ targets ms l
+
+last_apart-more : (m k : ℕ) (ks ls : List ℕ) (l : ℕ) → last_apart (k ∷ ks) ≡ Some (ls, l) → last_apart (m ∷ (k ∷ ks)) ≡ Some (m ∷ ls, l)
+last_apart-more m k ks ls l e = rw e
+
+pub last_apart-targets : (ls : List ℕ) (l : ℕ) → last_apart (targets ls l) ≡ Some (ls, l)
+last_apart-targets [] l = refl
+last_apart-targets (m ∷ []) l = refl
+last_apart-targets (m ∷ k ∷ ks) l = last_apart-more m k (targets ks l) (k ∷ ks) l (last_apart-targets (k ∷ ks) l)
+
+module _ (naming : Naming) (apart : AreApart naming) (inner xs : List Label) (o : Opened naming xs) where
+  -- a printed label before others
+  label_first : (l : ℕ) (f : Forest) (ls : List ℕ) → IsU32 l → labels (ids xs) f ≡ Some ls → labels (ids xs) (onto (label_items inner xs l) f) ≡ Some (l ∷ ls)
+  label_first l f ls small e = by (target l xs) refl
+    where
+      named : (n : Named) (further : List Label) → target l xs ≡ Around (Some n) further → (h : Bool) → (is_hidden n further || is_hidden n inner) ≡ h →
+          labels (ids xs) (onto (named_items l n h) f) ≡ Some (l ∷ ls)
+      named n further around true h = number_first (ids xs) l f ls small e
+      named n further around false h =
+          let parts : (is_hidden n further ≡ false) × (is_hidden n inner ≡ false) = or_parts (is_hidden n further) (is_hidden n inner) h in
+          let d : depth n.content (ids xs) ≡ Some l = depth-target naming apart l xs n further o around parts.0 in
+          rw (d, e)
+
+      by : (t : Target) → target l xs ≡ t → labels (ids xs) (onto (target_items inner l t) f) ≡ Some (l ∷ ls)
+      by (Around (Some n) further) around = named n further around (is_hidden n further || is_hidden n inner) refl
+      by (Around None further) around = number_first (ids xs) l f ls small e
+      by Own around = number_first (ids xs) l f ls small e
+      by Nothing around = number_first (ids xs) l f ls small e
+
+  pub labels_read : (ls : List ℕ) (l : ℕ) → AllByRecursion IsU32 ls → IsU32 l → labels (ids xs) (labels_items inner xs ls l) ≡ Some (targets ls l)
+  labels_read [] l hs h =
+      let e : labels (ids xs) (onto (label_items inner xs l) End) ≡ Some (l ∷ []) = label_first l End [] h refl in
+      rw onto-End at e
+  labels_read (m ∷ ms) l hs h = label_first m (labels_items inner xs ms l) (targets ms l) hs.0 (labels_read ms l hs.1 h)
+
+  pub label_reads : (l : ℕ) → IsU32 l → label (ids xs) (label_items inner xs l) ≡ Some l
+  label_reads l small = let e : labels (ids xs) (label_items inner xs l) ≡ Some (l ∷ []) = labels_read [] l tt small in rw e
+
+-- ---- their pieces write them
+
+abbrev pub IsLabel : Label → Type 0
+IsLabel None = Unit {0}
+IsLabel (Some n) = IsNamed n
+
+pub is_label-naming : (naming : Naming) → AreNames naming → (i d : ℕ) → IsLabel (naming i d)
+is_label-naming naming names i d = by (naming i d) refl
+  where
+    by : (x : Label) → naming i d ≡ x → IsLabel x
+    by None e = tt
+    by (Some n) e = names i d n e
+
+is_name-utf8 : (s : List ℕ) → IsUtf8 s → 0 < length s → is_name s ≡ true
+is_name-utf8 [] h some = absurd (omega arith)
+is_name-utf8 (b ∷ bs) h some = is_utf8-from_IsUtf8 (b ∷ bs) h
+
+given_writes : (g : Option (List ℕ)) (content : List ℕ) → IsGiven g → Writes Bound (given_pieces g content) Bound End
+given_writes None content h = search writing
+given_writes (Some s) content h = by (bytes_eq s content)
+  where
+    scalar : scalars (chars s) ≡ true
+    scalar = scalars-chars s h
+
+    by : (t : Bool) → Writes Bound (cond t [] (Gap ∷ (NameNote (chars s) ∷ []))) Bound End
+    by true = search writing
+    by false = search (writing, scalar)
+
+pub mark_writes : (n : Named) → IsNamed n → Writes Free (mark_pieces n) Bound (Name n.content End)
+unfolding mark_pieces
+mark_writes n h =
+    let e : encode_utf8_all (chars n.content) ≡ n.content = encodes-chars n.content h.content in
+    let is : is_name (encode_utf8_all (chars n.content)) ≡ true = ap is_name e ∙ is_name-utf8 n.content h.content h.some in
+    subst (λ s. Writes Free (Identifier (chars n.content) ∷ given_pieces n.given n.content) Bound (Name s End)) e
+    (identifier_writes (scalars-chars n.content h.content) is (given_writes n.given n.content h.given))
+
+is_label-target : (l : ℕ) (xs : List Label) (y : Label) (further : List Label) → AllByRecursion IsLabel xs → target l xs ≡ Around y further → IsLabel y
+is_label-target zero [] y further h e = absurd cc
+is_label-target (suc l) [] y further h e = absurd cc
+is_label-target zero (x ∷ xs) y further h e = let same : x ≡ y = cc in subst IsLabel same h.0
+is_label-target (suc l) (x ∷ xs) y further h e = by (target l xs) refl e (λ z f. is_label-target l xs z f h.1)
+  where
+    by : (t : Target) → target l xs ≡ t → behind x t ≡ Around y further → ((z : Label) (f : List Label) → target l xs ≡ Around z f → IsLabel z) → IsLabel y
+    by (Around z f) same g more = let zy : z ≡ y = cc in subst IsLabel zy (more z f same)
+    by Own same g more = absurd cc
+    by Nothing same g more = absurd cc
+
+target_writes : (inner : List Label) (d l : ℕ) (t : Target) → l < 2 ^ 64 → ((n : Named) (f : List Label) → t ≡ Around (Some n) f → IsNamed n) →
+    Writes Free (target_pieces inner d l t) Bound (target_items inner l t)
+unfolding class
+target_writes inner d l (Around (Some n) further) small h = by (is_hidden n further || is_hidden n inner)
+  where
+    by : (t : Bool) → Writes Free (named_pieces l n t) Bound (named_items l n t)
+    by true = search writing
+    by false = mark_writes n (h n further refl)
+target_writes inner d l (Around None further) small h =
+    let depth : is_remark (64 ∷ decimal (d - l)) ≡ true = is_remark-decimal (d - l) in
+    search writing
+target_writes inner d l Own small h = search writing
+target_writes inner d l Nothing small h =
+    let word : is_word (decimal l) ≡ true = is_word-decimal l small in
+    search writing
+
+pub label_writes : (inner xs : List Label) (l : ℕ) → AllByRecursion IsLabel xs → IsU32 l → Writes Bound (label_pieces inner xs l) Bound (label_items inner xs l)
+unfolding label_pieces
+label_writes inner xs l h small =
+    let held = target_writes inner (length xs) l (target l xs) (omega arith) (λ n f e. is_label-target l xs (Some n) f h e) in
+    search (writing, held)
+
+pub labels_write : (inner xs : List Label) (ls : List ℕ) (l : ℕ) → AllByRecursion IsLabel xs → AllByRecursion IsU32 ls → IsU32 l → Writes Bound (labels_pieces inner xs ls l) Bound (labels_items inner xs ls l)
+unfolding labels_pieces
+labels_write inner xs [] l h hs small = label_writes inner xs l h small
+labels_write inner xs (m ∷ ms) l h hs small = then (label_writes inner xs m h hs.0) (labels_write inner xs ms l h hs.1 small)

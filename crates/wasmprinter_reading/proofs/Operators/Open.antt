@@ -1,0 +1,74 @@
+-- What is open behind an operator: the labels of the layout and those of the reader go together.
+use Rattle.std.proofs.Common.{◌≡◌, ℕ, suc, ◌<◌, ◌≤◌, ◌^◌, Bool, true, List, [], ◌∷◌, length, Option, refl, ap, arith}
+use Rattle.std.specs.List.{AllByRecursion}
+use Rattle.wasmprinter_spec.specs.Types.{FuncType}
+use Rattle.wasmprinter_spec.specs.Operator.{Immediates}
+use Rattle.wasmprinter_spec.specs.Row.{Role, Opens, OpensIf, OpensTry, Delegates, Ends, Shape}
+use Rattle.wasmprinter_spec.specs.Labels.{Label, Naming, labels_after, outside}
+use Rattle.wasmprinter_spec.specs.IndexSpaces.{Context}
+use Rattle.wasmprinter_spec.specs.Text.Operators.{id_of, seen, open_behind}
+use Rattle.wasmprinter_reading.specs.Listed.{has_shape}
+use Rattle.wasmprinter_reading.proofs.Tabled.{fits}
+use Rattle.wasmprinter_reading.proofs.Operators.Labels.{ids, Opened, IsLabel}
+use Rattle.wasmprinter_reading.proofs.Operators.Immediates.{immediate_items, id_of-opening}
+
+-- ---- the labels that immediates may mean
+
+pub outside_ids : (r : Role) (xs : List Label) → seen r (ids xs) ≡ ids (outside r xs)
+outside_ids Delegates [] = refl
+outside_ids Delegates (x ∷ xs) = refl
+outside_ids _ xs = refl
+
+pub outside_opened : (naming : Naming) (r : Role) (xs : List Label) → Opened naming xs → Opened naming (outside r xs)
+outside_opened naming Delegates [] o = o
+outside_opened naming Delegates (x ∷ xs) o = o.2
+outside_opened naming _ xs o = o
+
+pub outside_labels : (r : Role) (xs : List Label) → AllByRecursion IsLabel xs → AllByRecursion IsLabel (outside r xs)
+outside_labels Delegates [] h = h
+outside_labels Delegates (x ∷ xs) h = h.1
+outside_labels _ xs h = h
+
+-- ---- the labels behind an operator
+
+pub after_opened : (naming : Naming) (n : ℕ) (r : Role) (xs : List Label) → length xs < 2 ^ 64 → Opened naming xs → Opened naming (labels_after r (naming n (length xs)) xs)
+after_opened naming n Opens xs small o = ((n, refl), small, o)
+after_opened naming n OpensIf xs small o = ((n, refl), small, o)
+after_opened naming n OpensTry xs small o = ((n, refl), small, o)
+after_opened naming n Delegates [] small o = o
+after_opened naming n Delegates (x ∷ xs) small o = o.2
+after_opened naming n Ends [] small o = o
+after_opened naming n Ends (x ∷ xs) small o = o.2
+after_opened naming n _ xs small o = o
+
+pub after_labels : (r : Role) (own : Label) (xs : List Label) → IsLabel own → AllByRecursion IsLabel xs → AllByRecursion IsLabel (labels_after r own xs)
+after_labels Opens own xs k h = (k, h)
+after_labels OpensIf own xs k h = (k, h)
+after_labels OpensTry own xs k h = (k, h)
+after_labels Delegates own [] k h = h
+after_labels Delegates own (x ∷ xs) k h = h.1
+after_labels Ends own [] k h = h
+after_labels Ends own (x ∷ xs) k h = h.1
+after_labels _ own xs k h = h
+
+-- an operator opens at most one block
+pub after_length : (r : Role) (own : Label) (xs : List Label) → length (labels_after r own xs) ≤ suc (length xs)
+after_length Opens own xs = omega arith
+after_length OpensIf own xs = omega arith
+after_length OpensTry own xs = omega arith
+after_length Delegates own [] = omega arith
+after_length Delegates own (x ∷ xs) = omega arith
+after_length Ends own [] = omega arith
+after_length Ends own (x ∷ xs) = omega arith
+after_length _ own xs = omega arith
+
+pub after_ids : (c : Context) (signature : ℕ → Option FuncType) (label : Bool) (inner ys : List Label) (r : Role) (s : Shape) (own : Label) (xs : List Label) (i : Immediates) → fits r s ≡ true → has_shape s i ≡ true →
+    open_behind r (id_of (immediate_items signature label inner ys own i)) (ids xs) ≡ ids (labels_after r own xs)
+after_ids c signature label inner ys Opens s own xs i f k = ap (λ t. t ∷ ids xs) (id_of-opening c signature label inner ys own s i f k)
+after_ids c signature label inner ys OpensIf s own xs i f k = ap (λ t. t ∷ ids xs) (id_of-opening c signature label inner ys own s i f k)
+after_ids c signature label inner ys OpensTry s own xs i f k = ap (λ t. t ∷ ids xs) (id_of-opening c signature label inner ys own s i f k)
+after_ids c signature label inner ys Delegates s own [] i f k = refl
+after_ids c signature label inner ys Delegates s own (x ∷ xs) i f k = refl
+after_ids c signature label inner ys Ends s own [] i f k = refl
+after_ids c signature label inner ys Ends s own (x ∷ xs) i f k = refl
+after_ids c signature label inner ys _ s own xs i f k = refl

@@ -1,0 +1,55 @@
+-- The rows of a word: of those that share it, the one that was meant is the first that reads what is written.
+use Rattle.std.proofs.Common.{◌≡◌, Bool, true, false, cond, List, [], ◌∷◌, Some, None, refl, ap, ◌∙◌}
+use Rattle.std.proofs.lemmas.Bool.{and_parts}
+use Rattle.std.specs.List.{filter}
+use Rattle.wasmprinter_spec.specs.Forest.{Forest}
+use Rattle.wasmprinter_spec.specs.Operator.{Immediates}
+use Rattle.wasmprinter_spec.specs.Row.{Row}
+use Rattle.wasmprinter_spec.specs.Table.{table, has_word, rows_of}
+use Rattle.wasmprinter_spec.specs.IndexSpaces.{Identifiers, Context}
+use Rattle.wasmprinter_spec.specs.Text.Operators.{immediates, seen, first_reading}
+use Rattle.wasmprinter_reading.proofs.Bytes.{same_bytes}
+use Rattle.wasmprinter_reading.proofs.Tabled.{In, here, there, refuses, are_told_apart, refuses_later, table_tells_apart}
+
+-- the first of the rows and those behind it
+pub record IsSome (rs : List Row) : Type 0 where
+  pub first : Row
+  pub others : List Row
+  pub is : rs ≡ first ∷ others
+
+some_of_word : (rs : List Row) (r : Row) → In r rs → IsSome (filter (has_word r.word) rs)
+some_of_word [] r i = elim i [ ]
+some_of_word (s ∷ rs) r here = record { first = r; others = filter (has_word r.word) rs; is = ap (λ t. cond t (r ∷ filter (has_word r.word) rs) (filter (has_word r.word) rs)) (same_bytes r.word) }
+some_of_word (s ∷ rs) r (there i) = by (has_word r.word s) (some_of_word rs r i)
+  where
+    by : (t : Bool) → IsSome (filter (has_word r.word) rs) → IsSome (cond t (s ∷ filter (has_word r.word) rs) (filter (has_word r.word) rs))
+    by true more = record { first = s; others = filter (has_word r.word) rs; is = refl }
+    by false more = more
+
+pub rows_of-row : (r : Row) → In r table → IsSome (rows_of r.word)
+rows_of-row r i = some_of_word table r i
+
+module _ (c : Context) (is : Identifiers) (f : Forest) (i : Immediates) where
+  first_reads : (r : Row) (rs : List Row) → immediates c (seen r.role is) r.shape f ≡ Some i → first_reading c is (r ∷ rs) f ≡ Some (r, i)
+  first_reads r rs e = rw e
+
+  -- a row that reads nothing is passed over
+  passed_over : (s : Row) (rs : List Row) → immediates c (seen s.role is) s.shape f ≡ None → first_reading c is (s ∷ rs) f ≡ first_reading c is rs f
+  passed_over s rs e = rw e
+
+  first_of_word : (rs : List Row) (r : Row) → are_told_apart rs ≡ true → In r rs → immediates c (seen r.role is) r.shape f ≡ Some i →
+      ((s : Row) → refuses s.shape r.shape ≡ true → immediates c (seen s.role is) s.shape f ≡ None) → first_reading c is (filter (has_word r.word) rs) f ≡ Some (r, i)
+  first_of_word [] r t at e refused = elim at [ ]
+  first_of_word (s ∷ rs) r t here e refused =
+      ap (λ b. first_reading c is (cond b (r ∷ filter (has_word r.word) rs) (filter (has_word r.word) rs)) f) (same_bytes r.word) ∙ first_reads r (filter (has_word r.word) rs) e
+  first_of_word (s ∷ rs) r t (there at) e refused = by (has_word r.word s) refl (first_of_word rs r (and_parts _ (are_told_apart rs) t).1 at e refused)
+    where
+      by : (b : Bool) → has_word r.word s ≡ b → first_reading c is (filter (has_word r.word) rs) f ≡ Some (r, i) →
+          first_reading c is (cond b (s ∷ filter (has_word r.word) rs) (filter (has_word r.word) rs)) f ≡ Some (r, i)
+      by true same more = passed_over s (filter (has_word r.word) rs) (refused s (refuses_later s r rs t at same)) ∙ more
+      by false other more = more
+
+  -- the row that was meant reads what is written
+  pub first_reading-row : (r : Row) → In r table → immediates c (seen r.role is) r.shape f ≡ Some i →
+      ((s : Row) → refuses s.shape r.shape ≡ true → immediates c (seen s.role is) s.shape f ≡ None) → first_reading c is (rows_of r.word) f ≡ Some (r, i)
+  first_reading-row r at e refused = first_of_word table r table_tells_apart at e refused

@@ -1,0 +1,104 @@
+-- Operators that bytes spell are listed, in range and well nested.
+use Rattle.std.proofs.Common.{◌≡◌, ℕ, ◌<◌, ◌≤◌, ◌+◌, ◌==◌, true, List, [], ◌∷◌, length, Option, Some, None, refl, ap, subst, arith}
+use Rattle.std.proofs.lemmas.List.{length-append}
+use Rattle.std.specs.List.{AllByRecursion}
+use Rattle.wasmprinter_spec.specs.Grammar.{byte, Placed, placed}
+use Rattle.wasmprinter_spec.specs.Repeated.{Items}
+use Rattle.wasmprinter_spec.specs.Binary.ValTypes.{begins_val_type}
+use Rattle.wasmprinter_spec.specs.Operator.{Catch, One, OneRef, Immediates, Operator}
+use Rattle.wasmprinter_spec.specs.Row.{Row, Shape, NoneShape, BlockShape, TryTableShape, IndexShape, BranchTableShape, I32Shape, I64Shape}
+use Rattle.wasmprinter_spec.specs.Table.{by_opcode}
+use Rattle.wasmprinter_spec.specs.Nesting.{Nests, Sequence}
+use Rattle.wasmprinter_spec.specs.Instructions.{opcode_grammar, block_type, tag_and_label, catch_by, catch, immediates, listed, operator, end_byte, Closed, expression, operator_takes, roles}
+use Rattle.wasmprinter_spec.specs.Module.{without_places}
+use Rattle.wasmprinter_spec.specs.Binary.{AreBytes}
+use Rattle.wasmprinter_reading.specs.Listed.{IsU32, IsBlockInRange, IsCatchInRange, AreInRange, has_shape, has_row_shape, IsListed}
+use Rattle.wasmprinter_reading.proofs.AllSpelled.{AllSpelled, split_bytes, items_have, AllSpelled-any, AllSpelled-seq, AllSpelled-map_value, AllSpelled-succeed, AllSpelled-fail, AllSpelled-choose, AllSpelled-announced, AllSpelled-peeked, AllSpelled-placed}
+use Rattle.wasmprinter_reading.proofs.LebRange.{AllSpelled-signed}
+use Rattle.wasmprinter_reading.proofs.Vectors.{AllSpelled-u32, AllSpelled-vec}
+use Rattle.wasmprinter_reading.proofs.Types.Ranges.{AllSpelled-signed_index, AllSpelled-val_type}
+
+-- ---- immediates
+
+-- A block type.
+AllSpelled-block_type : AllSpelled block_type IsBlockInRange
+AllSpelled-block_type = AllSpelled-peeked (λ b.
+    AllSpelled-choose (b == 0x40) (AllSpelled-map_value (AllSpelled-any byte) (λ x h. tt))
+    (AllSpelled-choose (begins_val_type b) (AllSpelled-map_value AllSpelled-val_type (λ t h. h)) (AllSpelled-map_value AllSpelled-signed_index (λ n h. h))))
+
+-- A catch clause, behind the byte of its kind.
+AllSpelled-tag_and_label : (c : ℕ → ℕ → Catch) → ((t l : ℕ) → IsU32 t → IsU32 l → IsCatchInRange (c t l)) → AllSpelled (tag_and_label c) IsCatchInRange
+AllSpelled-tag_and_label c keeps = AllSpelled-map_value (AllSpelled-seq AllSpelled-u32 (λ _. AllSpelled-u32)) (λ x h. keeps x.0 x.1 h.0 h.1)
+
+AllSpelled-catch_by : (k : ℕ) → AllSpelled (catch_by k) IsCatchInRange
+AllSpelled-catch_by k =
+    AllSpelled-choose (k == 0) (AllSpelled-tag_and_label One (λ t l h i. (h, i)))
+    (AllSpelled-choose (k == 1) (AllSpelled-tag_and_label OneRef (λ t l h i. (h, i)))
+    (AllSpelled-choose (k == 2) (AllSpelled-map_value AllSpelled-u32 (λ l h. h))
+    (AllSpelled-choose (k == 3) (AllSpelled-map_value AllSpelled-u32 (λ l h. h)) AllSpelled-fail)))
+
+AllSpelled-catch : AllSpelled catch IsCatchInRange
+AllSpelled-catch = AllSpelled-announced AllSpelled-catch_by
+
+-- of this shape, and in range
+abbrev HasShape : Shape → Immediates → Type 0
+HasShape s i = (has_shape s i ≡ true) × AreInRange i
+
+abbrev HasRowShape : Option Row → Immediates → Type 0
+HasRowShape r i = (has_row_shape r i ≡ true) × AreInRange i
+
+-- The immediates of each shape.
+AllSpelled-immediates : (s : Shape) → AllSpelled (immediates s) (HasShape s)
+AllSpelled-immediates NoneShape = AllSpelled-succeed (refl, tt)
+AllSpelled-immediates BlockShape = AllSpelled-map_value AllSpelled-block_type (λ t h. (refl, h))
+AllSpelled-immediates TryTableShape =
+    AllSpelled-map_value (AllSpelled-seq AllSpelled-block_type (λ _. AllSpelled-vec AllSpelled-catch)) (λ x h. (refl, (h.0, h.1.each)))
+AllSpelled-immediates (IndexShape space) = AllSpelled-map_value AllSpelled-u32 (λ n h. (refl, h))
+AllSpelled-immediates BranchTableShape =
+    AllSpelled-map_value (AllSpelled-seq (AllSpelled-vec AllSpelled-u32) (λ _. AllSpelled-u32)) (λ x h. (refl, (h.0.each, h.1)))
+AllSpelled-immediates I32Shape = AllSpelled-map_value (AllSpelled-signed 32) (λ z h. (refl, h))
+AllSpelled-immediates I64Shape = AllSpelled-map_value (AllSpelled-signed 64) (λ z h. (refl, h))
+
+-- The immediates of an opcode that the table lists; there are none of another.
+AllSpelled-listed : (r : Option Row) → AllSpelled (listed r) (HasRowShape r)
+AllSpelled-listed None = AllSpelled-fail
+AllSpelled-listed (Some r) = AllSpelled-immediates r.shape
+
+-- ---- operators
+
+-- An operator is listed with its immediates.
+AllSpelled-operator : AllSpelled operator IsListed
+AllSpelled-operator =
+    AllSpelled-map_value (AllSpelled-seq (AllSpelled-any opcode_grammar) (λ o. AllSpelled-listed (by_opcode o))) (λ x h. record { shape = h.1.0; range = h.1.1 })
+
+listed_values : (os : List (Placed Operator)) → AllByRecursion (λ o. IsListed o.value) os → AllByRecursion IsListed (without_places os)
+listed_values [] h = tt
+listed_values (o ∷ os) h = (h.0, listed_values os h.1)
+
+-- operators that are listed and well nested
+pub record AreNested (x : Closed (Placed Operator)) : Type 0 where
+  pub listed : AllByRecursion IsListed (without_places x.items)
+  pub nested : Nests Sequence (roles x.items)
+
+-- An expression: operators well nested.
+pub AllSpelled-expression : AllSpelled expression AreNested
+AllSpelled-expression = record {
+  has = λ p text x bytes s. record {
+    listed = listed_values x.items (items_have (AllSpelled-placed AllSpelled-operator) x.items p s.0 (split_bytes s.0 (end_byte ∷ []) (subst AreBytes s.1 bytes)).0 s.2);
+    nested = s.3;
+  };
+}
+
+-- ---- each operator takes a byte
+
+operators_take : (os : List (Placed Operator)) (p : ℕ) (text : List ℕ) → Items (placed operator) p text os → length os ≤ length text
+operators_take [] p text s = omega arith
+operators_take (o ∷ os) p text s =
+    let first : 0 < length s.0 = operator_takes p s.0 o s.3 in
+    let rest : length os ≤ length s.1 = operators_take os (p + length s.0) s.1 s.4 in
+    omega (arith, first, rest, ap length s.2, length-append s.0 s.1)
+
+pub expression_takes : (p : ℕ) (text : List ℕ) (x : Closed (Placed Operator)) → expression.spells p text x → length x.items ≤ length text
+expression_takes p text x s =
+    let items : length x.items ≤ length s.0 = operators_take x.items p s.0 s.2 in
+    omega (arith, items, ap length s.1, length-append s.0 (end_byte ∷ []))

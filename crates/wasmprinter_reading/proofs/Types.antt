@@ -1,0 +1,4 @@
+pub mod Ranged
+pub mod Ranges
+pub mod Trees
+pub mod Back

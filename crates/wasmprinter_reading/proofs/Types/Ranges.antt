@@ -1,0 +1,120 @@
+-- Types that bytes spell keep to their ranges.
+use Rattle.std.proofs.Common.{◌≡◌, ℕ, zero, suc, ℤ, pos, negsuc, ◌<◌, ◌^◌, Bool, true, false, List, [], ◌∷◌, ◌++◌, Some, arith, is_some, ◌==◌}
+use Rattle.std.specs.List.{AllByRecursion}
+use Rattle.std.proofs.lemmas.Int.{ints}
+use Rattle.wasmprinter_spec.specs.Grammar.{some_is, byte, Placed}
+use Rattle.wasmprinter_spec.specs.Types.{HeapType, Index, ValType, Ref, StorageType, Val, CompositeType, FuncComposite, SubType, all_types, func_type_of, signature_at}
+use Rattle.wasmprinter_spec.specs.Placed.{TypeGroup}
+use Rattle.wasmprinter_spec.specs.Module.{groups_of}
+use Rattle.wasmprinter_spec.specs.Binary.ValTypes.{number_type_of, abstract_heap_of, non_negative, signed_index, heap_type, ref_type_behind, val_type_behind, val_type}
+use Rattle.wasmprinter_spec.specs.Binary.Types.{packed_type_of, storage_type, mutability, field, signature, composite_behind, sub_type_parts, sub_type_behind, group}
+use Rattle.wasmprinter_reading.specs.Listed.{IsSigned, IsU32, IsSignatureInRange}
+use Rattle.wasmprinter_reading.proofs.AllSpelled.{AllSpelled, AllSpelled-any, AllSpelled-seq, AllSpelled-try_map, AllSpelled-map_value, AllSpelled-fail, AllSpelled-choose, AllSpelled-given, AllSpelled-announced, AllSpelled-peeked}
+use Rattle.wasmprinter_reading.proofs.LebRange.{AllSpelled-signed}
+use Rattle.wasmprinter_reading.proofs.Vectors.{AllSpelled-u32, AllSpelled-vec}
+use Rattle.wasmprinter_reading.proofs.Types.Ranged.{IsRangedHeap, IsRangedVal, IsRangedStorage, IsRangedField, IsRangedFunc, IsRangedComposite, IsRangedSub, IsRangedGroup}
+
+-- ---- value types
+
+-- no byte stands for an index
+abstract_ranged : (b : ℕ) (h : HeapType) → abstract_heap_of b ≡ Some h → IsRangedHeap h
+abstract_ranged b (Index n) e = absurd (grind arith)
+abstract_ranged b _ e = tt
+
+number_ranged : (b : ℕ) (t : ValType) → number_type_of b ≡ Some t → IsRangedVal t
+number_ranged b (Ref r) e = absurd (grind arith)
+number_ranged b _ e = tt
+
+index_ranged : (z : ℤ) (n : ℕ) → non_negative z ≡ Some n → IsSigned 32 z → n < 2 ^ 32
+index_ranged (pos m) n e h = let same : m ≡ n = some_is m n e in omega (arith, ints, h.1)
+index_ranged (negsuc m) n e h = absurd cc
+
+pub AllSpelled-signed_index : AllSpelled signed_index IsU32
+AllSpelled-signed_index = AllSpelled-try_map (AllSpelled-signed 33) index_ranged
+
+AllSpelled-heap_type : AllSpelled heap_type IsRangedHeap
+AllSpelled-heap_type =
+    AllSpelled-peeked (λ b. AllSpelled-choose (is_some (abstract_heap_of b))
+    (AllSpelled-try_map (AllSpelled-any byte) (λ c h e _. abstract_ranged c h e))
+    (AllSpelled-map_value AllSpelled-signed_index (λ n h. h)))
+
+AllSpelled-ref_type_behind : (b : ℕ) → AllSpelled (ref_type_behind b) (λ r. IsRangedHeap r.heap)
+AllSpelled-ref_type_behind b =
+    AllSpelled-choose (b == 0x64) (AllSpelled-map_value AllSpelled-heap_type (λ t h. h))
+    (AllSpelled-choose (b == 0x63) (AllSpelled-map_value AllSpelled-heap_type (λ t h. h))
+    (AllSpelled-map_value (AllSpelled-given (abstract_heap_of b) (abstract_ranged b)) (λ t h. h)))
+
+AllSpelled-val_type_behind : (b : ℕ) → AllSpelled (val_type_behind b) IsRangedVal
+AllSpelled-val_type_behind b =
+    AllSpelled-choose (is_some (number_type_of b)) (AllSpelled-given (number_type_of b) (number_ranged b))
+    (AllSpelled-map_value (AllSpelled-ref_type_behind b) (λ t h. h))
+
+pub AllSpelled-val_type : AllSpelled val_type IsRangedVal
+AllSpelled-val_type = AllSpelled-announced AllSpelled-val_type_behind
+
+-- ---- composite types
+
+packed_ranged : (b : ℕ) (s : StorageType) → packed_type_of b ≡ Some s → IsRangedStorage s
+packed_ranged b (Val t) e = absurd (grind arith)
+packed_ranged b _ e = tt
+
+AllSpelled-storage_type : AllSpelled storage_type IsRangedStorage
+AllSpelled-storage_type =
+    AllSpelled-announced (λ b. AllSpelled-choose (is_some (packed_type_of b)) (AllSpelled-given (packed_type_of b) (packed_ranged b))
+    (AllSpelled-map_value (AllSpelled-val_type_behind b) (λ t h. h)))
+
+AllSpelled-field : AllSpelled field IsRangedField
+AllSpelled-field = AllSpelled-map_value (AllSpelled-seq AllSpelled-storage_type (λ _. AllSpelled-any mutability)) (λ x h. h.0)
+
+AllSpelled-signature : AllSpelled signature IsRangedFunc
+AllSpelled-signature =
+    AllSpelled-map_value (AllSpelled-seq (AllSpelled-vec AllSpelled-val_type) (λ _. AllSpelled-vec AllSpelled-val_type))
+    (λ x h. record { params = h.0.each; results = h.1.each })
+
+AllSpelled-composite_behind : (b : ℕ) → AllSpelled (composite_behind b) IsRangedComposite
+AllSpelled-composite_behind b =
+    AllSpelled-choose (b == 0x5e) (AllSpelled-map_value AllSpelled-field (λ f h. h))
+    (AllSpelled-choose (b == 0x5f) (AllSpelled-map_value (AllSpelled-vec AllSpelled-field) (λ fs h. h.each))
+    (AllSpelled-choose (b == 0x60) (AllSpelled-map_value AllSpelled-signature (λ t h. h)) AllSpelled-fail))
+
+-- ---- subtypes and groups
+
+AllSpelled-sub_type_parts : (final : Bool) → AllSpelled (sub_type_parts final) IsRangedSub
+AllSpelled-sub_type_parts final =
+    AllSpelled-map_value (AllSpelled-seq (AllSpelled-vec AllSpelled-u32) (λ _. AllSpelled-announced AllSpelled-composite_behind))
+    (λ x h. record { supertypes = h.0.each; composite = h.1 })
+
+AllSpelled-sub_type_behind : (b : ℕ) → AllSpelled (sub_type_behind b) IsRangedSub
+AllSpelled-sub_type_behind b =
+    AllSpelled-choose (b == 0x50) (AllSpelled-sub_type_parts false)
+    (AllSpelled-choose (b == 0x4f) (AllSpelled-sub_type_parts true)
+    (AllSpelled-map_value (AllSpelled-composite_behind b) (λ c h. record { supertypes = tt; composite = h })))
+
+pub AllSpelled-group : AllSpelled group IsRangedGroup
+AllSpelled-group =
+    AllSpelled-announced (λ b. AllSpelled-choose (b == 0x4e)
+    (AllSpelled-map_value (AllSpelled-vec (AllSpelled-announced AllSpelled-sub_type_behind)) (λ ts h. record { count = h.count; each = h.each; single = tt }))
+    (AllSpelled-map_value (AllSpelled-sub_type_behind b) (λ t h. record { count = omega arith; each = (h, tt); single = tt })))
+
+-- ---- the types of all groups
+
+both_ranged : (ts us : List SubType) → AllByRecursion IsRangedSub ts → AllByRecursion IsRangedSub us → AllByRecursion IsRangedSub (ts ++ us)
+both_ranged [] us h k = k
+both_ranged (t ∷ ts) us h k = (h.0, both_ranged ts us h.1 k)
+
+all_types_ranged : (gs : List (Placed TypeGroup)) → AllByRecursion (λ g. IsRangedGroup g.value) gs → AllByRecursion IsRangedSub (all_types (groups_of gs))
+all_types_ranged [] h = tt
+all_types_ranged (g ∷ gs) h = both_ranged g.value.types (all_types (groups_of gs)) h.0.each (all_types_ranged gs h.1)
+
+composite_signature : (c : CompositeType) → IsRangedComposite c → IsSignatureInRange (func_type_of c)
+composite_signature (FuncComposite t) h = h
+composite_signature _ h = tt
+
+signature_ranged : (ts : List SubType) (i : ℕ) → AllByRecursion IsRangedSub ts → IsSignatureInRange (signature_at ts i)
+signature_ranged [] i h = tt
+signature_ranged (t ∷ ts) zero h = composite_signature t.composite h.0.composite
+signature_ranged (t ∷ ts) (suc i) h = signature_ranged ts i h.1
+
+-- the signature of the type with an index
+pub own_signature_ranged : (gs : List (Placed TypeGroup)) (i : ℕ) → AllByRecursion (λ g. IsRangedGroup g.value) gs → IsSignatureInRange (signature_at (all_types (groups_of gs)) i)
+own_signature_ranged gs i h = signature_ranged (all_types (groups_of gs)) i (all_types_ranged gs h)

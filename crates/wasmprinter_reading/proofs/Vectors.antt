@@ -1,0 +1,20 @@
+-- Numbers of 32 bits and vectors that bytes spell.
+use Rattle.std.proofs.Common.{◌<◌, ◌^◌, List, length, arith}
+use Rattle.std.specs.List.{AllByRecursion}
+use Rattle.wasmprinter_spec.specs.Grammar.{Grammar}
+use Rattle.wasmprinter_spec.specs.Name.{u32, vec}
+use Rattle.wasmprinter_reading.proofs.AllSpelled.{AllSpelled, AllSpelled-seq, AllSpelled-map_value, AllSpelled-times}
+use Rattle.wasmprinter_reading.proofs.LebRange.{AllSpelled-unsigned}
+
+-- What a vector holds: fewer than 2 ^ 32 items, each of which has P.
+pub record IsVector {A : Type 0} (P : A → Type 0) (xs : List A) : Type 0 where
+  pub count : length xs < 2 ^ 32
+  pub each : AllByRecursion P xs
+
+-- A number of 32 bits.
+pub AllSpelled-u32 : AllSpelled u32 (λ n. n < 2 ^ 32)
+AllSpelled-u32 = AllSpelled-unsigned 32
+
+-- A vector, of items that each have P.
+pub AllSpelled-vec : {A : Type 0} {g : Grammar A} {P : A → Type 0} → AllSpelled g P → AllSpelled (vec g) (IsVector P)
+AllSpelled-vec all = AllSpelled-map_value (AllSpelled-seq AllSpelled-u32 (AllSpelled-times all)) (λ x h. record { count = omega (arith, h.0, h.1.0); each = h.1.1 })

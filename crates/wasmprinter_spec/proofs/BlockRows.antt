@@ -1,0 +1,194 @@
+-- Worked rows of operators that nest: what their bytes spell, how they are printed, and that the texts read back.
+use Rattle.std.specs.Prelude.{◌≡◌, ℕ, pos, List, [], ◌∷◌, ◌++◌, map, true, false, codes, Option, Some, option_map, refl}
+use Rattle.std.specs.Fmt.{digits}
+use Rattle.std.specs.Char.{encode_utf8}
+use Rattle.std.specs.Str.{is_utf8, chars}
+use Rattle.wasmprinter_spec.specs.Grammar.{input, Placed}
+use Rattle.wasmprinter_spec.specs.Types as types
+use Rattle.wasmprinter_spec.specs.Types.{SubType, signature_at}
+use Rattle.wasmprinter_spec.specs.Operator.{Empty, Value, OfType, One, All, Operator}
+use Rattle.wasmprinter_spec.specs.Table.{table, control_rows, variable_rows, number_rows}
+use Rattle.wasmprinter_spec.specs.Instructions.{expression}
+use Rattle.wasmprinter_spec.specs.Placed.{PlacedModule}
+use Rattle.wasmprinter_spec.specs.Module.{Module}
+use Rattle.wasmprinter_spec.specs.Binary.{binary}
+use Rattle.wasmprinter_spec.specs.Character.{class}
+use Rattle.wasmprinter_spec.specs.Numeral.{numeral, natural, integer}
+use Rattle.wasmprinter_spec.specs.Token.{lex}
+use Rattle.wasmprinter_spec.specs.Code.{head}
+use Rattle.wasmprinter_spec.specs.Text.Items.{groups}
+use Rattle.wasmprinter_spec.specs.Text.Types.{heap_of_word, ref_of_word, number_of_word}
+use Rattle.wasmprinter_spec.specs.Read.{read}
+use Rattle.wasmprinter_spec.specs.Call.{Call, Style, Text, Newline, Line, Start, Name, Keyword, TypeName, Comment, Reset, text_of, atoms}
+use Rattle.wasmprinter_spec.specs.Options.{defaults}
+use Rattle.wasmprinter_spec.specs.Piece.{all_calls, repeated, left_in, place_text}
+use Rattle.wasmprinter_spec.specs.Layout.Groups.{group_gap, group_at, group_gap_at, line_group, line_group_gap, numbered}
+use Rattle.wasmprinter_spec.specs.Layout.Types.{heap_pieces, null_ref_pieces, ref_pieces, val_pieces, type_list, list_group, signature_pieces, composite_pieces, sub_pieces, type_pieces, type_group_pieces, type_section_pieces}
+use Rattle.wasmprinter_spec.specs.Layout.Operators.{Form, OverLines, InLine, Setting, label_pieces, labels_pieces, id_pieces, ending_pieces, block_pieces, catch_pieces, catches_pieces, index_pieces, immediate_pieces, operator_pieces, operators_pieces, expression_pieces}
+use Rattle.wasmprinter_spec.specs.Layout.{no_names, body_pieces, local_group, local_pieces, signature_if, header_pieces, function_group, function_pieces, module_field_pieces, module_pieces, layout}
+use Rattle.wasmprinter_spec.proofs.Samples.{head_bytes, lines, to, to_null, func, bare, i32_const}
+use Rattle.wasmprinter_spec.proofs.BlockSamples.{all_samples, sample_types, nop, block, loop, if_op, else_op, try_op, catch_op, catch_all, end, br, delegate, try_table}
+
+-- ---- what bytes spell
+
+abbrev spelled : List ℕ → Option (List Operator)
+spelled bytes = option_map (λ x. map (λ o. o.value) x.0.items) (expression.parse (input 0 (bytes ++ 0x0b ∷ [])))
+
+samples_spelled : map (λ ss. map (λ s. spelled s.bytes) ss) all_samples ≡ map (λ ss. map (λ s. Some s.operators) ss) all_samples
+unfolding table control_rows variable_rows number_rows
+samples_spelled = refl
+
+-- ---- how they are printed
+
+-- a module with one function, over i32
+abbrev module_lines : List (List ℕ) → List ℕ
+module_lines ls = lines (
+    codes "(module"
+    ∷ codes "  (type (;0;) (func (param i32)))"
+    ∷ codes "  (type (;1;) (func (result i32)))"
+    ∷ codes "  (func (;0;) (type 0) (param i32)"
+    ∷ (map (λ l. codes "    " ++ l) ls
+    ++ codes "  )"
+    ∷ codes ")"
+    ∷ []))
+
+abbrev placed : {A : Type 0} → A → Placed A
+placed a = record { place = 0; value = a }
+
+abbrev placed_module : List Operator → PlacedModule
+placed_module os = record {
+  types = map (bare 0) sample_types;
+  functions = record { type_index = 0; body = placed (record { locals = []; operators = map placed os; end = 0 }) } ∷ [];
+  exports = [];
+  size = 0;
+}
+
+abbrev printed : PlacedModule → List ℕ
+printed m = text_of (layout defaults (λ n. false) m)
+
+samples_printed : map (λ ss. map (λ s. printed (placed_module s.operators)) ss) all_samples ≡ map (λ ss. map (λ s. module_lines s.lines) ss) all_samples
+unfolding line_group line_group_gap heap_pieces null_ref_pieces ref_pieces val_pieces list_group composite_pieces sub_pieces type_pieces type_group_pieces type_section_pieces signature_if module_field_pieces numbered group_gap group_at group_gap_at type_list signature_pieces label_pieces labels_pieces id_pieces ending_pieces block_pieces catch_pieces catches_pieces index_pieces immediate_pieces operator_pieces operators_pieces expression_pieces body_pieces local_group local_pieces header_pieces function_group function_pieces module_pieces layout repeated digits table control_rows variable_rows number_rows
+samples_printed = refl
+
+-- ---- the way back
+
+abbrev module_of_code : List Operator → Module
+module_of_code os = record { types = map (λ t. t ∷ []) sample_types; functions = record { type_index = 0; locals = []; operators = os } ∷ []; exports = [] }
+
+samples_read : map (λ ss. map (λ s. read (module_lines s.lines)) ss) all_samples ≡ map (λ ss. map (λ s. Some (module_of_code s.operators)) ss) all_samples
+unfolding lex class numeral natural integer groups heap_of_word ref_of_word number_of_word table control_rows variable_rows number_rows head is_utf8 chars encode_utf8
+samples_read = refl
+
+-- ---- single operators, over lines and in one line
+
+-- laid out with these types
+abbrev setting : Form → List SubType → Setting
+setting form ts = record { form = form; signature = signature_at ts; nesting = 0 }
+
+abbrev shown : Form → List SubType → List Operator → List ℕ
+shown form ts os = text_of (all_calls defaults (expression_pieces (setting form ts) no_names (map placed os)))
+
+abbrev in_line : List ℕ
+in_line = codes "block (result i32)  (; label = @1 ;) i32.const 1 end"
+
+constant_in_line : shown InLine [] (block (Value types.I32) ∷ i32_const (pos 1) ∷ end ∷ []) ≡ in_line
+unfolding line_group line_group_gap val_pieces list_group label_pieces id_pieces ending_pieces block_pieces index_pieces immediate_pieces operator_pieces operators_pieces expression_pieces digits table control_rows variable_rows number_rows
+constant_in_line = refl
+
+constant_reads : read (module_lines (in_line ∷ [])) ≡ Some (module_of_code (block (Value types.I32) ∷ i32_const (pos 1) ∷ end ∷ []))
+unfolding lex class numeral natural integer groups heap_of_word ref_of_word number_of_word table control_rows variable_rows number_rows head is_utf8 chars encode_utf8
+constant_reads = refl
+
+labels_in_line : shown InLine [] (loop Empty ∷ try_table Empty (All 0 ∷ []) ∷ br 1 ∷ br 3 ∷ end ∷ end ∷ [])
+    ≡ codes "loop  (; label = @1 ;) try_table (catch_all 0 (;@1;))  (; label = @2 ;) br 1 (;@1;) br 3 (; INVALID ;) end end"
+unfolding line_group line_group_gap val_pieces list_group label_pieces id_pieces ending_pieces block_pieces catch_pieces catches_pieces index_pieces immediate_pieces operator_pieces operators_pieces expression_pieces digits table control_rows variable_rows number_rows
+labels_in_line = refl
+
+cases_in_line : shown InLine [] (if_op Empty ∷ else_op ∷ try_op Empty ∷ catch_op 2 ∷ nop ∷ catch_all ∷ end ∷ end ∷ try_op Empty ∷ delegate 0 ∷ [])
+    ≡ codes "if  (; label = @1 ;) else try  (; label = @2 ;) catch 2 nop catch_all end end try  (; label = @1 ;) delegate 0"
+unfolding label_pieces id_pieces ending_pieces block_pieces index_pieces immediate_pieces operator_pieces operators_pieces expression_pieces digits table control_rows variable_rows number_rows
+cases_in_line = refl
+
+-- parameters and results of a type
+whole_signature : shown OverLines (func (types.I32 ∷ types.I64 ∷ []) (types.I64 ∷ []) ∷ []) (block (OfType 0) ∷ end ∷ [])
+    ≡ codes "\nblock (type 0) (param i32 i64) (result i64) ;; label = @1\nend"
+unfolding line_group line_group_gap val_pieces list_group type_list signature_pieces id_pieces ending_pieces block_pieces immediate_pieces operator_pieces operators_pieces expression_pieces repeated digits table control_rows variable_rows number_rows
+whole_signature = refl
+
+-- a type without parameters and results, and one that isn't there
+no_signature : shown OverLines (func [] [] ∷ []) (block (OfType 0) ∷ loop (OfType 5) ∷ end ∷ end ∷ [])
+    ≡ codes "\nblock (type 0) ;; label = @1\n  loop (type 5) ;; label = @2\n  end\nend"
+unfolding line_group line_group_gap val_pieces list_group type_list signature_pieces id_pieces ending_pieces block_pieces immediate_pieces operator_pieces operators_pieces expression_pieces repeated digits table control_rows variable_rows number_rows
+no_signature = refl
+
+-- ---- calls
+
+abbrev plain : List ℕ → List Call
+plain s = Text s ∷ []
+
+abbrev in_style : Style → List ℕ → List Call
+in_style style s = Start style ∷ Text s ∷ Start Reset ∷ []
+
+abbrev calls_in_line : List SubType → List Operator → List Call
+calls_in_line ts os = all_calls defaults (expression_pieces (setting InLine ts) no_names (map placed os))
+
+-- the keyword `result` of one result has its blank, that of a signature hasn't
+block_calls : atoms (calls_in_line sample_types (block (Value types.I32) ∷ block (OfType 1) ∷ [])) ≡ atoms (
+    plain (codes "block (") ++ in_style Keyword (codes "result ") ++ in_style TypeName (codes "i32") ++ plain (codes ") ") ++ in_style Comment (codes " (; label = @1 ;)")
+    ++ plain (codes " block (") ++ in_style Keyword (codes "type ") ++ in_style Name (codes "1") ++ plain (codes ") (") ++ in_style Keyword (codes "result") ++ plain (codes " ") ++ in_style TypeName (codes "i32")
+    ++ plain (codes ") ") ++ in_style Comment (codes " (; label = @2 ;)"))
+unfolding line_group line_group_gap val_pieces list_group type_list signature_pieces id_pieces ending_pieces block_pieces immediate_pieces operator_pieces operators_pieces expression_pieces digits table control_rows variable_rows number_rows
+block_calls = refl
+
+-- references, one by its index and one by its word
+reference_calls : atoms (calls_in_line [] (block (Value (to_null (types.Index 0))) ∷ loop (Value (to_null types.Func)) ∷ if_op (Value (to types.Any)) ∷ [])) ≡ atoms (
+    plain (codes "block (") ++ in_style Keyword (codes "result ") ++ plain (codes "(") ++ in_style Keyword (codes "ref") ++ plain (codes " null ") ++ in_style Name (codes "0")
+    ++ plain (codes ")) ") ++ in_style Comment (codes " (; label = @1 ;)")
+    ++ plain (codes " loop (") ++ in_style Keyword (codes "result ") ++ in_style TypeName (codes "funcref") ++ plain (codes ") ") ++ in_style Comment (codes " (; label = @2 ;)")
+    ++ plain (codes " if (") ++ in_style Keyword (codes "result ") ++ plain (codes "(") ++ in_style Keyword (codes "ref ") ++ in_style TypeName (codes "any")
+    ++ plain (codes ")) ") ++ in_style Comment (codes " (; label = @3 ;)"))
+unfolding line_group line_group_gap heap_pieces null_ref_pieces ref_pieces val_pieces id_pieces ending_pieces block_pieces immediate_pieces operator_pieces operators_pieces expression_pieces digits table control_rows variable_rows number_rows
+reference_calls = refl
+
+-- a label of nothing has no style, nor has its comment
+label_calls : atoms (calls_in_line [] (block Empty ∷ br 0 ∷ br 1 ∷ br 2 ∷ [])) ≡ atoms (
+    plain (codes "block ") ++ in_style Comment (codes " (; label = @1 ;)")
+    ++ plain (codes " br ") ++ in_style Name (codes "0") ++ in_style Comment (codes " (;@1;)")
+    ++ plain (codes " br ") ++ in_style Name (codes "1")
+    ++ plain (codes " br 2 (; INVALID ;)"))
+unfolding label_pieces id_pieces ending_pieces block_pieces index_pieces immediate_pieces operator_pieces operators_pieces expression_pieces digits table control_rows variable_rows number_rows
+label_calls = refl
+
+clause_calls : atoms (calls_in_line [] (try_table Empty (One 4 0 ∷ All 1 ∷ []) ∷ [])) ≡ atoms (
+    plain (codes "try_table (") ++ in_style Keyword (codes "catch") ++ plain (codes " ") ++ in_style Name (codes "4") ++ plain (codes " ") ++ in_style Name (codes "0")
+    ++ plain (codes ") (") ++ in_style Keyword (codes "catch_all") ++ plain (codes " 1 (; INVALID ;)) ") ++ in_style Comment (codes " (; label = @1 ;)"))
+unfolding line_group line_group_gap val_pieces list_group label_pieces id_pieces ending_pieces block_pieces catch_pieces catches_pieces index_pieces immediate_pieces operator_pieces operators_pieces expression_pieces digits table control_rows variable_rows number_rows
+clause_calls = refl
+
+line_calls : atoms (all_calls defaults (expression_pieces (setting OverLines []) no_names (record { place = 9; value = block Empty } ∷ record { place = 11; value = end } ∷ []))) ≡ atoms (
+    Newline ∷ Line (Some 9) ∷ plain (codes "block ") ++ in_style Comment (codes ";; label = @1") ++ Newline ∷ Line (Some 11) ∷ plain (codes "end"))
+unfolding id_pieces ending_pieces block_pieces immediate_pieces operator_pieces operators_pieces expression_pieces repeated digits table control_rows variable_rows number_rows
+line_calls = refl
+
+-- ---- a module from its bytes to its text, with places
+
+abbrev branching_bytes : List ℕ
+branching_bytes =
+    head_bytes
+    ++ (0x01 ∷ 0x04 ∷ 0x01 ∷ 0x60 ∷ 0x00 ∷ 0x00 ∷ [])
+    ++ (0x03 ∷ 0x02 ∷ 0x01 ∷ 0x00 ∷ [])
+    ++ (0x0a ∷ 0x0b ∷ 0x01 ∷ 0x09 ∷ 0x00 ∷ 0x02 ∷ 0x40 ∷ 0x0c ∷ 0x00 ∷ 0x0c ∷ 0x01 ∷ 0x0b ∷ 0x0b ∷ [])
+
+with_places : option_map (λ m. text_of (layout (record defaults { offsets = true }) (λ n. false) m)) (binary.parse (input 0 branching_bytes)) ≡ Some (lines (
+    codes "(module"
+    ∷ codes "(;@b     ;)  (type (;0;) (func))"
+    ∷ codes "(;@16    ;)  (func (;0;) (type 0)"
+    ∷ codes "(;@17    ;)    block ;; label = @1"
+    ∷ codes "(;@19    ;)      br 0 (;@1;)"
+    ∷ codes "(;@1b    ;)      br 1"
+    ∷ codes "(;@1d    ;)    end"
+    ∷ codes "(;@1e    ;)  )"
+    ∷ codes "(;@1f    ;))"
+    ∷ []))
+unfolding line_group line_group_gap val_pieces list_group composite_pieces sub_pieces type_pieces type_group_pieces type_section_pieces signature_if module_field_pieces numbered group_gap group_at group_gap_at type_list signature_pieces label_pieces id_pieces ending_pieces block_pieces index_pieces immediate_pieces operator_pieces operators_pieces expression_pieces body_pieces local_group local_pieces header_pieces function_group function_pieces module_pieces layout place_text left_in repeated digits table control_rows variable_rows number_rows
+with_places = refl

@@ -1,0 +1,64 @@
+-- Grammars that the first byte decides: it is taken, or only looked at, and chooses what is spelled.
+use Rattle.std.specs.Prelude.{◌≡◌, ℕ, List, [], ◌∷◌, ◌++◌, ◌+◌, ◌<◌, ◌==◌, length, nat_lt, Option, Some, None, if◌then◌else◌, refl}
+use Rattle.std.proofs.Common.{sym, ap, subst, ◌∙◌, arith, ltb}
+use Rattle.std.proofs.lemmas.Bool.{ltb-true, lt-ltb}
+use Rattle.std.proofs.lemmas.List.{length-append}
+use Rattle.wasmprinter_spec.specs.Grammar.{Input, input, Spans, Grammar, ◌>>=◌, bind_some, some_is, byte, seq, try_map, map_value}
+use Rattle.wasmprinter_spec.specs.Choices.{tested}
+
+-- this byte and no other
+abbrev pub only : ℕ → Grammar ℕ
+only c = try_map (λ b. if b == c then Some b else None) byte
+
+-- a byte is taken, and says what stands behind it
+abbrev pub announced : {A : Type 0} → (ℕ → Grammar A) → Grammar A
+announced h = map_value (λ x. x.1) (seq byte h)
+
+-- the first byte says what stands there, itself among it
+module _ {A : Type 0} (h : ℕ → Grammar A) where
+  abbrev pub Peeked : ℕ → List ℕ → A → Type 0
+  Peeked p [] a = ⊥
+  Peeked p (b ∷ bs) a = (h b).spells p (b ∷ bs) a
+
+  -- what was read, if that took a byte of the n that there were
+  abbrev pub shorter : ℕ → A × Input → Option (A × Input)
+  shorter n x = if nat_lt (length x.1.bytes) n then Some x else None
+
+  abbrev pub peeked_of : ℕ → List ℕ → Option (A × Input)
+  peeked_of p [] = None
+  peeked_of p (b ∷ bs) = (h b).parse (input p (b ∷ bs)) >>= shorter (length (b ∷ bs))
+
+  abbrev pub peeked_at : Input → Option (A × Input)
+  peeked_at at = peeked_of at.place at.bytes
+
+  head_of : (b : ℕ) (bs text rest : List ℕ) (p : ℕ) (a : A) → b ∷ bs ≡ text ++ rest → length rest < length (b ∷ bs) → (h b).spells p text a → Peeked p text a
+  head_of b bs [] rest p a e lt s = absurd (omega (arith, ap length e, lt))
+  head_of b bs (c ∷ cs) rest p a e lt s = let same : b ≡ c = cc in subst (λ (x : ℕ). (h x).spells p (c ∷ cs) a) same s
+
+  sound_of : (p : ℕ) (bytes : List ℕ) (x : A × Input) → peeked_of p bytes ≡ Some x → Spans Peeked (input p bytes) x
+  sound_of p [] x e = absurd cc
+  sound_of p (b ∷ bs) x e =
+      let y = bind_some ((h b).parse (input p (b ∷ bs))) (shorter (length (b ∷ bs))) x e in
+      let t = tested (ltb (length y.0.1.bytes) (length (b ∷ bs))) (Some y.0) x y.2 in
+      let s = (h b).sound (input p (b ∷ bs)) y.0 y.1 in
+      subst (λ (z : A × Input). Spans Peeked (input p (b ∷ bs)) z) (some_is y.0 x t.1)
+      (record { text = s.text; parts = s.parts; ends = s.ends; spelled = head_of b bs s.text y.0.1.bytes p y.0.0 s.parts (ltb-true _ _ t.0) s.spelled })
+
+  pub peeked_sound : (at : Input) (x : A × Input) → peeked_at at ≡ Some x → Spans Peeked at x
+  peeked_sound at x e = sound_of at.place at.bytes x e
+
+  complete_of : (p : ℕ) (text rest : List ℕ) (a : A) → Peeked p text a → peeked_of p (text ++ rest) ≡ Some (a, input (p + length text) rest)
+  complete_of p [] rest a s = absurd s
+  complete_of p (b ∷ bs) rest a s =
+      let after : Input = input (p + length (b ∷ bs)) rest in
+      let e : (h b).parse (input p (b ∷ (bs ++ rest))) ≡ Some (a, after) =
+      (h b).complete (input p (b ∷ (bs ++ rest))) (a, after) (record { text = b ∷ bs; parts = refl; ends = refl; spelled = s }) in
+      let lt : length rest < length (b ∷ (bs ++ rest)) = omega (arith, length-append bs rest) in
+      rw (e, lt-ltb (length rest) (length (b ∷ (bs ++ rest))) lt) refl
+
+  pub peeked_complete : (at : Input) (x : A × Input) → Spans Peeked at x → peeked_at at ≡ Some x
+  peeked_complete at x s =
+      ap (peeked_of at.place) s.parts ∙ complete_of at.place s.text x.1.bytes x.0 s.spelled ∙ ap (λ (q : ℕ). Some (x.0, input q x.1.bytes)) (sym s.ends)
+
+  abbrev pub peeked : Grammar A
+  peeked = record { spells = Peeked; parse = peeked_at; sound = peeked_sound; complete = peeked_complete }

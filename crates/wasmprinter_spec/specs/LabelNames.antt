@@ -1,0 +1,21 @@
+-- The identifiers of labels: from the names that a name section gives them, or invented from how many blocks stand around them.
+use Rattle.std.specs.Prelude.{ℕ, List, [], ◌∷◌, ◌++◌, Bool, true, false, not, cond, ◌==◌, codes, decimal, Option, Some, None}
+use Rattle.wasmprinter_spec.specs.Labels.{Label, Naming}
+
+-- not empty, and with no sign # in front
+abbrev pub is_clean : List ℕ → Bool
+is_clean [] = false
+is_clean (b ∷ bs) = not (b == 35)
+
+-- a name as an identifier of label n
+abbrev pub label_content : ℕ → List ℕ → List ℕ
+label_content n s = cond (is_clean s) s (codes "#label" ++ (decimal n ++ (32 ∷ s)))
+
+abbrev pub label_named : Bool → ℕ → ℕ → Option (List ℕ) → Label
+label_named invents n d (Some s) = Some (record { given = Some s; content = label_content n s })
+label_named true n d None = Some (record { given = None; content = codes "#label" ++ decimal d })
+label_named false n d None = None
+
+-- by the names that labels have, with identifiers for all others or without
+abbrev pub label_naming : Bool → (ℕ → Option (List ℕ)) → Naming
+label_naming invents names n d = label_named invents n d (names n)

@@ -1,0 +1,75 @@
+-- The labels that a layout sees: which name a label has, and which name an operator may use for it.
+use Rattle.std.specs.Prelude.{◌≡◌, ℕ, zero, suc, ◌<◌, ◌^◌, List, [], ◌∷◌, Bool, true, false, ◌||◌, bytes_eq, Option, Some, None}
+use Rattle.wasmprinter_spec.specs.Row.{Role, Opens, OpensIf, OpensTry, Delegates, Ends}
+
+-- a label's identifier: the name that it was given, none where its identifier is invented, and what stands behind the dollar sign
+pub record Named : Type 0 where
+  pub given : Option (List ℕ)
+  pub content : List ℕ
+
+abbrev pub Label : Type 0
+Label = Option Named
+
+-- the identifier of the block that is opened as number so and so, by so many blocks around it
+abbrev pub Naming : Type 0
+Naming = ℕ → ℕ → Label
+
+abbrev pub same_name : Option (List ℕ) → Option (List ℕ) → Bool
+same_name (Some s) (Some t) = bytes_eq s t
+same_name _ _ = false
+
+-- whether a label has the name that this one was given
+abbrev pub hides : Named → Label → Bool
+hides n None = false
+hides n (Some m) = same_name m.given n.given
+
+abbrev pub is_hidden : Named → List Label → Bool
+is_hidden n [] = false
+is_hidden n (x ∷ xs) = hides n x || is_hidden n xs
+
+-- Blocks of one content, one of which may stand in the other, were given one name.
+abbrev pub AreApart : Naming → Type 0
+AreApart naming = (i j d e : ℕ) (outer inner : Named) → d < e → e < 2 ^ 64 → naming i d ≡ Some outer → naming j e ≡ Some inner → inner.content ≡ outer.content → same_name inner.given outer.given ≡ true
+
+-- what a label means: the label of a block around it, with the labels further in, or the body's own, or nothing
+pub data Target : Type 0 where
+  Around : Label → List Label → Target
+  Own : Target
+  Nothing : Target
+
+abbrev pub behind : Label → Target → Target
+behind x (Around y further) = Around y (x ∷ further)
+behind x Own = Own
+behind x Nothing = Nothing
+
+abbrev pub target : ℕ → List Label → Target
+target zero [] = Own
+target (suc l) [] = Nothing
+target zero (x ∷ xs) = Around x []
+target (suc l) (x ∷ xs) = behind x (target l xs)
+
+-- the labels that are open behind an operator, the innermost first; x is the one that it opens
+abbrev pub labels_after : Role → Label → List Label → List Label
+labels_after Opens x xs = x ∷ xs
+labels_after OpensIf x xs = x ∷ xs
+labels_after OpensTry x xs = x ∷ xs
+labels_after Delegates x (y ∷ xs) = xs
+labels_after Ends x (y ∷ xs) = xs
+labels_after _ x xs = xs
+
+-- how many blocks were opened
+abbrev pub count_after : Role → ℕ → ℕ
+count_after Opens n = suc n
+count_after OpensIf n = suc n
+count_after OpensTry n = suc n
+count_after _ n = n
+
+-- the labels that an operator's immediates may mean: for `delegate` those outside its block
+abbrev pub outside : Role → List Label → List Label
+outside Delegates (x ∷ xs) = xs
+outside _ xs = xs
+
+-- those further in than all these, whose names can't be used
+abbrev pub inside : Role → List Label → List Label
+inside Delegates (x ∷ xs) = x ∷ []
+inside _ xs = []

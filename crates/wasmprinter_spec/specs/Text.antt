@@ -1,0 +1,7 @@
+-- How text writes the parts of a module (sections 6.3 to 6.6 of the standard).
+pub mod Items
+pub mod Types
+pub mod TypeUses
+pub mod Operators
+pub mod Functions
+pub mod Exports

@@ -1,0 +1,82 @@
+-- What the readers of rows of items have in common.
+use Rattle.std.specs.Prelude.{ℕ, List, [], ◌∷◌, ◌++◌, bytes_eq, cond, Option, Some, None, if◌then◌else◌, map}
+use Rattle.wasmprinter_spec.specs.Grammar.{◌>>=◌}
+use Rattle.wasmprinter_spec.specs.Forest.{Forest, End, Word, Name, Group}
+use Rattle.wasmprinter_spec.specs.IndexSpaces.{Identifiers}
+
+abbrev pub or_else : {A : Type 0} → Option A → Option A → Option A
+or_else (Some a) b = Some a
+or_else None b = b
+
+-- what this word stands for
+abbrev pub lookup : {A : Type 0} → List (List ℕ × A) → List ℕ → Option A
+lookup [] w = None
+lookup (row ∷ rows) w = cond (bytes_eq w row.0) (Some row.1) (lookup rows w)
+
+-- each of these read so
+abbrev pub each : {A B : Type 0} → (A → Option B) → List A → Option (List B)
+each f [] = Some []
+each f (x ∷ xs) = f x >>= λ y. each f xs >>= λ ys. Some (y ∷ ys)
+
+-- one word alone, read so
+abbrev pub one_word : {A : Type 0} → (List ℕ → Option A) → Forest → Option A
+one_word read (Word w End) = read w
+one_word read _ = None
+
+-- items that are words or groups, read so
+module _ {A : Type 0} (word : List ℕ → Option A) (group : Forest → Option A) where
+  abbrev pub one_item : Forest → Option A
+  one_item (Word w End) = word w
+  one_item (Group g End) = group g
+  one_item _ = None
+
+  abbrev pub all_items : Forest → Option (List A)
+  all_items End = Some []
+  all_items (Word w f) = word w >>= λ x. all_items f >>= λ xs. Some (x ∷ xs)
+  all_items (Group g f) = group g >>= λ x. all_items f >>= λ xs. Some (x ∷ xs)
+  all_items _ = None
+
+-- an identifier, if one stands in front, and what stands behind it
+abbrev pub identified : Forest → Option (List ℕ) × Forest
+identified (Name s f) = (Some s, f)
+identified f = (None, f)
+
+-- what was read, if nothing stands behind it
+abbrev pub ended : {A : Type 0} → A × Forest → Option A
+ended (x, End) = Some x
+ended (x, _) = None
+
+-- ---- groups of parameters, results, locals and fields
+
+abbrev pub more : {A : Type 0} → List A → Option (List A × Forest) → Option (List A × Forest)
+more xs None = None
+more xs (Some y) = Some (xs ++ y.0, y.1)
+
+-- what the leading groups with this word hold, all together, and what stands behind them
+unfoldable pub groups : {A : Type 0} → (Forest → Option (List A)) → List ℕ → Forest → Option (List A × Forest)
+groups read w (Group (Word v g) f) =
+    if bytes_eq v w then (read g >>= (λ xs. more xs (groups read w f))) else Some ([], Group (Word v g) f)
+groups read w f = Some ([], f)
+
+-- a parameter, a local or a field
+pub record Declaration (A : Type 0) : Type 0 where
+  pub id : Option (List ℕ)
+  pub type : A
+
+abbrev pub declaration : {A : Type 0} → Option (List ℕ) → A → Declaration A
+declaration id t = record { id = id; type = t }
+
+abbrev pub the_only : {A : Type 0} → List A → Option A
+the_only (x ∷ []) = Some x
+the_only _ = None
+
+-- one with an identifier, or any number without
+abbrev pub declarations : {A : Type 0} → (Forest → Option (List A)) → Forest → Option (List (Declaration A))
+declarations read (Name s f) = read f >>= the_only >>= λ t. Some (declaration (Some s) t ∷ [])
+declarations read f = read f >>= λ ts. Some (map (λ t. declaration None t) ts)
+
+abbrev pub ids_of : {A : Type 0} → List (Declaration A) → Identifiers
+ids_of ds = map (λ d. d.id) ds
+
+abbrev pub types_of : {A : Type 0} → List (Declaration A) → List A
+types_of ds = map (λ d. d.type) ds

@@ -1,0 +1,161 @@
+-- Types in the text format (section 6.4 of the standard). `ids` are the identifiers of the module's types.
+use Rattle.std.specs.Prelude.{ℕ, List, [], ◌∷◌, Bool, true, false, codes, bytes_eq, Option, Some, None, if◌then◌else◌, option_map}
+use Rattle.wasmprinter_spec.specs.Grammar.{◌>>=◌}
+use Rattle.wasmprinter_spec.specs.Forest.{Forest, End, Word, Name, Group}
+use Rattle.wasmprinter_spec.specs.Types.{HeapType, Exn, Array, Struct, I31, Eq, Any, Extern, Func, NoAny, NoExtern, NoFunc, NoExn, Index, RefType, ref_type, ValType, I32, I64, F32, F64, V128, Ref, StorageType, Val, I8, I16, FieldType, field_type, FuncType, CompositeType, FuncComposite, ArrayComposite, StructComposite, SubType, sub_type, final_type}
+use Rattle.wasmprinter_spec.specs.IndexSpaces.{Identifiers, index_space, index}
+use Rattle.wasmprinter_spec.specs.Text.Items.{or_else, lookup, each, one_word, one_item, all_items, identified, ended, groups, Declaration, declarations, ids_of, types_of}
+
+-- ---- value types
+
+unfoldable pub heap_of_word : List ℕ → Option HeapType
+heap_of_word w =
+    lookup (
+    (codes "exn", Exn) ∷ (codes "array", Array) ∷ (codes "struct", Struct) ∷ (codes "i31", I31)
+    ∷ (codes "eq", Eq) ∷ (codes "any", Any) ∷ (codes "extern", Extern) ∷ (codes "func", Func)
+    ∷ (codes "none", NoAny) ∷ (codes "noextern", NoExtern) ∷ (codes "nofunc", NoFunc) ∷ (codes "noexn", NoExn) ∷ []) w
+
+-- abbreviations of references that may be null
+unfoldable pub ref_of_word : List ℕ → Option HeapType
+ref_of_word w =
+    lookup (
+    (codes "exnref", Exn) ∷ (codes "arrayref", Array) ∷ (codes "structref", Struct) ∷ (codes "i31ref", I31)
+    ∷ (codes "eqref", Eq) ∷ (codes "anyref", Any) ∷ (codes "externref", Extern) ∷ (codes "funcref", Func)
+    ∷ (codes "nullref", NoAny) ∷ (codes "nullexternref", NoExtern) ∷ (codes "nullfuncref", NoFunc) ∷ (codes "nullexnref", NoExn) ∷ []) w
+
+unfoldable pub number_of_word : List ℕ → Option ValType
+number_of_word w = lookup ((codes "i32", I32) ∷ (codes "i64", I64) ∷ (codes "f32", F32) ∷ (codes "f64", F64) ∷ (codes "v128", V128) ∷ []) w
+
+unfoldable pub packed_of_word : List ℕ → Option StorageType
+packed_of_word w = lookup ((codes "i8", I8) ∷ (codes "i16", I16) ∷ []) w
+
+-- the types that one word stands for
+abbrev pub ref_named : List ℕ → Option RefType
+ref_named w = option_map (ref_type true) (ref_of_word w)
+
+abbrev pub val_named : List ℕ → Option ValType
+val_named w = or_else (number_of_word w) (option_map Ref (ref_named w))
+
+abbrev pub storage_named : List ℕ → Option StorageType
+storage_named w = or_else (packed_of_word w) (option_map Val (val_named w))
+
+abbrev pub field_named : List ℕ → Option FieldType
+field_named w = option_map (field_type false) (storage_named w)
+
+module _ (ids : Identifiers) where
+  abbrev pub heap_type : Forest → Option HeapType
+  heap_type f = or_else (option_map Index (index ids f)) (one_word heap_of_word f)
+
+  abbrev pub null_heap : Forest → Option HeapType
+  null_heap (Word w f) = if bytes_eq w (codes "null") then heap_type f else None
+  null_heap _ = None
+
+  -- what stands behind `ref`: a heap type, or `null` and a heap type
+  abbrev pub ref_parts : Forest → Option RefType
+  ref_parts f = or_else (option_map (ref_type false) (heap_type f)) (option_map (ref_type true) (null_heap f))
+
+  abbrev pub ref_group : Forest → Option RefType
+  ref_group (Word w f) = if bytes_eq w (codes "ref") then ref_parts f else None
+  ref_group _ = None
+
+  abbrev pub reference_type : Forest → Option RefType
+  reference_type f = one_item ref_named ref_group f
+
+  abbrev pub val_group : Forest → Option ValType
+  val_group g = option_map Ref (ref_group g)
+
+  abbrev pub val_type : Forest → Option ValType
+  val_type f = one_item val_named val_group f
+
+  abbrev pub val_types : Forest → Option (List ValType)
+  val_types f = all_items val_named val_group f
+
+  -- ---- composite types
+
+  abbrev pub storage_group : Forest → Option StorageType
+  storage_group g = option_map Val (val_group g)
+
+  abbrev pub storage_type : Forest → Option StorageType
+  storage_type f = one_item storage_named storage_group f
+
+  -- a storage type in parentheses, or one that can be changed
+  abbrev pub field_group : Forest → Option FieldType
+  field_group (Word w f) = if bytes_eq w (codes "mut") then option_map (field_type true) (storage_type f) else option_map (field_type false) (storage_group (Word w f))
+  field_group _ = None
+
+  abbrev pub field : Forest → Option FieldType
+  field f = one_item field_named field_group f
+
+  abbrev pub fields : Forest → Option (List FieldType)
+  fields f = all_items field_named field_group f
+
+  abbrev pub variables : Forest → Option (List (Declaration ValType))
+  variables f = declarations val_types f
+
+-- parameters may have identifiers
+pub record Signature : Type 0 where
+  pub params : List (Declaration ValType)
+  pub results : List ValType
+
+abbrev pub type_of : Signature → FuncType
+type_of s = record { params = types_of s.params; results = s.results }
+
+-- The identifiers of a structure's fields are one space.
+abbrev pub struct_of : List (Declaration FieldType) → Option CompositeType
+struct_of ds = index_space (ids_of ds) >>= λ _. Some (StructComposite (types_of ds))
+
+module _ (ids : Identifiers) where
+  abbrev pub signature : Forest → Option (Signature × Forest)
+  signature f = do
+    params ← groups (variables ids) (codes "param") f
+    results ← groups (val_types ids) (codes "result") params.1
+    Some (record { params = params.0; results = results.0 }, results.1)
+
+  abbrev pub composite : Forest → Option CompositeType
+  composite (Word w f) =
+      if bytes_eq w (codes "func") then signature f >>= ended >>= (λ s. Some (FuncComposite (type_of s))) else
+      (if bytes_eq w (codes "array") then option_map ArrayComposite (field ids f) else
+      (if bytes_eq w (codes "struct") then groups (declarations (fields ids)) (codes "field") f >>= ended >>= struct_of else None))
+  composite _ = None
+
+  -- ---- subtypes
+
+  -- supertypes, and then a composite type
+  abbrev pub supertypes : Forest → Option (List ℕ × CompositeType)
+  supertypes (Group g End) = composite g >>= λ c. Some ([], c)
+  supertypes (Word w f) = index ids (Word w End) >>= λ i. supertypes f >>= λ x. Some (i ∷ x.0, x.1)
+  supertypes (Name s f) = index ids (Name s End) >>= λ i. supertypes f >>= λ x. Some (i ∷ x.0, x.1)
+  supertypes _ = None
+
+  abbrev pub final_supertypes : Forest → Option (List ℕ × CompositeType)
+  final_supertypes (Word w f) = if bytes_eq w (codes "final") then supertypes f else None
+  final_supertypes _ = None
+
+  abbrev pub sub_from : Bool → List ℕ × CompositeType → SubType
+  sub_from final x = sub_type final x.0 x.1
+
+  -- what stands behind `sub`: supertypes and a composite type, or `final` and these
+  abbrev pub sub_parts : Forest → Option SubType
+  sub_parts f = or_else (option_map (sub_from false) (supertypes f)) (option_map (sub_from true) (final_supertypes f))
+
+  -- a composite type by itself is final and has no supertype
+  abbrev pub subtype : Forest → Option SubType
+  subtype (Word w f) = if bytes_eq w (codes "sub") then sub_parts f else option_map final_type (composite (Word w f))
+  subtype _ = None
+
+  abbrev pub one_group : Forest → Option SubType
+  one_group (Group g End) = subtype g
+  one_group _ = None
+
+  -- a type with its identifier
+  abbrev pub read_type : Forest → Option SubType
+  read_type f = one_group (identified f).1
+
+  abbrev pub read_group : List Forest → Option (List SubType)
+  read_group fs = each read_type fs
+
+-- what the fields `type` of a group `rec` hold
+abbrev pub group_members : Forest → Option (List Forest)
+group_members End = Some []
+group_members (Group (Word w f) g) = if bytes_eq w (codes "type") then option_map (λ fs. f ∷ fs) (group_members g) else None
+group_members _ = None

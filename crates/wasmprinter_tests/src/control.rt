@@ -1,0 +1,326 @@
+//! Blocks, labels and branches: texts of functions, what isn't well nested, and deep nesting.
+
+use crate::modules::PREAMBLE;
+use std::alloc::{AllocError, Global};
+use std::test::Fail;
+use wasmprinter::{Error, print_bytes};
+
+/// A type section with the type of functions without parameters and results.
+const NO_PARAMS: [u8; 6] = [0x01, 0x04, 0x01, 0x60, 0x00, 0x00];
+
+/// A type section with the type of functions of one i32.
+const ONE_PARAM: [u8; 7] = [0x01, 0x05, 0x01, 0x60, 0x01, 0x7f, 0x00];
+
+/// A module with this type section, and a function of the first type without locals and with these operators and an `end`. There are fewer
+/// operators than 100 bytes.
+fn with_operators(alloc: Global, types: &[u8], operators: &[u8]) -> Result<Vec<u8>, AllocError> {
+    let size = operators.len().min(100) as u8 + 2;
+    let mut wasm = Vec::from_slice(alloc, &PREAMBLE)?;
+    wasm.extend_from_slice(types)?;
+    wasm.extend_from_slice(&[0x03, 0x02, 0x01, 0x00])?;
+    wasm.extend_from_slice(&[0x0a, size + 2, 0x01, size, 0x00])?;
+    wasm.extend_from_slice(operators)?;
+    wasm.push(0x0b)?;
+    Ok(wasm)
+}
+
+/// The text of such a module with functions that have no parameters.
+fn text_of(alloc: Global, operators: &[u8]) -> Result<String, Error> {
+    let wasm = with_operators(alloc, &NO_PARAMS, operators)?;
+    print_bytes(alloc, &wasm)
+}
+
+#[test]
+fn prints_branches_of_a_table(rt: HostRuntime) -> Result<(), Fail> {
+    let text = text_of(
+        rt.alloc(),
+        &[0x02, 0x40, 0x41, 0x00, 0x0e, 0x01, 0x00, 0x01, 0x0b],
+    )?;
+    assert_eq!(rt;
+        text.as_str(),
+        r#"(module
+  (type (;0;) (func))
+  (func (;0;) (type 0)
+    block ;; label = @1
+      i32.const 0
+      br_table 0 (;@1;) 1
+    end
+  )
+)
+"#
+    );
+    Ok(())
+}
+
+#[test]
+fn prints_catch_clauses(rt: HostRuntime) -> Result<(), Fail> {
+    let text = text_of(rt.alloc(), &[0x1f, 0x40, 0x01, 0x02, 0x00, 0x0b])?;
+    assert_eq!(rt;
+        text.as_str(),
+        r#"(module
+  (type (;0;) (func))
+  (func (;0;) (type 0)
+    try_table (catch_all 0) ;; label = @1
+    end
+  )
+)
+"#
+    );
+    Ok(())
+}
+
+#[test]
+fn prints_clauses_that_name_a_tag(rt: HostRuntime) -> Result<(), Fail> {
+    let text = text_of(
+        rt.alloc(),
+        &[
+            0x02, 0x40, 0x1f, 0x7f, 0x03, 0x00, 0x02, 0x00, 0x01, 0x03, 0x01, 0x03, 0x02, 0x0b,
+            0x0b,
+        ],
+    )?;
+    assert_eq!(rt;
+        text.as_str(),
+        r#"(module
+  (type (;0;) (func))
+  (func (;0;) (type 0)
+    block ;; label = @1
+      try_table (result i32) (catch 2 0 (;@1;)) (catch_ref 3 1) (catch_all_ref 2 (; INVALID ;)) ;; label = @2
+      end
+    end
+  )
+)
+"#
+    );
+    Ok(())
+}
+
+#[test]
+fn prints_the_signature_of_a_block(rt: HostRuntime) -> Result<(), Fail> {
+    let wasm = with_operators(rt.alloc(), &ONE_PARAM, &[0x03, 0x00, 0x0b])?;
+    let text = print_bytes(rt.alloc(), &wasm)?;
+    assert_eq!(rt;
+        text.as_str(),
+        r#"(module
+  (type (;0;) (func (param i32)))
+  (func (;0;) (type 0) (param i32)
+    loop (type 0) (param i32) ;; label = @1
+    end
+  )
+)
+"#
+    );
+    Ok(())
+}
+
+#[test]
+fn leaves_the_block_of_a_delegate(rt: HostRuntime) -> Result<(), Fail> {
+    let text = text_of(
+        rt.alloc(),
+        &[0x06, 0x40, 0x18, 0x00, 0x02, 0x40, 0x0c, 0x00, 0x0b],
+    )?;
+    assert_eq!(rt;
+        text.as_str(),
+        r#"(module
+  (type (;0;) (func))
+  (func (;0;) (type 0)
+    try ;; label = @1
+    delegate 0
+    block ;; label = @1
+      br 0 (;@1;)
+    end
+  )
+)
+"#
+    );
+    Ok(())
+}
+
+#[test]
+fn prints_the_label_of_the_body(rt: HostRuntime) -> Result<(), Fail> {
+    let text = text_of(rt.alloc(), &[0x02, 0x40, 0x0c, 0x00, 0x0c, 0x01, 0x0b])?;
+    assert_eq!(rt;
+        text.as_str(),
+        r#"(module
+  (type (;0;) (func))
+  (func (;0;) (type 0)
+    block ;; label = @1
+      br 0 (;@1;)
+      br 1
+    end
+  )
+)
+"#
+    );
+    Ok(())
+}
+
+#[test]
+fn marks_a_number_that_is_no_label(rt: HostRuntime) -> Result<(), Fail> {
+    let text = text_of(rt.alloc(), &[0x0c, 0x07])?;
+    assert_eq!(rt;
+        text.as_str(),
+        r#"(module
+  (type (;0;) (func))
+  (func (;0;) (type 0)
+    br 7 (; INVALID ;)
+  )
+)
+"#
+    );
+    Ok(())
+}
+
+#[test]
+fn prints_both_arms_of_an_if(rt: HostRuntime) -> Result<(), Fail> {
+    let text = text_of(
+        rt.alloc(),
+        &[
+            0x41, 0x00, 0x04, 0x7f, 0x41, 0x01, 0x05, 0x41, 0x02, 0x0b, 0x1a,
+        ],
+    )?;
+    assert_eq!(rt;
+        text.as_str(),
+        r#"(module
+  (type (;0;) (func))
+  (func (;0;) (type 0)
+    i32.const 0
+    if (result i32) ;; label = @1
+      i32.const 1
+    else
+      i32.const 2
+    end
+    drop
+  )
+)
+"#
+    );
+    Ok(())
+}
+
+#[test]
+fn prints_catches_of_a_try(rt: HostRuntime) -> Result<(), Fail> {
+    let text = text_of(
+        rt.alloc(),
+        &[0x06, 0x40, 0x01, 0x07, 0x00, 0x01, 0x19, 0x09, 0x00, 0x0b],
+    )?;
+    assert_eq!(rt;
+        text.as_str(),
+        r#"(module
+  (type (;0;) (func))
+  (func (;0;) (type 0)
+    try ;; label = @1
+      nop
+    catch 0
+      nop
+    catch_all
+      rethrow 0 (;@1;)
+    end
+  )
+)
+"#
+    );
+    Ok(())
+}
+
+#[test]
+fn refuses_what_is_not_nested(rt: HostRuntime) -> Result<(), Fail> {
+    let alone = text_of(rt.alloc(), &[0x05]);
+    assert!(rt; matches!(alone, Err(Error::Malformed { .. })));
+    let twice = text_of(rt.alloc(), &[0x04, 0x40, 0x05, 0x05, 0x0b]);
+    assert!(rt; matches!(twice, Err(Error::Malformed { .. })));
+    let in_block = text_of(rt.alloc(), &[0x02, 0x40, 0x07, 0x00, 0x0b]);
+    assert!(rt; matches!(in_block, Err(Error::Malformed { .. })));
+    Ok(())
+}
+
+/// The line of the innermost of 100,000 blocks: no line is indented by more than 50 levels.
+const INNERMOST: &str =
+    "\n                                                                                                    block ;; label = @100000\n";
+
+/// A module whose function opens so many blocks in one another by these two bytes each, and closes each by these. Given are the sizes of the
+/// code section and of the body, as the binary format spells them.
+fn with_blocks(
+    alloc: Global,
+    depth: u32,
+    opens: &[u8],
+    closes: &[u8],
+    code_size: &[u8],
+    body_size: &[u8],
+) -> Result<Vec<u8>, AllocError> {
+    let mut wasm = Vec::from_slice(alloc, &PREAMBLE)?;
+    wasm.extend_from_slice(&NO_PARAMS)?;
+    wasm.extend_from_slice(&[0x03, 0x02, 0x01, 0x00])?;
+    wasm.push(0x0a)?;
+    wasm.extend_from_slice(code_size)?;
+    wasm.push(0x01)?;
+    wasm.extend_from_slice(body_size)?;
+    wasm.push(0x00)?;
+    for _ in 0..depth {
+        wasm.extend_from_slice(opens)?;
+    }
+    for _ in 0..depth {
+        wasm.extend_from_slice(closes)?;
+    }
+    wasm.push(0x0b)?;
+    Ok(wasm)
+}
+
+#[test]
+fn prints_deep_blocks(rt: HostRuntime) -> Result<(), Fail> {
+    let wasm = with_blocks(
+        rt.alloc(),
+        100_000,
+        &[0x02, 0x40],
+        &[0x0b],
+        &[0xe6, 0xa7, 0x12], // 300,006
+        &[0xe2, 0xa7, 0x12], // 300,002
+    )?;
+    let text = print_bytes(rt.alloc(), &wasm)?;
+    // the module, its type, the function, two lines for each block, and two parentheses
+    assert_eq!(rt; text.as_str().matches("\n").count(), 200_005);
+    assert!(rt; text.as_str().contains(INNERMOST));
+    assert!(rt; !text.as_str().contains("@100001"));
+    assert!(rt; text.as_str().ends_with("\n      end\n    end\n  )\n)\n"));
+    Ok(())
+}
+
+#[test]
+fn prints_deep_ifs(rt: HostRuntime) -> Result<(), Fail> {
+    let wasm = with_blocks(
+        rt.alloc(),
+        20_000,
+        &[0x04, 0x40],
+        &[0x05, 0x0b],
+        &[0x86, 0xf1, 0x04], // 80,006
+        &[0x82, 0xf1, 0x04], // 80,002
+    )?;
+    let text = print_bytes(rt.alloc(), &wasm)?;
+    assert_eq!(rt; text.as_str().matches("\n").count(), 60_005);
+    assert!(rt; text.as_str().contains("  if ;; label = @20000\n"));
+    assert!(rt;
+        text.as_str()
+            .ends_with("\n      else\n      end\n    else\n    end\n  )\n)\n")
+    );
+    Ok(())
+}
+
+#[test]
+fn prints_deep_tries(rt: HostRuntime) -> Result<(), Fail> {
+    let wasm = with_blocks(
+        rt.alloc(),
+        20_000,
+        &[0x06, 0x40],
+        &[0x18, 0x00],
+        &[0x86, 0xf1, 0x04], // 80,006
+        &[0x82, 0xf1, 0x04], // 80,002
+    )?;
+    let text = print_bytes(rt.alloc(), &wasm)?;
+    assert_eq!(rt; text.as_str().matches("\n").count(), 40_005);
+    assert!(rt; text.as_str().contains("  try ;; label = @20000\n"));
+    assert!(rt; text.as_str().contains("  delegate 0 (;@19999;)\n"));
+    assert!(rt;
+        text.as_str()
+            .ends_with("\n      delegate 0 (;@1;)\n    delegate 0\n  )\n)\n")
+    );
+    Ok(())
+}

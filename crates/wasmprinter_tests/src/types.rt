@@ -1,0 +1,186 @@
+//! Types: texts of value types, composite types, subtypes and groups, their places, and many types.
+
+use crate::modules::PREAMBLE;
+use crate::recorder::Recorder;
+use std::alloc::{AllocError, Global};
+use std::test::Fail;
+use wasmprinter::{Config, Error, print_bytes};
+
+/// A module with a type section of these bytes, a count in front. There are fewer than 100.
+fn with_types(alloc: Global, content: &[u8]) -> Result<Vec<u8>, AllocError> {
+    let mut wasm = Vec::from_slice(alloc, &PREAMBLE)?;
+    wasm.extend_from_slice(&[0x01, content.len().min(100) as u8])?;
+    wasm.extend_from_slice(content)?;
+    Ok(wasm)
+}
+
+/// The text of such a module.
+fn text_of(alloc: Global, content: &[u8]) -> Result<String, Error> {
+    let wasm = with_types(alloc, content)?;
+    print_bytes(alloc, &wasm)
+}
+
+/// The contents of type sections, and the texts of their modules.
+const ROWS: [(&[u8], &str); 8] = [
+    (
+        &[0x01, 0x4e, 0x01, 0x60, 0x00, 0x00],
+        "(module\n  (rec\n    (type (;0;) (func))\n  )\n)\n",
+    ),
+    (
+        &[0x01, 0x5f, 0x02, 0x78, 0x01, 0x7f, 0x00],
+        "(module\n  (type (;0;) (struct (field (mut i8)) (field i32)))\n)\n",
+    ),
+    (
+        &[
+            0x02, 0x50, 0x00, 0x5e, 0x7f, 0x00, 0x4f, 0x01, 0x00, 0x60, 0x00, 0x00,
+        ],
+        "(module\n  (type (;0;) (sub (array i32)))\n  (type (;1;) (sub final 0 (func)))\n)\n",
+    ),
+    // number types and the vector type
+    (
+        &[0x01, 0x60, 0x04, 0x7f, 0x7e, 0x7d, 0x7c, 0x01, 0x7b],
+        "(module\n  (type (;0;) (func (param i32 i64 f32 f64) (result v128)))\n)\n",
+    ),
+    // references: by an index, by a word, and in full
+    (
+        &[
+            0x01, 0x60, 0x04, 0x63, 0x00, 0x70, 0x64, 0x70, 0x64, 0x00, 0x01, 0x63, 0x70,
+        ],
+        "(module\n  (type (;0;) (func (param (ref null 0) funcref (ref func) (ref 0)) (result funcref)))\n)\n",
+    ),
+    // fields of arrays
+    (
+        &[0x02, 0x5e, 0x77, 0x01, 0x5e, 0x63, 0x00, 0x01],
+        "(module\n  (type (;0;) (array (mut i16)))\n  (type (;1;) (array (mut (ref null 0))))\n)\n",
+    ),
+    // more than one supertype, and a structure without fields
+    (
+        &[0x01, 0x50, 0x02, 0x03, 0x04, 0x5f, 0x00],
+        "(module\n  (type (;0;) (sub 3 4 (struct)))\n)\n",
+    ),
+    // a group without types
+    (&[0x01, 0x4e, 0x00], "(module\n  (rec)\n)\n"),
+];
+
+#[test]
+fn prints_each_type(rt: HostRuntime) -> Result<(), Fail> {
+    for (content, expected) in ROWS {
+        let text = text_of(rt.alloc(), content)?;
+        assert_eq!(rt; text.as_str(), expected);
+    }
+    Ok(())
+}
+
+/// References to each abstract heap type: those that may be null as parameters, the others as results.
+const ABSTRACT: [u8; 40] = [
+    0x01, 0x60, 0x0c, // parameters
+    0x69, 0x6a, 0x6b, 0x6c, 0x6d, 0x6e, 0x6f, 0x70, 0x71, 0x72, 0x73, 0x74, // each by its word
+    0x0c, // results
+    0x64, 0x69, 0x64, 0x6a, 0x64, 0x6b, 0x64, 0x6c, 0x64, 0x6d, 0x64, 0x6e, // to `any`
+    0x64, 0x6f, 0x64, 0x70, 0x64, 0x71, 0x64, 0x72, 0x64, 0x73, 0x64, 0x74,
+];
+
+#[test]
+fn prints_references_to_abstract_types(rt: HostRuntime) -> Result<(), Fail> {
+    let text = text_of(rt.alloc(), &ABSTRACT)?;
+    assert!(rt;
+        text.as_str().contains(
+            "(param exnref arrayref structref i31ref eqref anyref externref funcref nullref nullexternref nullfuncref nullexnref) (result"
+        )
+    );
+    assert!(rt;
+        text.as_str().contains(
+            "(result (ref exn) (ref array) (ref struct) (ref i31) (ref eq) (ref any) (ref extern) (ref func) (ref none) (ref noextern) (ref nofunc) (ref noexn))))\n"
+        )
+    );
+    Ok(())
+}
+
+#[test]
+fn numbers_types_over_all_groups(rt: HostRuntime) -> Result<(), Fail> {
+    let text = text_of(
+        rt.alloc(),
+        &[
+            0x03, 0x4e, 0x00, // no types
+            0x4e, 0x02, 0x5f, 0x01, 0x63, 0x01, 0x01, 0x5e, 0x64, 0x00, 0x00, // two
+            0x60, 0x00, 0x00, // by itself
+        ],
+    )?;
+    assert_eq!(rt;
+        text.as_str(),
+        r#"(module
+  (rec)
+  (rec
+    (type (;0;) (struct (field (mut (ref null 1)))))
+    (type (;1;) (array (ref 0)))
+  )
+  (type (;2;) (func))
+)
+"#
+    );
+    Ok(())
+}
+
+#[test]
+fn places_the_types_of_a_group_behind_its_first_two_bytes(rt: HostRuntime) -> Result<(), Fail> {
+    let wasm = with_types(
+        rt.alloc(),
+        &[0x01, 0x4e, 0x02, 0x5f, 0x01, 0x78, 0x01, 0x60, 0x00, 0x00],
+    )?;
+    let mut recorder = Recorder::new(rt.alloc());
+    Config::new().print(rt.alloc(), &wasm, &mut recorder)?;
+    assert_eq!(rt;
+        recorder.calls(),
+        r#"[0x0]({K}module{R}
+[0xb]  ({K}rec{R}
+[0xd]    ({K}type {R}{N}(;0;){R} ({K}struct{R} (field (mut i8))))
+[0xd]    ({K}type {R}{N}(;1;){R} ({K}func{R}))
+[]  )
+[0x14])
+"#
+    );
+    assert!(rt; recorder.is_complete());
+    Ok(())
+}
+
+/// A function whose locals are references.
+const LOCALS: [u8; 29] = [
+    0x00, 0x61, 0x73, 0x6d, 0x01, 0x00, 0x00, 0x00, // preamble
+    0x01, 0x04, 0x01, 0x60, 0x00, 0x00, // types
+    0x03, 0x02, 0x01, 0x00, // functions
+    0x0a, 0x09, 0x01, 0x07, 0x02, 0x01, 0x63, 0x00, 0x02, 0x6f, 0x0b, // code
+];
+
+#[test]
+fn prints_locals_that_are_references(rt: HostRuntime) -> Result<(), Fail> {
+    let text = print_bytes(rt.alloc(), &LOCALS)?;
+    assert_eq!(rt;
+        text.as_str(),
+        r#"(module
+  (type (;0;) (func))
+  (func (;0;) (type 0)
+    (local (ref null 0) externref externref)
+  )
+)
+"#
+    );
+    Ok(())
+}
+
+#[test]
+fn prints_a_thousand_types(rt: HostRuntime) -> Result<(), Fail> {
+    let mut wasm = Vec::from_slice(rt.alloc(), &PREAMBLE)?;
+    // 3,002 bytes, of which two are the count
+    wasm.extend_from_slice(&[0x01, 0xba, 0x17, 0xe8, 0x07])?;
+    for _ in 0..1000 {
+        wasm.extend_from_slice(&[0x60, 0x00, 0x00])?;
+    }
+    let text = print_bytes(rt.alloc(), &wasm)?;
+    assert_eq!(rt; text.as_str().matches("\n").count(), 1002);
+    assert!(rt;
+        text.as_str()
+            .contains("\n  (type (;500;) (func))\n  (type (;501;) (func))\n")
+    );
+    assert!(rt; text.as_str().ends_with("\n  (type (;999;) (func))\n)\n"));
+    Ok(())
+}

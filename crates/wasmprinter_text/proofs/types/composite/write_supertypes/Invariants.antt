@@ -1,0 +1,8 @@
+use Rattle.wasmprinter_spec.specs.Options.{Options}
+use Rattle.wasmprinter_spec.specs.Layout.Types.{supertype_pieces}
+use Rattle.wasmprinter_print.specs.Prints.{Lacks}
+use Rattle.wasmprinter_text.proofs.types.composite.write_supertypes.Given as goal
+
+abbrev pub invariant-loop-index : goal.invariant-loop-index
+invariant-loop-index g l =
+    (o : Options) → Lacks g.P.Print.meaning o l.fn.p l.p (supertype_pieces l.fn.supertypes) (supertype_pieces l.index-iterator)

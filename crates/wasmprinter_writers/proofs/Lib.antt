@@ -1,0 +1,4 @@
+pub mod Decimals
+pub mod Runs
+pub mod Uncoloured
+pub mod SequenceRows

@@ -1,0 +1,96 @@
+-- What runs of calls make of the bytes that a writer tells.
+use Rattle.std.specs.Prelude.{◌≡◌, ℕ, List, [], ◌∷◌, ◌++◌, Option, Some, None, Ok, refl}
+use Rattle.std.specs.Io.KnownBytes.{Appends}
+use Rattle.std.proofs.Common.{sym, ap, ◌∙◌, append_assoc, append-nil, inl, inr}
+use Rattle.wasmprinter_spec.specs.Call.{Call, Text, Newline, Line, Start, Claim, call_text, text_of}
+use Rattle.wasmprinter_spec.specs.Meaning.{Meaning, Run}
+use Rattle.wasmprinter_writers.specs.Writing.{Writing, TakesWhole, WritesNothing, WritesEach}
+use Rattle.wasmprinter_writers.specs.TextCalls.{WritesText, text_meaning}
+use Rattle.wasmprinter_writers.specs.Looks.{sequences_of}
+use Rattle.wasmprinter_writers.specs.ColourCalls.{Painting, PaintsBySequences, PaintsNothing, WritesInColour, coloured_meaning, look_of}
+use Rattle.wasmprinter_writers.specs.Sequences.{joined, coloured_bytes, coloured_text}
+
+appends_nothing : (a : Option (List ℕ)) → Appends a a []
+appends_nothing None = tt
+appends_nothing (Some xs) = sym (append-nil xs)
+
+appends_both : (a b c : Option (List ℕ)) (x y : List ℕ) → Appends a b x → Appends b c y → Appends a c (x ++ y)
+appends_both None b c x y h k = tt
+appends_both (Some xs) None c x y h k = absurd h
+appends_both (Some xs) (Some ys) None x y h k = absurd k
+appends_both (Some xs) (Some ys) (Some zs) x y h k = k ∙ ap (λ l. l ++ y) h ∙ append_assoc xs x y
+
+-- a writer that stays as it is
+stays : {T : Type 0} (view : T → Option (List ℕ)) (s t : T) → WritesNothing s (Ok tt) t → Appends (view s) (view t) []
+stays view s t h = rw h.1 (appends_nothing (view s))
+
+-- what a writer tells grows by what it takes
+abbrev Grows : {T : Type 0} → (T → Option (List ℕ)) → Writing T → Type 0
+Grows {T} view takes = (s : T) (bytes : List ℕ) (t : T) → takes s bytes (Ok tt) t → Appends (view s) (view t) bytes
+
+-- byte strings that were all written
+each_appended : {T : Type 0} (view : T → Option (List ℕ)) (takes : Writing T) → Grows view takes →
+    (all : List (List ℕ)) (s t : T) → WritesEach takes s all (Ok tt) t → Appends (view s) (view t) (joined all)
+each_appended view takes grows [] s t h = stays view s t h
+each_appended view takes grows (bytes ∷ rest) s t (inl h) = absurd h
+each_appended view takes grows (bytes ∷ rest) s t (inr h) =
+    appends_both (view s) (view h.0) (view t) bytes (joined rest) (grows s bytes h.0 h.1) (each_appended view takes grows rest h.0 t h.2)
+
+text_call : {T : Type 0} (view : T → Option (List ℕ)) (takes : Writing T) → Grows view takes →
+    (s : T) (c : Call) (t : T) → WritesText takes s c (Ok tt) t → Appends (view s) (view t) (call_text c)
+text_call view takes grows s (Text bytes) t h = grows s bytes t h
+text_call view takes grows s Newline t h = grows s (10 ∷ []) t h
+text_call view takes grows s (Line place) t h = stays view s t h
+text_call view takes grows s (Start style) t h = stays view s t h
+text_call view takes grows s (Claim name place bytes claimed) t h = stays view s t h.1
+
+coloured_call : {T : Type 0} (view : T → Option (List ℕ)) (takes : Writing T) (paints : Painting T) → Grows view takes →
+    ((s : T) (look : _) (t : T) → paints s look (Ok tt) t → Appends (view s) (view t) (joined (sequences_of look))) →
+    (s : T) (c : Call) (t : T) → WritesInColour takes paints s c (Ok tt) t → Appends (view s) (view t) (coloured_bytes c)
+coloured_call view takes paints grows painted s (Text bytes) t h = grows s bytes t h
+coloured_call view takes paints grows painted s Newline t h = grows s (10 ∷ []) t h
+coloured_call view takes paints grows painted s (Line place) t h = stays view s t h
+coloured_call view takes paints grows painted s (Start style) t h = painted s (look_of style) t h
+coloured_call view takes paints grows painted s (Claim name place bytes claimed) t h = stays view s t h.1
+
+uncoloured_call : {T : Type 0} (view : T → Option (List ℕ)) (takes : Writing T) (paints : Painting T) → Grows view takes →
+    ((s : T) (look : _) (t : T) → paints s look (Ok tt) t → WritesNothing s (Ok tt) t) →
+    (s : T) (c : Call) (t : T) → WritesInColour takes paints s c (Ok tt) t → Appends (view s) (view t) (call_text c)
+uncoloured_call view takes paints grows idle s (Text bytes) t h = grows s bytes t h
+uncoloured_call view takes paints grows idle s Newline t h = grows s (10 ∷ []) t h
+uncoloured_call view takes paints grows idle s (Line place) t h = stays view s t h
+uncoloured_call view takes paints grows idle s (Start style) t h = stays view s t (idle s (look_of style) t h)
+uncoloured_call view takes paints grows idle s (Claim name place bytes claimed) t h = stays view s t h.1
+
+-- a view that grows by the bytes of each call grows by those of a run
+run_appends : {P : Type 0} (m : Meaning P) (view : P → Option (List ℕ)) (bytes_of : Call → List ℕ) (all : List Call → List ℕ) → all [] ≡ [] →
+    ((c : Call) (cs : List Call) → all (c ∷ cs) ≡ bytes_of c ++ all cs) →
+    ((s : P) (c : Call) (t : P) → m.after s c t → Appends (view s) (view t) (bytes_of c)) →
+    (s t : P) (calls : List Call) → Run m s calls t → Appends (view s) (view t) (all calls)
+run_appends m view bytes_of all none more grows s t [] r = rw (none, sym r) (appends_nothing (view s))
+run_appends m view bytes_of all none more grows s t (c ∷ calls) r =
+    rw (more c calls) (appends_both (view s) (view r.0) (view t) (bytes_of c) (all calls) (grows s c r.0 r.1.step) (run_appends m view bytes_of all none more grows r.0 t calls r.2))
+
+-- a printer of plain text over a writer that tells its bytes
+pub text_run : {P T : Type 0} (writer_of : P → T) (contents : T → Option (List ℕ)) (s t : P) (calls : List Call) →
+    Run (text_meaning writer_of (TakesWhole contents)) s calls t → Appends (contents (writer_of s)) (contents (writer_of t)) (text_of calls)
+text_run writer_of contents =
+    run_appends (text_meaning writer_of (TakesWhole contents)) (λ p. contents (writer_of p)) call_text text_of refl (λ c cs. refl)
+    (λ s c t h. text_call contents (TakesWhole contents) (λ a b z k. k) (writer_of s) c (writer_of t) h)
+
+-- a printer in colours over a writer that leaves no trace of them
+pub uncoloured_run : {P T : Type 0} (writer_of : P → T) (contents : T → Option (List ℕ)) (s t : P) (calls : List Call) →
+    Run (coloured_meaning writer_of (TakesWhole contents) PaintsNothing) s calls t → Appends (contents (writer_of s)) (contents (writer_of t)) (text_of calls)
+uncoloured_run writer_of contents =
+    run_appends (coloured_meaning writer_of (TakesWhole contents) PaintsNothing) (λ p. contents (writer_of p)) call_text text_of refl (λ c cs. refl)
+    (λ s c t h. uncoloured_call contents (TakesWhole contents) PaintsNothing (λ a b z k. k) (λ a look z k. k) (writer_of s) c (writer_of t) h)
+
+-- a printer in colours over a writer that writes their sequences to one that tells its bytes
+pub coloured_run : {P T U : Type 0} (writer_of : P → T) (inner_of : T → U) (contents : U → Option (List ℕ)) (s t : P) (calls : List Call) →
+    Run (coloured_meaning writer_of (TakesWhole (λ w. contents (inner_of w))) (PaintsBySequences inner_of (TakesWhole contents))) s calls t →
+    Appends (contents (inner_of (writer_of s))) (contents (inner_of (writer_of t))) (coloured_text calls)
+coloured_run {T} writer_of inner_of contents =
+    let view : T → Option (List ℕ) = λ w. contents (inner_of w) in
+    run_appends (coloured_meaning writer_of (TakesWhole view) (PaintsBySequences inner_of (TakesWhole contents))) (λ p. view (writer_of p)) coloured_bytes coloured_text refl (λ c cs. refl)
+    (λ s c t h. coloured_call view (TakesWhole view) (PaintsBySequences inner_of (TakesWhole contents)) (λ a b z k. k)
+    (λ a look z k. each_appended contents (TakesWhole contents) (λ x b y j. j) (sequences_of look) (inner_of a) (inner_of z) k) (writer_of s) c (writer_of t) h)

@@ -1,0 +1,40 @@
+-- The sequences that a printer in colours adds are those that `uncolour` deletes.
+use Rattle.std.specs.Prelude.{◌≡◌, ℕ, List, [], ◌∷◌, ◌++◌, refl}
+use Rattle.std.specs.Fmt.{digits}
+use Rattle.std.proofs.Common.{ap, ◌∙◌}
+use Rattle.wasmprinter_spec.specs.Call.{Text, Newline, Line, Start, Claim, Style, Literal, Name, Keyword, TypeName, Comment, Reset, text_of}
+use Rattle.wasmprinter_spec.specs.Colour.{uncolour}
+use Rattle.wasmprinter_spec.specs.Plain.{IsPlainText}
+use Rattle.wasmprinter_lexical.proofs.Plain.{uncolour-byte}
+use Rattle.wasmprinter_writers.specs.Looks.{sequences_of}
+use Rattle.wasmprinter_writers.specs.ColourCalls.{look_of}
+use Rattle.wasmprinter_writers.specs.Sequences.{joined, coloured_text, ColoursKeepText}
+
+-- plain text in front stays
+front_stays : (text rest : List ℕ) → IsPlainText (text ++ rest) → (more : List ℕ) → uncolour (text ++ more) ≡ text ++ uncolour more
+front_stays [] rest h more = refl
+front_stays (b ∷ bs) rest h more = uncolour-byte b (bs ++ more) h.0 ∙ ap (λ t. b ∷ t) (front_stays bs rest h.1 more)
+
+behind : (text rest : List ℕ) → IsPlainText (text ++ rest) → IsPlainText rest
+behind [] rest h = h
+behind (b ∷ bs) rest h = behind bs rest h.1
+
+-- the sequences of a style go
+style_goes : (style : Style) (more : List ℕ) → uncolour (joined (sequences_of (look_of style)) ++ more) ≡ uncolour more
+unfolding digits
+style_goes Literal more = refl
+style_goes Name more = refl
+style_goes Keyword more = refl
+style_goes TypeName more = refl
+style_goes Comment more = refl
+style_goes Reset more = refl
+
+pub colours_keep_text : ColoursKeepText
+colours_keep_text [] h = refl
+colours_keep_text (Text bytes ∷ calls) h =
+    front_stays bytes (text_of calls) h (coloured_text calls) ∙ ap (λ t. bytes ++ t) (colours_keep_text calls (behind bytes (text_of calls) h))
+colours_keep_text (Newline ∷ calls) h =
+    uncolour-byte 10 (coloured_text calls) h.0 ∙ ap (λ t. 10 ∷ t) (colours_keep_text calls h.1)
+colours_keep_text (Line place ∷ calls) h = colours_keep_text calls h
+colours_keep_text (Start style ∷ calls) h = style_goes style (coloured_text calls) ∙ colours_keep_text calls h
+colours_keep_text (Claim name place bytes claimed ∷ calls) h = colours_keep_text calls h

@@ -1,0 +1,61 @@
+-- What the calls on a printer in colours make of the writer that it stands over.
+use Rattle.std.specs.Prelude.{◌≡◌, ℕ, [], ◌∷◌, true, false, Option, Some, None, Result, Ok, Err}
+use Rattle.std.specs.declared.io.Error.{Error as IoError}
+use Rattle.wasmprinter_spec.specs.Call.{Call, Text, Newline, Line, Start, Claim, Style, Literal, Name, Keyword, TypeName, Comment, Reset}
+use Rattle.wasmprinter_spec.specs.Meaning.{Meaning}
+use Rattle.wasmprinter_writers.specs.Looks.{Look, sequences_of}
+use Rattle.wasmprinter_writers.specs.Writing.{Writing, WritesNothing, WritesEach}
+
+-- what a call that asks for a look may answer, and what it makes of the writer
+abbrev pub Painting : Type 0 → Type 1
+Painting T = T → Option Look → Result (Unit {0}) IoError → T → Type 0
+
+-- a look is written as its sequences to the writer that `inner_of` gives
+abbrev pub PaintsBySequences : {T U : Type 0} → (T → U) → Writing U → Painting T
+PaintsBySequences inner_of takes old look answer new = WritesEach takes (inner_of old) (sequences_of look) answer (inner_of new)
+
+-- looks leave no trace
+abbrev pub PaintsNothing : {T : Type 0} → Painting T
+PaintsNothing old look answer new = WritesNothing old answer new
+
+-- text in a colour
+abbrev pub colour_look : ℕ → Look
+colour_look c = record { colour = Some c; bold = false; intense = false }
+
+-- bold text in the intense shade of a colour
+abbrev pub strong_look : ℕ → Look
+strong_look c = record { colour = Some c; bold = true; intense = true }
+
+-- literals are red, names magenta, keywords strong in yellow, types strong in green, comments cyan
+abbrev pub look_of : Style → Option Look
+look_of Literal = Some (colour_look 1)
+look_of Name = Some (colour_look 5)
+look_of Keyword = Some (strong_look 3)
+look_of TypeName = Some (strong_look 2)
+look_of Comment = Some (colour_look 6)
+look_of Reset = None
+
+-- A text and a line feed are written, in one write each, and a style asks for its look, once; the answer is that of the call. A line and a claim write
+-- nothing, and no claim is taken.
+abbrev pub WritesInColour : {T : Type 0} → Writing T → Painting T → T → Call → Result (Unit {0}) IoError → T → Type 0
+WritesInColour takes paints old (Text bytes) answer new = takes old bytes answer new
+WritesInColour takes paints old Newline answer new = takes old (10 ∷ []) answer new
+WritesInColour takes paints old (Line place) answer new = WritesNothing old answer new
+WritesInColour takes paints old (Start style) answer new = paints old (look_of style) answer new
+WritesInColour takes paints old (Claim name place bytes claimed) answer new = (claimed ≡ false) × WritesNothing old answer new
+
+-- only what writes or asks for a look can fail
+abbrev pub IsWrittenInColour : Call → Type 0
+IsWrittenInColour (Text bytes) = Unit {0}
+IsWrittenInColour Newline = Unit {0}
+IsWrittenInColour (Start style) = Unit {0}
+IsWrittenInColour _ = ⊥
+
+-- the meaning of a printer in colours over the writer that `writer_of` gives
+abbrev pub coloured_meaning : {P T : Type 0} → (P → T) → Writing T → Painting T → Meaning P
+coloured_meaning writer_of takes paints = record {
+  after = λ old call new. WritesInColour takes paints (writer_of old) call (Ok tt) (writer_of new);
+  may_fail = λ old call. IsWrittenInColour call;
+  partly = λ old call error new. WritesInColour takes paints (writer_of old) call (Err error) (writer_of new);
+  faults = λ old. None;
+}

@@ -1,0 +1,37 @@
+-- How text looks on a terminal, and the sequences that make it look so (Select Graphic Rendition of ECMA-48).
+use Rattle.std.specs.Prelude.{ℕ, ◌+◌, Bool, true, false, List, [], ◌∷◌, ◌++◌, Option, Some, None, codes, decimal}
+use Rattle.wasmprinter_spec.specs.Colour.{introducer}
+
+-- the number of the colour, if there is one; whether text is bold; whether the colour is the intense one
+pub record Look : Type 0 where
+  pub colour : Option ℕ
+  pub bold : Bool
+  pub intense : Bool
+
+abbrev pub bare_look : Look
+bare_look = record { colour = None; bold = false; intense = false }
+
+-- back to text without colours
+abbrev pub reset_sequence : List ℕ
+reset_sequence = introducer ++ codes "0m"
+
+abbrev pub bold_sequence : List ℕ
+bold_sequence = introducer ++ codes "1m"
+
+-- a colour: one of the first eight, or the intense one among the palette's 256, which stands eight further on
+abbrev pub foreground : ℕ → Bool → List ℕ
+foreground c false = introducer ++ (codes "3" ++ (decimal c ++ codes "m"))
+foreground c true = introducer ++ (codes "38;5;" ++ (decimal (8 + c) ++ codes "m"))
+
+abbrev pub bold_sequences : Bool → List (List ℕ)
+bold_sequences true = bold_sequence ∷ []
+bold_sequences false = []
+
+abbrev pub colour_sequences : Option ℕ → Bool → List (List ℕ)
+colour_sequences (Some c) intense = foreground c intense ∷ []
+colour_sequences None intense = []
+
+-- The sequences of a look, in order: back to text without colours, then bold, then the colour. Without a look the first alone.
+abbrev pub sequences_of : Option Look → List (List ℕ)
+sequences_of None = reset_sequence ∷ []
+sequences_of (Some look) = reset_sequence ∷ (bold_sequences look.bold ++ colour_sequences look.colour look.intense)

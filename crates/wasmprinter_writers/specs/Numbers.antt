@@ -1,0 +1,16 @@
+-- The numbers of the colours that code names.
+use Rattle.std.specs.Prelude.{ℕ, Option, Some, None}
+use Rattle.wasmprinter_writers.specs.declared.color.Color.{Color}
+use Rattle.wasmprinter_writers.specs.declared.color.Color.TheVariants.{Red, Green, Yellow, Magenta, Cyan}
+
+-- the number that the standard gives a colour
+abbrev pub number_of : Color → ℕ
+number_of Red = 1
+number_of Green = 2
+number_of Yellow = 3
+number_of Magenta = 5
+number_of Cyan = 6
+
+abbrev pub colour_of : Option Color → Option ℕ
+colour_of (Some color) = Some (number_of color)
+colour_of None = None

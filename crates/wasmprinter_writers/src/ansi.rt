@@ -1,0 +1,119 @@
+//! A writer that shows colours by the sequences of a terminal.
+ghost use Rattle.std.specs.Prelude.{◌≡◌, true, false};
+ghost use Rattle.wasmprinter_writers.specs.Writing.{WritesEach};
+ghost use Rattle.wasmprinter_writers.specs.ColourCalls.{PaintsBySequences};
+ghost use Rattle.wasmprinter_writers.specs.Looks.{foreground, bold_sequences, colour_sequences};
+ghost use Rattle.wasmprinter_writers.specs.Numbers.{number_of, colour_of};
+
+use crate::{Color, ColorSpec, WriteBytes, WriteColor};
+use std::io;
+use std::io::Write;
+
+/// Back to text without colours.
+const RESET: &str = "\x1b[0m";
+
+const BOLD: &str = "\x1b[1m";
+
+/// A writer that passes its bytes on, and writes colours as sequences of a terminal (Select Graphic Rendition of ECMA-48).
+#[derive(Debug, Drop)]
+pub struct Ansi<W> {
+    inner: W,
+}
+
+impl<W> Ansi<W> {
+    /// Over a writer.
+    pub fn new(inner: W) -> Ansi<W>
+        ensures { result.inner ≡ inner }
+    {
+        Ansi { inner }
+    }
+
+    /// The writer.
+    pub fn into_inner(self) -> W
+        ensures { result ≡ self.inner }
+    {
+        self.inner
+    }
+}
+
+impl<W: Write> Write for Ansi<W> {
+    ghost contents = { λ s. W.contents s.inner };
+
+    fn write(&mut self, buf: &[u8]) -> io::Result<usize> {
+        self.inner.write(buf)
+    }
+
+    fn flush(&mut self) -> io::Result<()> {
+        self.inner.flush()
+    }
+
+    fn write_all(&mut self, buf: &[u8]) -> io::Result<()> {
+        self.inner.write_all(buf)
+    }
+}
+
+impl<W: WriteBytes> WriteColor for Ansi<W> {
+    ghost paints = { PaintsBySequences (λ s. s.inner) W.takes };
+
+    ghost is_colored = { λ _. true };
+
+    ghost is_immediate = { λ _. false };
+
+    fn supports_color(&self) -> bool {
+        true
+    }
+
+    fn set_color(&mut self, spec: &ColorSpec) -> io::Result<()> {
+        self.reset()?;
+        write_bold(&mut self.inner, spec.bold())?;
+        write_color(&mut self.inner, spec.fg(), spec.intense())
+    }
+
+    fn reset(&mut self) -> io::Result<()> {
+        self.inner.write_bytes(RESET.as_bytes())
+    }
+
+    fn is_synchronous(&self) -> bool {
+        false
+    }
+}
+
+/// Makes the text that follows bold, if it is to be.
+fn write_bold<W: WriteBytes>(w: &mut W, is_bold: bool) -> io::Result<()>
+    ensures { WritesEach W.takes w.old (bold_sequences is_bold) result w.new }
+{
+    if is_bold {
+        w.write_bytes(BOLD.as_bytes())
+    } else {
+        Ok(())
+    }
+}
+
+/// Gives the text that follows its colour, if it has one.
+fn write_color<W: WriteBytes>(w: &mut W, fg: Option<Color>, is_intense: bool) -> io::Result<()>
+    ensures { WritesEach W.takes w.old (colour_sequences (colour_of fg) is_intense) result w.new }
+{
+    match fg {
+        Some(color) => w.write_bytes(sequence(color, is_intense).as_bytes()),
+        None => Ok(()),
+    }
+}
+
+/// The sequence of a colour: those of the first eight have one digit, the intense ones are among the palette's 256.
+#[tactic(auto, using(crate::proofs::Decimals::decimals))]
+fn sequence(color: Color, is_intense: bool) -> &'static str
+    ensures { result.now ≡ foreground (number_of color) is_intense }
+{
+    match (color, is_intense) {
+        (Color::Red, false) => "\x1b[31m",
+        (Color::Green, false) => "\x1b[32m",
+        (Color::Yellow, false) => "\x1b[33m",
+        (Color::Magenta, false) => "\x1b[35m",
+        (Color::Cyan, false) => "\x1b[36m",
+        (Color::Red, true) => "\x1b[38;5;9m",
+        (Color::Green, true) => "\x1b[38;5;10m",
+        (Color::Yellow, true) => "\x1b[38;5;11m",
+        (Color::Magenta, true) => "\x1b[38;5;13m",
+        (Color::Cyan, true) => "\x1b[38;5;14m",
+    }
+}

@@ -1,0 +1,69 @@
+//! A writer that shows no colours.
+ghost use Rattle.std.specs.Prelude.{◌≡◌, false};
+ghost use Rattle.wasmprinter_writers.specs.ColourCalls.{PaintsNothing};
+
+use crate::{ColorSpec, WriteColor};
+use std::io;
+use std::io::Write;
+
+/// A writer that passes its bytes on, and writes nothing for colours.
+#[derive(Debug, Drop)]
+pub struct NoColor<W> {
+    inner: W,
+}
+
+impl<W> NoColor<W> {
+    /// Over a writer.
+    pub fn new(inner: W) -> NoColor<W>
+        ensures { result.inner ≡ inner }
+    {
+        NoColor { inner }
+    }
+
+    /// The writer.
+    pub fn into_inner(self) -> W
+        ensures { result ≡ self.inner }
+    {
+        self.inner
+    }
+}
+
+impl<W: Write> Write for NoColor<W> {
+    ghost contents = { λ s. W.contents s.inner };
+
+    fn write(&mut self, buf: &[u8]) -> io::Result<usize> {
+        self.inner.write(buf)
+    }
+
+    fn flush(&mut self) -> io::Result<()> {
+        self.inner.flush()
+    }
+
+    fn write_all(&mut self, buf: &[u8]) -> io::Result<()> {
+        self.inner.write_all(buf)
+    }
+}
+
+impl<W: Write> WriteColor for NoColor<W> {
+    ghost paints = { PaintsNothing };
+
+    ghost is_colored = { λ _. false };
+
+    ghost is_immediate = { λ _. false };
+
+    fn supports_color(&self) -> bool {
+        false
+    }
+
+    fn set_color(&mut self, _spec: &ColorSpec) -> io::Result<()> {
+        Ok(())
+    }
+
+    fn reset(&mut self) -> io::Result<()> {
+        Ok(())
+    }
+
+    fn is_synchronous(&self) -> bool {
+        false
+    }
+}

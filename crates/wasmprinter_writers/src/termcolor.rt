@@ -1,0 +1,87 @@
+//! A printer in colours.
+ghost use Rattle.std.specs.Prelude.{◌≡◌, ◌&&◌, IsTrue, true, not};
+ghost use Rattle.wasmprinter_writers.specs.ColourCalls.{coloured_meaning, colour_look, strong_look};
+ghost use Rattle.wasmprinter_writers.specs.Numbers.{number_of};
+
+use crate::{Color, ColorSpec, WriteBytes, WriteColor};
+use std::io;
+use wasmprinter_print::Print;
+
+/// A printer over a writer that knows colours. The writer gets the bytes of each piece and of each line feed, and a colour for each style.
+#[derive(Drop)]
+pub struct PrintTermcolor<T>(pub T);
+
+/// Text in a colour.
+fn colored(color: Color) -> ColorSpec
+    ensures { result ≡ colour_look (number_of color) }
+{
+    let mut spec = ColorSpec::new();
+    spec.set_fg(Some(color));
+    spec
+}
+
+/// Bold text in the intense shade of a colour.
+fn strong(color: Color) -> ColorSpec
+    ensures { result ≡ strong_look (number_of color) }
+{
+    let mut spec = colored(color);
+    spec.set_bold(true).set_intense(true);
+    spec
+}
+
+impl<T: WriteColor + WriteBytes> Print for PrintTermcolor<T> {
+    ghost meaning = { coloured_meaning (λ s. s.0) T.takes T.paints };
+
+    ghost colors = { λ s. IsTrue (T.is_colored s.0) × IsTrue (not (T.is_immediate s.0)) };
+
+    fn write_str(&mut self, s: &str) -> io::Result<()> {
+        self.0.write_bytes(s.as_bytes())
+    }
+
+    fn newline(&mut self) -> io::Result<()> {
+        self.write_str("\n")
+    }
+
+    fn start_line(&mut self, _binary_offset: Option<u64>) {}
+
+    fn print_custom_section(
+        &mut self,
+        _name: &str,
+        _binary_offset: u64,
+        _bytes: &[u8],
+    ) -> io::Result<bool> {
+        Ok(false)
+    }
+
+    fn start_literal(&mut self) -> io::Result<()> {
+        self.0.set_color(&colored(Color::Red))
+    }
+
+    fn start_name(&mut self) -> io::Result<()> {
+        self.0.set_color(&colored(Color::Magenta))
+    }
+
+    fn start_keyword(&mut self) -> io::Result<()> {
+        self.0.set_color(&strong(Color::Yellow))
+    }
+
+    fn start_type(&mut self) -> io::Result<()> {
+        self.0.set_color(&strong(Color::Green))
+    }
+
+    fn start_comment(&mut self) -> io::Result<()> {
+        self.0.set_color(&colored(Color::Cyan))
+    }
+
+    fn reset_color(&mut self) -> io::Result<()> {
+        self.0.reset()
+    }
+
+    fn supports_async_color(&self) -> bool
+        ensures colored { IsTrue result
+            → IsTrue (T.is_colored self.now.0) × IsTrue (not (T.is_immediate self.now.0)) }
+        ensures exact { result ≡ T.is_colored self.now.0 && not (T.is_immediate self.now.0) }
+    {
+        self.0.supports_color() && !self.0.is_synchronous()
+    }
+}
