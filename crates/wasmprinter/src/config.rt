@@ -8,8 +8,8 @@ use crate::sections::write_module;
 use std::alloc::Global;
 use std::marker::Model;
 use wasmprinter_error::Error;
-use wasmprinter_print::Print;
 use wasmprinter_lines::options::PrintOptions;
+use wasmprinter_print::Print;
 use wasmprinter_wasm::decode;
 
 /// What is printed of a module, and how.

@@ -10,8 +10,8 @@ mod types;
 
 pub(crate) use modules::write_module;
 use std::io;
-use wasmprinter_print::Print;
 use wasmprinter_lines::options::PrintOptions;
+use wasmprinter_print::Print;
 
 /// How deep the fields of a module are nested.
 const FIELD_NESTING: u64 = 1;

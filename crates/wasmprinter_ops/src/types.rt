@@ -223,7 +223,10 @@ impl ValType {
     pub(crate) fn begins(byte: u8) -> bool
         ensures { result ≡ begins_val_type byte }
     {
-        ValType::of_byte(byte).is_some() || byte == REF || byte == REF_NULL || HeapType::of_byte(byte).is_some()
+        ValType::of_byte(byte).is_some()
+            || byte == REF
+            || byte == REF_NULL
+            || HeapType::of_byte(byte).is_some()
     }
 
     /// Reads what stands behind the first byte.

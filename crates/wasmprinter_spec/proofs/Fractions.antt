@@ -67,9 +67,9 @@ pub IsShift-unique : (limit n k l : ℕ) → 0 < limit → IsShift limit n k →
 IsShift-unique limit n k l some a b = ⊎_elim
     (λ (less : k < l). absurd (not_further limit n k l some a b less))
     (λ (more : l ≤ k). ⊎_elim
-        (λ (less : l < k). absurd (not_further limit n l k some b a less))
-        (λ (same : k ≤ l). omega arith)
-        (cases_lt l k))
+    (λ (less : l < k). absurd (not_further limit n l k some b a less))
+    (λ (same : k ≤ l). omega arith)
+    (cases_lt l k))
     (cases_lt k l)
 
 -- the place of the highest bit gives it

@@ -45,12 +45,7 @@ pub fn ending<P: Print>(p: &mut P, s: &str) -> io::Result<()>
 }
 
 /// Writes a number between two texts, in the style of comments.
-fn write_number_comment<P: Print>(
-    p: &mut P,
-    before: &str,
-    n: u64,
-    after: &str,
-) -> io::Result<()>
+fn write_number_comment<P: Print>(p: &mut P, before: &str, n: u64, after: &str) -> io::Result<()>
     ensures { Emits P.meaning p.old p.new result (styled Comment (before.now ++ (decimal n ++ after.now))) }
 {
     start(p, Style::Comment)?;

@@ -8,9 +8,9 @@ ghost use Rattle.wasmprinter_print.specs.Prints.{Prints};
 
 use crate::sections::{FIELD_NESTING, Field};
 use std::io;
-use wasmprinter_print::Print;
 use wasmprinter_lines::lines::break_line;
 use wasmprinter_lines::options::PrintOptions;
+use wasmprinter_print::Print;
 use wasmprinter_wasm::Export;
 use wasmprinter_words::numbers::write_index_group;
 use wasmprinter_words::strings::write_string;

@@ -10,10 +10,10 @@ ghost use Rattle.wasmprinter_print.specs.Prints.{Prints};
 ghost use Rattle.wasmprinter_ops.specs.ValTypes.{type_view};
 
 use std::io;
-use wasmprinter_print::Print;
 use wasmprinter_lines::lines::break_line;
 use wasmprinter_lines::options::PrintOptions;
 use wasmprinter_ops::types::ValType;
+use wasmprinter_print::Print;
 use wasmprinter_text::types::write_type;
 use wasmprinter_wasm::Locals;
 use wasmprinter_words::words::{open, shut};

@@ -12,9 +12,9 @@ use crate::sections::functions::write_function;
 use crate::sections::types::write_type_groups;
 use crate::sections::write_each;
 use std::io;
-use wasmprinter_print::Print;
 use wasmprinter_lines::lines::{begin, close_at, end};
 use wasmprinter_lines::options::PrintOptions;
+use wasmprinter_print::Print;
 use wasmprinter_wasm::Module;
 use wasmprinter_words::words::open;
 

@@ -8,7 +8,9 @@ ghost use Rattle.wasmprinter_ops.specs.Types.{storage_view, field_view, fields_v
 
 use crate::types::{signature, write_val_type};
 use std::io;
-use wasmprinter_ops::types::composite::{CompositeType, FieldType, FieldTypes, FuncType, StorageType, SubType, TypeIndices};
+use wasmprinter_ops::types::composite::{
+    CompositeType, FieldType, FieldTypes, FuncType, StorageType, SubType, TypeIndices,
+};
 use wasmprinter_print::Print;
 use wasmprinter_words::numbers::{mark, number};
 use wasmprinter_words::words::{gap, open, open_gap, open_plain, shut, word};
