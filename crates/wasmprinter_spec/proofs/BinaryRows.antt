@@ -6,7 +6,7 @@ use Rattle.std.specs.List.{list_all}
 use Rattle.std.specs.Char.{encode_utf8}
 use Rattle.std.specs.Str.{is_utf8, chars}
 use Rattle.wasmprinter_spec.specs.Grammar.{input, Placed}
-use Rattle.wasmprinter_spec.specs.Types.{I32}
+use Rattle.wasmprinter_spec.specs.Types.{I32, FuncKind}
 use Rattle.wasmprinter_spec.specs.Placed.{LocalEntry, PlacedModule}
 use Rattle.wasmprinter_spec.specs.Binary.{binary, AreBytes, Spells, IsComponent}
 use Rattle.wasmprinter_spec.specs.Limits.{most_functions, IsWithinLimits}
@@ -81,7 +81,7 @@ identity_sized size = take 9 identity_bytes ++ size ++ drop 10 identity_bytes
 
 -- with a byte more in front of all fields
 abbrev identity_moved : PlacedModule
-identity_moved = record {
+identity_moved = record empty_placed {
   types = bare 0xc (func (I32 ∷ []) (I32 ∷ [])) ∷ [];
   functions =
       record {
@@ -92,7 +92,7 @@ identity_moved = record {
         };
       }
       ∷ [];
-  exports = record { place = 0x18; value = record { name = codes "f"; function = 0 } } ∷ [];
+  exports = record { place = 0x18; value = record { name = codes "f"; kind = FuncKind; index = 0 } } ∷ [];
   size = 36;
 }
 
@@ -128,7 +128,7 @@ with_body size bytes =
 
 -- a module with one type and one function, which has no operators
 abbrev with_locals : List (Placed LocalEntry) → ℕ → ℕ → PlacedModule
-with_locals locals end size = record {
+with_locals locals end size = record empty_placed {
   types = bare 0xb (func [] []) ∷ [];
   functions = record { type_index = 0; body = record { place = 0x16; value = record { locals = locals; operators = []; end = end } } } ∷ [];
   exports = [];
@@ -274,7 +274,7 @@ abbrev with_name : List ℕ → List ℕ
 with_name bytes = head_bytes ++ (0x07 ∷ (length bytes + 4) ∷ 0x01 ∷ length bytes ∷ bytes) ++ (0x00 ∷ 0x00 ∷ [])
 
 abbrev named : List ℕ → ℕ → PlacedModule
-named bytes size = record empty_placed { exports = record { place = 0xb; value = record { name = bytes; function = 0 } } ∷ []; size = size }
+named bytes size = record empty_placed { exports = record { place = 0xb; value = record { name = bytes; kind = FuncKind; index = 0 } } ∷ []; size = size }
 
 empty_name : parsed (with_name []) ≡ Some (named [] 14)
 unfolding is_utf8 chars encode_utf8

@@ -14,13 +14,13 @@ use Rattle.wasmprinter_spec.specs.IndexSpaces.{Context}
 use Rattle.wasmprinter_spec.specs.Text.Items.{groups}
 use Rattle.wasmprinter_spec.specs.Text.Types.{heap_of_word, ref_of_word, number_of_word}
 use Rattle.wasmprinter_spec.specs.Text.Operators.{read_operators}
-use Rattle.wasmprinter_spec.proofs.Samples.{to, to_null, local_get, i32_const}
+use Rattle.wasmprinter_spec.proofs.Samples.{to, to_null, local_get, i32_const, no_spaces}
 use Rattle.wasmprinter_spec.proofs.BlockSamples.{nop, block, loop, if_op, else_op, try_op, catch_op, throw, rethrow, end, br, br_if, br_table, delegate, catch_all, try_table, sample_types}
 
 -- type 0 takes an i32, type 1 gives one and is called t; tag 1 is called e, and local 2 x
 abbrev around : Context
 around = record {
-  spaces = record { types = None ∷ Some (codes "t") ∷ []; functions = []; tags = None ∷ Some (codes "e") ∷ []; locals = None ∷ None ∷ Some (codes "x") ∷ [] };
+  spaces = record no_spaces { types = None ∷ Some (codes "t") ∷ []; functions = []; tags = None ∷ Some (codes "e") ∷ []; locals = None ∷ None ∷ Some (codes "x") ∷ [] };
   signature = signature_at sample_types;
 }
 

@@ -14,6 +14,7 @@ use Rattle.wasmprinter_spec.specs.Table.{plain, control, table, control_rows, va
 use Rattle.wasmprinter_spec.specs.Code.{Chunk, PartHead, ThenHead, ElseHead, OperatorHead, head, Folded, operands, flattened, unfolded}
 use Rattle.wasmprinter_spec.specs.IndexSpaces.{Context}
 use Rattle.wasmprinter_spec.specs.Text.Operators.{first_reading}
+use Rattle.wasmprinter_spec.proofs.Samples.{no_spaces}
 
 -- ---- what groups are
 
@@ -47,7 +48,7 @@ abbrev numbered : Row
 numbered = plain 0x02 (codes "w") I32Shape (Fixed 0 0)
 
 abbrev nothing_declared : Context
-nothing_declared = record { spaces = record { types = []; functions = []; tags = []; locals = [] }; signature = λ n. None }
+nothing_declared = record { spaces = record no_spaces { types = []; functions = []; tags = []; locals = [] }; signature = λ n. None }
 
 first_row : first_reading nothing_declared [] (bare ∷ numbered ∷ []) End ≡ Some (bare, NoImmediates)
 first_row = refl

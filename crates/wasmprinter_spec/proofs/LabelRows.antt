@@ -24,6 +24,7 @@ use Rattle.wasmprinter_spec.specs.Layout.Groups.{line_group, line_group_gap}
 use Rattle.wasmprinter_spec.specs.Layout.Types.{val_pieces}
 use Rattle.wasmprinter_spec.specs.Layout.Operators.{OverLines, mark_pieces, label_pieces, labels_pieces, id_pieces, ending_pieces, block_pieces, catch_pieces, catches_pieces, index_pieces, immediate_pieces, operator_pieces, operators_pieces, expression_pieces}
 use Rattle.wasmprinter_spec.proofs.BlockSamples.{block, loop, if_op, else_op, try_op, end, br, br_table, delegate, try_table}
+use Rattle.wasmprinter_spec.proofs.Samples.{no_spaces}
 
 abbrev printed : Naming → List Operator → List ℕ
 printed naming os =
@@ -36,7 +37,7 @@ lines ls = flat_map (λ l. codes "\n    " ++ l) ls
 -- what code without indices into other spaces reads as
 abbrev read_back : List ℕ → Option (List Operator)
 read_back text =
-    forest text >>= λ f. unfolded (cut f) >>= read_operators (record { spaces = record { types = []; functions = []; tags = []; locals = [] }; signature = λ n. None })
+    forest text >>= λ f. unfolded (cut f) >>= read_operators (record { spaces = record no_spaces { types = []; functions = []; tags = []; locals = [] }; signature = λ n. None })
 
 -- the first labels have these names, and all others none
 abbrev named : List (List ℕ) → Naming

@@ -4,7 +4,7 @@ use Rattle.std.specs.List.{AllByRecursion}
 use Rattle.std.proofs.lemmas.Bool.{and_parts, ltb-true}
 use Rattle.wasmprinter_spec.specs.Grammar.{some_is}
 use Rattle.wasmprinter_spec.specs.Repeated.{some_or}
-use Rattle.wasmprinter_spec.specs.Sections.{Kind, TypeSection, FunctionSection, ExportSection, CodeSection, Content, Section, holds, section_kind, content_of, rank, follows, rank_behind, are_above, content_in}
+use Rattle.wasmprinter_spec.specs.Sections.{Kind, TypeSection, FunctionSection, MemorySection, TagSection, ExportSection, StartSection, CodeSection, Content, Section, holds, section_kind, content_of, rank, follows, rank_behind, are_above, content_in}
 
 -- ---- of each kind
 
@@ -12,7 +12,10 @@ use Rattle.wasmprinter_spec.specs.Sections.{Kind, TypeSection, FunctionSection, 
 pub picks : (kind : Kind) (s : Section) → (content_of kind s ≡ None) ⊎ ((x : Content kind) × (s ≡ holds kind x))
 picks TypeSection (holds TypeSection x) = inr (x, refl)
 picks FunctionSection (holds FunctionSection x) = inr (x, refl)
+picks MemorySection (holds MemorySection x) = inr (x, refl)
+picks TagSection (holds TagSection x) = inr (x, refl)
 picks ExportSection (holds ExportSection x) = inr (x, refl)
+picks StartSection (holds StartSection x) = inr (x, refl)
 picks CodeSection (holds CodeSection x) = inr (x, refl)
 picks _ _ = inl refl
 
@@ -20,7 +23,10 @@ picks _ _ = inl refl
 pub picked_own : (kind : Kind) (x : Content kind) → content_of kind (holds kind x) ≡ Some x
 picked_own TypeSection x = refl
 picked_own FunctionSection x = refl
+picked_own MemorySection x = refl
+picked_own TagSection x = refl
 picked_own ExportSection x = refl
+picked_own StartSection x = refl
 picked_own CodeSection x = refl
 
 -- what is picked of a section is all that it holds

@@ -1,9 +1,9 @@
 -- Worked rows of the table of operators (sections 5.4 and 6.5 of the standard): words, shapes, arities and roles by opcode.
-use Rattle.std.specs.Prelude.{◌≡◌, ℕ, List, [], ◌∷◌, ◌++◌, replicate, Bool, true, not, ◌&&◌, is_some, map, codes, Some, option_map, refl}
+use Rattle.std.specs.Prelude.{◌≡◌, ℕ, List, [], ◌∷◌, ◌++◌, replicate, Bool, true, false, not, ◌&&◌, is_some, map, codes, Option, Some, option_map, refl}
 use Rattle.std.specs.List.{filter}
 use Rattle.wasmprinter_spec.specs.Operator.{opcode}
-use Rattle.wasmprinter_spec.specs.Row.{Row, NoneShape, BlockShape, TryTableShape, IndexShape, BranchTableShape, I32Shape, I64Shape, Func, Local, Label, Tag, Fixed, OfCall, OfThrow, OfReturn, OfBranch, OfBranchIf, OfBranchTable, OfBlock, Plain, Opens, OpensIf, OpensTry, Turns, Catches, CatchesAll, Delegates, Ends}
-use Rattle.wasmprinter_spec.specs.Table.{table, control_rows, variable_rows, number_rows, first, has_opcode, rows_of, by_opcode, word_of, role_of, takes_label}
+use Rattle.wasmprinter_spec.specs.Row.{Row, Shape, NoneShape, BlockShape, TryTableShape, IndexShape, BranchTableShape, I32Shape, I64Shape, Func, Local, Label, Tag, Fixed, OfCall, OfThrow, OfReturn, OfBranch, OfBranchIf, OfBranchTable, OfBlock, Plain, Opens, OpensIf, OpensTry, Turns, Catches, CatchesAll, Delegates, Ends}
+use Rattle.wasmprinter_spec.specs.Table.{table, control_rows, variable_rows, number_rows, first, has_opcode, rows_of, by_opcode, word_of, role_of, shape_of}
 use Rattle.wasmprinter_spec.specs.Code.{role_by}
 
 -- return, call, drop, local.get, local.set, i32.const, i64.const
@@ -74,7 +74,11 @@ unfolding table control_rows variable_rows number_rows
 plain_roles = refl
 
 -- those with one label alone: rethrow, br, br_if, delegate
-label_takers : filter (λ n. takes_label (opcode 0 n)) (nesting_numbers ++ (branch_numbers ++ numbers)) ≡ 0x18 ∷ 0x09 ∷ 0x0c ∷ 0x0d ∷ []
+abbrev takes_label : Option Shape → Bool
+takes_label (Some (IndexShape Label)) = true
+takes_label _ = false
+
+label_takers : filter (λ n. takes_label (shape_of (opcode 0 n))) (nesting_numbers ++ (branch_numbers ++ numbers)) ≡ 0x18 ∷ 0x09 ∷ 0x0c ∷ 0x0d ∷ []
 unfolding table control_rows variable_rows number_rows
 label_takers = refl
 

@@ -180,7 +180,9 @@ mutual_types = record {
     tt,
   );
   functions = (record { type_index = (_, refl); locals = (omega arith, tt); operators = tt }, tt);
+  tags = tt;
   exports = tt;
+  start = tt;
 }
 
 undeclared_supertype : IsIndexed (of_types (sub_type false (1 ∷ []) nothing ∷ [])) → ⊥

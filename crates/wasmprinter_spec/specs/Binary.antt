@@ -4,12 +4,16 @@ use Rattle.std.specs.List.{AllByRecursion}
 use Rattle.wasmprinter_spec.specs.Grammar.{Grammar, Remainder, ◌>>=◌, try_map, Placed}
 use Rattle.wasmprinter_spec.specs.Repeated.{until_end}
 use Rattle.wasmprinter_spec.specs.Sized.{take_bytes, headed, concluded}
+use Rattle.wasmprinter_spec.specs.Types.{MemoryType}
 use Rattle.wasmprinter_spec.specs.Placed.{TypeGroup, Body, Export, PlacedFunction, PlacedModule}
-use Rattle.wasmprinter_spec.specs.Sections.{Section, TypeSection, FunctionSection, ExportSection, CodeSection, section, are_above, content_in}
+use Rattle.wasmprinter_spec.specs.Sections.{Section, TypeSection, FunctionSection, MemorySection, TagSection, ExportSection, StartSection, CodeSection, section, are_above, content_in}
 pub mod ValTypes
 pub mod Types
 pub mod Functions
+pub mod Memories
+pub mod Tags
 pub mod Exports
+pub mod Start
 pub mod Code
 
 -- the magic and the version
@@ -29,8 +33,17 @@ types_in ss = content_in TypeSection [] ss
 abbrev pub type_indices_in : List Section → List ℕ
 type_indices_in ss = content_in FunctionSection [] ss
 
+abbrev pub memories_in : List Section → List (Placed MemoryType)
+memories_in ss = content_in MemorySection [] ss
+
+abbrev pub tags_in : List Section → List (Placed ℕ)
+tags_in ss = content_in TagSection [] ss
+
 abbrev pub exports_in : List Section → List (Placed Export)
 exports_in ss = content_in ExportSection [] ss
+
+abbrev pub start_in : List Section → Option (Placed ℕ)
+start_in ss = content_in StartSection None ss
 
 abbrev pub bodies_in : List Section → List (Placed Body)
 bodies_in ss = content_in CodeSection [] ss
@@ -42,7 +55,15 @@ function_pairs (i ∷ is) (b ∷ bs) = function_pairs is bs >>= λ fs. Some (rec
 function_pairs _ _ = None
 
 abbrev pub module_from : ℕ → List Section → List PlacedFunction → PlacedModule
-module_from size ss fs = record { types = types_in ss; functions = fs; exports = exports_in ss; size = size }
+module_from size ss fs = record {
+  types = types_in ss;
+  memories = memories_in ss;
+  tags = tags_in ss;
+  exports = exports_in ss;
+  start = start_in ss;
+  functions = fs;
+  size = size;
+}
 
 -- the module of the sections, which end at this place
 abbrev pub module_of_sections : ℕ → List Section → Option PlacedModule

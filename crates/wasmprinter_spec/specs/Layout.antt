@@ -12,16 +12,16 @@ use Rattle.wasmprinter_spec.specs.Options.{Options, Answers}
 use Rattle.wasmprinter_spec.specs.Piece.{Piece, Begin, Feed, Break, Gap, Word, Number, Mark, Quoted, all_calls}
 use Rattle.wasmprinter_spec.specs.Layout.Groups.{group_gap, group_at, group_gap_at, line_group, numbered}
 use Rattle.wasmprinter_spec.specs.Layout.Types.{type_list, signature_pieces, type_section_pieces}
+use Rattle.wasmprinter_spec.specs.Layout.Memories.{memory_pieces}
+use Rattle.wasmprinter_spec.specs.Layout.Exports.{export_pieces}
 use Rattle.wasmprinter_spec.specs.Layout.Operators.{OverLines, Setting, expression_pieces}
 pub mod Groups
 pub mod Types
+pub mod Memories
+pub mod Exports
 pub mod Operators
 
 -- ---- fields of the module, each on a line
-
-unfoldable pub export_pieces : Placed Export → List Piece
-export_pieces e =
-    Break (Some e.place) 1 ∷ group_gap 1 (codes "export") (Quoted (chars e.value.name) ∷ (Gap ∷ group_gap 2 (codes "func") (Number e.value.function ∷ [])))
 
 -- the place of the first entry that declares a local, if one does
 abbrev pub locals_place : List (Placed LocalEntry) → Option ℕ
@@ -45,6 +45,14 @@ signature_if (Some t) = signature_pieces t
 unfoldable pub header_pieces : ℕ → ℕ → Option FuncType → List Piece
 header_pieces i type_index t = Mark i ∷ (Gap ∷ (group_gap 2 (codes "type") (Number type_index ∷ []) ++ signature_if t))
 
+-- a tag has a type as a function has
+unfoldable pub tag_pieces : List SubType → ℕ → Placed ℕ → List Piece
+tag_pieces ts i tag = Break (Some tag.place) 1 ∷ group_gap 1 (codes "tag") (header_pieces i tag.value (signature_at ts tag.value))
+
+unfoldable pub start_pieces : Option (Placed ℕ) → List Piece
+start_pieces None = []
+start_pieces (Some start) = Break (Some start.place) 1 ∷ group_gap 1 (codes "start") (Number start.value ∷ [])
+
 -- no name section is in the grammar yet, so no label has an identifier
 abbrev pub no_names : Naming
 no_names i d = None
@@ -67,9 +75,13 @@ function_pieces o ts i f =
 -- the fields, in the order of their sections
 unfoldable pub module_field_pieces : Options → PlacedModule → List Piece
 module_field_pieces o m =
+    let ts : List SubType = all_types (groups_of m.types) in
     type_section_pieces 0 m.types
+    ++ (numbered memory_pieces 0 m.memories
+    ++ (numbered (tag_pieces ts) 0 m.tags
     ++ (numbered (λ i e. export_pieces e) 0 m.exports
-    ++ numbered (function_pieces o (all_types (groups_of m.types))) 0 m.functions)
+    ++ (start_pieces m.start
+    ++ numbered (function_pieces o ts) 0 m.functions))))
 
 unfoldable pub module_pieces : Options → PlacedModule → List Piece
 module_pieces o m = Begin 0 ∷ (group_at o.offsets m.size 0 (codes "module") (module_field_pieces o m) ++ (Feed ∷ []))

@@ -1,8 +1,8 @@
 -- A module as its bytes lay it out: what the sections hold, with the places that the text can show. All places are counted
 -- from the module's first byte.
-use Rattle.std.specs.Prelude.{ℕ, List, Bool}
+use Rattle.std.specs.Prelude.{ℕ, List, Bool, Option}
 use Rattle.wasmprinter_spec.specs.Grammar.{Placed}
-use Rattle.wasmprinter_spec.specs.Types.{ValType, SubType}
+use Rattle.wasmprinter_spec.specs.Types.{ValType, SubType, MemoryType, ExternKind}
 use Rattle.wasmprinter_spec.specs.Operator.{Operator}
 
 -- A group of types: written as one, or a single type that stands by itself.
@@ -29,14 +29,18 @@ pub record PlacedFunction : Type 0 where
   pub type_index : ℕ
   pub body : Placed Body
 
--- a function that the module gives out under a name
+-- what the module gives out under a name
 pub record Export : Type 0 where
   pub name : List ℕ
-  pub function : ℕ
+  pub kind : ExternKind
+  pub index : ℕ
 
--- `size` is the number of the module's bytes
+-- Tags by the indices of their types; the start function; `size` is the number of the module's bytes.
 pub record PlacedModule : Type 0 where
   pub types : List (Placed TypeGroup)
-  pub functions : List PlacedFunction
+  pub memories : List (Placed MemoryType)
+  pub tags : List (Placed ℕ)
   pub exports : List (Placed Export)
+  pub start : Option (Placed ℕ)
+  pub functions : List PlacedFunction
   pub size : ℕ

@@ -1,51 +1,67 @@
 -- Sections (section 5.5 of the standard, "Sections"): each has a kind, and holds what is spelled by all the bytes of its size. The grammar so
--- far has the type, function, export and code sections. What is said of each kind stands here, one line for each; how the content of a kind
+-- far has the type, function, memory, tag, export, start and code sections. What is said of each kind stands here, one line for each; how the content of a kind
 -- is spelled stands in a file of its own, in `Binary`.
-use Rattle.std.specs.Prelude.{ℕ, List, [], ◌∷◌, Bool, true, ◌&&◌, nat_lt, ◌==◌, Option, Some, None, if◌then◌else◌}
+use Rattle.std.specs.Prelude.{ℕ, List, [], ◌∷◌, Bool, true, ◌&&◌, nat_lt, ◌==◌, Option, Some, None}
 use Rattle.wasmprinter_spec.specs.Grammar.{Grammar, Remainder, byte, seq, map_value, try_map, Placed}
 use Rattle.wasmprinter_spec.specs.Repeated.{some_or}
 use Rattle.wasmprinter_spec.specs.Sized.{exactly}
 use Rattle.wasmprinter_spec.specs.Name.{u32}
+use Rattle.wasmprinter_spec.specs.Types.{MemoryType}
 use Rattle.wasmprinter_spec.specs.Placed.{TypeGroup, Body, Export}
+use Rattle.wasmprinter_spec.specs.Binary.ValTypes.{lookup}
 use Rattle.wasmprinter_spec.specs.Binary.Types.{type_section}
 use Rattle.wasmprinter_spec.specs.Binary.Functions.{function_section}
+use Rattle.wasmprinter_spec.specs.Binary.Memories.{memory_section}
+use Rattle.wasmprinter_spec.specs.Binary.Tags.{tag_section}
 use Rattle.wasmprinter_spec.specs.Binary.Exports.{export_section}
+use Rattle.wasmprinter_spec.specs.Binary.Start.{start_section}
 use Rattle.wasmprinter_spec.specs.Binary.Code.{code_section}
 
 pub data Kind : Type 0 where
   TypeSection : Kind
   FunctionSection : Kind
+  MemorySection : Kind
+  TagSection : Kind
   ExportSection : Kind
+  StartSection : Kind
   CodeSection : Kind
 
 -- the kind of the sections with the id
 abbrev pub kind_of : ℕ → Option Kind
 kind_of id =
-    if id == 1 then Some TypeSection
-    else (if id == 3 then Some FunctionSection
-    else (if id == 7 then Some ExportSection
-    else (if id == 10 then Some CodeSection else None)))
+    lookup (
+    (1, TypeSection) ∷ (3, FunctionSection) ∷ (5, MemorySection) ∷ (7, ExportSection) ∷ (8, StartSection)
+    ∷ (10, CodeSection) ∷ (13, TagSection) ∷ []) id
 
 -- Where each kind stands in the order type, import, function, table, memory, tag, global, export, start, element, data count, code, data.
 -- Sections of a kind that has no place there may stand anywhere.
 abbrev pub rank : Kind → Option ℕ
 rank TypeSection = Some 1
 rank FunctionSection = Some 3
+rank MemorySection = Some 5
+rank TagSection = Some 6
 rank ExportSection = Some 8
+rank StartSection = Some 9
 rank CodeSection = Some 12
 
 -- what a section of the kind holds
 abbrev pub Content : Kind → Type 0
 Content TypeSection = List (Placed TypeGroup)
 Content FunctionSection = List ℕ
+Content MemorySection = List (Placed MemoryType)
+Content TagSection = List (Placed ℕ)
 Content ExportSection = List (Placed Export)
+Content StartSection = Option (Placed ℕ)
 Content CodeSection = List (Placed Body)
 
 -- how it is spelled, by all the bytes of the section
 abbrev pub content : (kind : Kind) → Remainder (Content kind)
 content TypeSection = type_section
 content FunctionSection = function_section
+content MemorySection = memory_section
+content TagSection = tag_section
 content ExportSection = export_section
+content StartSection = start_section
 content CodeSection = code_section
 
 pub data Section : Type 0 where
@@ -58,7 +74,10 @@ section_kind (holds kind x) = kind
 abbrev pub content_of : (kind : Kind) → Section → Option (Content kind)
 content_of TypeSection (holds TypeSection x) = Some x
 content_of FunctionSection (holds FunctionSection x) = Some x
+content_of MemorySection (holds MemorySection x) = Some x
+content_of TagSection (holds TagSection x) = Some x
 content_of ExportSection (holds ExportSection x) = Some x
+content_of StartSection (holds StartSection x) = Some x
 content_of CodeSection (holds CodeSection x) = Some x
 content_of _ _ = None
 

@@ -5,9 +5,9 @@ use Rattle.std.specs.List.{filter}
 use Rattle.wasmprinter_spec.specs.Operator.{Opcode}
 use Rattle.wasmprinter_spec.specs.Row.{Row, Shape, NoneShape, BlockShape, TryTableShape, IndexShape, BranchTableShape, I32Shape, I64Shape, Func, Local, Label, Tag, Arity, Fixed, OfCall, OfThrow, OfReturn, OfBranch, OfBranchIf, OfBranchTable, OfBlock, Role, Plain, Opens, OpensIf, OpensTry, Turns, Catches, CatchesAll, Delegates, Ends}
 
--- an operator with no prefix and no memory operand, which stands so to the blocks around it
+-- an operator with no prefix, which stands so to the blocks around it
 abbrev pub control : ℕ → List ℕ → Shape → Arity → Role → Row
-control n w s a r = record { prefix = 0; number = n; word = w; shape = s; arity = a; role = r; alignment = None }
+control n w s a r = record { prefix = 0; number = n; word = w; shape = s; arity = a; role = r }
 
 abbrev pub plain : ℕ → List ℕ → Shape → Arity → Row
 plain n w s a = control n w s a Plain
@@ -91,14 +91,10 @@ role_of_row (Some r) = r.role
 abbrev pub role_of : Opcode → Role
 role_of o = role_of_row (by_opcode o)
 
-abbrev pub is_label_shape : Shape → Bool
-is_label_shape (IndexShape Label) = true
-is_label_shape _ = false
+abbrev pub shape_of_row : Option Row → Option Shape
+shape_of_row None = None
+shape_of_row (Some r) = Some r.shape
 
-abbrev pub takes_label_by : Option Row → Bool
-takes_label_by None = false
-takes_label_by (Some r) = is_label_shape r.shape
-
--- the index behind this opcode is a label
-abbrev pub takes_label : Opcode → Bool
-takes_label o = takes_label_by (by_opcode o)
+-- the shape of the immediates of an opcode, if it is listed
+abbrev pub shape_of : Opcode → Option Shape
+shape_of o = shape_of_row (by_opcode o)

@@ -4,4 +4,6 @@ pub mod Types
 pub mod TypeUses
 pub mod Operators
 pub mod Functions
+pub mod Memories
+pub mod Tags
 pub mod Exports

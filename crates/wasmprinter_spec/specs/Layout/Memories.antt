@@ -1,0 +1,35 @@
+-- The layout of memories (sections 6.4 and 6.6 of the standard, "Limits", "Memory Types" and "Memories", with sizes of pages).
+use Rattle.std.specs.Prelude.{ℕ, ◌^◌, List, [], ◌∷◌, ◌++◌, codes, decimal, Bool, true, false, Option, Some, None}
+use Rattle.std.specs.Fmt.{digits}
+use Rattle.wasmprinter_spec.specs.Grammar.{Placed}
+use Rattle.wasmprinter_spec.specs.Types.{Limits, MemoryType}
+use Rattle.wasmprinter_spec.specs.Piece.{Piece, Break, Gap, Word, TypeWordGap, GapTypeWord, Literals, Mark}
+use Rattle.wasmprinter_spec.specs.Layout.Groups.{group_gap, line_group_gap}
+
+-- addresses of 64 bits
+abbrev pub wide_pieces : Bool → List Piece
+wide_pieces true = TypeWordGap (codes "i64") ∷ []
+wide_pieces false = []
+
+abbrev pub max_words : Option ℕ → List (List ℕ)
+max_words None = []
+max_words (Some n) = decimal n ∷ []
+
+-- the least and the greatest size in one literal
+unfoldable pub limits_pieces : Limits → List Piece
+limits_pieces l = Literals (decimal l.min) (max_words l.max) ∷ []
+
+abbrev pub shared_pieces : Bool → List Piece
+shared_pieces true = GapTypeWord (codes "shared") ∷ []
+shared_pieces false = []
+
+-- the size of a page in bytes, in hexadecimal
+abbrev pub page_pieces : Option ℕ → List Piece
+page_pieces None = []
+page_pieces (Some e) = Gap ∷ line_group_gap (codes "pagesize") (Word (codes "0x" ++ digits 16 false (2 ^ e)) ∷ [])
+
+unfoldable pub memory_type_pieces : MemoryType → List Piece
+memory_type_pieces m = wide_pieces m.wide ++ (limits_pieces m.limits ++ (shared_pieces m.shared ++ page_pieces m.page))
+
+unfoldable pub memory_pieces : ℕ → Placed MemoryType → List Piece
+memory_pieces i m = Break (Some m.place) 1 ∷ group_gap 1 (codes "memory") (Mark i ∷ (Gap ∷ memory_type_pieces m.value))
