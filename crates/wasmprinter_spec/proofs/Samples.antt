@@ -60,10 +60,35 @@ i64_const z = record { opcode = opcode 0 0x42; immediates = I64 z }
 -- ---- the module without fields
 
 abbrev pub empty_placed : PlacedModule
-empty_placed = record { types = []; memories = []; tags = []; exports = []; start = None; functions = []; size = 8 }
+empty_placed = record {
+  types = [];
+  imports = [];
+  tables = [];
+  memories = [];
+  tags = [];
+  globals = [];
+  exports = [];
+  start = None;
+  elements = [];
+  functions = [];
+  datas = [];
+  size = 8;
+}
 
 abbrev pub empty : Module
-empty = record { types = []; functions = []; memories = []; tags = []; exports = []; start = None }
+empty = record {
+  types = [];
+  imports = [];
+  functions = [];
+  tables = [];
+  memories = [];
+  tags = [];
+  globals = [];
+  exports = [];
+  start = None;
+  elements = [];
+  datas = [];
+}
 
 -- no index spaces hold anything
 abbrev pub no_spaces : Spaces

@@ -2,13 +2,14 @@
 -- module is so.
 use Rattle.std.specs.Prelude.{◌≡◌, ℕ, ◌+◌, ◌<◌, List, length, Option, Some, None}
 use Rattle.std.specs.List.{AllByRecursion}
-use Rattle.wasmprinter_spec.specs.Types.{FuncType, HeapType, Index, RefType, ValType, Ref, StorageType, Val, FieldType, CompositeType, FuncComposite, ArrayComposite, StructComposite, SubType, ExternKind, FuncKind, TableKind, MemoryKind, GlobalKind, TagKind, all_types, signature_at, fields_at}
+use Rattle.wasmprinter_spec.specs.Types.{FuncType, HeapType, Index, RefType, ValType, Ref, StorageType, Val, FieldType, CompositeType, FuncComposite, ArrayComposite, StructComposite, SubType, ExternKind, FuncKind, TableKind, MemoryKind, GlobalKind, TagKind, ExternType, FuncExtern, TableExtern, MemoryExtern, GlobalExtern, TagExtern, all_types, signature_at, fields_at}
 use Rattle.wasmprinter_spec.specs.Operator.{BlockType, Empty, Value, OfType, Catch, One, OneRef, All, AllRef, Immediates, NoImmediates, Block, TryTable, Indices, BranchTable, Heap, Cast, MemoryLane, Lane, I32, I64, F32, F64, Bytes, Operator}
 use Rattle.wasmprinter_spec.specs.Row.{Row, Space, Types, Func, Table, Memory, Tag, Global, Elem, Data, Local, Label, Shape, NoneShape, FenceShape, BlockShape, TryTableShape, IndexShape, DefaultIndexShape, PairShape, FieldShape, CountShape, CallShape, SegmentShape, CopyShape, BranchTableShape, SelectShape, HeapShape, RefShape, CastShape, MemoryShape, MemoryLaneShape, LaneShape, I32Shape, I64Shape, F32Shape, F64Shape, VectorShape, LanesShape}
 use Rattle.wasmprinter_spec.specs.Operator as operator
 use Rattle.wasmprinter_spec.specs.Table.{by_opcode}
-use Rattle.wasmprinter_spec.specs.Placed.{Export}
-use Rattle.wasmprinter_spec.specs.Module.{Function, Module}
+use Rattle.wasmprinter_spec.specs.Placed as placed
+use Rattle.wasmprinter_spec.specs.Placed.{Export, Import, Mode, Passive, Declared, Active, Items, Functions, Expressions, Element, DataMode, PassiveData, ActiveData}
+use Rattle.wasmprinter_spec.specs.Module.{Function, Module, imported, func_import, table_import, memory_import, global_import, tag_import}
 
 -- ---- types: each type index in them is below the number of types
 
@@ -144,13 +145,13 @@ type_count m = length (all_types m.types)
 abbrev pub counts_of : Module → Counts
 counts_of m = record {
   types = type_count m;
-  functions = length m.functions;
-  tables = 0;
-  memories = length m.memories;
-  tags = length m.tags;
-  globals = 0;
-  elems = 0;
-  datas = 0;
+  functions = length (imported func_import m.imports) + length m.functions;
+  tables = length (imported table_import m.imports) + length m.tables;
+  memories = length (imported memory_import m.imports) + length m.memories;
+  tags = length (imported tag_import m.imports) + length m.tags;
+  globals = length (imported global_import m.imports) + length m.globals;
+  elems = length m.elements;
+  datas = length m.datas;
   locals = 0;
   signature = signature_at (all_types m.types);
   fields = fields_at (all_types m.types);
@@ -184,7 +185,59 @@ abbrev pub IsStart : Module → Option ℕ → Type 0
 IsStart m None = Unit {0}
 IsStart m (Some i) = IsIndex (counts_of m) Func i
 
+-- ---- the other parts of a module
+
+abbrev pub IsIndexedExpression : Module → List Operator → Type 0
+IsIndexedExpression m os = AllByRecursion (IsIndexedOperator (counts_of m)) os
+
+abbrev pub IsIndexedExtern : Module → ExternType → Type 0
+IsIndexedExtern m (FuncExtern i) = NamesFunction m i
+IsIndexedExtern m (TableExtern t) = IsDeclaredRef (type_count m) t.element
+IsIndexedExtern m (MemoryExtern t) = Unit {0}
+IsIndexedExtern m (GlobalExtern t) = IsDeclaredVal (type_count m) t.type
+IsIndexedExtern m (TagExtern i) = NamesFunction m i
+
+abbrev pub IsIndexedImport : Module → Import → Type 0
+IsIndexedImport m i = IsIndexedExtern m i.type
+
+abbrev pub IsIndexedInit : Module → Option (List Operator) → Type 0
+IsIndexedInit m None = Unit {0}
+IsIndexedInit m (Some os) = IsIndexedExpression m os
+
+pub record IsIndexedTable (m : Module) (t : placed.Table Operator) : Type 0 where
+  pub element : IsDeclaredRef (type_count m) t.type.element
+  pub init : IsIndexedInit m t.init
+
+pub record IsIndexedGlobal (m : Module) (g : placed.Global Operator) : Type 0 where
+  pub type : IsDeclaredVal (type_count m) g.type.type
+  pub init : IsIndexedExpression m g.init
+
+abbrev pub IsIndexedMode : Module → Mode Operator → Type 0
+IsIndexedMode m Passive = Unit {0}
+IsIndexedMode m Declared = Unit {0}
+IsIndexedMode m (Active t os) = IsIndex (counts_of m) Table t × IsIndexedExpression m os
+
+abbrev pub AreIndexedItems : Module → Items Operator → Type 0
+AreIndexedItems m (Functions is) = AllByRecursion (IsIndex (counts_of m) Func) is
+AreIndexedItems m (Expressions t es) = IsDeclaredRef (type_count m) t × AllByRecursion (IsIndexedExpression m) es
+
+pub record IsIndexedElement (m : Module) (e : Element Operator) : Type 0 where
+  pub mode : IsIndexedMode m e.mode
+  pub items : AreIndexedItems m e.items
+
+abbrev pub IsIndexedDataMode : Module → DataMode Operator → Type 0
+IsIndexedDataMode m PassiveData = Unit {0}
+IsIndexedDataMode m (ActiveData memory os) = IsIndex (counts_of m) Memory memory × IsIndexedExpression m os
+
+abbrev pub IsIndexedData : Module → placed.Data Operator → Type 0
+IsIndexedData m d = IsIndexedDataMode m d.mode
+
 pub record IsIndexed (m : Module) : Type 0 where
+  pub imports : AllByRecursion (IsIndexedImport m) m.imports
+  pub tables : AllByRecursion (IsIndexedTable m) m.tables
+  pub globals : AllByRecursion (IsIndexedGlobal m) m.globals
+  pub elements : AllByRecursion (IsIndexedElement m) m.elements
+  pub datas : AllByRecursion (IsIndexedData m) m.datas
   pub types : AllByRecursion (λ g. AllByRecursion (IsDeclaredSub (type_count m)) g) m.types
   pub functions : AllByRecursion (IsIndexedFunction m) m.functions
   pub tags : AllByRecursion (NamesFunction m) m.tags

@@ -286,3 +286,7 @@ said p text x s =
 -- operators, each with its place, and the byte 0B of the last `end`, whose place is kept
 abbrev pub expression : Grammar (Closed (Placed Operator))
 expression = restated closed_grammar IsExpression says said
+
+-- an expression without the place of its `end`
+abbrev pub constant : Grammar (List (Placed Operator))
+constant = map_value (λ x. x.items) expression

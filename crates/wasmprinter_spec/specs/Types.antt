@@ -87,6 +87,22 @@ pub record MemoryType : Type 0 where
 abbrev pub memory_type_of : Bool → Bool → Limits → Option ℕ → MemoryType
 memory_type_of wide shared l page = record { wide = wide; shared = shared; limits = l; page = page }
 
+-- a table: whether its indices have 64 bits, its size, and what it holds
+pub record TableType : Type 0 where
+  pub wide : Bool
+  pub limits : Limits
+  pub element : RefType
+
+abbrev pub table_type_of : Bool → Limits → RefType → TableType
+table_type_of wide l t = record { wide = wide; limits = l; element = t }
+
+pub record GlobalType : Type 0 where
+  pub mutable : Bool
+  pub type : ValType
+
+abbrev pub global_type_of : Bool → ValType → GlobalType
+global_type_of mut t = record { mutable = mut; type = t }
+
 -- what can be imported and exported (section 2.3.16 of the standard, "External Types")
 pub data ExternKind : Type 0 where
   FuncKind : ExternKind
@@ -94,6 +110,14 @@ pub data ExternKind : Type 0 where
   MemoryKind : ExternKind
   GlobalKind : ExternKind
   TagKind : ExternKind
+
+-- what is imported, functions and tags by the index of their type
+pub data ExternType : Type 0 where
+  FuncExtern : ℕ → ExternType
+  TableExtern : TableType → ExternType
+  MemoryExtern : MemoryType → ExternType
+  GlobalExtern : GlobalType → ExternType
+  TagExtern : ℕ → ExternType
 
 -- ---- types by their indices
 

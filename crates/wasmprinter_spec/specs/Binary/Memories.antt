@@ -1,21 +1,12 @@
--- How bytes spell limits and the types of memories (section 5.3 of the standard, "Limits" and "Memory Types", with the sizes of pages that a
--- proposal to the standard adds), and the memory section (section 5.5, "Memory Section"): a list of these.
-use Rattle.std.specs.Prelude.{ℕ, ◌/◌, ◌%◌, ◌^◌, ◌==◌, nat_lt, Bool, true, false, List, Option, Some, None, if◌then◌else◌}
+-- How bytes spell the types of memories (section 5.3 of the standard, "Memory Types", with the sizes of pages that a proposal to the standard
+-- adds), and the memory section (section 5.5, "Memory Section"): a list of these.
+use Rattle.std.specs.Prelude.{ℕ, nat_lt, Bool, true, false, List, Option, Some, None, if◌then◌else◌}
 use Rattle.wasmprinter_spec.specs.Grammar.{Grammar, Remainder, seq, try_map, map_value, succeed, fail, choose, Placed, placed}
 use Rattle.wasmprinter_spec.specs.FirstByte.{announced}
 use Rattle.wasmprinter_spec.specs.Sized.{alone}
-use Rattle.wasmprinter_spec.specs.Leb.{unsigned}
 use Rattle.wasmprinter_spec.specs.Name.{u32, vec}
-use Rattle.wasmprinter_spec.specs.Types.{Limits, limits_of, MemoryType, memory_type_of}
-
--- bit k of the flags is set
-abbrev pub has_bit : ℕ → ℕ → Bool
-has_bit k flags = flags / 2 ^ k % 2 == 1
-
--- limits with or without a greatest size
-abbrev pub limits : Bool → Grammar Limits
-limits true = map_value (λ x. limits_of x.0 (Some x.1)) (seq (unsigned 64) (λ _. unsigned 64))
-limits false = map_value (λ min. limits_of min None) (unsigned 64)
+use Rattle.wasmprinter_spec.specs.Types.{MemoryType, memory_type_of}
+use Rattle.wasmprinter_spec.specs.Binary.Limits.{has_bit, limits}
 
 -- the exponent of the size of a page
 abbrev pub page_exponent : ℕ → Option ℕ

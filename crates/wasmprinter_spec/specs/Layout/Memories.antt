@@ -1,23 +1,11 @@
--- The layout of memories (sections 6.4 and 6.6 of the standard, "Limits", "Memory Types" and "Memories", with sizes of pages).
-use Rattle.std.specs.Prelude.{ℕ, ◌^◌, List, [], ◌∷◌, ◌++◌, codes, decimal, Bool, true, false, Option, Some, None}
+-- The layout of memories (sections 6.4 and 6.6 of the standard, "Memory Types" and "Memories", with sizes of pages).
+use Rattle.std.specs.Prelude.{ℕ, ◌^◌, List, [], ◌∷◌, ◌++◌, codes, Bool, true, false, Option, Some, None}
 use Rattle.std.specs.Fmt.{digits}
 use Rattle.wasmprinter_spec.specs.Grammar.{Placed}
-use Rattle.wasmprinter_spec.specs.Types.{Limits, MemoryType}
-use Rattle.wasmprinter_spec.specs.Piece.{Piece, Break, Gap, Word, TypeWordGap, GapTypeWord, Literals, Mark}
+use Rattle.wasmprinter_spec.specs.Types.{MemoryType}
+use Rattle.wasmprinter_spec.specs.Piece.{Piece, Break, Gap, Word, GapTypeWord, Mark}
 use Rattle.wasmprinter_spec.specs.Layout.Groups.{group_gap, line_group_gap}
-
--- addresses of 64 bits
-abbrev pub wide_pieces : Bool → List Piece
-wide_pieces true = TypeWordGap (codes "i64") ∷ []
-wide_pieces false = []
-
-abbrev pub max_words : Option ℕ → List (List ℕ)
-max_words None = []
-max_words (Some n) = decimal n ∷ []
-
--- the least and the greatest size in one literal
-unfoldable pub limits_pieces : Limits → List Piece
-limits_pieces l = Literals (decimal l.min) (max_words l.max) ∷ []
+use Rattle.wasmprinter_spec.specs.Layout.Limits.{wide_pieces, limits_pieces}
 
 abbrev pub shared_pieces : Bool → List Piece
 shared_pieces true = GapTypeWord (codes "shared") ∷ []
