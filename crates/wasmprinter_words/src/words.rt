@@ -1,7 +1,7 @@
 //! Parentheses, blanks and words.
 ghost use Rattle.std.specs.Prelude.{[], ◌∷◌};
 ghost use Rattle.wasmprinter_spec.specs.Options.{Options};
-ghost use Rattle.wasmprinter_spec.specs.Piece.{Gap, Open, OpenGap, OpenPlain, Shut, Word, TypeWord};
+ghost use Rattle.wasmprinter_spec.specs.Piece.{Gap, Open, OpenGap, OpenPlain, Shut, Word, TypeWord, GapTypeWord};
 ghost use Rattle.wasmprinter_print.specs.Prints.{Prints};
 
 use std::io;
@@ -60,4 +60,14 @@ pub fn type_word<P: Print>(p: &mut P, word: &str) -> io::Result<()>
     ensures { (o : Options) → Prints P.meaning o p.old p.new result (TypeWord word.now ∷ []) }
 {
     styled(p, Style::TypeName, word)
+}
+
+/// Writes a blank and the word of a type.
+pub fn gap_type_word<P: Print>(p: &mut P, name: &str) -> io::Result<()>
+    ensures { (o : Options) → Prints P.meaning o p.old p.new result (GapTypeWord name.now ∷ []) }
+{
+    start(p, Style::TypeName)?;
+    text(p, " ")?;
+    text(p, name)?;
+    reset(p)
 }
