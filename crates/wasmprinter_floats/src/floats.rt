@@ -9,11 +9,11 @@ ghost use Rattle.wasmprinter_print.specs.Emits.{Emits, EmitsOrFails};
 ghost use Rattle.wasmprinter_print.specs.Prints.{Prints};
 ghost use Rattle.wasmprinter_floats.specs.Formats.{width_of};
 
-use crate::format::{Format, power};
+use crate::format::Format;
 use std::io;
 use wasmprinter_error::Error;
 use wasmprinter_print::{Print, Style, reset, start, text};
-use wasmprinter_words::numbers::{DECIMAL, HEXADECIMAL, write_digit, write_digits};
+use wasmprinter_words::numbers::{DECIMAL, HEXADECIMAL, power, write_digit, write_digits};
 
 /// Writes the hexadecimal digits of `n / 16 ^ count`, a number below 1, up to the last that is not 0.
 fn write_digits_behind<P: Print>(p: &mut P, count: u32, n: u64) -> io::Result<()>

@@ -1,5 +1,5 @@
 //! Whole numbers (section 6.3 of the WebAssembly Core Specification, "Integers").
-ghost use Rattle.std.specs.Prelude.{ℕ, ◌≡◌, ◌<◌, ◌≤◌, ◌/◌, ◌%◌, false, [], ◌∷◌, ◌++◌, decimal, length};
+ghost use Rattle.std.specs.Prelude.{ℕ, ◌≡◌, ◌<◌, ◌≤◌, ◌/◌, ◌%◌, ◌^◌, false, [], ◌∷◌, ◌++◌, decimal, length};
 ghost use Rattle.std.specs.Fmt.{digits, digit_glyph, signed_decimal};
 ghost use Rattle.wasmprinter_spec.specs.Call.{Text};
 ghost use Rattle.wasmprinter_spec.specs.Options.{Options};
@@ -17,6 +17,14 @@ pub const DECIMAL: u64 = 10;
 
 /// The base of hexadecimal numbers.
 pub const HEXADECIMAL: u64 = 16;
+
+/// A power of two.
+pub fn power(exponent: u32) -> u64
+    requires { exponent < 64 }
+    ensures { result ≡ 2 ^ exponent }
+{
+    1 << exponent
+}
 
 /// The character of a digit.
 fn glyph_of(digit: u8) -> u8
