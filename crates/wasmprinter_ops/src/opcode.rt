@@ -11,36 +11,86 @@ use std::marker::Model;
 use wasmprinter_bytes::bytes::Cursor;
 use wasmprinter_error::Malformed;
 
-/// The index spaces that immediates name (section 2.5, "Indices").
+/// The index spaces that immediates name (section 2.5, "Indices"). In the spaces that imports may extend, the imported ones come first.
 #[derive(Clone, Copy, Debug, PartialEq, Eq)]
 pub enum Space {
-    /// Functions, imported ones first.
+    /// Types, of all recursion groups.
+    Types,
+    /// Functions.
     Func,
+    /// Tables.
+    Table,
+    /// Memories.
+    Memory,
+    /// Tags of exceptions.
+    Tag,
+    /// Global variables.
+    Global,
+    /// Element segments.
+    Elem,
+    /// Data segments.
+    Data,
     /// The parameters and locals of a function.
     Local,
     /// The blocks around an operator, the innermost first.
     Label,
-    /// Tags of exceptions, imported ones first.
-    Tag,
 }
 
-/// What stands behind an opcode (section 5.4).
+/// What stands behind an opcode, and how the text writes it (sections 5.4 and 6.5).
 #[derive(Clone, Copy, Debug, PartialEq, Eq)]
 pub enum Shape {
     /// Nothing.
     None,
+    /// A byte 00, which the text doesn't write.
+    Fence,
     /// The type of a block.
     Block,
     /// The type of a block, and catch clauses.
     TryTable,
     /// An index of the space.
     Index(Space),
+    /// An index of the space, which the text leaves out where it is 0.
+    DefaultIndex(Space),
+    /// Two indices, of these spaces.
+    Pair(Space, Space),
+    /// A structure type, and one of its fields.
+    Field,
+    /// A type and a number.
+    Count,
+    /// A function type and a table. The text writes the table first, and leaves it out where it is 0.
+    Call,
+    /// A segment of the first space and an index of the second. The text writes the latter first, and leaves it out where it is 0.
+    Segment(Space, Space),
+    /// Two indices of the space, which the text leaves out where both are 0.
+    Copy(Space),
     /// Labels, and one more for all other numbers.
     BranchTable,
+    /// Value types.
+    Select,
+    /// A heap type.
+    Heap,
+    /// A heap type, which the text writes as the type of references that may be null, or may not.
+    Ref(bool),
+    /// A label and two reference types.
+    Cast,
+    /// A memory operand; with the exponent of the operator's natural alignment in bytes, a power of two.
+    Memory(u32),
+    /// The same, and a lane.
+    MemoryLane(u32),
+    /// A lane.
+    Lane,
     /// A signed number of 32 bits.
     I32,
     /// A signed number of 64 bits.
     I64,
+    /// A floating-point number of 32 bits.
+    F32,
+    /// A floating-point number of 64 bits.
+    F64,
+    /// A vector of 128 bits.
+    Vector,
+    /// Sixteen lanes.
+    Lanes,
 }
 
 /// How an operator stands to the blocks around it (section 5.4, "Control Instructions", and the older exception operators).

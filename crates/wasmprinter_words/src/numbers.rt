@@ -1,5 +1,5 @@
 //! Whole numbers (section 6.3 of the WebAssembly Core Specification, "Integers").
-ghost use Rattle.std.specs.Prelude.{ℕ, ◌≡◌, ◌<◌, ◌≤◌, false, [], ◌∷◌, ◌++◌, decimal, length};
+ghost use Rattle.std.specs.Prelude.{ℕ, ◌≡◌, ◌<◌, ◌≤◌, ◌/◌, ◌%◌, ◌^◌, false, [], ◌∷◌, ◌++◌, decimal, length};
 ghost use Rattle.std.specs.Fmt.{digits, digit_glyph, signed_decimal};
 ghost use Rattle.wasmprinter_spec.specs.Call.{Text};
 ghost use Rattle.wasmprinter_spec.specs.Options.{Options};
@@ -17,6 +17,14 @@ pub const DECIMAL: u64 = 10;
 
 /// The base of hexadecimal numbers.
 pub const HEXADECIMAL: u64 = 16;
+
+/// A power of two.
+pub fn power(exponent: u32) -> u64
+    requires { exponent < 64 }
+    ensures { result ≡ 2 ^ exponent }
+{
+    1 << exponent
+}
 
 /// The character of a digit.
 fn glyph_of(digit: u8) -> u8
@@ -49,6 +57,15 @@ pub fn write_digits<P: Print>(p: &mut P, base: u64, n: u64) -> io::Result<()>
     }
     write_digits(p, base, n / base)?;
     write_digit(p, (n % base) as u8)
+}
+
+/// Writes the two hexadecimal digits of a byte.
+pub fn write_byte_digits<P: Print>(p: &mut P, byte: u8) -> io::Result<()>
+    ensures { Emits P.meaning p.old p.new result
+        (Text (digit_glyph false (byte / 16) ∷ (digit_glyph false (byte % 16) ∷ [])) ∷ []) }
+{
+    write_digit(p, byte / 16)?;
+    write_digit(p, byte % 16)
 }
 
 /// How many digits a number has in hexadecimal.
@@ -91,6 +108,14 @@ pub fn number<P: Print>(p: &mut P, n: u64) -> io::Result<()>
 pub fn number_word<P: Print>(p: &mut P, n: u64) -> io::Result<()>
     ensures { (o : Options) → Prints P.meaning o p.old p.new result (Word (decimal n) ∷ []) }
 {
+    write_digits(p, DECIMAL, n)
+}
+
+/// Writes a word that ends in a number, without a style.
+pub fn numbered_word<P: Print>(p: &mut P, word: &str, n: u64) -> io::Result<()>
+    ensures { (o : Options) → Prints P.meaning o p.old p.new result (Word (word.now ++ decimal n) ∷ []) }
+{
+    text(p, word)?;
     write_digits(p, DECIMAL, n)
 }
 

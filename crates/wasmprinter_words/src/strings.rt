@@ -7,7 +7,7 @@ ghost use Rattle.wasmprinter_spec.specs.Quoted.{is_plain, char_text, byte_text, 
 ghost use Rattle.wasmprinter_print.specs.Emits.{Emits, EmitsOrFails};
 ghost use Rattle.wasmprinter_print.specs.Prints.{Prints};
 
-use crate::numbers::{HEXADECIMAL, write_digit, write_digits_between};
+use crate::numbers::{HEXADECIMAL, write_byte_digits, write_digits_between};
 use std::io;
 use wasmprinter_error::Error;
 use wasmprinter_print::{Print, Style, reset, start, text};
@@ -73,8 +73,7 @@ fn write_byte<P: Print>(p: &mut P, byte: u8) -> io::Result<()>
         return text(p, c.encode_utf8(&mut [0; 4]));
     }
     text(p, "\\")?;
-    write_digit(p, byte / 16)?;
-    write_digit(p, byte % 16)
+    write_byte_digits(p, byte)
 }
 
 fn write_each_byte<P: Print>(p: &mut P, bytes: &[u8]) -> io::Result<()>
