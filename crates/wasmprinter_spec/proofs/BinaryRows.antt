@@ -193,7 +193,7 @@ unfolding table
 too_many_locals = refl
 
 most_locals_within : IsWithinLimits (many_locals 50000)
-most_locals_within = record { locals = (omega arith, tt); functions = omega arith }
+most_locals_within = record { tables = tt; locals = (omega arith, tt); functions = omega arith }
 
 too_many_beyond : IsWithinLimits (many_locals 50001) → ⊥
 too_many_beyond w = omega (arith, w.locals.0)

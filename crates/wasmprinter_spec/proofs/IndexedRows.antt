@@ -14,7 +14,7 @@ use Rattle.wasmprinter_spec.specs.Options.{defaults, IsBlank}
 use Rattle.wasmprinter_spec.proofs.Samples.{func, local_get, local_set, call, drop, return, i32_const, i64_const, empty, identity, stored, mixed}
 
 empty_indexed : IsIndexed empty
-empty_indexed = record { types = tt; functions = tt; tags = tt; exports = tt; start = tt }
+empty_indexed = record { types = tt; functions = tt; imports = tt; tables = tt; tags = tt; globals = tt; exports = tt; start = tt; elements = tt; datas = tt }
 
 -- a function type in which each type is declared
 plain_func : {n : ℕ} {ps rs : List ValType} → AllByRecursion (IsDeclaredVal n) ps → AllByRecursion (IsDeclaredVal n) rs → IsDeclaredSub n (func ps rs)
@@ -25,9 +25,14 @@ unfolding table
 identity_indexed = record {
   types = ((plain_func (tt, tt) (tt, tt), tt), tt);
   functions = (record { type_index = (_, refl); locals = tt; operators = (omega arith, tt) }, tt);
+  imports = tt;
+  tables = tt;
   tags = tt;
+  globals = tt;
   exports = (omega arith, tt);
   start = tt;
+  elements = tt;
+  datas = tt;
 }
 
 stored_indexed : IsIndexed stored
@@ -35,9 +40,14 @@ unfolding table
 stored_indexed = record {
   types = ((plain_func tt (tt, tt), tt), tt);
   functions = (record { type_index = (_, refl); locals = (tt, tt); operators = (tt, (omega arith, (omega arith, tt))) }, tt);
+  imports = tt;
+  tables = tt;
   tags = tt;
+  globals = tt;
   exports = tt;
   start = tt;
+  elements = tt;
+  datas = tt;
 }
 
 -- two types, and a function with one local under a name
@@ -54,9 +64,14 @@ unfolding table
 last_indices = record {
   types = ((plain_func (tt, tt) tt, tt), ((plain_func tt tt, tt), tt));
   functions = (record { type_index = (_, refl); locals = (tt, tt); operators = (omega arith, (omega arith, (omega arith, tt))) }, tt);
+  imports = tt;
+  tables = tt;
   tags = tt;
+  globals = tt;
   exports = (omega arith, tt);
   start = tt;
+  elements = tt;
+  datas = tt;
 }
 
 last_type : IsIndexed (calling 1 (local_get 0 ∷ []) 0)
@@ -64,9 +79,14 @@ unfolding table
 last_type = record {
   types = ((plain_func (tt, tt) tt, tt), ((plain_func tt tt, tt), tt));
   functions = (record { type_index = (_, refl); locals = (tt, tt); operators = (omega arith, tt) }, tt);
+  imports = tt;
+  tables = tt;
   tags = tt;
+  globals = tt;
   exports = (omega arith, tt);
   start = tt;
+  elements = tt;
+  datas = tt;
 }
 
 no_such_type : IsIndexed (calling 2 [] 0) → ⊥
@@ -105,9 +125,14 @@ unfolding table
 every_shape = record {
   types = ((plain_func (tt, tt) tt, tt), ((plain_func tt tt, tt), tt));
   functions = (record { type_index = (_, refl); locals = (tt, tt); operators = (tt, (omega arith, (tt, (omega arith, (tt, (tt, tt)))))) }, tt);
+  imports = tt;
+  tables = tt;
   tags = tt;
+  globals = tt;
   exports = (omega arith, tt);
   start = tt;
+  elements = tt;
+  datas = tt;
 }
 
 index_of_drop : IsIndexed (one_operator (opcode 0 0x1a) (Index 0)) → ⊥
@@ -154,9 +179,14 @@ unfolding table
 blocks_indexed = record {
   types = ((plain_func (tt, tt) tt, tt), ((plain_func tt tt, tt), tt));
   functions = (record { type_index = (_, refl); locals = (tt, tt); operators = (tt, (tt, (tt, (tt, (tt, (tt, tt)))))) }, tt);
+  imports = tt;
+  tables = tt;
   tags = tt;
+  globals = tt;
   exports = (omega arith, tt);
   start = tt;
+  elements = tt;
+  datas = tt;
 }
 
 catches_indexed : IsIndexed (one_operator (opcode 0 0x1f) (TryTable Empty (All 3 ∷ AllRef 0 ∷ [])))
@@ -164,9 +194,14 @@ unfolding table
 catches_indexed = record {
   types = ((plain_func (tt, tt) tt, tt), ((plain_func tt tt, tt), tt));
   functions = (record { type_index = (_, refl); locals = (tt, tt); operators = ((tt, (tt, (tt, tt))), tt) }, tt);
+  imports = tt;
+  tables = tt;
   tags = tt;
+  globals = tt;
   exports = (omega arith, tt);
   start = tt;
+  elements = tt;
+  datas = tt;
 }
 
 no_such_block_type : IsIndexed (one_operator (opcode 0 0x02) (Block (OfType 2))) → ⊥

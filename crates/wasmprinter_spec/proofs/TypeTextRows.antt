@@ -14,7 +14,7 @@ use Rattle.wasmprinter_spec.specs.Piece.{Piece, repeated, left_in, place_text, a
 use Rattle.wasmprinter_spec.specs.Layout.Groups.{group, group_gap, group_at, group_gap_at, line_group, line_group_gap, numbered}
 use Rattle.wasmprinter_spec.specs.Layout.Types.{heap_pieces, null_ref_pieces, ref_pieces, val_pieces, type_list, list_group, signature_pieces, storage_pieces, field_pieces, struct_pieces, composite_pieces, supertype_pieces, sub_group, sub_pieces, type_pieces, member_pieces, type_group_pieces, type_section_pieces}
 use Rattle.wasmprinter_spec.specs.Layout.Operators.{operator_pieces, operators_pieces, expression_pieces}
-use Rattle.wasmprinter_spec.specs.Layout.{body_pieces, local_group, local_pieces, signature_if, header_pieces, function_group, function_pieces, module_field_pieces, module_pieces, layout, tag_pieces, start_pieces}
+use Rattle.wasmprinter_spec.specs.Layout.{module_field_pieces, module_pieces, layout, tag_pieces, start_pieces}
 use Rattle.wasmprinter_spec.specs.Table.{table}
 use Rattle.wasmprinter_spec.specs.Character.{class}
 use Rattle.wasmprinter_spec.specs.Numeral.{numeral, natural}
@@ -24,8 +24,11 @@ use Rattle.wasmprinter_spec.specs.Text.Items.{groups}
 use Rattle.wasmprinter_spec.specs.Text.Types.{heap_of_word, ref_of_word, number_of_word, packed_of_word}
 use Rattle.wasmprinter_spec.specs.Read.{read}
 use Rattle.wasmprinter_spec.specs.Layout.Exports.{export_pieces, kind_word, extern_index_pieces}
-use Rattle.wasmprinter_spec.specs.Layout.Memories.{memory_pieces, memory_type_pieces, limits_pieces}
+use Rattle.wasmprinter_spec.specs.Layout.Memories.{memory_pieces, memory_type_pieces}
 use Rattle.wasmprinter_spec.specs.Text.Exports.{kind_of_word}
+use Rattle.wasmprinter_spec.specs.Layout.Functions.{body_pieces, local_group, local_pieces, signature_if, header_pieces, function_group, function_pieces}
+use Rattle.wasmprinter_spec.specs.Layout.Limits.{limits_pieces}
+use Rattle.wasmprinter_spec.specs.Layout.Imports.{imports_pieces}
 use Rattle.wasmprinter_spec.proofs.Samples.{lines, head_bytes, to, to_null, func, empty}
 
 -- ---- from bytes to text
@@ -50,7 +53,7 @@ group_of_one : printed (with_types (0x01 ∷ 0x4e ∷ 0x01 ∷ 0x60 ∷ 0x00 ∷
     ∷ codes "    (type (;0;) (func))"
     ∷ codes "  )"
     ∷ []))
-unfolding group group_at line_group line_group_gap list_group signature_pieces composite_pieces sub_pieces type_pieces member_pieces type_group_pieces type_section_pieces numbered module_field_pieces module_pieces layout repeated digits memory_pieces memory_type_pieces limits_pieces export_pieces kind_word extern_index_pieces tag_pieces start_pieces
+unfolding group group_at line_group line_group_gap list_group signature_pieces composite_pieces sub_pieces type_pieces member_pieces type_group_pieces type_section_pieces numbered module_field_pieces module_pieces layout repeated digits memory_pieces memory_type_pieces limits_pieces export_pieces kind_word extern_index_pieces tag_pieces start_pieces imports_pieces
 group_of_one = refl
 
 -- each type of a group has the place behind two bytes, whatever the bytes before it are
@@ -64,15 +67,15 @@ group_with_offsets : printed_by (record defaults { offsets = true }) (with_types
     ∷ codes "(;@18    ;)  (rec)"
     ∷ codes "(;@1a    ;))"
     ∷ []))
-unfolding group group_at line_group line_group_gap list_group signature_pieces composite_pieces supertype_pieces sub_group sub_pieces type_pieces member_pieces type_group_pieces type_section_pieces numbered module_field_pieces module_pieces layout repeated left_in place_text digits memory_pieces memory_type_pieces limits_pieces export_pieces kind_word extern_index_pieces tag_pieces start_pieces
+unfolding group group_at line_group line_group_gap list_group signature_pieces composite_pieces supertype_pieces sub_group sub_pieces type_pieces member_pieces type_group_pieces type_section_pieces numbered module_field_pieces module_pieces layout repeated left_in place_text digits memory_pieces memory_type_pieces limits_pieces export_pieces kind_word extern_index_pieces tag_pieces start_pieces imports_pieces
 group_with_offsets = refl
 
 structure : printed (with_types (0x01 ∷ 0x5f ∷ 0x02 ∷ 0x78 ∷ 0x01 ∷ 0x7f ∷ 0x00 ∷ [])) ≡ Some (module_text (codes "  (type (;0;) (struct (field (mut i8)) (field i32)))" ∷ []))
-unfolding group_at line_group line_group_gap val_pieces storage_pieces field_pieces struct_pieces composite_pieces sub_pieces type_pieces type_group_pieces type_section_pieces numbered module_field_pieces module_pieces layout repeated digits memory_pieces memory_type_pieces limits_pieces export_pieces kind_word extern_index_pieces tag_pieces start_pieces
+unfolding group_at line_group line_group_gap val_pieces storage_pieces field_pieces struct_pieces composite_pieces sub_pieces type_pieces type_group_pieces type_section_pieces numbered module_field_pieces module_pieces layout repeated digits memory_pieces memory_type_pieces limits_pieces export_pieces kind_word extern_index_pieces tag_pieces start_pieces imports_pieces
 structure = refl
 
 open_array : printed (with_types (0x01 ∷ 0x50 ∷ 0x00 ∷ 0x5e ∷ 0x7f ∷ 0x00 ∷ [])) ≡ Some (module_text (codes "  (type (;0;) (sub (array i32)))" ∷ []))
-unfolding group_at line_group line_group_gap val_pieces storage_pieces field_pieces composite_pieces supertype_pieces sub_group sub_pieces type_pieces type_group_pieces type_section_pieces numbered module_field_pieces module_pieces layout repeated digits memory_pieces memory_type_pieces limits_pieces export_pieces kind_word extern_index_pieces tag_pieces start_pieces
+unfolding group_at line_group line_group_gap val_pieces storage_pieces field_pieces composite_pieces supertype_pieces sub_group sub_pieces type_pieces type_group_pieces type_section_pieces numbered module_field_pieces module_pieces layout repeated digits memory_pieces memory_type_pieces limits_pieces export_pieces kind_word extern_index_pieces tag_pieces start_pieces imports_pieces
 open_array = refl
 
 -- a final type with a supertype, and one without
@@ -81,7 +84,7 @@ final_types : printed (with_types (0x03 ∷ 0x50 ∷ 0x00 ∷ 0x60 ∷ 0x00 ∷ 
     ∷ codes "  (type (;1;) (sub final 0 (func)))"
     ∷ codes "  (type (;2;) (func))"
     ∷ []))
-unfolding group_at line_group line_group_gap list_group signature_pieces composite_pieces supertype_pieces sub_group sub_pieces type_pieces type_group_pieces type_section_pieces numbered module_field_pieces module_pieces layout repeated digits memory_pieces memory_type_pieces limits_pieces export_pieces kind_word extern_index_pieces tag_pieces start_pieces
+unfolding group_at line_group line_group_gap list_group signature_pieces composite_pieces supertype_pieces sub_group sub_pieces type_pieces type_group_pieces type_section_pieces numbered module_field_pieces module_pieces layout repeated digits memory_pieces memory_type_pieces limits_pieces export_pieces kind_word extern_index_pieces tag_pieces start_pieces imports_pieces
 final_types = refl
 
 -- supertypes, of which the second stands behind
@@ -89,7 +92,7 @@ two_supertypes : printed (with_types (0x02 ∷ 0x50 ∷ 0x02 ∷ 0x00 ∷ 0x01 �
     codes "  (type (;0;) (sub 0 1 (struct)))"
     ∷ codes "  (type (;1;) (array (mut i16)))"
     ∷ []))
-unfolding group_at line_group line_group_gap storage_pieces field_pieces struct_pieces composite_pieces supertype_pieces sub_group sub_pieces type_pieces type_group_pieces type_section_pieces numbered module_field_pieces module_pieces layout repeated digits memory_pieces memory_type_pieces limits_pieces export_pieces kind_word extern_index_pieces tag_pieces start_pieces
+unfolding group_at line_group line_group_gap storage_pieces field_pieces struct_pieces composite_pieces supertype_pieces sub_group sub_pieces type_pieces type_group_pieces type_section_pieces numbered module_field_pieces module_pieces layout repeated digits memory_pieces memory_type_pieces limits_pieces export_pieces kind_word extern_index_pieces tag_pieces start_pieces imports_pieces
 two_supertypes = refl
 
 abbrev value_bytes : List ℕ
@@ -106,7 +109,7 @@ each_type_text = module_text ((
     ++ codes " (result (ref exn) (ref array) (ref struct) (ref i31) (ref eq) (ref any) (ref extern) (ref func) (ref none) (ref noextern) (ref nofunc) (ref noexn) (ref null 0) (ref 0))))") ∷ [])
 
 each_type : printed (with_types (0x01 ∷ 0x60 ∷ 0x13 ∷ (value_bytes ++ 0x0e ∷ reference_bytes))) ≡ Some each_type_text
-unfolding group_at line_group line_group_gap heap_pieces null_ref_pieces ref_pieces val_pieces type_list list_group signature_pieces composite_pieces sub_pieces type_pieces type_group_pieces type_section_pieces numbered module_field_pieces module_pieces layout repeated digits memory_pieces memory_type_pieces limits_pieces export_pieces kind_word extern_index_pieces tag_pieces start_pieces
+unfolding group_at line_group line_group_gap heap_pieces null_ref_pieces ref_pieces val_pieces type_list list_group signature_pieces composite_pieces sub_pieces type_pieces type_group_pieces type_section_pieces numbered module_field_pieces module_pieces layout repeated digits memory_pieces memory_type_pieces limits_pieces export_pieces kind_word extern_index_pieces tag_pieces start_pieces imports_pieces
 each_type = refl
 
 -- functions use types of groups: one of a function type behind a group, and one of a structure
@@ -124,7 +127,7 @@ functions_of_groups : printed (head_bytes
     ∷ codes "  )"
     ∷ codes "  (func (;1;) (type 0))"
     ∷ []))
-unfolding group group_gap group_at group_gap_at line_group line_group_gap heap_pieces ref_pieces val_pieces type_list list_group signature_pieces struct_pieces composite_pieces sub_pieces type_pieces member_pieces type_group_pieces type_section_pieces operator_pieces operators_pieces expression_pieces body_pieces local_group local_pieces signature_if header_pieces function_group function_pieces numbered module_field_pieces module_pieces layout repeated digits table memory_pieces memory_type_pieces limits_pieces export_pieces kind_word extern_index_pieces tag_pieces start_pieces
+unfolding group group_gap group_at group_gap_at line_group line_group_gap heap_pieces ref_pieces val_pieces type_list list_group signature_pieces struct_pieces composite_pieces sub_pieces type_pieces member_pieces type_group_pieces type_section_pieces operator_pieces operators_pieces expression_pieces body_pieces local_group local_pieces signature_if header_pieces function_group function_pieces numbered module_field_pieces module_pieces layout repeated digits table memory_pieces memory_type_pieces limits_pieces export_pieces kind_word extern_index_pieces tag_pieces start_pieces imports_pieces
 functions_of_groups = refl
 
 -- ---- calls
