@@ -92,7 +92,7 @@ digit_runs c h =
     let e : (not (ltb (digit_value c) 16) || runs (class c)) ≡ true = agree_below_at letter_runs (λ x. true) 123 c letters_run below in
     rw (lt-ltb (digit_value c) 16 h) at e
 
-run_hexadecimal : (ds : List ℕ) → AllDigits 16 ds → all_run ds ≡ true
+pub run_hexadecimal : (ds : List ℕ) → AllDigits 16 ds → all_run ds ≡ true
 run_hexadecimal [] h = refl
 run_hexadecimal (c ∷ cs) h = and_from (runs (class c)) (all_run cs) (digit_runs c h.0) (run_hexadecimal cs h.1)
 
