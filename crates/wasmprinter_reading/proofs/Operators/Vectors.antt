@@ -19,8 +19,7 @@ use Rattle.wasmprinter_spec.specs.Text.Operators.{bytes_of, as_unsigned, vector_
 use Rattle.wasmprinter_spec.specs.Piece.{GapLiterals}
 use Rattle.wasmprinter_spec.specs.Layout.Operators.{hex_digits, hex_word, hex_words, vector_pieces, lane_pieces, lanes_pieces}
 use Rattle.wasmprinter_lexical.proofs.Runs.{is_word, are_words}
-use Rattle.wasmprinter_lexical.proofs.Numbers.{numeral_from}
-use Rattle.wasmprinter_lexical.proofs.Floats.{run_hexadecimal}
+use Rattle.wasmprinter_lexical.proofs.Numbers.{run_hexadecimal, numeral_from}
 use Rattle.wasmprinter_lexical.proofs.Pieces.{Bound}
 use Rattle.wasmprinter_lexical.proofs.Writes.{Writes, words_before, nothing_writes, both_write, gap_type_word_writes, gap_literals_writes}
 use Rattle.wasmprinter_reading.specs.Listed.{IsByte, IsVectorInRange}

@@ -1,0 +1,31 @@
+-- What functions and tags begin with: a number, the index of a type, and its signature.
+use Rattle.std.proofs.Common.{ℕ, ◌<◌, ◌^◌, [], ◌∷◌, List, ◌++◌, Option, Some, None, refl, append_assoc, codes, decimal, arith}
+use Rattle.wasmprinter_spec.specs.Character.{class}
+use Rattle.wasmprinter_spec.specs.Forest.{Forest, End, Word, Group, onto}
+use Rattle.wasmprinter_spec.specs.Types.{FuncType}
+use Rattle.wasmprinter_spec.specs.Piece.{Piece, Gap, Mark, Number}
+use Rattle.wasmprinter_spec.specs.Layout.Groups.{group_gap}
+use Rattle.wasmprinter_spec.specs.Layout.{signature_if, header_pieces}
+use Rattle.wasmprinter_lexical.proofs.Pieces.{Edge, Free, Bound}
+use Rattle.wasmprinter_lexical.proofs.Writes.{Writes, writing, both_write, nothing_writes, mark_writes, gap_writes, group_gap_then}
+use Rattle.wasmprinter_reading.specs.Listed.{IsSignatureInRange}
+use Rattle.wasmprinter_reading.proofs.Types.Trees.{signature_if_items, signature_writes}
+
+-- the type and its signature, before the rest
+abbrev pub header_items : Option FuncType → ℕ → Forest → Forest
+header_items t type_index rest = Group (Word (codes "type") (Word (decimal type_index) End)) (onto (signature_if_items t) rest)
+
+signature_if_writes : (t : Option FuncType) → IsSignatureInRange t → Writes Bound (signature_if t) Bound (signature_if_items t)
+unfolding signature_if
+signature_if_writes None r = nothing_writes
+signature_if_writes (Some t) r = signature_writes t r
+
+pub header_writes : {b : Edge} (t : Option FuncType) (i type_index : ℕ) (qs : List Piece) (rest : Forest) → i < 2 ^ 64 → IsSignatureInRange t → type_index < 2 ^ 32 → Writes Bound qs b rest →
+    Writes Free (header_pieces i type_index t ++ qs) b (header_items t type_index rest)
+unfolding header_pieces class
+header_writes {b = b} t i type_index qs rest h s r w =
+    let small : type_index < 2 ^ 64 = omega (arith, r) in
+    let signature : Writes Bound (signature_if t ++ qs) b (onto (signature_if_items t) rest) = both_write (signature_if_writes t s) w in
+    let joined : Writes Free (Mark i ∷ (Gap ∷ (group_gap 2 (codes "type") (Number type_index ∷ []) ++ (signature_if t ++ qs)))) b (header_items t type_index rest) =
+    mark_writes refl h (gap_writes refl (group_gap_then 2 (codes "type") (Number type_index ∷ []) (signature_if t ++ qs) refl refl (search writing) signature)) in
+    rw (append_assoc (group_gap 2 (codes "type") (Number type_index ∷ [])) (signature_if t) qs) joined
