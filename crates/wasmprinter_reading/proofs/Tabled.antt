@@ -10,7 +10,7 @@ use Rattle.std.specs.List.{filter, list_any}
 use Rattle.wasmprinter_spec.specs.Character.{class}
 use Rattle.wasmprinter_spec.specs.Operator.{Operator}
 use Rattle.wasmprinter_spec.specs.Row.{Row, Role, Opens, OpensIf, OpensTry, Shape, NoneShape, BlockShape, TryTableShape, SelectShape, RefShape}
-use Rattle.wasmprinter_spec.specs.Table.{control_rows, variable_rows, number_rows, table, first, has_word, has_opcode, rows_of, by_opcode}
+use Rattle.wasmprinter_spec.specs.Table.{table, first, has_word, has_opcode, rows_of, by_opcode}
 use Rattle.wasmprinter_spec.specs.Text.TypeUses.{same_flag}
 use Rattle.wasmprinter_spec.specs.Text.Operators.{behind_prefix, is_option}
 use Rattle.wasmprinter_lexical.proofs.Runs.{is_word}
@@ -90,19 +90,19 @@ are_told_apart (x ∷ xs) = all (λ y. not (eqb y.0 x.0) || refuses x.1 y.1) xs 
 -- ---- the tests
 
 pub table_tells_apart : are_told_apart (map keyed table) ≡ true
-unfolding table control_rows variable_rows number_rows
+unfolding table
 table_tells_apart = refl
 
 words_are_words : all (λ r. is_word r.word) table ≡ true
-unfolding table control_rows variable_rows number_rows class
+unfolding table class
 words_are_words = refl
 
 no_arguments : all (λ r. not (is_argument r.word)) table ≡ true
-unfolding table control_rows variable_rows number_rows
+unfolding table
 no_arguments = refl
 
 rows_fit : all (λ r. fits r.role r.shape) table ≡ true
-unfolding table control_rows variable_rows number_rows
+unfolding table
 rows_fit = refl
 
 -- ---- what they mean
