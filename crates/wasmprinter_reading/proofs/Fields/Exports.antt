@@ -1,5 +1,5 @@
 -- Exports among the fields of a module.
-use Rattle.std.proofs.Common.{◌≡◌, ℕ, true, ◌<◌, ◌^◌, List, Some, refl, codes, decimal, chars, arith, encode_utf8_all}
+use Rattle.std.proofs.Common.{◌≡◌, ℕ, true, ◌<◌, ◌^◌, Some, refl, codes, decimal, chars, arith, encode_utf8_all}
 use Rattle.std.proofs.Math.Utf8.{scalars}
 use Rattle.std.proofs.lemmas.Str.{encodes-chars, scalars-chars, is_utf8-from_IsUtf8}
 use Rattle.wasmprinter_spec.specs.Character.{class}

@@ -1,5 +1,5 @@
 -- Memories among the fields of a module.
-use Rattle.std.proofs.Common.{◌≡◌, ◌⊎◌, inl, inr, ◌≤◌, ℕ, zero, suc, ◌<◌, ◌^◌, Bool, true, false, cond, eqb, List, [], ◌∷◌, ◌++◌, Option, Some, None, refl, sym, ap, ◌∙◌, codes, decimal, bytes_eq, arith}
+use Rattle.std.proofs.Common.{◌≡◌, ◌⊎◌, inl, inr, ◌≤◌, ℕ, zero, suc, ◌<◌, ◌^◌, Bool, true, false, cond, eqb, List, ◌∷◌, ◌++◌, Option, Some, None, refl, sym, ap, ◌∙◌, codes, decimal, bytes_eq, arith}
 use Rattle.std.proofs.lemmas.Bool.{cases_lt, lt-ltb, eq-eqb, ne_eqb, false_from_ne_true}
 use Rattle.std.proofs.Math.Pow.{pow-lt}
 use Rattle.std.specs.Fmt.{digits}
@@ -9,7 +9,8 @@ use Rattle.wasmprinter_spec.specs.Grammar.{Placed, ◌>>=◌}
 use Rattle.wasmprinter_spec.specs.Numeral.{numeral, natural, below, u64, exponent_below, exponent_of}
 use Rattle.wasmprinter_spec.specs.Types.{Limits, limits_of, MemoryType, memory_type_of}
 use Rattle.wasmprinter_spec.specs.Layout.Memories.{wide_pieces, max_words, limits_pieces, shared_pieces, page_pieces, memory_type_pieces, memory_pieces}
-use Rattle.wasmprinter_spec.specs.Text.Memories.{address_type, max_behind, limits, shared, page, memory_type, read_memory}
+use Rattle.wasmprinter_spec.specs.Text.Items.{identified}
+use Rattle.wasmprinter_spec.specs.Text.Memories.{address_type, max_behind, limits, shared, page, read_memory}
 use Rattle.wasmprinter_lexical.proofs.Runs.{is_word, are_words}
 use Rattle.wasmprinter_lexical.proofs.Numbers.{natural-decimal, is_word-decimal, natural-hexadecimal, is_word-hexadecimal}
 use Rattle.wasmprinter_lexical.proofs.Pieces.{Free, Bound}
@@ -154,6 +155,15 @@ exponent_of-size e h =
 page-items : (e : Option ℕ) → IsRangedPage e → page (page_items e) ≡ Some e
 page-items None h = refl
 page-items (Some e) h = ap (λ o. o >>= λ n. Some (Some n)) (exponent_of-size e h)
+
+-- no identifier stands in front
+pub identified-memory : (m : MemoryType) → identified (memory_items m) ≡ (None, memory_items m)
+identified-memory m = by m.wide
+  where
+    by : (wide : Bool) → identified (onto (wide_items wide) (onto (limits_items m.limits) (behind_items m.shared m.page)))
+        ≡ (None, onto (wide_items wide) (onto (limits_items m.limits) (behind_items m.shared m.page)))
+    by true = refl
+    by false = refl
 
 pub read_memory-items : (m : MemoryType) → IsRangedMemory m → read_memory (memory_items m) ≡ Some m
 read_memory-items m h = by m.wide m.shared m.page h.page
