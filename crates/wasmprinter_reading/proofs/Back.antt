@@ -5,7 +5,7 @@ use Rattle.wasmprinter_spec.specs.Grammar.{Placed, ◌>>=◌}
 use Rattle.wasmprinter_spec.specs.Forest.{Forest, End, Word, Group, onto}
 use Rattle.wasmprinter_spec.specs.Types.{SubType, FuncType, concat, all_types, signature_at}
 use Rattle.wasmprinter_spec.specs.Placed.{TypeGroup, PlacedFunction, PlacedModule}
-use Rattle.wasmprinter_spec.specs.Module.{groups_of, function_of, module_of}
+use Rattle.wasmprinter_spec.specs.Module.{without_places, groups_of, function_of, module_of}
 use Rattle.wasmprinter_spec.specs.Indexed.{IsIndexed, IsIndexedFunction, NamesFunction, counts_in}
 use Rattle.wasmprinter_spec.specs.IndexSpaces.{Identifiers, are_distinct, Spaces, Context}
 use Rattle.wasmprinter_spec.specs.Text.Items.{each, identified}
@@ -55,7 +55,8 @@ gathered_exports : IsGathered (codes "export") (λ m. m.exports) (λ fs m. recor
 gathered_exports = record { takes = λ f m. refl; alone = λ m. refl; first = λ fs m. refl; last = λ fs gs m. refl }
 
 fields-gathered : {A : Type 0} {w : List ℕ} {held : Fields → List Forest} {holding : List Forest → Fields → Fields} → IsGathered w held holding →
-    (items : A → Forest) (xs : List A) (f : Forest) (m : Fields) → fields f ≡ Some m → fields (onto (field_rows w items xs) f) ≡ Some (holding (map items xs ++ held m) m)
+    (items : A → Forest) (xs : List A) (f : Forest) (m : Fields) → fields f ≡ Some m →
+    fields (onto (field_rows w items xs) f) ≡ Some (holding (map items xs ++ held m) m)
 unfolding rows
 fields-gathered g items [] f m e = e ∙ ap (λ x. Some x) (sym (g.alone m))
 fields-gathered {w = w} {held = held} {holding = holding} g items (x ∷ xs) f m e =
@@ -144,13 +145,14 @@ read_groups-items ids (g ∷ gs) h = rw (read_group-items ids g.value.types h.0.
 
 -- ---- what is read of each
 
-each-items : {A B : Type 0} {P : A → Type 0} (read : Forest → Option B) (items : A → Forest) (value : A → B) → ((x : A) → P x → read (items x) ≡ Some (value x)) →
-    (xs : List A) → AllByRecursion P xs → each read (map items xs) ≡ Some (map value xs)
+each-items : {A B : Type 0} {P : A → Type 0} (read : Forest → Option B) (items : A → Forest) (value : A → B) →
+    ((x : A) → P x → read (items x) ≡ Some (value x)) → (xs : List A) → AllByRecursion P xs → each read (map items xs) ≡ Some (map value xs)
 each-items read items value law [] h = refl
 each-items read items value law (x ∷ xs) h = rw (law x h.0, each-items read items value law xs h.1)
 
 -- two facts of each
-both_of_each : {A B : Type 0} (P : A → Type 0) (Q : B → Type 0) (value : A → B) (xs : List A) → AllByRecursion P xs → AllByRecursion Q (map value xs) → AllByRecursion (λ x. P x × Q (value x)) xs
+both_of_each : {A B : Type 0} (P : A → Type 0) (Q : B → Type 0) (value : A → B) (xs : List A) → AllByRecursion P xs → AllByRecursion Q (map value xs) →
+    AllByRecursion (λ x. P x × Q (value x)) xs
 both_of_each P Q value [] h k = tt
 both_of_each P Q value (x ∷ xs) h k = ((h.0, k.0), both_of_each P Q value xs h.1 k.1)
 
@@ -197,7 +199,8 @@ module _ (m : PlacedModule) where
   fields-module_items : IsRanged m → fields (module_items false) ≡ Some all_fields
   unfolding module_items all_fields
   fields-module_items h =
-      let functions : fields (field_rows (codes "func") (own_function false) m.functions) ≡ Some (record no_fields { functions = map (own_function false) m.functions ++ [] }) =
+      let held : List Forest = map (own_function false) m.functions in
+      let functions : fields (field_rows (codes "func") (own_function false) m.functions) ≡ Some (record no_fields { functions = held ++ [] }) =
       rw onto-End at (fields-gathered gathered_functions (own_function false) m.functions End no_fields refl) in
       fields-types m.types _ _ h.each_group
       (fields-gathered gathered_memories (λ x. memory_items x.value) m.memories _ _
@@ -252,14 +255,37 @@ module _ (m : PlacedModule) where
       let ranged : IsRangedFunc t = subst IsSignatureInRange own (signatures_ranged r i.value) in
       ap (λ s. read_tag whole_context (tag_items s i.value)) own ∙ read_tag-items whole_context t i.value own ranged h.0
 
-  module_of-all_fields : IsIndexed (module_of m) → IsRanged m → module_of_fields all_fields ≡ Some (module_of m)
-  unfolding all_fields
-  module_of-all_fields k h =
-      let functions = each-items (read_function whole_context) (own_function false) function_of (read_function-own h) m.functions (both_of_each IsRangedFunction (IsIndexedFunction (module_of m)) function_of m.functions h.each_function k.functions) in
-      let memories = each-items read_memory (λ x. memory_items x.value) (λ x. x.value) (λ x r. read_memory-items x.value r) m.memories h.each_memory in
-      let tags = each-items (read_tag whole_context) own_tag (λ i. i.value) (read_tag-own h) m.tags (both_of_each (λ i. i.value < 2 ^ 32) (NamesFunction (module_of m)) (λ i. i.value) m.tags h.each_tag k.tags) in
-      let exports = each-items (read_export whole_context) (λ e. export_items e.value) (λ e. e.value) (λ e r. read_export-items whole_context e.value r) m.exports h.each_export in
-      rw (spaces_of-all_fields, read_groups-items all_spaces.types m.types h.each_group, functions, memories, tags, exports, read_start-items all_spaces m.start h.start)
+  module _ (k : IsIndexed (module_of m)) (h : IsRanged m) where
+    read_functions : each (read_function whole_context) (map (own_function false) m.functions) ≡ Some (map function_of m.functions)
+    read_functions =
+        each-items (read_function whole_context) (own_function false) function_of (read_function-own h) m.functions
+        (both_of_each IsRangedFunction (IsIndexedFunction (module_of m)) function_of m.functions h.each_function k.functions)
+
+    read_memories : each read_memory (map (λ x. memory_items x.value) m.memories) ≡ Some (without_places m.memories)
+    read_memories = each-items read_memory (λ x. memory_items x.value) (λ x. x.value) (λ x r. read_memory-items x.value r) m.memories h.each_memory
+
+    read_tags : each (read_tag whole_context) (map own_tag m.tags) ≡ Some (without_places m.tags)
+    read_tags =
+        each-items (read_tag whole_context) own_tag (λ i. i.value) (read_tag-own h) m.tags
+        (both_of_each (λ i. i.value < 2 ^ 32) (NamesFunction (module_of m)) (λ i. i.value) m.tags h.each_tag k.tags)
+
+    read_exports : each (read_export whole_context) (map (λ e. export_items e.value) m.exports) ≡ Some (without_places m.exports)
+    read_exports =
+        each-items (read_export whole_context) (λ e. export_items e.value) (λ e. e.value)
+        (λ e r. read_export-items whole_context e.value r) m.exports h.each_export
+
+    module_of-all_fields : module_of_fields all_fields ≡ Some (module_of m)
+    unfolding all_fields
+    module_of-all_fields =
+        rw (
+          spaces_of-all_fields,
+          read_groups-items all_spaces.types m.types h.each_group,
+          read_functions,
+          read_memories,
+          read_tags,
+          read_exports,
+          read_start-items all_spaces m.start h.start,
+        )
 
   -- no identifier stands before the fields
   no_identifier : (identified (module_items false)).1 ≡ module_items false

@@ -108,7 +108,9 @@ function_writes {a = a} e false offsets ts s t i f h k r = by f.body.value.opera
     by : (os : List (Placed Operator)) → AllByRecursion IsListed (without_places os) →
         Writes a (group_gap_at offsets f.body.value.end 1 (codes "func") (header_pieces i f.type_index t ++ (local_pieces f.body.value.locals ++ body_pieces ts os))) Bound
         (Group (Word (codes "func") (header_items t f.type_index (body_items ts (locals_of f.body.value.locals) os))) End)
-    by [] l = group_gap_at_writes offsets f.body.value.end 1 (codes "func") _ e refl (header_writes t i f.type_index _ _ h k r.type_index (empty_body_writes ts f.body.value.locals r.body.locals))
+    by [] l =
+        group_gap_at_writes offsets f.body.value.end 1 (codes "func") _ e refl
+        (header_writes t i f.type_index _ _ h k r.type_index (empty_body_writes ts f.body.value.locals r.body.locals))
     by (o ∷ os) l =
         ended_group_gap_at_writes offsets f.body.value.end 1 (codes "func") _ e refl
         (has_break-behind (header_pieces i f.type_index t) _ (has_break-behind (local_pieces f.body.value.locals) (body_pieces ts (o ∷ os)) (body_breaks ts o os)))

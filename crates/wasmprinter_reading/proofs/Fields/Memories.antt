@@ -82,7 +82,8 @@ unfolding memory_type_pieces
 memory_type_writes m h =
     both_write (wide_writes m.wide) (both_write (limits_write m.limits h.min h.max) (both_write (shared_writes m.shared) (page_writes m.page h.page)))
 
-pub memory_writes : (i : ℕ) (m : Placed MemoryType) → i < 2 ^ 64 → IsRangedMemory m.value → Writes Bound (memory_pieces i m) Bound (Group (Word (codes "memory") (memory_items m.value)) End)
+pub memory_writes : (i : ℕ) (m : Placed MemoryType) → i < 2 ^ 64 → IsRangedMemory m.value →
+    Writes Bound (memory_pieces i m) Bound (Group (Word (codes "memory") (memory_items m.value)) End)
 unfolding memory_pieces class
 memory_writes i m h r =
     let held = memory_type_writes m.value r in
@@ -109,7 +110,8 @@ no_i32 = refl
 u64-decimal : (n : ℕ) → n < 2 ^ 64 → u64 (decimal n) ≡ Some n
 u64-decimal n h = rw (natural-decimal n h, lt-ltb n (2 ^ 64) h)
 
-address_type-items : (wide : Bool) (l : Limits) (f : Forest) → l.min < 2 ^ 64 → address_type (onto (wide_items wide) (onto (limits_items l) f)) ≡ (wide, onto (limits_items l) f)
+address_type-items : (wide : Bool) (l : Limits) (f : Forest) → l.min < 2 ^ 64 →
+    address_type (onto (wide_items wide) (onto (limits_items l) f)) ≡ (wide, onto (limits_items l) f)
 address_type-items true l f h = refl
 address_type-items false l f h = rw (not_word l.min (codes "i64") h no_i64, not_word l.min (codes "i32") h no_i32)
 
@@ -125,7 +127,8 @@ max-items min None true e k = refl
 max-items min None false None k = refl
 max-items min None false (Some e) k = refl
 
-limits-items : (l : Limits) (threads : Bool) (e : Option ℕ) → l.min < 2 ^ 64 → IsRangedMax l.max → limits (onto (limits_items l) (behind_items threads e)) ≡ Some (l, behind_items threads e)
+limits-items : (l : Limits) (threads : Bool) (e : Option ℕ) → l.min < 2 ^ 64 → IsRangedMax l.max →
+    limits (onto (limits_items l) (behind_items threads e)) ≡ Some (l, behind_items threads e)
 limits-items l threads e h k = rw (u64-decimal l.min h, max-items l.min l.max threads e k)
 
 shared-items : (threads : Bool) (e : Option ℕ) → shared (behind_items threads e) ≡ (threads, page_items e)
@@ -172,4 +175,5 @@ read_memory-items m h = by m.wide m.shared m.page h.page
         read_memory (onto (wide_items wide) (onto (limits_items m.limits) (behind_items threads e))) ≡ Some (memory_type_of wide threads m.limits e)
     by true threads e k = rw (limits-items m.limits threads e h.min h.max, shared-items threads e, page-items e k)
     by false threads e k =
-        rw (address_type-items false m.limits (behind_items threads e) h.min, limits-items m.limits threads e h.min h.max, shared-items threads e, page-items e k)
+        let limits = limits-items m.limits threads e h.min h.max in
+        rw (address_type-items false m.limits (behind_items threads e) h.min, limits, shared-items threads e, page-items e k)
