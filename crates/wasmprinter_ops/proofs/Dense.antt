@@ -4,7 +4,7 @@ use Rattle.std.proofs.lemmas.Bool.{and_parts, ltb-true, eqb-true, ne_eqb}
 use Rattle.std.proofs.lemmas.List.{length-map}
 use Rattle.wasmprinter_spec.specs.Operator.{Opcode, opcode}
 use Rattle.wasmprinter_spec.specs.Row.{Row, Shape, Role, Plain}
-use Rattle.wasmprinter_spec.specs.Table.{table, control_rows, variable_rows, number_rows, first, has_opcode, by_opcode, word_of, role_of}
+use Rattle.wasmprinter_spec.specs.Table.{table, first, has_opcode, by_opcode, word_of, role_of}
 use Rattle.wasmprinter_ops.specs.ByNumber.{each_from, size_of, each_word, each_shape, each_role, shape_of}
 
 module _ {A : Type 0} (f : ℕ → A) (d : A) where
@@ -36,7 +36,7 @@ fits (r ∷ rs) = ltb r.number (size_of r.prefix) && fits rs
 
 -- the table is so
 table_fits : fits table ≡ true
-unfolding table control_rows variable_rows number_rows
+unfolding table
 table_fits = refl
 
 -- the row has another opcode than one past the size
