@@ -5,7 +5,7 @@ use Rattle.std.specs.Str.{chars}
 use Rattle.std.proofs.lemmas.Int.{ints}
 use Rattle.wasmprinter_spec.specs.Grammar.{Placed}
 use Rattle.wasmprinter_spec.specs.Types as types
-use Rattle.wasmprinter_spec.specs.Types.{FuncType}
+use Rattle.wasmprinter_spec.specs.Types.{FieldType, FuncType}
 use Rattle.wasmprinter_spec.specs.Operator.{opcode, Empty, Value, OfType, Immediates, NoImmediates, Block, Index, I32, Operator}
 use Rattle.wasmprinter_spec.specs.Table.{table}
 use Rattle.wasmprinter_spec.specs.Nesting.{none, plain, block}
@@ -20,7 +20,7 @@ use Rattle.wasmprinter_spec.specs.Piece.{all_calls, repeated}
 use Rattle.wasmprinter_spec.specs.Layout.Groups.{line_group, line_group_gap}
 use Rattle.wasmprinter_spec.specs.Layout.Types.{heap_pieces, ref_pieces, val_pieces, type_list, list_group, signature_pieces}
 use Rattle.wasmprinter_spec.specs.Layout.Operators.{Form, OverLines, InLine, Setting, mark_pieces, label_pieces, id_pieces, ending_pieces, block_pieces, index_pieces, immediate_pieces, operator_pieces, operators_pieces, expression_pieces}
-use Rattle.wasmprinter_spec.specs.IndexSpaces.{Context}
+use Rattle.wasmprinter_spec.specs.IndexSpaces.{Spaces, Context}
 use Rattle.wasmprinter_reading.specs.Listed.{AreSignaturesInRange}
 use Rattle.wasmprinter_reading.specs.OperatorLaws.{HaveSameTypes, AreOperators, read_alone}
 use Rattle.wasmprinter_reading.proofs.Operators.ReadBack.{named_labels_read_back}
@@ -36,11 +36,30 @@ signature (suc n) = None
 abbrev setting : Form → Setting
 setting form = record { form = form; signature = signature; nesting = 2 }
 
+abbrev spaces : Spaces
+spaces = record { types = []; functions = []; tables = []; memories = []; tags = []; globals = []; elems = []; datas = []; locals = [] }
+
 abbrev context : Context
-context = record { spaces = record { types = []; functions = []; tags = []; locals = [] }; signature = signature }
+context = record { spaces = spaces; signature = signature }
+
+-- no type is a structure
+abbrev no_fields : ℕ → Option (List FieldType)
+no_fields n = None
 
 abbrev counts : Counts
-counts = record { functions = 0; tags = 0; locals = 0; types = 1; signature = signature }
+counts = record {
+  types = 1;
+  functions = 0;
+  tables = 0;
+  memories = 0;
+  tags = 0;
+  globals = 0;
+  elems = 0;
+  datas = 0;
+  locals = 0;
+  signature = signature;
+  fields = no_fields;
+}
 
 signatures_in_range : AreSignaturesInRange signature
 signatures_in_range zero = record { params = (tt, tt); results = tt }

@@ -25,3 +25,7 @@ pub mod BlockTypeRows
 pub mod LabelRows
 pub mod BlockTextRows
 pub mod NestingRows
+pub mod Computing
+pub mod ShapeSamples
+pub mod ShapeRows
+pub mod ShapeTextRows
