@@ -1,8 +1,7 @@
 -- Floats: what they are written as reads back as their bits, and is no operator's word.
-use Rattle.std.proofs.Common.{◌≡◌, ℕ, ◌<◌, ◌*◌, ◌/◌, ◌%◌, ◌^◌, ◌-◌, Bool, true, false, ◌||◌, cond, eqb, ltb, List, [], ◌∷◌, ◌++◌, Some, refl, codes, arith, lit≤}
+use Rattle.std.proofs.Common.{◌≡◌, ℕ, ◌<◌, ◌/◌, ◌%◌, ◌^◌, ◌-◌, Bool, true, false, cond, eqb, ltb, [], ◌∷◌, ◌++◌, refl, codes, lit≤}
 use Rattle.std.specs.Fmt.{digits}
 use Rattle.wasmprinter_spec.specs.Forest.{Forest, End, Word}
-use Rattle.wasmprinter_spec.specs.Table.{rows_of}
 use Rattle.wasmprinter_spec.specs.Float.{Width, IsWidth, single, double, greatest_exponent, sign_bit, canonical_payload}
 use Rattle.wasmprinter_spec.specs.FloatText.{special_text, finite_text, normal_text, subnormal_text, unsigned_text, float_text}
 use Rattle.wasmprinter_spec.specs.Piece.{Gap, Float}

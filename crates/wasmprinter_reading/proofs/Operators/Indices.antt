@@ -1,18 +1,17 @@
 -- Immediates that are indices: what they are written as, that this reads back, and that their pieces write it.
-use Rattle.std.proofs.Common.{◌≡◌, ℕ, ◌<◌, ◌^◌, Bool, true, false, ◌&&◌, cond, eqb, List, [], ◌∷◌, ◌++◌, Option, Some, None, refl, sym, ap, ◌∙◌, codes, decimal, arith, option_map}
+use Rattle.std.proofs.Common.{◌≡◌, ℕ, ◌<◌, ◌^◌, Bool, true, false, ◌&&◌, cond, eqb, List, [], ◌∷◌, ◌++◌, Option, Some, None, refl, sym, ap, codes, decimal, arith}
 use Rattle.std.proofs.lemmas.Bool.{and_parts, eqb-true}
 use Rattle.wasmprinter_spec.specs.Character.{class}
-use Rattle.wasmprinter_spec.specs.Grammar.{◌>>=◌}
 use Rattle.wasmprinter_spec.specs.Forest.{Forest, End, Word, Group, onto}
 use Rattle.wasmprinter_spec.specs.Types.{FuncType}
-use Rattle.wasmprinter_spec.specs.Operator.{Immediates, Indices, OfType}
+use Rattle.wasmprinter_spec.specs.Operator.{Indices, OfType}
 use Rattle.wasmprinter_spec.specs.Row.{Space, Label}
 use Rattle.wasmprinter_spec.specs.Labels as labels
 use Rattle.wasmprinter_spec.specs.Labels.{Naming, AreApart}
 use Rattle.wasmprinter_spec.specs.Indexed.{IsFunctionType}
 use Rattle.wasmprinter_spec.specs.Code.{head}
 use Rattle.wasmprinter_spec.specs.IndexSpaces.{Context}
-use Rattle.wasmprinter_spec.specs.Text.Types.{signature, val_types, variables}
+use Rattle.wasmprinter_spec.specs.Text.Types.{val_types, variables}
 use Rattle.wasmprinter_spec.specs.Text.TypeUses.{no_type, same_func_type, agrees}
 use Rattle.wasmprinter_spec.specs.Text.Operators.{block_type, index, default_index, two_indices, type_and_field, copied, with_segment, call_parts}
 use Rattle.wasmprinter_spec.specs.Piece.{Gap, Number}

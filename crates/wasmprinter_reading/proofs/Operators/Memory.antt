@@ -1,17 +1,15 @@
 -- Memory operands, and lanes: what they are written as, that this reads back, and that their pieces write it.
-use Rattle.std.proofs.Common.{◌≡◌, ℕ, zero, suc, ◌<◌, ◌≤◌, ◌^◌, Bool, true, false, cond, eqb, List, [], ◌∷◌, ◌++◌, Option, Some, None, refl, sym, ap, ◌∙◌, codes, decimal, arith, option_map, ◌⊎◌, inl, inr}
+use Rattle.std.proofs.Common.{◌≡◌, ℕ, zero, suc, ◌<◌, ◌≤◌, ◌^◌, Bool, true, false, cond, eqb, List, [], ◌∷◌, ◌++◌, Some, refl, sym, ap, ◌∙◌, codes, decimal, arith, option_map, ◌⊎◌, inl, inr}
 use Rattle.std.proofs.lemmas.Bool.{cases_lt, eq-eqb, eqb-true, ne_eqb}
 use Rattle.std.proofs.lemmas.Nat.{pow_below}
 use Rattle.std.proofs.lemmas.Fmt.{decimal_is_IsNumeral}
 use Rattle.std.proofs.lemmas.Str.Parse.{digit_at}
 use Rattle.std.specs.Str.Parse.{IsNumeral}
 use Rattle.wasmprinter_spec.specs.Character.{class}
-use Rattle.wasmprinter_spec.specs.Grammar.{◌>>=◌}
 use Rattle.wasmprinter_spec.specs.Numeral.{exponent_below, exponent_of}
 use Rattle.wasmprinter_spec.specs.Forest.{Forest, End, Word, onto}
 use Rattle.wasmprinter_spec.specs.Operator.{MemArg, mem_arg_of, MemoryLane}
 use Rattle.wasmprinter_spec.specs.IndexSpaces.{Context}
-use Rattle.wasmprinter_spec.specs.Text.Items.{one_word}
 use Rattle.wasmprinter_spec.specs.Text.Operators.{alignment, with_memory, is_option, mem_arg, but_last, mem_arg_and_lane}
 use Rattle.wasmprinter_spec.specs.Piece as piece
 use Rattle.wasmprinter_spec.specs.Piece.{Gap}
@@ -20,7 +18,7 @@ use Rattle.wasmprinter_lexical.proofs.Runs.{is_word}
 use Rattle.wasmprinter_lexical.proofs.Numbers.{all_run_digits, is_word-decimal}
 use Rattle.wasmprinter_lexical.proofs.Pieces.{Bound}
 use Rattle.wasmprinter_lexical.proofs.Writes.{Writes, writing, both_write}
-use Rattle.wasmprinter_reading.specs.Listed.{IsU32, IsByte, IsMemArgInRange}
+use Rattle.wasmprinter_reading.specs.Listed.{IsByte, IsMemArgInRange}
 use Rattle.wasmprinter_reading.proofs.Tabled.{no_rows}
 use Rattle.wasmprinter_reading.proofs.Items.{index-decimal}
 use Rattle.wasmprinter_reading.proofs.Operators.Arguments.{AreArguments, arguments_onto}

@@ -1,5 +1,5 @@
 -- Immediates that are types, and casts: what they are written as, that this reads back, and that their pieces write it.
-use Rattle.std.proofs.Common.{◌≡◌, ℕ, Bool, true, false, ◌||◌, not, List, [], ◌∷◌, ◌++◌, Some, None, refl, sym, ap, ◌∙◌, subst, codes, append-nil}
+use Rattle.std.proofs.Common.{◌≡◌, ℕ, Bool, true, false, ◌||◌, not, List, [], ◌∷◌, ◌++◌, Some, None, refl, sym, ap, subst, codes, append-nil}
 use Rattle.std.specs.List.{AllByRecursion}
 use Rattle.wasmprinter_spec.specs.Character.{class}
 use Rattle.wasmprinter_spec.specs.Grammar.{◌>>=◌}
@@ -7,15 +7,13 @@ use Rattle.wasmprinter_spec.specs.Forest.{Forest, End, Word, Group, onto}
 use Rattle.wasmprinter_spec.specs.Types.{HeapType, Index, RefType, ref_type, ValType}
 use Rattle.wasmprinter_spec.specs.Operator.{Types, Heap, Cast}
 use Rattle.wasmprinter_spec.specs.Labels.{Label, Named, Naming, AreApart, is_hidden, Target, Around, Own, Nothing, target}
-use Rattle.wasmprinter_spec.specs.Table.{rows_of}
 use Rattle.wasmprinter_spec.specs.Code.{head_by, head, PartHead}
-use Rattle.wasmprinter_spec.specs.IndexSpaces.{Identifiers, Context}
+use Rattle.wasmprinter_spec.specs.IndexSpaces.{Context}
 use Rattle.wasmprinter_spec.specs.Text.Items.{all_items, groups}
-use Rattle.wasmprinter_spec.specs.Text.Types.{ref_named, ref_group, reference_type, val_types}
+use Rattle.wasmprinter_spec.specs.Text.Types.{ref_named, ref_group, reference_type}
 use Rattle.wasmprinter_spec.specs.Text.TypeUses.{same_flag}
 use Rattle.wasmprinter_spec.specs.Text.Operators.{first_alone, behind_first, select_types, heap_with, cast_parts}
 use Rattle.wasmprinter_spec.specs.Piece.{Gap}
-use Rattle.wasmprinter_spec.specs.Layout.Groups.{line_group, line_group_gap}
 use Rattle.wasmprinter_spec.specs.Layout.Types.{val_pieces, type_list, heap_pieces, ref_pieces}
 use Rattle.wasmprinter_spec.specs.Layout.Operators.{label_pieces, select_pieces}
 use Rattle.wasmprinter_lexical.proofs.Grown.{onto-End}
@@ -26,7 +24,7 @@ use Rattle.wasmprinter_reading.proofs.Tabled.{no_rows}
 use Rattle.wasmprinter_reading.proofs.Items.{one_item-reads, all_items-reads}
 use Rattle.wasmprinter_reading.proofs.Types.Ranged.{IsRangedHeap, IsRangedVal}
 use Rattle.wasmprinter_reading.proofs.Types.Trees.{heap_text, heap_items, ref_items_by, ref_items, val_items, types_items, heap_writes, ref_writes, val_writes, type_list_writes}
-use Rattle.wasmprinter_reading.proofs.Types.Back.{heap_type-items, ref_item, val_types-items}
+use Rattle.wasmprinter_reading.proofs.Types.Back.{ref_item, val_types-items}
 use Rattle.wasmprinter_reading.proofs.Operators.Labels.{ids, Opened, named_items, target_items, label_items, label_arguments, label_reads, IsLabel, label_writes}
 use Rattle.wasmprinter_reading.proofs.Operators.Arguments.{AreArguments, arguments_onto}
 use Rattle.wasmprinter_reading.proofs.Operators.Numbers.{index_is_no_word}

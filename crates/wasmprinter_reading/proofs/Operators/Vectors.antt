@@ -1,5 +1,5 @@
 -- Sixteen bytes, as four hexadecimal words or as lanes: what they are written as, that this reads back, and that their pieces write it.
-use Rattle.std.proofs.Common.{◌≡◌, ℕ, zero, suc, ℤ, pos, negsuc, ◌-ℤ◌, ◌+◌, ◌*◌, ◌/◌, ◌%◌, ◌<◌, ◌≤◌, ◌^◌, Bool, true, false, ◌&&◌, cond, ltb, List, [], ◌∷◌, ◌++◌, length, Some, refl, sym, ap, ap₂, ◌∙◌, codes, decimal, arith, lit≤, lit<}
+use Rattle.std.proofs.Common.{◌≡◌, ℕ, zero, suc, ℤ, pos, negsuc, ◌-ℤ◌, ◌+◌, ◌*◌, ◌/◌, ◌%◌, ◌<◌, ◌^◌, Bool, true, false, cond, ltb, List, [], ◌∷◌, ◌++◌, length, Some, refl, ap, ◌∙◌, codes, decimal, arith, lit≤, lit<}
 use Rattle.std.specs.Fmt.{digit_glyph}
 use Rattle.std.specs.Char.{digit_value}
 use Rattle.std.specs.List.{AllByRecursion}
@@ -8,16 +8,14 @@ use Rattle.std.proofs.lemmas.Bool.{and_from, lt-ltb, eq-eqb}
 use Rattle.std.proofs.lemmas.Int.{ints}
 use Rattle.std.proofs.lemmas.Str.{digit_value-digit_char}
 use Rattle.wasmprinter_spec.specs.Character.{class}
-use Rattle.wasmprinter_spec.specs.Grammar.{◌>>=◌}
 use Rattle.wasmprinter_spec.specs.Numeral.{numeral, natural, as_signed, integer}
 use Rattle.wasmprinter_spec.specs.Forest.{Forest, End, Word}
 use Rattle.wasmprinter_spec.specs.Types.{concat}
 use Rattle.wasmprinter_spec.specs.Operator.{Bytes}
 use Rattle.wasmprinter_spec.specs.Text.Items.{all_items}
 use Rattle.wasmprinter_spec.specs.Numeral.{u8}
-use Rattle.wasmprinter_spec.specs.Text.Operators.{bytes_of, as_unsigned, vector_lane, no_group, sixteen, lane_size, vector, lanes}
-use Rattle.wasmprinter_spec.specs.Piece.{GapLiterals}
-use Rattle.wasmprinter_spec.specs.Layout.Operators.{hex_digits, hex_word, hex_words, vector_pieces, lane_pieces, lanes_pieces}
+use Rattle.wasmprinter_spec.specs.Text.Operators.{bytes_of, as_unsigned, vector_lane, no_group, lane_size, vector, lanes}
+use Rattle.wasmprinter_spec.specs.Layout.Operators.{hex_digits, hex_word, hex_words, vector_pieces, lanes_pieces}
 use Rattle.wasmprinter_lexical.proofs.Runs.{is_word, are_words}
 use Rattle.wasmprinter_lexical.proofs.Numbers.{run_hexadecimal, numeral_from}
 use Rattle.wasmprinter_lexical.proofs.Pieces.{Bound}
