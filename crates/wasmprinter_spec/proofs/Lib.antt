@@ -19,6 +19,7 @@ pub mod ReadRows
 pub mod UnreadRows
 pub mod IndexedRows
 pub mod TableRows
+pub mod TableRuleRows
 pub mod BlockSamples
 pub mod BlockRows
 pub mod BlockTypeRows
@@ -29,3 +30,4 @@ pub mod Computing
 pub mod ShapeSamples
 pub mod ShapeRows
 pub mod ShapeTextRows
+pub mod ShapeCallRows
