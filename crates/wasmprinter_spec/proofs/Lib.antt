@@ -20,6 +20,7 @@ pub mod UnreadRows
 pub mod IndexedRows
 pub mod TableRows
 pub mod TableRuleRows
+pub mod PrefixRows
 pub mod BlockSamples
 pub mod BlockRows
 pub mod BlockTypeRows

@@ -1,10 +1,10 @@
 -- Worked rows of immediates of each shape: the calls that they make, with styles.
-use Rattle.std.specs.Prelude.{◌≡◌, ℕ, List, [], ◌∷◌, ◌++◌, map, true, false, codes, replicate, refl}
+use Rattle.std.specs.Prelude.{◌≡◌, ℕ, List, [], ◌∷◌, ◌++◌, true, false, codes, replicate, refl}
 use Rattle.wasmprinter_spec.specs.Grammar.{Placed}
 use Rattle.wasmprinter_spec.specs.Types as types
 use Rattle.wasmprinter_spec.specs.Types.{ref_type, signature_at}
-use Rattle.wasmprinter_spec.specs.Operator.{opcode, mem_arg_of, Immediates, NoImmediates, Index, Indices, Types, Heap, Cast, Memory, MemoryLane, Lane, F32, Bytes, Operator}
-use Rattle.wasmprinter_spec.specs.Call.{Call, Style, Text, Start, Name, Keyword, TypeName, Literal, Comment, Reset, atoms}
+use Rattle.wasmprinter_spec.specs.Operator.{opcode, mem_arg_of, Immediates, Indices, Types, Heap, Cast, Memory, MemoryLane, Lane, F32, Bytes, Operator}
+use Rattle.wasmprinter_spec.specs.Call.{Call, Style, Text, Start, Name, Keyword, TypeName, Literal, Reset, atoms}
 use Rattle.wasmprinter_spec.specs.Options.{defaults}
 use Rattle.wasmprinter_spec.specs.Piece.{all_calls}
 use Rattle.wasmprinter_spec.specs.Layout.Operators.{InLine, expression_pieces}
