@@ -1,3 +1,4 @@
 pub mod Outcome
+pub mod Parts
 pub mod Printed
 pub mod TypeLines

@@ -197,7 +197,8 @@ unfolding class
 behind_blanks_delimited [] rest d = d
 behind_blanks_delimited (w ∷ ws) rest d = refl
 
-behind_blanks_lex : (ws : List (List ℕ)) (rest : List ℕ) → are_words ws ≡ true → delimited rest ≡ true → lex Clear (behind_blanks ws ++ rest) ≡ word_tokens ws ++ lex Clear rest
+behind_blanks_lex : (ws : List (List ℕ)) (rest : List ℕ) → are_words ws ≡ true → delimited rest ≡ true →
+    lex Clear (behind_blanks ws ++ rest) ≡ word_tokens ws ++ lex Clear rest
 unfolding lex class
 behind_blanks_lex [] rest h d = refl
 behind_blanks_lex (w ∷ ws) rest h d =

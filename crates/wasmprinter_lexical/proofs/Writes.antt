@@ -216,7 +216,8 @@ constant_writes {a = a} {z = z} {ps = ps} e h w = record {
   in_groups = w.in_groups;
 }
 
-pub type_word_gap_writes : {b : Edge} {v : List ℕ} {ps : List Piece} {f : Forest} → is_word v ≡ true → Writes Free ps b f → Writes Free (TypeWordGap v ∷ ps) b (Word v f)
+pub type_word_gap_writes : {b : Edge} {v : List ℕ} {ps : List Piece} {f : Forest} → is_word v ≡ true → Writes Free ps b f →
+    Writes Free (TypeWordGap v ∷ ps) b (Word v f)
 type_word_gap_writes {v = v} h w = record {
   joins = w.joins;
   are = (h, w.are);
@@ -227,7 +228,8 @@ type_word_gap_writes {v = v} h w = record {
   in_groups = w.in_groups;
 }
 
-pub gap_type_word_writes : {a b : Edge} {v : List ℕ} {ps : List Piece} {f : Forest} → is_open a ≡ true → is_word v ≡ true → Writes Bound ps b f → Writes a (GapTypeWord v ∷ ps) b (Word v f)
+pub gap_type_word_writes : {a b : Edge} {v : List ℕ} {ps : List Piece} {f : Forest} → is_open a ≡ true → is_word v ≡ true → Writes Bound ps b f →
+    Writes a (GapTypeWord v ∷ ps) b (Word v f)
 gap_type_word_writes {a = a} {v = v} {ps = ps} e h w = record {
   joins = λ qs g. joins_anywhere a (GapTypeWord v) (ps ++ qs) e refl (w.joins qs g);
   are = (h, w.are);
@@ -306,7 +308,8 @@ quoted_writes {cs = cs} h w = record {
   in_groups = w.in_groups;
 }
 
-pub quoted_bytes_writes : {b : Edge} {bs : List ℕ} {ps : List Piece} {f : Forest} → AllByRecursion (λ x. x < 256) bs → Writes Bound ps b f → Writes Free (QuotedBytes bs ∷ ps) b (String bs f)
+pub quoted_bytes_writes : {b : Edge} {bs : List ℕ} {ps : List Piece} {f : Forest} → AllByRecursion (λ x. x < 256) bs → Writes Bound ps b f →
+    Writes Free (QuotedBytes bs ∷ ps) b (String bs f)
 quoted_bytes_writes {bs = bs} h w = record {
   joins = w.joins;
   are = (h, w.are);
@@ -451,7 +454,8 @@ opening_bare = record { delimits = refl; leaves_it = refl; is = (tt, tt); opens 
 
 -- an opening, what the group holds, and its end
 closed_writes : {b e c : Edge} {f : Forest} (p : Piece) (vs : List (List ℕ)) (place : Option ℕ) (nesting : ℕ) (t : Bool) (ps : List Piece) (a : Edge) →
-    is_open a ≡ true → may_close c t ≡ true → IsOpening p e vs → Writes e ps c f → Writes a (p ∷ (ps ++ close place nesting t)) b (Group (words_before vs f) End)
+    is_open a ≡ true → may_close c t ≡ true → IsOpening p e vs → Writes e ps c f →
+    Writes a (p ∷ (ps ++ close place nesting t)) b (Group (words_before vs f) End)
 closed_writes {b = b} {e = e} {c = c} {f = f} p vs place nesting t ps a o m i w = record {
   joins = λ qs g. joins_anywhere a p ((ps ++ close place nesting t) ++ qs) o i.delimits
       (subst (λ x. joined x ((ps ++ close place nesting t) ++ qs) ≡ true) (sym i.leaves_it)
@@ -461,7 +465,10 @@ closed_writes {b = b} {e = e} {c = c} {f = f} p vs place nesting t ps a o m i w 
   whole = Group (words_before vs w.whole) End;
   tokens =
       ap (λ x. x ++ all_tokens (ps ++ close place nesting t)) i.opens
-      ∙ ap (λ x. left ∷ (word_tokens vs ++ x)) (all_tokens-append ps (close place nesting t) ∙ ap (λ x. x ++ all_tokens (close place nesting t)) w.tokens ∙ ap (λ x. flat w.whole ++ x) (close_tokens place nesting t))
+      ∙ ap (λ x. left ∷ (word_tokens vs ++ x))
+      (all_tokens-append ps (close place nesting t)
+      ∙ ap (λ x. x ++ all_tokens (close place nesting t)) w.tokens
+      ∙ ap (λ x. flat w.whole ++ x) (close_tokens place nesting t))
       ∙ ap (λ x. left ∷ x) (sym (append_assoc (word_tokens vs) (flat w.whole) (right ∷ [])) ∙ ap (λ x. x ++ (right ∷ [])) (sym (words_before-flat vs w.whole)));
   without = ap (λ x. Group x End) (words_before-cut vs w.whole ∙ ap (words_before vs) w.without);
   in_row = refl;

@@ -8,7 +8,9 @@ use Rattle.wasmprinter_spec.specs.Placed.{PlacedFunction, PlacedModule}
 use Rattle.wasmprinter_spec.specs.Module.{groups_of}
 use Rattle.wasmprinter_spec.specs.Layout.Groups.{group_at, group_gap_at, close, has_break, numbered}
 use Rattle.wasmprinter_spec.specs.Layout.Types.{type_section_pieces}
-use Rattle.wasmprinter_spec.specs.Layout.{header_pieces, local_pieces, body_pieces, export_pieces, function_pieces, function_group, module_field_pieces, module_pieces}
+use Rattle.wasmprinter_spec.specs.Layout.Memories.{memory_pieces}
+use Rattle.wasmprinter_spec.specs.Layout.Exports.{export_pieces}
+use Rattle.wasmprinter_spec.specs.Layout.{header_pieces, tag_pieces, start_pieces, local_pieces, body_pieces, function_pieces, function_group, module_field_pieces, module_pieces}
 use Rattle.wasmprinter_lexical.proofs.Writes.{all_tokens-append, close_tokens}
 
 -- the tokens of a keyword, of what a group holds and of its end
@@ -45,6 +47,10 @@ numbered_stays f g law i (x ∷ xs) =
     ∙ ap (λ ts. all_tokens (g i x) ++ ts) (numbered_stays f g law (i + 1) xs)
     ∙ sym (all_tokens-append (g i x) (numbered g (i + 1) xs))
 
+-- the same pieces before others
+behind_stays : (ps qs rs : List Piece) → all_tokens qs ≡ all_tokens rs → all_tokens (ps ++ qs) ≡ all_tokens (ps ++ rs)
+behind_stays ps qs rs e = all_tokens-append ps qs ∙ ap (λ ts. all_tokens ps ++ ts) e ∙ sym (all_tokens-append ps rs)
+
 module _ (o p : Options) (same : o.skeleton ≡ p.skeleton) where
   function_pieces_stay : (ts : List SubType) (i : ℕ) (f : PlacedFunction) → all_tokens (function_pieces o ts i f) ≡ all_tokens (function_pieces p ts i f)
   unfolding function_pieces
@@ -56,15 +62,12 @@ module _ (o p : Options) (same : o.skeleton ≡ p.skeleton) where
   unfolding module_field_pieces
   module_field_pieces_stay m =
       let ts : List SubType = all_types (groups_of m.types) in
-      let functions = numbered_stays (function_pieces o ts) (function_pieces p ts) (function_pieces_stay ts) 0 m.functions in
-      let exports : List Piece = numbered (λ i e. export_pieces e) 0 m.exports in
-      let types : List Piece = type_section_pieces 0 m.types in
-      all_tokens-append types (exports ++ numbered (function_pieces o ts) 0 m.functions)
-      ∙ ap (λ ts. all_tokens types ++ ts)
-      (all_tokens-append exports (numbered (function_pieces o ts) 0 m.functions)
-      ∙ ap (λ ts. all_tokens exports ++ ts) functions
-      ∙ sym (all_tokens-append exports (numbered (function_pieces p ts) 0 m.functions)))
-      ∙ sym (all_tokens-append types (exports ++ numbered (function_pieces p ts) 0 m.functions))
+      behind_stays (type_section_pieces 0 m.types) _ _
+      (behind_stays (numbered memory_pieces 0 m.memories) _ _
+      (behind_stays (numbered (tag_pieces ts) 0 m.tags) _ _
+      (behind_stays (numbered (λ i e. export_pieces e) 0 m.exports) _ _
+      (behind_stays (start_pieces m.start) _ _
+      (numbered_stays (function_pieces o ts) (function_pieces p ts) (function_pieces_stay ts) 0 m.functions)))))
 
   pub module_pieces_stay : (m : PlacedModule) → all_tokens (module_pieces o m) ≡ all_tokens (module_pieces p m)
   unfolding module_pieces

@@ -19,9 +19,16 @@ pub mod ReadRows
 pub mod UnreadRows
 pub mod IndexedRows
 pub mod TableRows
+pub mod TableRuleRows
+pub mod PrefixRows
 pub mod BlockSamples
 pub mod BlockRows
 pub mod BlockTypeRows
 pub mod LabelRows
 pub mod BlockTextRows
 pub mod NestingRows
+pub mod Computing
+pub mod ShapeSamples
+pub mod ShapeRows
+pub mod ShapeTextRows
+pub mod ShapeCallRows

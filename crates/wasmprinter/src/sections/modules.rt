@@ -1,14 +1,13 @@
 //! Modules (section 6.6 of the WebAssembly Core Specification, "Modules").
-ghost use Rattle.std.specs.Prelude.{◌≡◌, [], ◌∷◌, ◌++◌, ◌||◌, Some, codes};
-ghost use Rattle.wasmprinter_spec.specs.Types.{all_types};
-ghost use Rattle.wasmprinter_spec.specs.Module.{groups_of};
+ghost use Rattle.std.specs.Prelude.{◌≡◌, codes};
 ghost use Rattle.wasmprinter_spec.specs.Options.{Options};
-ghost use Rattle.wasmprinter_spec.specs.Piece.{Begin, Feed, Open};
 ghost use Rattle.wasmprinter_spec.specs.Layout.{function_pieces, module_field_pieces, module_pieces};
-ghost use Rattle.wasmprinter_spec.specs.Layout.Groups.{has_break, close, numbered};
+ghost use Rattle.wasmprinter_spec.specs.Layout.Groups.{has_break, group_at, numbered};
 ghost use Rattle.wasmprinter_print.specs.Prints.{Prints};
+ghost use Rattle.wasmprinter.specs.Parts.{types_of};
 
 use crate::sections::functions::write_function;
+use crate::sections::start::write_start;
 use crate::sections::types::write_type_groups;
 use crate::sections::write_each;
 use std::io;
@@ -23,11 +22,12 @@ fn write_functions<P: Print>(
     options: &PrintOptions,
     module: &Module<'_>,
 ) -> io::Result<()>
-    ensures { Prints P.meaning options.now p.old p.new result (numbered (function_pieces options.now (all_types (groups_of module.now.types))) 0 module.now.functions) }
+    ensures { Prints P.meaning options.now p.old p.new result
+        (numbered (function_pieces options.now (types_of module.now)) 0 module.now.functions) }
 {
     for number in 0..module.function_count() {
         let function = module.function(number);
-        write_function(p, options, module, number, &function)?;
+        write_function(p, options, module, u64::from(number), &function)?;
     }
     Ok(())
 }
@@ -38,7 +38,10 @@ fn write_fields<P: Print>(p: &mut P, options: &PrintOptions, module: &Module<'_>
     ensures { Prints P.meaning options.now p.old p.new result (module_field_pieces options.now module.now) }
 {
     write_type_groups(p, options, module.types())?;
-    write_each(p, options, module.exports())?;
+    write_each(p, options, module, module.memories())?;
+    write_each(p, options, module, module.tags())?;
+    write_each(p, options, module, module.exports())?;
+    write_start(p, options, module.start())?;
     write_functions(p, options, module)
 }
 
@@ -46,28 +49,31 @@ fn write_fields<P: Print>(p: &mut P, options: &PrintOptions, module: &Module<'_>
 fn has_fields(module: &Module<'_>) -> bool
     ensures { (o : Options) → result ≡ has_break (module_field_pieces o module.now) }
 {
-    if !module.types().is_empty() {
-        return true;
-    }
-    if !module.exports().is_empty() {
-        return true;
-    }
-    module.function_count() != 0
+    !module.types().is_empty()
+        || !module.memories().is_empty()
+        || !module.tags().is_empty()
+        || !module.exports().is_empty()
+        || module.start().is_some()
+        || module.function_count() != 0
 }
 
-fn write_lines<P: Print>(p: &mut P, options: &PrintOptions, module: &Module<'_>) -> io::Result<()>
+/// Writes the fields as a group.
+#[tactic(auto, unfolding(wasmprinter_spec::specs::Layout::Groups::group_at))]
+fn write_module_group<P: Print>(
+    p: &mut P,
+    options: &PrintOptions,
+    module: &Module<'_>,
+) -> io::Result<()>
     ensures { Prints P.meaning options.now p.old p.new result
-        (Begin 0 ∷ (Open (codes "module") ∷ (module_field_pieces options.now module.now
-        ++ (close (Some module.now.size) 0 (options.now.offsets || has_break (module_field_pieces options.now module.now)) ++ (Feed ∷ []))))) }
+        (group_at options.now.offsets module.now.size 0 (codes "module") (module_field_pieces options.now module.now)) }
 {
-    begin(p, 0)?;
     open(p, "module")?;
     write_fields(p, options, module)?;
-    close_at(p, options, module.size(), 0, has_fields(module))?;
-    end(p)
+    close_at(p, options, module.size(), 0, has_fields(module))
 }
 
 /// Writes a module.
+#[tactic(auto, unfolding(wasmprinter_spec::specs::Layout::module_pieces))]
 pub(crate) fn write_module<P: Print>(
     p: &mut P,
     options: &PrintOptions,
@@ -75,5 +81,7 @@ pub(crate) fn write_module<P: Print>(
 ) -> io::Result<()>
     ensures { Prints P.meaning options.now p.old p.new result (module_pieces options.now module.now) }
 {
-    write_lines(p, options, module)
+    begin(p, 0)?;
+    write_module_group(p, options, module)?;
+    end(p)
 }

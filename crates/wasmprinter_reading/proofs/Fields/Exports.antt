@@ -1,5 +1,5 @@
 -- Exports among the fields of a module.
-use Rattle.std.proofs.Common.{◌≡◌, ℕ, true, ◌<◌, ◌^◌, List, Some, refl, codes, decimal, chars, arith, encode_utf8_all}
+use Rattle.std.proofs.Common.{◌≡◌, ℕ, true, ◌<◌, ◌^◌, Some, refl, codes, decimal, chars, arith, encode_utf8_all}
 use Rattle.std.proofs.Math.Utf8.{scalars}
 use Rattle.std.proofs.lemmas.Str.{encodes-chars, scalars-chars, is_utf8-from_IsUtf8}
 use Rattle.wasmprinter_spec.specs.Character.{class}
@@ -30,7 +30,8 @@ is_word-kind MemoryKind = refl
 is_word-kind GlobalKind = refl
 is_word-kind TagKind = refl
 
-extern_index_writes : (kind : ExternKind) (n : ℕ) → n < 2 ^ 64 → is_word (decimal n) ≡ true → Writes Free (extern_index_pieces kind n) Bound (Word (decimal n) End)
+extern_index_writes : (kind : ExternKind) (n : ℕ) → n < 2 ^ 64 → is_word (decimal n) ≡ true →
+    Writes Free (extern_index_pieces kind n) Bound (Word (decimal n) End)
 unfolding extern_index_pieces
 extern_index_writes TagKind n h k = search writing
 extern_index_writes _ n h k = search writing
@@ -42,7 +43,8 @@ export_writes e h =
     let scalar : scalars (chars e.value.name) ≡ true = scalars-chars e.value.name h.name in
     let kind : is_word (kind_word e.value.kind) ≡ true = is_word-kind e.value.kind in
     let index = extern_index_writes e.value.kind e.value.index small (is_word-decimal e.value.index small) in
-    let written : Writes Bound (export_pieces e) Bound (Group (Word (codes "export") (String (encode_utf8_all (chars e.value.name)) (Group (Word (kind_word e.value.kind) (Word (decimal e.value.index) End)) End))) End) =
+    let held : Forest = Group (Word (kind_word e.value.kind) (Word (decimal e.value.index) End)) End in
+    let written : Writes Bound (export_pieces e) Bound (Group (Word (codes "export") (String (encode_utf8_all (chars e.value.name)) held)) End) =
     search writing depth 12 in
     rw (encodes-chars e.value.name h.name) at written
 

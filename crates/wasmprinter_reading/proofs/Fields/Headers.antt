@@ -20,12 +20,14 @@ unfolding signature_if
 signature_if_writes None r = nothing_writes
 signature_if_writes (Some t) r = signature_writes t r
 
-pub header_writes : {b : Edge} (t : Option FuncType) (i type_index : ℕ) (qs : List Piece) (rest : Forest) → i < 2 ^ 64 → IsSignatureInRange t → type_index < 2 ^ 32 → Writes Bound qs b rest →
-    Writes Free (header_pieces i type_index t ++ qs) b (header_items t type_index rest)
+pub header_writes : {b : Edge} (t : Option FuncType) (i type_index : ℕ) (qs : List Piece) (rest : Forest) →
+    i < 2 ^ 64 → IsSignatureInRange t → type_index < 2 ^ 32 → Writes Bound qs b rest → Writes Free (header_pieces i type_index t ++ qs) b (header_items t type_index rest)
 unfolding header_pieces class
 header_writes {b = b} t i type_index qs rest h s r w =
     let small : type_index < 2 ^ 64 = omega (arith, r) in
     let signature : Writes Bound (signature_if t ++ qs) b (onto (signature_if_items t) rest) = both_write (signature_if_writes t s) w in
-    let joined : Writes Free (Mark i ∷ (Gap ∷ (group_gap 2 (codes "type") (Number type_index ∷ []) ++ (signature_if t ++ qs)))) b (header_items t type_index rest) =
-    mark_writes refl h (gap_writes refl (group_gap_then 2 (codes "type") (Number type_index ∷ []) (signature_if t ++ qs) refl refl (search writing) signature)) in
-    rw (append_assoc (group_gap 2 (codes "type") (Number type_index ∷ [])) (signature_if t) qs) joined
+    let type : List Piece = group_gap 2 (codes "type") (Number type_index ∷ []) in
+    let joined : Writes Free (Mark i ∷ (Gap ∷ (type ++ (signature_if t ++ qs)))) b (header_items t type_index rest) =
+    mark_writes refl h (gap_writes refl
+    (group_gap_then 2 (codes "type") (Number type_index ∷ []) (signature_if t ++ qs) refl refl (search writing) signature)) in
+    rw (append_assoc type (signature_if t) qs) joined

@@ -1,5 +1,5 @@
 -- Memories among the fields of a module.
-use Rattle.std.proofs.Common.{◌≡◌, ◌⊎◌, inl, inr, ◌≤◌, ℕ, zero, suc, ◌<◌, ◌^◌, Bool, true, false, cond, eqb, List, [], ◌∷◌, ◌++◌, Option, Some, None, refl, sym, ap, ◌∙◌, codes, decimal, bytes_eq, arith}
+use Rattle.std.proofs.Common.{◌≡◌, ◌⊎◌, inl, inr, ◌≤◌, ℕ, zero, suc, ◌<◌, ◌^◌, Bool, true, false, cond, eqb, List, ◌∷◌, ◌++◌, Option, Some, None, refl, sym, ap, ◌∙◌, codes, decimal, bytes_eq, arith}
 use Rattle.std.proofs.lemmas.Bool.{cases_lt, lt-ltb, eq-eqb, ne_eqb, false_from_ne_true}
 use Rattle.std.proofs.Math.Pow.{pow-lt}
 use Rattle.std.specs.Fmt.{digits}
@@ -9,7 +9,8 @@ use Rattle.wasmprinter_spec.specs.Grammar.{Placed, ◌>>=◌}
 use Rattle.wasmprinter_spec.specs.Numeral.{numeral, natural, below, u64, exponent_below, exponent_of}
 use Rattle.wasmprinter_spec.specs.Types.{Limits, limits_of, MemoryType, memory_type_of}
 use Rattle.wasmprinter_spec.specs.Layout.Memories.{wide_pieces, max_words, limits_pieces, shared_pieces, page_pieces, memory_type_pieces, memory_pieces}
-use Rattle.wasmprinter_spec.specs.Text.Memories.{address_type, max_behind, limits, shared, page, memory_type, read_memory}
+use Rattle.wasmprinter_spec.specs.Text.Items.{identified}
+use Rattle.wasmprinter_spec.specs.Text.Memories.{address_type, max_behind, limits, shared, page, read_memory}
 use Rattle.wasmprinter_lexical.proofs.Runs.{is_word, are_words}
 use Rattle.wasmprinter_lexical.proofs.Numbers.{natural-decimal, is_word-decimal, natural-hexadecimal, is_word-hexadecimal}
 use Rattle.wasmprinter_lexical.proofs.Pieces.{Free, Bound}
@@ -81,7 +82,8 @@ unfolding memory_type_pieces
 memory_type_writes m h =
     both_write (wide_writes m.wide) (both_write (limits_write m.limits h.min h.max) (both_write (shared_writes m.shared) (page_writes m.page h.page)))
 
-pub memory_writes : (i : ℕ) (m : Placed MemoryType) → i < 2 ^ 64 → IsRangedMemory m.value → Writes Bound (memory_pieces i m) Bound (Group (Word (codes "memory") (memory_items m.value)) End)
+pub memory_writes : (i : ℕ) (m : Placed MemoryType) → i < 2 ^ 64 → IsRangedMemory m.value →
+    Writes Bound (memory_pieces i m) Bound (Group (Word (codes "memory") (memory_items m.value)) End)
 unfolding memory_pieces class
 memory_writes i m h r =
     let held = memory_type_writes m.value r in
@@ -108,7 +110,8 @@ no_i32 = refl
 u64-decimal : (n : ℕ) → n < 2 ^ 64 → u64 (decimal n) ≡ Some n
 u64-decimal n h = rw (natural-decimal n h, lt-ltb n (2 ^ 64) h)
 
-address_type-items : (wide : Bool) (l : Limits) (f : Forest) → l.min < 2 ^ 64 → address_type (onto (wide_items wide) (onto (limits_items l) f)) ≡ (wide, onto (limits_items l) f)
+address_type-items : (wide : Bool) (l : Limits) (f : Forest) → l.min < 2 ^ 64 →
+    address_type (onto (wide_items wide) (onto (limits_items l) f)) ≡ (wide, onto (limits_items l) f)
 address_type-items true l f h = refl
 address_type-items false l f h = rw (not_word l.min (codes "i64") h no_i64, not_word l.min (codes "i32") h no_i32)
 
@@ -124,7 +127,8 @@ max-items min None true e k = refl
 max-items min None false None k = refl
 max-items min None false (Some e) k = refl
 
-limits-items : (l : Limits) (threads : Bool) (e : Option ℕ) → l.min < 2 ^ 64 → IsRangedMax l.max → limits (onto (limits_items l) (behind_items threads e)) ≡ Some (l, behind_items threads e)
+limits-items : (l : Limits) (threads : Bool) (e : Option ℕ) → l.min < 2 ^ 64 → IsRangedMax l.max →
+    limits (onto (limits_items l) (behind_items threads e)) ≡ Some (l, behind_items threads e)
 limits-items l threads e h k = rw (u64-decimal l.min h, max-items l.min l.max threads e k)
 
 shared-items : (threads : Bool) (e : Option ℕ) → shared (behind_items threads e) ≡ (threads, page_items e)
@@ -155,6 +159,15 @@ page-items : (e : Option ℕ) → IsRangedPage e → page (page_items e) ≡ Som
 page-items None h = refl
 page-items (Some e) h = ap (λ o. o >>= λ n. Some (Some n)) (exponent_of-size e h)
 
+-- no identifier stands in front
+pub identified-memory : (m : MemoryType) → identified (memory_items m) ≡ (None, memory_items m)
+identified-memory m = by m.wide
+  where
+    by : (wide : Bool) → identified (onto (wide_items wide) (onto (limits_items m.limits) (behind_items m.shared m.page)))
+        ≡ (None, onto (wide_items wide) (onto (limits_items m.limits) (behind_items m.shared m.page)))
+    by true = refl
+    by false = refl
+
 pub read_memory-items : (m : MemoryType) → IsRangedMemory m → read_memory (memory_items m) ≡ Some m
 read_memory-items m h = by m.wide m.shared m.page h.page
   where
@@ -162,4 +175,5 @@ read_memory-items m h = by m.wide m.shared m.page h.page
         read_memory (onto (wide_items wide) (onto (limits_items m.limits) (behind_items threads e))) ≡ Some (memory_type_of wide threads m.limits e)
     by true threads e k = rw (limits-items m.limits threads e h.min h.max, shared-items threads e, page-items e k)
     by false threads e k =
-        rw (address_type-items false m.limits (behind_items threads e) h.min, limits-items m.limits threads e h.min h.max, shared-items threads e, page-items e k)
+        let limits = limits-items m.limits threads e h.min h.max in
+        rw (address_type-items false m.limits (behind_items threads e) h.min, limits, shared-items threads e, page-items e k)

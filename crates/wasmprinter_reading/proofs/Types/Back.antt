@@ -7,7 +7,7 @@ use Rattle.wasmprinter_spec.specs.Forest.{Forest, End, Word, Group, onto}
 use Rattle.wasmprinter_spec.specs.Types.{HeapType, Index, ref_type, ValType, Ref, StorageType, Val, I8, I16, FieldType, field_type, FuncType, CompositeType, FuncComposite, ArrayComposite, StructComposite, SubType, sub_type}
 use Rattle.wasmprinter_spec.specs.IndexSpaces.{Identifiers}
 use Rattle.wasmprinter_spec.specs.Text.Items.{groups, declaration, declarations, ids_of}
-use Rattle.wasmprinter_spec.specs.Text.Types.{heap_of_word, ref_of_word, number_of_word, packed_of_word, val_named, storage_named, field_named, heap_type, ref_parts, val_group, val_types, storage_group, storage_type, field_group, field, fields, variables, Signature, signature, composite, supertypes, subtype, read_type, read_group, group_members}
+use Rattle.wasmprinter_spec.specs.Text.Types.{heap_of_word, ref_of_word, number_of_word, packed_of_word, val_named, storage_named, field_named, heap_type, ref_named, ref_parts, ref_group, val_group, val_types, storage_group, storage_type, field_group, field, fields, variables, Signature, signature, composite, supertypes, subtype, read_type, read_group, group_members}
 use Rattle.wasmprinter_spec.specs.Text.TypeUses.{heap_number, same_heap, same_flag, same_type, same_types, same_func_type, agrees, parameters}
 use Rattle.wasmprinter_lexical.proofs.Grown.{onto-End, onto_assoc}
 use Rattle.wasmprinter_reading.proofs.Items.{ReadsItem, one_item-reads, all_items-reads, unnamed, declarations-items, types_of-unnamed, unnamed_space, index-decimal, no_groups}
@@ -32,10 +32,16 @@ record IsRefGroup (ids : Identifiers) (f : Forest) (t : ValType) : Type 0 where
   reads : option_map Ref (ref_parts ids held) ≡ Some t
 
 module _ (ids : Identifiers) where
-  heap_type-items : (h : HeapType) → IsRangedHeap h → heap_type ids (heap_items h) ≡ Some h
+  pub heap_type-items : (h : HeapType) → IsRangedHeap h → heap_type ids (heap_items h) ≡ Some h
   unfolding natural numeral heap_of_word
   heap_type-items (Index n) r = rw (index-decimal ids n r)
   heap_type-items _ r = refl
+
+  pub ref_item : (null : Bool) (h : HeapType) → IsRangedHeap h → ReadsItem ref_named (ref_group ids) (ref_items_by null h) (ref_type null h)
+  unfolding ref_of_word
+  ref_item true (Index n) r = inr (record { held = Word (codes "ref") (Word (codes "null") (heap_items (Index n))); is = refl; reads = rw (heap_type-items (Index n) r) })
+  ref_item true _ r = inl (record { name = _; is = refl; reads = refl })
+  ref_item false h r = inr (record { held = Word (codes "ref") (heap_items h); is = refl; reads = rw (heap_type-items h r) })
 
   -- A value type: a word that no packed type has, or a group of the keyword `ref`.
   abbrev IsValItem : Forest → ValType → Type 0

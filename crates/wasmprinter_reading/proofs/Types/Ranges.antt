@@ -32,7 +32,7 @@ index_ranged (negsuc m) n e h = absurd cc
 pub AllSpelled-signed_index : AllSpelled signed_index IsU32
 AllSpelled-signed_index = AllSpelled-try_map (AllSpelled-signed 33) index_ranged
 
-AllSpelled-heap_type : AllSpelled heap_type IsRangedHeap
+pub AllSpelled-heap_type : AllSpelled heap_type IsRangedHeap
 AllSpelled-heap_type =
     AllSpelled-peeked (λ b. AllSpelled-choose (is_some (abstract_heap_of b))
     (AllSpelled-try_map (AllSpelled-any byte) (λ c h e _. abstract_ranged c h e))

@@ -1,7 +1,9 @@
-//! The memory section (section 5.5, "Memory Section"), limits and types of memories (section 5.3, "Limits" and "Memory Types").
-ghost use Rattle.std.specs.Prelude.{◌≡◌, IfOk};
+//! The memory section (section 5.5, "Memory Section"), with limits and types of memories (section 5.3, "Limits" and
+//! "Memory Types").
+ghost use Rattle.std.specs.Prelude.{◌≡◌, ◌<◌, IfOk};
 ghost use Rattle.wasmprinter_spec.specs.Grammar.{placed};
-ghost use Rattle.wasmprinter_spec.specs.Binary.Memories.{has_bit as bit_of, limits as limits_grammar, page as page_grammar, memory_type as memory_type_grammar};
+ghost use Rattle.wasmprinter_spec.specs.Binary.Memories.{has_bit as bit_of, limits as limits_grammar};
+ghost use Rattle.wasmprinter_spec.specs.Binary.Memories.{page as page_grammar, memory_type as memory_type_grammar};
 ghost use Rattle.wasmprinter_spec.specs.Sections.{MemorySection};
 ghost use Rattle.wasmprinter_bytes.specs.Reads.{Reads, IsWithin, end_of};
 ghost use Rattle.wasmprinter_wasm.specs.Contents.{TakesHeld};
@@ -47,7 +49,8 @@ pub struct MemoryType {
     pub shared: bool,
     /// Its size in pages.
     pub limits: Limits,
-    /// The exponent of the size of a page in bytes, which is a power of two; `None` where none is given, and then it is 16.
+    /// The exponent of the size of a page in bytes, which is a power of two; `None` where none is
+    /// given, which means 16.
     pub page: Option<u32>,
 }
 
