@@ -8,7 +8,7 @@ use Rattle.wasmprinter_spec.specs.Call.{Call, Style, Text, Start, Name, Keyword,
 use Rattle.wasmprinter_spec.specs.Options.{defaults}
 use Rattle.wasmprinter_spec.specs.Piece.{all_calls}
 use Rattle.wasmprinter_spec.specs.Layout.Operators.{InLine, expression_pieces}
-use Rattle.wasmprinter_spec.specs.Layout.{no_names}
+use Rattle.wasmprinter_spec.specs.LabelNames.{no_names}
 use Rattle.wasmprinter_spec.proofs.Computing.{printing}
 use Rattle.wasmprinter_spec.proofs.BlockSamples.{sample_types}
 

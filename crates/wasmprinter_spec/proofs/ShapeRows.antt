@@ -13,7 +13,7 @@ use Rattle.wasmprinter_spec.specs.Call.{text_of}
 use Rattle.wasmprinter_spec.specs.Options.{defaults}
 use Rattle.wasmprinter_spec.specs.Piece.{all_calls}
 use Rattle.wasmprinter_spec.specs.Layout.Operators.{InLine, expression_pieces}
-use Rattle.wasmprinter_spec.specs.Layout.{no_names}
+use Rattle.wasmprinter_spec.specs.LabelNames.{no_names}
 use Rattle.wasmprinter_spec.proofs.Computing.{printing, reading}
 use Rattle.wasmprinter_spec.proofs.Samples.{no_spaces}
 use Rattle.wasmprinter_spec.proofs.BlockSamples.{sample_types}
