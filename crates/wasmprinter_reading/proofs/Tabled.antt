@@ -6,11 +6,12 @@ use Rattle.std.specs.Int.Signed.{mag}
 use Rattle.std.proofs.lemmas.Fmt.{decimal_is_IsNumeral}
 use Rattle.std.proofs.lemmas.Str.Parse.{digit_at}
 use Rattle.std.specs.Str.Parse.{IsNumeral}
-use Rattle.std.specs.List.{filter, list_any}
+use Rattle.std.specs.List.{AllByRecursion, filter, list_any}
 use Rattle.wasmprinter_spec.specs.Character.{class}
 use Rattle.wasmprinter_spec.specs.Operator.{Operator}
-use Rattle.wasmprinter_spec.specs.Row.{Row, Role, Opens, OpensIf, OpensTry, Shape, NoneShape, BlockShape, TryTableShape, SelectShape, RefShape}
+use Rattle.wasmprinter_spec.specs.Row.{Row, Role, Plain, Opens, OpensIf, OpensTry, Shape, NoneShape, BlockShape, TryTableShape, SelectShape, RefShape}
 use Rattle.wasmprinter_spec.specs.Table.{table, first, has_word, has_opcode, rows_of, by_opcode}
+use Rattle.wasmprinter_spec.specs.Code.{part_words}
 use Rattle.wasmprinter_spec.specs.Text.TypeUses.{same_flag}
 use Rattle.wasmprinter_spec.specs.Text.Operators.{behind_prefix, is_option}
 use Rattle.wasmprinter_lexical.proofs.Runs.{is_word}
@@ -87,6 +88,32 @@ abbrev pub are_told_apart : List (ℕ × Shape) → Bool
 are_told_apart [] = true
 are_told_apart (x ∷ xs) = all (λ y. not (eqb y.0 x.0) || refuses x.1 y.1) xs && are_told_apart xs
 
+-- ---- operators that stand alone in a group
+
+-- Such an operator neither opens nor closes a block. Its group is no part of another operator, and none of the groups of a field.
+abbrev pub is_plain : Role → Bool
+is_plain Plain = true
+is_plain _ = false
+
+-- the words of the operators of blocks
+abbrev pub block_words : List (List ℕ)
+block_words =
+    codes "block" ∷ codes "loop" ∷ codes "if" ∷ codes "else" ∷ codes "try" ∷ codes "catch" ∷ codes "end"
+    ∷ codes "delegate" ∷ codes "catch_all" ∷ codes "try_table" ∷ []
+
+abbrev pub is_block_word : List ℕ → Bool
+is_block_word w = list_any (λ v. bytes_eq v w) block_words
+
+-- the words of groups that may stand where a folded operator may
+abbrev pub group_words : List (List ℕ)
+group_words = codes "then" ∷ codes "else" ∷ codes "offset" ∷ codes "item" ∷ codes "ref" ∷ codes "table" ∷ codes "memory" ∷ []
+
+abbrev pub is_group_word : List ℕ → Bool
+is_group_word w = list_any (λ v. bytes_eq w v) group_words
+
+abbrev pub is_part_word : List ℕ → Bool
+is_part_word w = list_any (λ v. bytes_eq v w) part_words
+
 -- ---- the tests
 
 pub table_tells_apart : are_told_apart (map keyed table) ≡ true
@@ -104,6 +131,14 @@ no_arguments = refl
 rows_fit : all (λ r. fits r.role r.shape) table ≡ true
 unfolding table
 rows_fit = refl
+
+plain_words : all (λ r. same_flag (is_plain r.role) (not (is_block_word r.word))) table ≡ true
+unfolding table
+plain_words = refl
+
+words_alone : all (λ r. not (is_plain r.role) || (not (is_part_word r.word) && not (is_group_word r.word))) table ≡ true
+unfolding table
+words_alone = refl
 
 -- ---- what they mean
 
@@ -174,6 +209,47 @@ row_for o h = by (by_opcode o.opcode) refl h.shape
           is_its_word = all_at (λ x. is_word x.word) r table words_are_words found.0;
           fit = all_at (λ x. fits x.role x.shape) r table rows_fit found.0;
         }
+
+-- ---- a plain operator stands alone in a group
+
+pub record StandsAlone (w : List ℕ) : Type 0 where
+  pub part : is_part_word w ≡ false
+  pub others : AllByRecursion (λ v. bytes_eq w v ≡ false) group_words
+
+none_among : (w : List ℕ) (vs : List (List ℕ)) → list_any (λ v. bytes_eq w v) vs ≡ false → AllByRecursion (λ v. bytes_eq w v ≡ false) vs
+none_among w [] h = tt
+none_among w (v ∷ vs) h = by (bytes_eq w v) refl h (none_among w vs)
+  where
+    by : (t : Bool) → bytes_eq w v ≡ t → (t || list_any (λ u. bytes_eq w u) vs) ≡ false →
+        (list_any (λ u. bytes_eq w u) vs ≡ false → AllByRecursion (λ u. bytes_eq w u ≡ false) vs) → AllByRecursion (λ u. bytes_eq w u ≡ false) (v ∷ vs)
+    by true e k more = absurd cc
+    by false e k more = (e, more k)
+
+pub plain_alone : (r : Row) → In r table → r.role ≡ Plain → StandsAlone r.word
+plain_alone r i p =
+    let either : (not (is_plain r.role) || (not (is_part_word r.word) && not (is_group_word r.word))) ≡ true =
+    all_at (λ x. not (is_plain x.role) || (not (is_part_word x.word) && not (is_group_word x.word))) r table words_alone i in
+    let both : (not (is_part_word r.word) && not (is_group_word r.word)) ≡ true =
+    ap (λ x. not (is_plain x) || (not (is_part_word r.word) && not (is_group_word r.word))) (sym p) ∙ either in
+    let parts = and_parts (not (is_part_word r.word)) (not (is_group_word r.word)) both in
+    record { part = not-true (is_part_word r.word) parts.0; others = none_among r.word group_words (not-true (is_group_word r.word) parts.1) }
+
+is_plain-true : (x : Role) → is_plain x ≡ true → x ≡ Plain
+is_plain-true Plain e = refl
+is_plain-true _ e = absurd cc
+
+same_flag-true : (b c : Bool) → same_flag b c ≡ true → b ≡ c
+same_flag-true true true e = refl
+same_flag-true false false e = refl
+same_flag-true true false e = absurd cc
+same_flag-true false true e = absurd cc
+
+-- operators with one word are plain, or none of them is
+pub plain_by_word : (r s : Row) → In r table → In s table → s.word ≡ r.word → r.role ≡ Plain → s.role ≡ Plain
+plain_by_word r s i j same p =
+    let first : is_plain r.role ≡ not (is_block_word r.word) = same_flag-true _ _ (all_at (λ x. same_flag (is_plain x.role) (not (is_block_word x.word))) r table plain_words i) in
+    let second : is_plain s.role ≡ not (is_block_word s.word) = same_flag-true _ _ (all_at (λ x. same_flag (is_plain x.role) (not (is_block_word x.word))) s table plain_words j) in
+    is_plain-true s.role (second ∙ ap (λ w. not (is_block_word w)) same ∙ sym first ∙ ap is_plain p)
 
 -- ---- a word of immediates is no word of the table
 

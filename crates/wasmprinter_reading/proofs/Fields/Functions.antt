@@ -9,12 +9,12 @@ use Rattle.wasmprinter_spec.specs.Operator.{Operator}
 use Rattle.wasmprinter_spec.specs.Placed.{LocalEntry, PlacedFunction}
 use Rattle.wasmprinter_spec.specs.Module.{without_places, locals_of, function_of}
 use Rattle.wasmprinter_spec.specs.Indexed.{Counts, IsIndexedOperator}
-use Rattle.wasmprinter_spec.specs.Labels.{AreApart}
 use Rattle.wasmprinter_spec.specs.Piece as piece
 use Rattle.wasmprinter_spec.specs.Piece.{Piece, Gap}
 use Rattle.wasmprinter_spec.specs.Layout.Groups.{group_gap_at, breaks, has_break}
 use Rattle.wasmprinter_spec.specs.Layout.Operators.{OverLines, Setting, operator_pieces, operators_pieces, expression_pieces}
-use Rattle.wasmprinter_spec.specs.Layout.{locals_place, local_group, local_pieces, header_pieces, no_names, body_pieces, function_group}
+use Rattle.wasmprinter_spec.specs.LabelNames.{no_names}
+use Rattle.wasmprinter_spec.specs.Layout.Functions.{locals_place, local_group, local_pieces, header_pieces, body_pieces, function_group}
 use Rattle.wasmprinter_spec.specs.IndexSpaces.{Identifiers, Context}
 use Rattle.wasmprinter_spec.specs.Text.Items.{groups, ids_of}
 use Rattle.wasmprinter_spec.specs.Text.Types.{val_types, variables, signature}
@@ -23,13 +23,14 @@ use Rattle.wasmprinter_spec.specs.Text.Operators.{read_operators}
 use Rattle.wasmprinter_lexical.proofs.Pieces.{Edge, Bound, Ended}
 use Rattle.wasmprinter_lexical.proofs.Writes.{Writes, writing, is_open, both_write, behind_anything, nothing_writes, group_gap_at_writes, ended_group_gap_at_writes}
 use Rattle.wasmprinter_reading.specs.Listed.{IsSignatureInRange, AreSignaturesInRange, IsListed}
-use Rattle.wasmprinter_reading.specs.OperatorLaws.{AreNames, HaveSameTypes}
+use Rattle.wasmprinter_reading.specs.OperatorLaws.{HaveSameTypes}
 use Rattle.wasmprinter_reading.proofs.Ranged.{IsRangedFunction}
 use Rattle.wasmprinter_reading.proofs.Items.{unnamed, types_of-unnamed, unnamed_spaces, index-decimal}
 use Rattle.wasmprinter_reading.proofs.Types.Ranged.{IsRangedVal, IsRangedFunc}
 use Rattle.wasmprinter_reading.proofs.Types.Trees.{group_items, signature_items, type_list_writes}
 use Rattle.wasmprinter_reading.proofs.Types.Back.{reads_variables, groups_take, groups_leave, IsBehindSignature, printed_signature, signature-items, own_parameters}
 use Rattle.wasmprinter_reading.proofs.Fields.Headers.{header_items, header_writes}
+use Rattle.wasmprinter_reading.proofs.Operators.LabelNames.{no_names_are_names, no_names_are_apart}
 use Rattle.wasmprinter_reading.proofs.Operators.Lists.{expression_items, chunks_of, unfolded-operators, expression_writes, expression_reads}
 
 -- ---- what functions are written as
@@ -61,13 +62,6 @@ locals_ranged (e ∷ es) r = replicated_ranged e.value.count e.value.type (local
 local_writes : (es : List (Placed LocalEntry)) → AllByRecursion (λ e. IsRangedVal e.value.type) es → Writes Bound (local_pieces es) Bound (group_items (codes "local") (locals_of es))
 unfolding local_pieces
 local_writes es r = local_group_writes (locals_place es) (locals_of es) (locals_ranged es r)
-
--- no label has a name
-no_names_are_names : AreNames no_names
-no_names_are_names i d n e = absurd cc
-
-pub no_names_are_apart : AreApart no_names
-no_names_are_apart i j d e outer inner lt small f g same = absurd cc
 
 has_break-behind : (hs ps : List Piece) → has_break ps ≡ true → has_break (hs ++ ps) ≡ true
 has_break-behind [] ps h = h

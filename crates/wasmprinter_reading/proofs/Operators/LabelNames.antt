@@ -8,7 +8,7 @@ use Rattle.std.proofs.lemmas.Str.{IsUtf8-append}
 use Rattle.wasmprinter_lexical.proofs.Printed.{all_printed, remark, is_remark-decimal}
 use Rattle.wasmprinter_lexical.proofs.Plain.{plain_text, plain_is_utf8}
 use Rattle.wasmprinter_spec.specs.Labels.{Named, same_name, AreApart}
-use Rattle.wasmprinter_spec.specs.LabelNames.{is_clean, label_content, label_named, label_naming}
+use Rattle.wasmprinter_spec.specs.LabelNames.{is_clean, label_content, label_named, label_naming, no_names}
 use Rattle.wasmprinter_reading.specs.OperatorLaws.{IsNamed, AreNames}
 use Rattle.wasmprinter_reading.proofs.Bytes.{same_bytes}
 
@@ -145,3 +145,11 @@ label_is_named false n d None m utf8 e = absurd cc
 
 pub label_naming_names : (invents : Bool) (names : ℕ → Option (List ℕ)) → ((n : ℕ) (s : List ℕ) → names n ≡ Some s → IsUtf8 s) → AreNames (label_naming invents names)
 label_naming_names invents names utf8 i d m e = label_is_named invents i d (names i) m (utf8 i) e
+
+-- ---- no label has a name
+
+pub no_names_are_names : AreNames no_names
+no_names_are_names i d n e = absurd cc
+
+pub no_names_are_apart : AreApart no_names
+no_names_are_apart i j d e outer inner lt small f g same = absurd cc
