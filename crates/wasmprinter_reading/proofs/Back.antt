@@ -184,6 +184,7 @@ imported_distinct kind ts (i ∷ is) ids d =
   where
     held : List ImportField
     held = map (λ j. import_held ts j.value) is
+
     by : (t : Bool) → are_distinct (imported_ids kind held ++ ids) ≡ true → (identified (extern_items ts i.value.type)).0 ≡ None →
         are_distinct (declared (map (λ x. x.item) (cond t (import_held ts i.value ∷ filter (λ x. same_kind kind x.kind) held) (filter (λ x. same_kind kind x.kind) held))) ++ ids) ≡ true
     by true more none = rw none more

@@ -1,15 +1,15 @@
 -- What holds of all values that fewer than 2 ^ 32 bytes spell, which are all that a section can hold: as for any number of bytes, and besides the
 -- operators of an expression are no more than its bytes.
-use Rattle.std.proofs.Common.{◌≡◌, ℕ, ◌+◌, ◌<◌, ◌≤◌, ◌^◌, List, [], ◌∷◌, ◌++◌, length, Bool, true, false, Option, Some, refl, subst, sym, ap, arith}
+use Rattle.std.proofs.Common.{◌≡◌, ℕ, ◌+◌, ◌<◌, ◌^◌, List, [], ◌∷◌, ◌++◌, length, Bool, true, false, subst, sym, arith}
 use Rattle.std.proofs.lemmas.List.{length-append}
 use Rattle.std.specs.List.{AllByRecursion}
-use Rattle.wasmprinter_spec.specs.Grammar.{Grammar, some_is, byte, seq, map_value, choose, placed}
-use Rattle.wasmprinter_spec.specs.FirstByte.{announced, Peeked, peeked}
+use Rattle.wasmprinter_spec.specs.Grammar.{Grammar, some_is, seq, map_value, choose, placed}
+use Rattle.wasmprinter_spec.specs.FirstByte.{Peeked, peeked}
 use Rattle.wasmprinter_spec.specs.Repeated.{Items, times}
 use Rattle.wasmprinter_spec.specs.Sized.{alone, exactly}
 use Rattle.wasmprinter_spec.specs.Name.{vec}
 use Rattle.wasmprinter_spec.specs.Binary.{AreBytes}
-use Rattle.wasmprinter_reading.proofs.AllSpelled.{AllSpelled, AllSpelled-any, split_bytes}
+use Rattle.wasmprinter_reading.proofs.AllSpelled.{AllSpelled, split_bytes}
 use Rattle.wasmprinter_reading.proofs.Vectors.{IsVector, AllSpelled-u32}
 
 -- bytes of which there are so few

@@ -1,7 +1,6 @@
 -- What the parts of sections that bytes spell keep to: limits, the types of memories, tables and globals, imports, expressions and segments.
-use Rattle.std.proofs.Common.{◌≡◌, ℕ, ◌<◌, ◌≤◌, ◌^◌, ◌==◌, ◌||◌, Bool, true, false, ltb, List, [], ◌∷◌, length, Option, Some, None, refl, subst, arith}
+use Rattle.std.proofs.Common.{◌≡◌, ℕ, ◌<◌, ◌^◌, ◌==◌, ◌||◌, Bool, true, false, ltb, Some, refl, subst, arith}
 use Rattle.std.specs.Prelude.{IsUtf8}
-use Rattle.std.specs.List.{AllByRecursion}
 use Rattle.std.specs.Str.{is_utf8}
 use Rattle.std.proofs.lemmas.Bool.{ltb-true}
 use Rattle.std.proofs.lemmas.List.{length-map}
@@ -10,20 +9,17 @@ use Rattle.wasmprinter_spec.specs.Choices.{tested}
 use Rattle.wasmprinter_spec.specs.Grammar.{Grammar, some_is, succeed, Placed}
 use Rattle.wasmprinter_spec.specs.FirstByte.{only}
 use Rattle.wasmprinter_spec.specs.Name.{u32, name}
-use Rattle.wasmprinter_spec.specs.Types.{Limits, RefType, ref_type, Func}
+use Rattle.wasmprinter_spec.specs.Types.{RefType, ref_type, Func}
 use Rattle.wasmprinter_spec.specs.Operator.{Operator}
-use Rattle.wasmprinter_spec.specs.Placed.{Mode, Passive, Declared, Active, Items, entry_of, element_of, ElementEntry}
-use Rattle.wasmprinter_spec.specs.Module.{without_places}
+use Rattle.wasmprinter_spec.specs.Placed.{Mode, Passive, Declared, Items}
 use Rattle.wasmprinter_spec.specs.Instructions.{constant, expression}
-use Rattle.wasmprinter_spec.specs.Sized.{take_bytes}
-use Rattle.wasmprinter_spec.specs.Binary.ValTypes.{reference_type}
 use Rattle.wasmprinter_spec.specs.Binary.Types.{mutability}
 use Rattle.wasmprinter_spec.specs.Binary.Limits.{has_bit, limits}
 use Rattle.wasmprinter_spec.specs.Binary.Memories.{page_exponent, page, memory_type}
 use Rattle.wasmprinter_spec.specs.Binary.Tags.{tag}
 use Rattle.wasmprinter_spec.specs.Binary.Tables.{table_limits_behind, table_type, table_by, table}
 use Rattle.wasmprinter_spec.specs.Binary.Globals.{global_type, global}
-use Rattle.wasmprinter_spec.specs.Binary.Imports.{extern_type_behind, extern_type, import}
+use Rattle.wasmprinter_spec.specs.Binary.Imports.{extern_type_behind, import}
 use Rattle.wasmprinter_spec.specs.Binary.Elements as binary
 use Rattle.wasmprinter_spec.specs.Binary.Elements.{element_behind, element}
 use Rattle.wasmprinter_spec.specs.Binary.DataSegments as segments
@@ -32,7 +28,7 @@ use Rattle.wasmprinter_reading.proofs.Ranged.{IsRangedMax, IsRangedPage, IsRange
 use Rattle.wasmprinter_reading.proofs.AllSpelled.{AllSpelled, AllSpelled-any, AllSpelled-seq, AllSpelled-try_map, AllSpelled-map_value, AllSpelled-succeed, AllSpelled-fail, AllSpelled-choose, AllSpelled-announced, AllSpelled-take_bytes}
 use Rattle.wasmprinter_reading.proofs.Few.{FewSpelled, FewSpelled-all, FewSpelled-seq, FewSpelled-map_value, FewSpelled-choose, FewSpelled-peeked, FewSpelled-vec}
 use Rattle.wasmprinter_reading.proofs.LebRange.{AllSpelled-unsigned}
-use Rattle.wasmprinter_reading.proofs.Vectors.{IsVector, AllSpelled-u32, AllSpelled-vec}
+use Rattle.wasmprinter_reading.proofs.Vectors.{AllSpelled-u32, AllSpelled-vec}
 use Rattle.wasmprinter_reading.proofs.Types.Ranged.{IsRangedHeap, IsRangedVal}
 use Rattle.wasmprinter_reading.proofs.Types.Ranges.{AllSpelled-reference_type, AllSpelled-val_type}
 use Rattle.wasmprinter_reading.proofs.Operators.Spelled.{AllSpelled-expression, expression_takes}

@@ -4,7 +4,7 @@ use Rattle.std.proofs.Common.{◌≡◌, ℕ, ◌<◌, ◌≤◌, ◌^◌, Bool,
 use Rattle.std.specs.Prelude.{IsUtf8}
 use Rattle.std.specs.List.{AllByRecursion}
 use Rattle.wasmprinter_spec.specs.Grammar.{Placed}
-use Rattle.wasmprinter_spec.specs.Types.{Limits, MemoryType, TableType, ExternType, FuncExtern, TableExtern, MemoryExtern, GlobalExtern, TagExtern}
+use Rattle.wasmprinter_spec.specs.Types.{MemoryType, TableType, ExternType, FuncExtern, TableExtern, MemoryExtern, GlobalExtern, TagExtern}
 use Rattle.wasmprinter_spec.specs.Operator.{Operator}
 use Rattle.wasmprinter_spec.specs.Nesting.{Nests, Sequence}
 use Rattle.wasmprinter_spec.specs.Instructions.{roles}

@@ -4,7 +4,7 @@ use Rattle.std.specs.List.{AllByRecursion}
 use Rattle.std.proofs.lemmas.List.{length-append, length-map}
 use Rattle.wasmprinter_spec.specs.Choices.{tested}
 use Rattle.wasmprinter_spec.specs.Grammar.{Grammar, Placed, ◌>>=◌, bind_some, some_is, seq, map_value, placed}
-use Rattle.wasmprinter_spec.specs.Name.{u32, name}
+use Rattle.wasmprinter_spec.specs.Name.{u32}
 use Rattle.wasmprinter_spec.specs.Operator.{Operator}
 use Rattle.wasmprinter_spec.specs.Nesting.{Nests, Sequence}
 use Rattle.wasmprinter_spec.specs.Instructions.{roles}

@@ -1,5 +1,5 @@
 -- Data segments among the fields of a module.
-use Rattle.std.proofs.Common.{◌≡◌, ℕ, ◌==◌, ◌<◌, ◌^◌, Bool, true, false, cond, List, [], ◌∷◌, ◌++◌, append-nil, Option, Some, None, option_map, refl, sym, ap, ◌∙◌, codes, decimal, bytes_eq, arith}
+use Rattle.std.proofs.Common.{◌≡◌, ℕ, ◌==◌, ◌<◌, ◌^◌, Bool, true, false, cond, List, [], ◌∷◌, ◌++◌, append-nil, Some, None, option_map, refl, sym, ap, ◌∙◌, codes, decimal, arith}
 use Rattle.std.proofs.lemmas.Bool.{eqb-true}
 use Rattle.wasmprinter_spec.specs.Character.{class}
 use Rattle.wasmprinter_spec.specs.Grammar.{Placed, ◌>>=◌}
@@ -17,7 +17,7 @@ use Rattle.wasmprinter_spec.specs.Layout.Expressions.{in_line}
 use Rattle.wasmprinter_spec.specs.Layout.DataSegments.{named_memory, data_mode_pieces, shown_bytes, data_pieces}
 use Rattle.wasmprinter_spec.specs.Text.Items.{identified}
 use Rattle.wasmprinter_spec.specs.Text.DataSegments.{strings, with_bytes, active_in, segment, read_data}
-use Rattle.wasmprinter_lexical.proofs.Pieces.{Edge, Free, Bound}
+use Rattle.wasmprinter_lexical.proofs.Pieces.{Free, Bound}
 use Rattle.wasmprinter_lexical.proofs.Writes.{Writes, both_write, nothing_writes, gap_writes, mark_writes, break_writes, word_writes, number_writes, quoted_bytes_writes, group_gap_writes, line_group_gap_writes}
 use Rattle.wasmprinter_reading.specs.Listed.{AreSignaturesInRange}
 use Rattle.wasmprinter_reading.specs.OperatorLaws.{HaveSameTypes}
@@ -103,6 +103,7 @@ identified-data ts d = by d.mode
     active : (t : Bool) (m : ℕ) (g f : Forest) → identified (named_memory_items_by t m (Group g f)) ≡ (None, named_memory_items_by t m (Group g f))
     active true m g f = refl
     active false m g f = refl
+
     by : (m : DataMode Operator) → identified (data_mode_items ts m (String d.bytes End)) ≡ (None, data_mode_items ts m (String d.bytes End))
     by PassiveData = refl
     by (ActiveData m offset) = active (m == 0) m (constant_held ts (codes "offset") offset) (String d.bytes End)

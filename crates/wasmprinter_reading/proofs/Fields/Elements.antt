@@ -1,12 +1,12 @@
 -- Element segments among the fields of a module.
-use Rattle.std.proofs.Common.{◌≡◌, ◌⊎◌, inl, inr, ℕ, ◌<◌, ◌^◌, Bool, true, false, cond, List, [], ◌∷◌, ◌++◌, Option, Some, None, option_map, map, refl, sym, ap, ◌∙◌, codes, decimal, bytes_eq, arith}
+use Rattle.std.proofs.Common.{◌≡◌, ℕ, ◌<◌, ◌^◌, Bool, true, false, cond, List, [], ◌∷◌, ◌++◌, Some, None, option_map, map, refl, sym, ap, ◌∙◌, codes, decimal, bytes_eq, arith}
 use Rattle.std.specs.List.{AllByRecursion}
 use Rattle.wasmprinter_spec.specs.Character.{class}
 use Rattle.wasmprinter_spec.specs.Grammar.{Placed, ◌>>=◌}
 use Rattle.wasmprinter_spec.specs.Forest.{Forest, End, Word, Group, onto}
 use Rattle.wasmprinter_spec.specs.Types.{HeapType, Index, RefType, SubType, signature_at}
 use Rattle.wasmprinter_spec.specs.Operator.{Operator}
-use Rattle.wasmprinter_spec.specs.Placed.{Mode, Passive, Declared, Active, Items, Functions, Expressions, Element, element_of, ElementEntry}
+use Rattle.wasmprinter_spec.specs.Placed.{Mode, Passive, Declared, Active, Items, Functions, Expressions, element_of, ElementEntry}
 use Rattle.wasmprinter_spec.specs.Module.{without_places, mode_without_places, items_without_places, element_without_places}
 use Rattle.wasmprinter_spec.specs.Indexed.{Counts}
 use Rattle.wasmprinter_spec.specs.IndexSpaces.{index, Context}
@@ -15,11 +15,10 @@ use Rattle.wasmprinter_spec.specs.Layout.Expressions.{in_line, constant_group}
 use Rattle.wasmprinter_spec.specs.Layout.Elements as layout
 use Rattle.wasmprinter_spec.specs.Layout.Elements.{named_table, mode_pieces, items_pieces, shown_items, element_pieces}
 use Rattle.wasmprinter_spec.specs.Text.Items.{identified}
-use Rattle.wasmprinter_spec.specs.Text.Types.{ref_of_word, ref_named, ref_group}
-use Rattle.wasmprinter_spec.specs.Text.Expressions.{expression_group}
+use Rattle.wasmprinter_spec.specs.Text.Types.{ref_named, ref_group}
 use Rattle.wasmprinter_spec.specs.Text.Elements.{function_indices, expressions, typed_items, items, with_mode, active_in, segment, read_element}
-use Rattle.wasmprinter_lexical.proofs.Pieces.{Edge, Free, Bound}
-use Rattle.wasmprinter_lexical.proofs.Writes.{Writes, both_write, nothing_writes, free_writes, gap_writes, mark_writes, break_writes, word_writes, number_writes, group_gap_writes, line_group_gap_writes}
+use Rattle.wasmprinter_lexical.proofs.Pieces.{Free, Bound}
+use Rattle.wasmprinter_lexical.proofs.Writes.{Writes, both_write, nothing_writes, gap_writes, mark_writes, break_writes, word_writes, number_writes, group_gap_writes, line_group_gap_writes}
 use Rattle.wasmprinter_reading.specs.Listed.{AreSignaturesInRange}
 use Rattle.wasmprinter_reading.specs.OperatorLaws.{HaveSameTypes}
 use Rattle.wasmprinter_reading.proofs.Items.{index-decimal, leading_item-reads}

@@ -1,9 +1,9 @@
 -- Expressions of fields: in one line, or in a group of their own, where a single operator stands alone.
-use Rattle.std.proofs.Common.{◌≡◌, ℕ, ◌^◌, Bool, true, false, cond, List, [], ◌∷◌, ◌++◌, Option, Some, None, refl, sym, ap, ◌∙◌, codes, bytes_eq}
-use Rattle.std.specs.List.{AllByRecursion, list_any}
+use Rattle.std.proofs.Common.{◌≡◌, ℕ, true, false, cond, List, [], ◌∷◌, Option, Some, None, refl, sym, ap, ◌∙◌, codes, bytes_eq}
+use Rattle.std.specs.List.{AllByRecursion}
 use Rattle.wasmprinter_spec.specs.Grammar.{Placed, ◌>>=◌}
 use Rattle.wasmprinter_spec.specs.Forest.{Forest, End, Word, Group, onto}
-use Rattle.wasmprinter_spec.specs.Types.{FuncType, SubType, signature_at}
+use Rattle.wasmprinter_spec.specs.Types.{SubType, signature_at}
 use Rattle.wasmprinter_spec.specs.Operator.{Operator}
 use Rattle.wasmprinter_spec.specs.Row.{Row, Role, Plain, Opens, OpensIf, Turns, OpensTry, Catches, CatchesAll, Delegates, Ends}
 use Rattle.wasmprinter_spec.specs.Table.{table, rows_of, word_of_row, word_of, role_of_row, role_of, shape_of}
@@ -14,7 +14,7 @@ use Rattle.wasmprinter_spec.specs.NestingSteps.{stops_at_end}
 use Rattle.wasmprinter_spec.specs.Module.{without_places}
 use Rattle.wasmprinter_spec.specs.Indexed.{Counts, IsIndexedOperator}
 use Rattle.wasmprinter_spec.specs.LabelNames.{no_names}
-use Rattle.wasmprinter_spec.specs.Code.{Chunk, chunk, code_of, only_instructions, flattened, folded_as, before, part_words, PartHead, ThenHead, ElseHead, OperatorHead, head_by, head, with_group, code, unfolded}
+use Rattle.wasmprinter_spec.specs.Code.{Chunk, chunk, code_of, only_instructions, flattened, folded_as, before, PartHead, ThenHead, ElseHead, OperatorHead, head_by, head, with_group, code, unfolded}
 use Rattle.wasmprinter_spec.specs.IndexSpaces.{Context}
 use Rattle.wasmprinter_spec.specs.Piece as piece
 use Rattle.wasmprinter_spec.specs.Layout.Operators.{operator_pieces, operators_pieces, expression_pieces}
@@ -27,7 +27,7 @@ use Rattle.wasmprinter_lexical.proofs.Writes.{Writes, is_open, nothing_writes, w
 use Rattle.wasmprinter_reading.specs.Listed.{AreSignaturesInRange, IsListed}
 use Rattle.wasmprinter_reading.specs.OperatorLaws.{HaveSameTypes}
 use Rattle.wasmprinter_reading.proofs.Bytes.{same_bytes}
-use Rattle.wasmprinter_reading.proofs.Tabled.{In, HasRow, row_for, StandsAlone, plain_alone, plain_by_word}
+use Rattle.wasmprinter_reading.proofs.Tabled.{HasRow, row_for, StandsAlone, plain_alone, plain_by_word}
 use Rattle.wasmprinter_reading.proofs.Ranged.{IsRangedExpression}
 use Rattle.wasmprinter_reading.proofs.Operators.Arguments.{AreArguments, arguments_front}
 use Rattle.wasmprinter_reading.proofs.Operators.Immediates.{arguments_by}

@@ -1,5 +1,5 @@
 -- Globals among the fields of a module.
-use Rattle.std.proofs.Common.{◌≡◌, ◌⊎◌, inl, inr, ℕ, ◌<◌, ◌^◌, Bool, true, false, List, [], ◌∷◌, ◌++◌, Option, Some, None, option_map, refl, ap, ◌∙◌, codes}
+use Rattle.std.proofs.Common.{◌≡◌, inl, inr, ℕ, ◌<◌, ◌^◌, Bool, true, false, List, [], Some, None, refl, codes}
 use Rattle.wasmprinter_spec.specs.Character.{class}
 use Rattle.wasmprinter_spec.specs.Grammar.{Placed}
 use Rattle.wasmprinter_spec.specs.Forest.{Forest, End, Word, Group, onto}
@@ -9,16 +9,14 @@ use Rattle.wasmprinter_spec.specs.Placed.{Global}
 use Rattle.wasmprinter_spec.specs.Module.{without_places, global_without_places}
 use Rattle.wasmprinter_spec.specs.Indexed.{Counts}
 use Rattle.wasmprinter_spec.specs.IndexSpaces.{Context}
-use Rattle.wasmprinter_spec.specs.Piece as piece
 use Rattle.wasmprinter_spec.specs.Layout.Types.{val_pieces}
 use Rattle.wasmprinter_spec.specs.Layout.Expressions.{in_line}
 use Rattle.wasmprinter_spec.specs.Layout.Globals.{mutable_pieces, global_type_pieces, global_pieces}
 use Rattle.wasmprinter_spec.specs.Text.Items.{identified}
 use Rattle.wasmprinter_spec.specs.Text.Types.{val_named, val_group, val_type}
-use Rattle.wasmprinter_spec.specs.Text.Expressions.{expression}
 use Rattle.wasmprinter_spec.specs.Text.Globals.{global_named, global_group, global_type, read_global}
-use Rattle.wasmprinter_lexical.proofs.Pieces.{Edge, Free, Bound}
-use Rattle.wasmprinter_lexical.proofs.Writes.{Writes, is_open, both_write, nothing_writes, gap_writes, mark_writes, break_writes, group_gap_writes, type_group_then}
+use Rattle.wasmprinter_lexical.proofs.Pieces.{Free, Bound}
+use Rattle.wasmprinter_lexical.proofs.Writes.{Writes, both_write, nothing_writes, gap_writes, mark_writes, break_writes, group_gap_writes, type_group_then}
 use Rattle.wasmprinter_reading.specs.Listed.{AreSignaturesInRange}
 use Rattle.wasmprinter_reading.specs.OperatorLaws.{HaveSameTypes}
 use Rattle.wasmprinter_reading.proofs.Items.{ReadsItem, one_item-reads, leading_item-reads}

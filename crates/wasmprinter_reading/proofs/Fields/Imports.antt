@@ -1,29 +1,27 @@
 -- Imports among the fields of a module.
-use Rattle.std.proofs.Common.{◌≡◌, ℕ, suc, ◌+◌, ◌<◌, ◌≤◌, ◌^◌, true, List, [], ◌∷◌, ◌++◌, length, map, Option, Some, None, refl, sym, ap, ◌∙◌, subst, codes, chars, arith, encode_utf8_all}
+use Rattle.std.proofs.Common.{◌≡◌, ℕ, suc, ◌+◌, ◌<◌, ◌≤◌, ◌^◌, true, List, [], ◌∷◌, length, map, Some, None, refl, sym, ap, ◌∙◌, subst, codes, chars, arith, encode_utf8_all}
 use Rattle.std.specs.List.{AllByRecursion}
 use Rattle.std.proofs.Math.Utf8.{scalars}
 use Rattle.std.proofs.lemmas.Str.{encodes-chars, scalars-chars, is_utf8-from_IsUtf8}
 use Rattle.wasmprinter_spec.specs.Character.{class}
 use Rattle.wasmprinter_spec.specs.Grammar.{Placed}
-use Rattle.wasmprinter_spec.specs.Forest.{Forest, End, Word, String, Group, onto}
+use Rattle.wasmprinter_spec.specs.Forest.{Forest, End, Word, String, Group}
 use Rattle.wasmprinter_spec.specs.Types.{FuncType, SubType, signature_at, ExternKind, FuncKind, TableKind, MemoryKind, GlobalKind, TagKind, ExternType, FuncExtern, TableExtern, MemoryExtern, GlobalExtern, TagExtern}
 use Rattle.wasmprinter_spec.specs.Placed.{Import}
 use Rattle.wasmprinter_spec.specs.IndexSpaces.{Context}
-use Rattle.wasmprinter_spec.specs.Piece as piece
 use Rattle.wasmprinter_spec.specs.Layout.Imports.{Numbers, number_of, numbers_behind, extern_pieces, import_pieces, imports_pieces}
-use Rattle.wasmprinter_spec.specs.Text.Items.{identified, ended}
+use Rattle.wasmprinter_spec.specs.Text.Items.{identified}
 use Rattle.wasmprinter_spec.specs.Text.Exports.{kind_of_word}
 use Rattle.wasmprinter_spec.specs.Text.TypeIndices.{type_index}
 use Rattle.wasmprinter_spec.specs.Text.Tables.{table_type}
 use Rattle.wasmprinter_spec.specs.Text.Globals.{global_type}
 use Rattle.wasmprinter_spec.specs.Text.Imports.{ImportField, field_of, import_field, extern_type, read_import}
 use Rattle.wasmprinter_lexical.proofs.Grown.{onto-End}
-use Rattle.wasmprinter_lexical.proofs.Pieces.{Edge, Free, Bound}
+use Rattle.wasmprinter_lexical.proofs.Pieces.{Edge, Bound}
 use Rattle.wasmprinter_lexical.proofs.Writes.{Writes, is_open, both_write, nothing_writes, gap_writes, mark_writes, break_writes, quoted_writes, group_gap_writes}
 use Rattle.wasmprinter_reading.specs.Listed.{IsSignatureInRange, AreSignaturesInRange}
 use Rattle.wasmprinter_reading.proofs.Numbered.{rows}
 use Rattle.wasmprinter_reading.proofs.Ranged.{IsRangedExtern, IsRangedImport}
-use Rattle.wasmprinter_reading.proofs.Types.Ranged.{IsRangedFunc}
 use Rattle.wasmprinter_reading.proofs.Fields.Headers.{header_items, header_alone_writes, type_index-items}
 use Rattle.wasmprinter_reading.proofs.Fields.Tables.{table_type_items, table_type_writes, table_type-items, identified-table_type}
 use Rattle.wasmprinter_reading.proofs.Fields.Memories.{memory_items, memory_type_writes, memory_type-items, identified-memory}
@@ -109,7 +107,7 @@ module _ (ts : List SubType) (s : AreSignaturesInRange (signature_at ts)) where
       let source : scalars (chars i.value.source) ≡ true = scalars-chars i.value.source h.source in
       let name : scalars (chars i.value.name) ≡ true = scalars-chars i.value.name h.name in
       let written : Writes Bound (import_pieces ts n i) Bound
-          (Group (Word (codes "import") (String (encode_utf8_all (chars i.value.source)) (String (encode_utf8_all (chars i.value.name)) inner))) End) =
+      (Group (Word (codes "import") (String (encode_utf8_all (chars i.value.source)) (String (encode_utf8_all (chars i.value.name)) inner))) End) =
       break_writes (group_gap_writes 1 (codes "import") _ refl refl
       (quoted_writes source (gap_writes refl (quoted_writes name (gap_writes refl (extern_writes n i.value.type refl small h.type)))))) in
       rw (encodes-chars i.value.source h.source, encodes-chars i.value.name h.name) at written

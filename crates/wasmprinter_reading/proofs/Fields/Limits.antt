@@ -1,5 +1,5 @@
 -- Limits of memories and tables, with the type of addresses in front.
-use Rattle.std.proofs.Common.{◌≡◌, ℕ, ◌<◌, ◌^◌, Bool, true, false, Option, Some, None, refl, sym, ap, ◌∙◌, codes, decimal, bytes_eq, List, ◌∷◌, arith}
+use Rattle.std.proofs.Common.{◌≡◌, ℕ, ◌<◌, ◌^◌, Bool, true, false, Option, Some, None, refl, sym, ap, ◌∙◌, codes, decimal, bytes_eq, List, ◌∷◌}
 use Rattle.std.proofs.lemmas.Bool.{lt-ltb, false_from_ne_true}
 use Rattle.wasmprinter_spec.specs.Character.{class}
 use Rattle.wasmprinter_spec.specs.Forest.{Forest, End, Word, onto}
@@ -8,7 +8,7 @@ use Rattle.wasmprinter_spec.specs.Types.{Limits, limits_of}
 use Rattle.wasmprinter_spec.specs.Layout.Limits.{wide_pieces, max_words, limits_pieces}
 use Rattle.wasmprinter_spec.specs.Text.Items.{identified}
 use Rattle.wasmprinter_spec.specs.Text.Limits.{address_type, max_behind, limits}
-use Rattle.wasmprinter_lexical.proofs.Runs.{is_word, are_words}
+use Rattle.wasmprinter_lexical.proofs.Runs.{are_words}
 use Rattle.wasmprinter_lexical.proofs.Numbers.{natural-decimal, is_word-decimal}
 use Rattle.wasmprinter_lexical.proofs.Pieces.{Free, Bound}
 use Rattle.wasmprinter_lexical.proofs.Writes.{Writes, writing, nothing_writes, words_before}

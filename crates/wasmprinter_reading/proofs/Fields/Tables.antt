@@ -16,9 +16,8 @@ use Rattle.wasmprinter_spec.specs.Layout.Expressions.{in_line}
 use Rattle.wasmprinter_spec.specs.Layout.Tables.{table_type_pieces, init_pieces, table_pieces}
 use Rattle.wasmprinter_spec.specs.Text.Items.{identified}
 use Rattle.wasmprinter_spec.specs.Text.Types.{ref_named, ref_group}
-use Rattle.wasmprinter_spec.specs.Text.Expressions.{expression}
 use Rattle.wasmprinter_spec.specs.Text.Tables.{table_type, init, read_table}
-use Rattle.wasmprinter_lexical.proofs.Grown.{onto-End, onto_assoc}
+use Rattle.wasmprinter_lexical.proofs.Grown.{onto_assoc}
 use Rattle.wasmprinter_lexical.proofs.Pieces.{Edge, Free, Bound}
 use Rattle.wasmprinter_lexical.proofs.Writes.{Writes, is_open, both_write, nothing_writes, gap_writes, mark_writes, break_writes, group_gap_writes}
 use Rattle.wasmprinter_reading.specs.Listed.{AreSignaturesInRange}
