@@ -19,6 +19,8 @@ pub mod ReadRows
 pub mod UnreadRows
 pub mod IndexedRows
 pub mod TableRows
+pub mod TableRuleRows
+pub mod PrefixRows
 pub mod BlockSamples
 pub mod BlockRows
 pub mod BlockTypeRows
@@ -29,3 +31,4 @@ pub mod Computing
 pub mod ShapeSamples
 pub mod ShapeRows
 pub mod ShapeTextRows
+pub mod ShapeCallRows

@@ -1,5 +1,5 @@
 -- Worked rows of operators with immediates of each shape: what their bytes spell, how they are printed, and that the texts read back.
-use Rattle.std.specs.Prelude.{◌≡◌, ℕ, List, [], ◌∷◌, ◌++◌, map, take, codes, replicate, Option, Some, None, option_map, refl}
+use Rattle.std.specs.Prelude.{◌≡◌, ℕ, List, [], ◌∷◌, ◌++◌, map, Option, Some, option_map, refl}
 use Rattle.wasmprinter_spec.specs.Grammar.{◌>>=◌, input, Placed}
 use Rattle.wasmprinter_spec.specs.Types.{signature_at}
 use Rattle.wasmprinter_spec.specs.Operator.{Operator}

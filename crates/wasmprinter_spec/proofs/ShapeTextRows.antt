@@ -2,10 +2,9 @@
 use Rattle.std.specs.Prelude.{◌≡◌, ℕ, ◌+◌, List, [], ◌∷◌, ◌++◌, map, replicate, true, false, codes, Option, Some, None, refl}
 use Rattle.wasmprinter_spec.specs.Types as types
 use Rattle.wasmprinter_spec.specs.Types.{ref_type}
-use Rattle.wasmprinter_spec.specs.Operator.{opcode, mem_arg_of, Immediates, NoImmediates, Index, Indices, Types, Heap, Cast, Memory, MemoryLane, Bytes, Operator}
+use Rattle.wasmprinter_spec.specs.Operator.{opcode, mem_arg_of, Immediates, Index, Indices, Types, Heap, Cast, Memory, MemoryLane, Bytes, Operator}
 use Rattle.wasmprinter_spec.specs.Table.{table}
 use Rattle.wasmprinter_spec.proofs.Computing.{reading}
-use Rattle.wasmprinter_spec.proofs.Samples.{to_null}
 use Rattle.wasmprinter_spec.proofs.ShapeRows.{spelled, ops}
 
 -- ---- what isn't spelled

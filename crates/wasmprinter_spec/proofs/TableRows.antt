@@ -94,6 +94,13 @@ same_rows : map Some (rows_of (codes "local.set")) ≡ by_opcode (opcode 0 0x21)
 unfolding table
 same_rows = refl
 
+-- those of a word that two opcodes share, in the order of the opcodes
+shared_rows : map (λ w. map Some (rows_of w)) (codes "select" ∷ codes "ref.test" ∷ codes "ref.cast" ∷ [])
+    ≡ (by_opcode (opcode 0 0x1b) ∷ by_opcode (opcode 0 0x1c) ∷ []) ∷ (by_opcode (opcode 0xfb 20) ∷ by_opcode (opcode 0xfb 21) ∷ [])
+    ∷ (by_opcode (opcode 0xfb 22) ∷ by_opcode (opcode 0xfb 23) ∷ []) ∷ []
+unfolding table
+shared_rows = refl
+
 no_rows : map rows_of (codes "local" ∷ codes "param" ∷ codes "" ∷ codes "local.set0" ∷ []) ≡ [] ∷ [] ∷ [] ∷ [] ∷ []
 unfolding table
 no_rows = refl
