@@ -7,7 +7,7 @@ use Rattle.wasmprinter_spec.specs.Grammar.{Placed}
 use Rattle.wasmprinter_spec.specs.Types as types
 use Rattle.wasmprinter_spec.specs.Types.{FuncType}
 use Rattle.wasmprinter_spec.specs.Operator.{opcode, Empty, Value, OfType, Immediates, NoImmediates, Block, Index, I32, Operator}
-use Rattle.wasmprinter_spec.specs.Table.{table, control_rows, variable_rows, number_rows}
+use Rattle.wasmprinter_spec.specs.Table.{table}
 use Rattle.wasmprinter_spec.specs.Nesting.{none, plain, block}
 use Rattle.wasmprinter_spec.specs.Module.{without_places}
 use Rattle.wasmprinter_spec.specs.Indexed.{Counts}
@@ -61,7 +61,7 @@ abbrev one_result : List (Placed Operator)
 one_result = operator 0x02 (Block (Value types.I32)) ∷ operator 0x41 (I32 (pos 1)) ∷ operator 0x0b NoImmediates ∷ []
 
 one_result_is : AreOperators counts one_result
-unfolding table control_rows variable_rows number_rows
+unfolding table
 one_result_is = record {
   listed = (record { shape = refl; range = tt }, (record { shape = refl; range = (omega (arith, ints), omega (arith, ints)) }, (record { shape = refl; range = tt }, tt)));
   nested = block (plain none) none;
@@ -70,7 +70,7 @@ one_result_is = record {
 }
 
 one_result_text : text_of (all_calls defaults (expression_pieces (setting InLine) (label_naming false unnamed) one_result)) ≡ codes "block (result i32)  (; label = @1 ;) i32.const 1 end"
-unfolding table control_rows variable_rows number_rows expression_pieces operators_pieces operator_pieces immediate_pieces id_pieces block_pieces val_pieces ending_pieces line_group_gap digits
+unfolding table expression_pieces operators_pieces operator_pieces immediate_pieces id_pieces block_pieces val_pieces ending_pieces line_group_gap digits
 one_result_text = refl
 
 one_result_reads : read_alone context (codes "block (result i32)  (; label = @1 ;) i32.const 1 end") ≡ Some (without_places one_result)
@@ -82,7 +82,7 @@ abbrev reference_result : List (Placed Operator)
 reference_result = operator 0x02 (Block (Value (types.Ref (types.ref_type false (types.Index 0))))) ∷ operator 0x0b NoImmediates ∷ []
 
 reference_result_is : AreOperators counts reference_result
-unfolding table control_rows variable_rows number_rows
+unfolding table
 reference_result_is = record {
   listed = (record { shape = refl; range = omega arith }, (record { shape = refl; range = tt }, tt));
   nested = block none none;
@@ -91,7 +91,7 @@ reference_result_is = record {
 }
 
 reference_result_text : text_of (all_calls defaults (expression_pieces (setting InLine) (label_naming false unnamed) reference_result)) ≡ codes "block (result (ref 0))  (; label = @1 ;) end"
-unfolding table control_rows variable_rows number_rows expression_pieces operators_pieces operator_pieces immediate_pieces id_pieces block_pieces val_pieces ref_pieces heap_pieces ending_pieces line_group_gap digits
+unfolding table expression_pieces operators_pieces operator_pieces immediate_pieces id_pieces block_pieces val_pieces ref_pieces heap_pieces ending_pieces line_group_gap digits
 reference_result_text = refl
 
 reference_result_reads : read_alone context (codes "block (result (ref 0))  (; label = @1 ;) end") ≡ Some (without_places reference_result)
@@ -108,7 +108,7 @@ abbrev branches_text : List ℕ
 branches_text = codes "\n    loop $#label0 (type 0) (param i32)\n      block $#label1\n        br $#label0\n      end\n      br 1\n    end"
 
 branches_are : AreOperators counts branches
-unfolding table control_rows variable_rows number_rows
+unfolding table
 branches_are = record {
   listed = (
     record { shape = refl; range = omega arith },
@@ -126,7 +126,7 @@ branches_are = record {
 }
 
 branches_print : text_of (all_calls defaults (expression_pieces (setting OverLines) (label_naming true unnamed) branches)) ≡ branches_text
-unfolding table control_rows variable_rows number_rows expression_pieces operators_pieces operator_pieces immediate_pieces index_pieces label_pieces mark_pieces id_pieces block_pieces signature_pieces list_group type_list val_pieces ending_pieces line_group line_group_gap digits repeated identifier_text chars class
+unfolding table expression_pieces operators_pieces operator_pieces immediate_pieces index_pieces label_pieces mark_pieces id_pieces block_pieces signature_pieces list_group type_list val_pieces ending_pieces line_group line_group_gap digits repeated identifier_text chars class
 branches_print = refl
 
 branches_read : read_alone context branches_text ≡ Some (without_places branches)

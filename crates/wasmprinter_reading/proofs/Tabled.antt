@@ -10,7 +10,7 @@ use Rattle.std.specs.List.{filter}
 use Rattle.wasmprinter_spec.specs.Character.{class}
 use Rattle.wasmprinter_spec.specs.Operator.{Operator}
 use Rattle.wasmprinter_spec.specs.Row.{Row, Role, Opens, OpensIf, OpensTry, Shape, NoneShape, BlockShape, TryTableShape, IndexShape, BranchTableShape, I32Shape, I64Shape}
-use Rattle.wasmprinter_spec.specs.Table.{control_rows, variable_rows, number_rows, table, first, has_word, has_opcode, rows_of, by_opcode}
+use Rattle.wasmprinter_spec.specs.Table.{table, first, has_word, has_opcode, rows_of, by_opcode}
 use Rattle.wasmprinter_lexical.proofs.Runs.{is_word}
 use Rattle.wasmprinter_reading.specs.Listed.{has_shape, has_row_shape, IsListed}
 use Rattle.wasmprinter_reading.proofs.Bytes.{bytes_same}
@@ -69,19 +69,19 @@ are_told_apart (r ∷ rs) = all (λ s. not (eqb (key s) (key r)) || refuses r.sh
 -- ---- the tests
 
 pub table_tells_apart : are_told_apart table ≡ true
-unfolding table control_rows variable_rows number_rows
+unfolding table
 table_tells_apart = refl
 
 words_are_words : all (λ r. is_word r.word) table ≡ true
-unfolding table control_rows variable_rows number_rows class
+unfolding table class
 words_are_words = refl
 
 no_numbers : all (λ r. not (is_number r.word)) table ≡ true
-unfolding table control_rows variable_rows number_rows
+unfolding table
 no_numbers = refl
 
 rows_fit : all (λ r. fits r.role r.shape) table ≡ true
-unfolding table control_rows variable_rows number_rows
+unfolding table
 rows_fit = refl
 
 -- ---- what they mean

@@ -8,7 +8,7 @@ use Rattle.std.specs.Str.{is_utf8, chars}
 use Rattle.wasmprinter_spec.specs.Grammar.{input}
 use Rattle.wasmprinter_spec.specs.Types.{Func, Index, StructComposite, SubType, final_type}
 use Rattle.wasmprinter_spec.specs.Operator.{BlockType, Value, OfType, All, Operator}
-use Rattle.wasmprinter_spec.specs.Table.{table, control_rows, variable_rows, number_rows}
+use Rattle.wasmprinter_spec.specs.Table.{table}
 use Rattle.wasmprinter_spec.specs.Module.{Module, module_of}
 use Rattle.wasmprinter_spec.specs.Binary.{binary}
 use Rattle.wasmprinter_spec.specs.Indexed.{IsIndexed}
@@ -74,37 +74,37 @@ beside_structure_text t = lines (
     ∷ [])
 
 structure_decoded : decoded structure_bytes ≡ Some (beside_structure (OfType 0))
-unfolding table control_rows variable_rows number_rows
+unfolding table
 structure_decoded = refl
 
 structure_printed : printed structure_bytes ≡ Some (beside_structure_text (codes " (type 0)"))
-unfolding group group_gap group_at group_gap_at line_group line_group_gap list_group signature_pieces struct_pieces composite_pieces sub_pieces type_pieces type_group_pieces type_section_pieces id_pieces ending_pieces block_pieces immediate_pieces operator_pieces operators_pieces expression_pieces body_pieces local_group local_pieces signature_if header_pieces function_group function_pieces numbered module_field_pieces module_pieces layout repeated digits table control_rows variable_rows number_rows memory_pieces memory_type_pieces limits_pieces export_pieces kind_word extern_index_pieces tag_pieces start_pieces index_pieces
+unfolding group group_gap group_at group_gap_at line_group line_group_gap list_group signature_pieces struct_pieces composite_pieces sub_pieces type_pieces type_group_pieces type_section_pieces id_pieces ending_pieces block_pieces immediate_pieces operator_pieces operators_pieces expression_pieces body_pieces local_group local_pieces signature_if header_pieces function_group function_pieces numbered module_field_pieces module_pieces layout repeated digits table memory_pieces memory_type_pieces limits_pieces export_pieces kind_word extern_index_pieces tag_pieces start_pieces index_pieces
 structure_printed = refl
 
 structure_unread : read (beside_structure_text (codes " (type 0)")) ≡ None
-unfolding lex class numeral natural groups heap_of_word ref_of_word number_of_word table control_rows variable_rows number_rows head is_utf8 chars encode_utf8 kind_of_word
+unfolding lex class numeral natural groups heap_of_word ref_of_word number_of_word table head is_utf8 chars encode_utf8 kind_of_word
 structure_unread = refl
 
 -- nor with a signature
 structure_with_signature_unread : read (beside_structure_text (codes " (type 0) (param i32)")) ≡ None
-unfolding lex class numeral natural groups heap_of_word ref_of_word number_of_word table control_rows variable_rows number_rows head is_utf8 chars encode_utf8 kind_of_word
+unfolding lex class numeral natural groups heap_of_word ref_of_word number_of_word table head is_utf8 chars encode_utf8 kind_of_word
 structure_with_signature_unread = refl
 
 -- the function type beside it can be the block's, and a reference to it the block's result
 function_read : read (beside_structure_text (codes " (type 1)")) ≡ Some (beside_structure (OfType 1))
-unfolding lex class numeral natural groups heap_of_word ref_of_word number_of_word table control_rows variable_rows number_rows head is_utf8 chars encode_utf8 kind_of_word
+unfolding lex class numeral natural groups heap_of_word ref_of_word number_of_word table head is_utf8 chars encode_utf8 kind_of_word
 function_read = refl
 
 reference_read : read (beside_structure_text (codes " (result (ref null 0))")) ≡ Some (beside_structure (Value (to_null (Index 0))))
-unfolding lex class numeral natural groups heap_of_word ref_of_word number_of_word table control_rows variable_rows number_rows head is_utf8 chars encode_utf8 kind_of_word
+unfolding lex class numeral natural groups heap_of_word ref_of_word number_of_word table head is_utf8 chars encode_utf8 kind_of_word
 reference_read = refl
 
 structure_undeclared : IsIndexed (beside_structure (OfType 0)) → ⊥
-unfolding table control_rows variable_rows number_rows
+unfolding table
 structure_undeclared i = i.functions.0.operators.0
 
 structure_of_try_table : IsIndexed (one_function ((structure ∷ []) ∷ (func [] [] ∷ []) ∷ []) 1 (try_table (OfType 0) [] ∷ end ∷ [])) → ⊥
-unfolding table control_rows variable_rows number_rows
+unfolding table
 structure_of_try_table i = i.functions.0.operators.0.0
 
 -- ---- the index of a type in a group: type indices count the types of all groups, not the groups
@@ -139,24 +139,24 @@ group_text = lines (
     ∷ [])
 
 group_decoded : decoded group_bytes ≡ Some over_group
-unfolding table control_rows variable_rows number_rows
+unfolding table
 group_decoded = refl
 
 group_printed : printed group_bytes ≡ Some group_text
-unfolding group group_gap group_at group_gap_at line_group line_group_gap heap_pieces null_ref_pieces ref_pieces val_pieces type_list list_group signature_pieces struct_pieces composite_pieces sub_pieces type_pieces member_pieces type_group_pieces type_section_pieces id_pieces ending_pieces block_pieces immediate_pieces operator_pieces operators_pieces expression_pieces body_pieces local_group local_pieces signature_if header_pieces function_group function_pieces numbered module_field_pieces module_pieces layout repeated digits table control_rows variable_rows number_rows memory_pieces memory_type_pieces limits_pieces export_pieces kind_word extern_index_pieces tag_pieces start_pieces index_pieces
+unfolding group group_gap group_at group_gap_at line_group line_group_gap heap_pieces null_ref_pieces ref_pieces val_pieces type_list list_group signature_pieces struct_pieces composite_pieces sub_pieces type_pieces member_pieces type_group_pieces type_section_pieces id_pieces ending_pieces block_pieces immediate_pieces operator_pieces operators_pieces expression_pieces body_pieces local_group local_pieces signature_if header_pieces function_group function_pieces numbered module_field_pieces module_pieces layout repeated digits table memory_pieces memory_type_pieces limits_pieces export_pieces kind_word extern_index_pieces tag_pieces start_pieces index_pieces
 group_printed = refl
 
 group_read : read group_text ≡ Some over_group
-unfolding lex class numeral natural groups heap_of_word ref_of_word number_of_word table control_rows variable_rows number_rows head is_utf8 chars encode_utf8 kind_of_word
+unfolding lex class numeral natural groups heap_of_word ref_of_word number_of_word table head is_utf8 chars encode_utf8 kind_of_word
 group_read = refl
 
 -- in other words: identifiers of a group behind its use, a signature that is absent or in its long form
 group_of_names : read (codes "(module (func (type 2) (block $l (type $f) (loop (type 2) (block (result (ref null $f)))))) (rec (type $s (struct)) (type $f (func (param (ref $s)) (result (ref null $s))))) (type (func)))") ≡ Some over_group
-unfolding lex class numeral natural groups heap_of_word ref_of_word number_of_word table control_rows variable_rows number_rows head is_utf8 chars encode_utf8 kind_of_word
+unfolding lex class numeral natural groups heap_of_word ref_of_word number_of_word table head is_utf8 chars encode_utf8 kind_of_word
 group_of_names = refl
 
 group_indexed : IsIndexed over_group
-unfolding table control_rows variable_rows number_rows
+unfolding table
 group_indexed = record {
   types = (
     (record { supertypes = tt; composite = tt }, (record { supertypes = tt; composite = record { params = (omega arith, tt); results = (omega arith, tt) } }, tt)),
@@ -179,7 +179,7 @@ over_references os = one_function ((func (to_null Func ∷ to (Index 0) ∷ []) 
 
 references_agree : read (with_references (codes "block (type 0) (param funcref (ref 0)) (result (ref null 0)) end (block (type $f) (param (ref null func)) (param (ref $f)) (result (ref null $f))) block (type 0) end"))
     ≡ Some (over_references (block (OfType 0) ∷ end ∷ block (OfType 0) ∷ end ∷ block (OfType 0) ∷ end ∷ []))
-unfolding lex class numeral natural groups heap_of_word ref_of_word number_of_word table control_rows variable_rows number_rows head is_utf8 chars encode_utf8 kind_of_word
+unfolding lex class numeral natural groups heap_of_word ref_of_word number_of_word table head is_utf8 chars encode_utf8 kind_of_word
 references_agree = refl
 
 -- a reference that can't be null for one that may be, one to another type, one that is missing
@@ -196,7 +196,7 @@ references_differ : map (λ c. read (with_references c)) (
     ∷ codes "block (type 0) (param $x funcref) (param (ref 0)) (result (ref null 0)) end"
     ∷ codes "block (type 1) (result (ref null 0)) end"
     ∷ []) ≡ replicate 11 None
-unfolding lex class numeral natural groups heap_of_word ref_of_word number_of_word table control_rows variable_rows number_rows head is_utf8 chars encode_utf8 kind_of_word
+unfolding lex class numeral natural groups heap_of_word ref_of_word number_of_word table head is_utf8 chars encode_utf8 kind_of_word
 references_differ = refl
 
 -- ---- references to types that aren't declared: texts and bytes have them, valid modules don't
@@ -205,7 +205,7 @@ abbrev with_block : BlockType → Module
 with_block t = one_function ((func [] [] ∷ []) ∷ []) 0 (block t ∷ end ∷ [])
 
 last_reference : IsIndexed (with_block (Value (to (Index 0))))
-unfolding table control_rows variable_rows number_rows
+unfolding table
 last_reference = record {
   types = ((record { supertypes = tt; composite = record { params = tt; results = tt } }, tt), tt);
   functions = (record { type_index = (_, refl); locals = tt; operators = (omega arith, (tt, tt)) }, tt);
@@ -215,17 +215,17 @@ last_reference = record {
 }
 
 undeclared_reference : IsIndexed (with_block (Value (to (Index 1)))) → ⊥
-unfolding table control_rows variable_rows number_rows
+unfolding table
 undeclared_reference i = omega (arith, i.functions.0.operators.0)
 
 undeclared_null_reference : IsIndexed (with_block (Value (to_null (Index 1)))) → ⊥
-unfolding table control_rows variable_rows number_rows
+unfolding table
 undeclared_null_reference i = omega (arith, i.functions.0.operators.0)
 
 undeclared_reference_of_try_table : IsIndexed (one_function ((func [] [] ∷ []) ∷ []) 0 (try_table (Value (to (Index 1))) (All 0 ∷ []) ∷ end ∷ [])) → ⊥
-unfolding table control_rows variable_rows number_rows
+unfolding table
 undeclared_reference_of_try_table i = omega (arith, i.functions.0.operators.0.0)
 
 undeclared_reference_read : read (codes "(module (type (func)) (func (type 0) block (result (ref 1)) end))") ≡ Some (with_block (Value (to (Index 1))))
-unfolding lex class numeral natural groups heap_of_word ref_of_word number_of_word table control_rows variable_rows number_rows head is_utf8 chars encode_utf8 kind_of_word
+unfolding lex class numeral natural groups heap_of_word ref_of_word number_of_word table head is_utf8 chars encode_utf8 kind_of_word
 undeclared_reference_read = refl

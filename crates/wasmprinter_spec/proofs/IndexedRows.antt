@@ -5,7 +5,7 @@ use Rattle.wasmprinter_spec.specs.Types as types
 use Rattle.wasmprinter_spec.specs.Types.{ValType, I32, Ref, ref_type, field_type, FuncKind}
 use Rattle.wasmprinter_spec.specs.Operator as operator
 use Rattle.wasmprinter_spec.specs.Operator.{Opcode, opcode, Empty, Value, OfType, One, OneRef, All, AllRef, mem_arg_of, Immediates, NoImmediates, Block, TryTable, Index, Indices, BranchTable, Heap, Cast, MemoryLane, Lane, Bytes, Operator}
-use Rattle.wasmprinter_spec.specs.Table.{table, control_rows, variable_rows, number_rows}
+use Rattle.wasmprinter_spec.specs.Table.{table}
 use Rattle.wasmprinter_spec.specs.Module.{Module}
 use Rattle.wasmprinter_spec.specs.Row.{Space, Types, Func, Table, Memory, Tag, Global, Elem, Data, Local, Label, Shape, NoneShape, FenceShape, BlockShape, TryTableShape, IndexShape, DefaultIndexShape, PairShape, FieldShape, CountShape, CallShape, SegmentShape, CopyShape, BranchTableShape, SelectShape, HeapShape, RefShape, CastShape, MemoryShape, MemoryLaneShape, LaneShape, I32Shape, I64Shape, F32Shape, F64Shape, VectorShape, LanesShape}
 use Rattle.wasmprinter_spec.specs.Indexed.{Counts, IsIndex, AreDeclared, IsIndexed, IsDeclaredVal, IsDeclaredSub}
@@ -21,7 +21,7 @@ plain_func : {n : ℕ} {ps rs : List ValType} → AllByRecursion (IsDeclaredVal 
 plain_func params results = record { supertypes = tt; composite = record { params = params; results = results } }
 
 identity_indexed : IsIndexed identity
-unfolding table control_rows variable_rows number_rows
+unfolding table
 identity_indexed = record {
   types = ((plain_func (tt, tt) (tt, tt), tt), tt);
   functions = (record { type_index = (_, refl); locals = tt; operators = (omega arith, tt) }, tt);
@@ -31,7 +31,7 @@ identity_indexed = record {
 }
 
 stored_indexed : IsIndexed stored
-unfolding table control_rows variable_rows number_rows
+unfolding table
 stored_indexed = record {
   types = ((plain_func tt (tt, tt), tt), tt);
   functions = (record { type_index = (_, refl); locals = (tt, tt); operators = (tt, (omega arith, (omega arith, tt))) }, tt);
@@ -50,7 +50,7 @@ calling type os exported = record empty {
 
 -- parameters and locals are one space
 last_indices : IsIndexed (calling 0 (local_get 1 ∷ local_set 1 ∷ call 0 ∷ []) 0)
-unfolding table control_rows variable_rows number_rows
+unfolding table
 last_indices = record {
   types = ((plain_func (tt, tt) tt, tt), ((plain_func tt tt, tt), tt));
   functions = (record { type_index = (_, refl); locals = (tt, tt); operators = (omega arith, (omega arith, (omega arith, tt))) }, tt);
@@ -60,7 +60,7 @@ last_indices = record {
 }
 
 last_type : IsIndexed (calling 1 (local_get 0 ∷ []) 0)
-unfolding table control_rows variable_rows number_rows
+unfolding table
 last_type = record {
   types = ((plain_func (tt, tt) tt, tt), ((plain_func tt tt, tt), tt));
   functions = (record { type_index = (_, refl); locals = (tt, tt); operators = (omega arith, tt) }, tt);
@@ -73,19 +73,19 @@ no_such_type : IsIndexed (calling 2 [] 0) → ⊥
 no_such_type i = absurd (let e = i.functions.0.type_index.1 in cc)
 
 no_such_local : IsIndexed (calling 0 (local_get 2 ∷ []) 0) → ⊥
-unfolding table control_rows variable_rows number_rows
+unfolding table
 no_such_local i = omega (arith, i.functions.0.operators.0)
 
 no_parameter : IsIndexed (calling 1 (local_get 1 ∷ []) 0) → ⊥
-unfolding table control_rows variable_rows number_rows
+unfolding table
 no_parameter i = omega (arith, i.functions.0.operators.0)
 
 no_such_local_set : IsIndexed (calling 0 (local_set 2 ∷ []) 0) → ⊥
-unfolding table control_rows variable_rows number_rows
+unfolding table
 no_such_local_set i = omega (arith, i.functions.0.operators.0)
 
 no_such_callee : IsIndexed (calling 0 (call 1 ∷ []) 0) → ⊥
-unfolding table control_rows variable_rows number_rows
+unfolding table
 no_such_callee i = omega (arith, i.functions.0.operators.0)
 
 no_such_function : IsIndexed (calling 0 [] 1) → ⊥
@@ -101,7 +101,7 @@ abbrev one_operator : Opcode → Immediates → Module
 one_operator o i = calling 0 (record { opcode = o; immediates = i } ∷ []) 0
 
 every_shape : IsIndexed (calling 0 (return ∷ call 0 ∷ drop ∷ local_get 1 ∷ i32_const (negsuc 0) ∷ i64_const (pos 5) ∷ []) 0)
-unfolding table control_rows variable_rows number_rows
+unfolding table
 every_shape = record {
   types = ((plain_func (tt, tt) tt, tt), ((plain_func tt tt, tt), tt));
   functions = (record { type_index = (_, refl); locals = (tt, tt); operators = (tt, (omega arith, (tt, (omega arith, (tt, (tt, tt)))))) }, tt);
@@ -111,46 +111,46 @@ every_shape = record {
 }
 
 index_of_drop : IsIndexed (one_operator (opcode 0 0x1a) (Index 0)) → ⊥
-unfolding table control_rows variable_rows number_rows
+unfolding table
 index_of_drop i = i.functions.0.operators.0
 
 no_index_of_local : IsIndexed (one_operator (opcode 0 0x20) NoImmediates) → ⊥
-unfolding table control_rows variable_rows number_rows
+unfolding table
 no_index_of_local i = i.functions.0.operators.0
 
 constant_of_local : IsIndexed (one_operator (opcode 0 0x20) (operator.I32 (pos 0))) → ⊥
-unfolding table control_rows variable_rows number_rows
+unfolding table
 constant_of_local i = i.functions.0.operators.0
 
 long_constant : IsIndexed (one_operator (opcode 0 0x41) (operator.I64 (pos 0))) → ⊥
-unfolding table control_rows variable_rows number_rows
+unfolding table
 long_constant i = i.functions.0.operators.0
 
 short_constant : IsIndexed (one_operator (opcode 0 0x42) (operator.I32 (pos 0))) → ⊥
-unfolding table control_rows variable_rows number_rows
+unfolding table
 short_constant i = i.functions.0.operators.0
 
 no_constant : IsIndexed (one_operator (opcode 0 0x42) NoImmediates) → ⊥
-unfolding table control_rows variable_rows number_rows
+unfolding table
 no_constant i = i.functions.0.operators.0
 
 unlisted_opcode : IsIndexed (one_operator (opcode 0 0x1d) NoImmediates) → ⊥
-unfolding table control_rows variable_rows number_rows
+unfolding table
 unlisted_opcode i = i.functions.0.operators.0
 
 index_of_end : IsIndexed (one_operator (opcode 0 0x0b) (Index 0)) → ⊥
-unfolding table control_rows variable_rows number_rows
+unfolding table
 index_of_end i = i.functions.0.operators.0
 
 unlisted_prefix : IsIndexed (one_operator (opcode 0xfc 0x1a) NoImmediates) → ⊥
-unfolding table control_rows variable_rows number_rows
+unfolding table
 unlisted_prefix i = i.functions.0.operators.0
 
 -- ---- block types, labels and tags
 
 -- the last type, and a branch that leads nowhere
 blocks_indexed : IsIndexed (calling 0 (made 0x02 (Block (OfType 1)) ∷ made 0x0c (Index 9) ∷ made 0x0b NoImmediates ∷ made 0x03 (Block (Value I32)) ∷ made 0x0e (BranchTable (4294967295 ∷ []) 7) ∷ made 0x0b NoImmediates ∷ []) 0)
-unfolding table control_rows variable_rows number_rows
+unfolding table
 blocks_indexed = record {
   types = ((plain_func (tt, tt) tt, tt), ((plain_func tt tt, tt), tt));
   functions = (record { type_index = (_, refl); locals = (tt, tt); operators = (tt, (tt, (tt, (tt, (tt, (tt, tt)))))) }, tt);
@@ -160,7 +160,7 @@ blocks_indexed = record {
 }
 
 catches_indexed : IsIndexed (one_operator (opcode 0 0x1f) (TryTable Empty (All 3 ∷ AllRef 0 ∷ [])))
-unfolding table control_rows variable_rows number_rows
+unfolding table
 catches_indexed = record {
   types = ((plain_func (tt, tt) tt, tt), ((plain_func tt tt, tt), tt));
   functions = (record { type_index = (_, refl); locals = (tt, tt); operators = ((tt, (tt, (tt, tt))), tt) }, tt);
@@ -170,40 +170,40 @@ catches_indexed = record {
 }
 
 no_such_block_type : IsIndexed (one_operator (opcode 0 0x02) (Block (OfType 2))) → ⊥
-unfolding table control_rows variable_rows number_rows
+unfolding table
 no_such_block_type i = i.functions.0.operators.0
 
 no_such_try_table_type : IsIndexed (one_operator (opcode 0 0x1f) (TryTable (OfType 2) [])) → ⊥
-unfolding table control_rows variable_rows number_rows
+unfolding table
 no_such_try_table_type i = i.functions.0.operators.0.0
 
 -- no tag is declared
 no_such_tag : IsIndexed (one_operator (opcode 0 0x08) (Index 0)) → ⊥
-unfolding table control_rows variable_rows number_rows
+unfolding table
 no_such_tag i = omega (arith, i.functions.0.operators.0)
 
 no_such_caught_tag : IsIndexed (one_operator (opcode 0 0x1f) (TryTable Empty (All 0 ∷ One 0 0 ∷ []))) → ⊥
-unfolding table control_rows variable_rows number_rows
+unfolding table
 no_such_caught_tag i = omega (arith, i.functions.0.operators.0.1.1.0)
 
 no_such_caught_tag_ref : IsIndexed (one_operator (opcode 0 0x1f) (TryTable Empty (OneRef 0 0 ∷ []))) → ⊥
-unfolding table control_rows variable_rows number_rows
+unfolding table
 no_such_caught_tag_ref i = omega (arith, i.functions.0.operators.0.1.0)
 
 block_without_type : IsIndexed (one_operator (opcode 0 0x02) NoImmediates) → ⊥
-unfolding table control_rows variable_rows number_rows
+unfolding table
 block_without_type i = i.functions.0.operators.0
 
 block_with_catches : IsIndexed (one_operator (opcode 0 0x02) (TryTable Empty [])) → ⊥
-unfolding table control_rows variable_rows number_rows
+unfolding table
 block_with_catches i = i.functions.0.operators.0
 
 try_table_without_catches : IsIndexed (one_operator (opcode 0 0x1f) (Block Empty)) → ⊥
-unfolding table control_rows variable_rows number_rows
+unfolding table
 try_table_without_catches i = i.functions.0.operators.0
 
 branch_table_of_branch : IsIndexed (one_operator (opcode 0 0x0c) (BranchTable [] 0)) → ⊥
-unfolding table control_rows variable_rows number_rows
+unfolding table
 branch_table_of_branch i = i.functions.0.operators.0
 
 mixed_not_indexed : IsIndexed mixed → ⊥

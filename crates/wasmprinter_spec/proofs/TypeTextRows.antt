@@ -15,7 +15,7 @@ use Rattle.wasmprinter_spec.specs.Layout.Groups.{group, group_gap, group_at, gro
 use Rattle.wasmprinter_spec.specs.Layout.Types.{heap_pieces, null_ref_pieces, ref_pieces, val_pieces, type_list, list_group, signature_pieces, storage_pieces, field_pieces, struct_pieces, composite_pieces, supertype_pieces, sub_group, sub_pieces, type_pieces, member_pieces, type_group_pieces, type_section_pieces}
 use Rattle.wasmprinter_spec.specs.Layout.Operators.{operator_pieces, operators_pieces, expression_pieces}
 use Rattle.wasmprinter_spec.specs.Layout.{body_pieces, local_group, local_pieces, signature_if, header_pieces, function_group, function_pieces, module_field_pieces, module_pieces, layout, tag_pieces, start_pieces}
-use Rattle.wasmprinter_spec.specs.Table.{table, control_rows, variable_rows, number_rows}
+use Rattle.wasmprinter_spec.specs.Table.{table}
 use Rattle.wasmprinter_spec.specs.Character.{class}
 use Rattle.wasmprinter_spec.specs.Numeral.{numeral, natural}
 use Rattle.wasmprinter_spec.specs.Token.{lex}
@@ -124,7 +124,7 @@ functions_of_groups : printed (head_bytes
     ∷ codes "  )"
     ∷ codes "  (func (;1;) (type 0))"
     ∷ []))
-unfolding group group_gap group_at group_gap_at line_group line_group_gap heap_pieces ref_pieces val_pieces type_list list_group signature_pieces struct_pieces composite_pieces sub_pieces type_pieces member_pieces type_group_pieces type_section_pieces operator_pieces operators_pieces expression_pieces body_pieces local_group local_pieces signature_if header_pieces function_group function_pieces numbered module_field_pieces module_pieces layout repeated digits table control_rows variable_rows number_rows memory_pieces memory_type_pieces limits_pieces export_pieces kind_word extern_index_pieces tag_pieces start_pieces
+unfolding group group_gap group_at group_gap_at line_group line_group_gap heap_pieces ref_pieces val_pieces type_list list_group signature_pieces struct_pieces composite_pieces sub_pieces type_pieces member_pieces type_group_pieces type_section_pieces operator_pieces operators_pieces expression_pieces body_pieces local_group local_pieces signature_if header_pieces function_group function_pieces numbered module_field_pieces module_pieces layout repeated digits table memory_pieces memory_type_pieces limits_pieces export_pieces kind_word extern_index_pieces tag_pieces start_pieces
 functions_of_groups = refl
 
 -- ---- calls
@@ -224,5 +224,5 @@ reads_function : read (codes "(module (func (type $f) (param $x (ref $s)) (resul
       types = (final_type (StructComposite []) ∷ func (to (Index 0) ∷ []) (to_null (Index 0) ∷ []) ∷ []) ∷ [];
       functions = record { type_index = 1; locals = to (Index 0) ∷ to_null Func ∷ V128 ∷ []; operators = record { opcode = record { prefix = 0; number = 0x20 }; immediates = operator.Index 0 } ∷ [] } ∷ [];
     })
-unfolding lex class numeral natural groups heap_of_word ref_of_word number_of_word packed_of_word table control_rows variable_rows number_rows is_utf8 chars encode_utf8 head kind_of_word
+unfolding lex class numeral natural groups heap_of_word ref_of_word number_of_word packed_of_word table is_utf8 chars encode_utf8 head kind_of_word
 reads_function = refl

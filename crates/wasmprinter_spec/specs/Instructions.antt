@@ -13,7 +13,7 @@ use Rattle.wasmprinter_spec.specs.Types.{ref_type}
 use Rattle.wasmprinter_spec.specs.Binary.ValTypes.{lookup, signed_index, heap_type, val_type, begins_val_type}
 use Rattle.wasmprinter_spec.specs.Operator.{Opcode, opcode, BlockType, Empty, Value, OfType, Catch, One, OneRef, All, AllRef, MemArg, mem_arg_of, Immediates, NoImmediates, Block, TryTable, Index, Indices, BranchTable, Types, Heap, Cast, Memory, MemoryLane, Lane, I32, I64, F32, F64, Bytes, Operator}
 use Rattle.wasmprinter_spec.specs.Row.{Row, Shape, NoneShape, FenceShape, BlockShape, TryTableShape, IndexShape, DefaultIndexShape, PairShape, FieldShape, CountShape, CallShape, SegmentShape, CopyShape, BranchTableShape, SelectShape, HeapShape, RefShape, CastShape, MemoryShape, MemoryLaneShape, LaneShape, I32Shape, I64Shape, F32Shape, F64Shape, VectorShape, LanesShape, Role, Ends}
-use Rattle.wasmprinter_spec.specs.Table.{table, control_rows, variable_rows, number_rows, first, has_opcode, by_opcode, role_of, role_of_row}
+use Rattle.wasmprinter_spec.specs.Table.{table, first, has_opcode, by_opcode, role_of, role_of_row}
 use Rattle.wasmprinter_spec.specs.Stepped.{Move, On, Stop, Never, by_move, stops, Ended, ended, stepped}
 use Rattle.wasmprinter_spec.specs.Nesting.{Nests, Sequence, Open, advance, at_start}
 use Rattle.wasmprinter_spec.specs.NestingSteps.{stops_at_end, nested_to_end}
@@ -188,7 +188,7 @@ all_fit [] = true
 all_fit (r ∷ rs) = fits_end r && all_fit rs
 
 table_fits : all_fit table ≡ true
-unfolding table control_rows variable_rows number_rows
+unfolding table
 table_fits = refl
 
 found_or_later : (b : Bool) (r : Row) (x : Option Row) → role_of_row (cond b (Some r) x) ≡ Ends → ((b ≡ true) × (r.role ≡ Ends)) ⊎ (role_of_row x ≡ Ends)
@@ -227,7 +227,7 @@ code_text true b p t o c s e =
 code_text false b p t o c s e = (s.0, ap (λ (x : Opcode). x.number) (sym s.1 ∙ e))
 
 no_immediates : (p : ℕ) (t : List ℕ) (i : Immediates) → (listed (by_opcode (opcode 0 end_byte))).spells p t i → (t ≡ []) × (i ≡ NoImmediates)
-unfolding table control_rows variable_rows number_rows
+unfolding table
 no_immediates p t i s = s
 
 -- the operator `end`
@@ -250,7 +250,7 @@ end_text p text o s e =
     parts.2 ∙ ap (λ (r : List ℕ). r ++ parts.1) front ∙ ap (λ (r : List ℕ). (end_byte ∷ []) ++ r) n.0
 
 end_read : (p : ℕ) → operator.parse (input p (end_byte ∷ [])) ≡ Some (end_operator, input (p + 1) [])
-unfolding table control_rows variable_rows number_rows
+unfolding table
 end_read p = refl
 
 end_spelled : (p : ℕ) → operator.spells p (end_byte ∷ []) end_operator
@@ -259,7 +259,7 @@ end_spelled p =
     subst (λ (r : List ℕ). operator.spells p r end_operator) (sym (s.parts ∙ append-nil s.text)) s.spelled
 
 end_role : role_of (opcode 0 end_byte) ≡ Ends
-unfolding table control_rows variable_rows number_rows
+unfolding table
 end_role = refl
 
 -- ---- both say the same
