@@ -1,5 +1,6 @@
 -- The program's shapes of immediates and roles, and those of the table of operators.
-use Rattle.std.specs.Prelude.{Option, Some, None}
+use Rattle.std.specs.Prelude.{ℕ, List, Option, Some, None}
+use Rattle.std.specs.Borrow.{Bor}
 use Rattle.wasmprinter_spec.specs.Row.{Space, Shape, NoneShape, FenceShape, BlockShape, TryTableShape, IndexShape, DefaultIndexShape, PairShape, FieldShape, CountShape, CallShape, SegmentShape, CopyShape, BranchTableShape, SelectShape, HeapShape, RefShape, CastShape, MemoryShape, MemoryLaneShape, LaneShape, I32Shape, I64Shape, F32Shape, F64Shape, VectorShape, LanesShape, Role}
 use Rattle.wasmprinter_spec.specs.Row as row
 use Rattle.wasmprinter_ops.specs.declared.opcode.Space.{Space as ProgramSpace}
@@ -55,6 +56,11 @@ shape_view shapes.Lanes = LanesShape
 abbrev pub optional_shape_view : Option ProgramShape → Option Shape
 optional_shape_view None = None
 optional_shape_view (Some s) = Some (shape_view s)
+
+-- the word and the shape of an opcode that may be missing
+abbrev pub entry_view : Option (Bor (List ℕ) × ProgramShape) → Option (List ℕ × Shape)
+entry_view None = None
+entry_view (Some e) = Some (e.0.now, shape_view e.1)
 
 -- the role of the definitions
 abbrev pub role_view : ProgramRole → Role
