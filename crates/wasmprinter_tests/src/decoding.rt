@@ -2,7 +2,9 @@
 
 use crate::modules::{EVERYTHING, PREAMBLE};
 use std::test::Fail;
-use wasmprinter::wasm::{Body, Immediates, Module, Opcode, Operator, OperatorsReader, decode};
+use wasmprinter::wasm::{
+    Body, ExternKind, Immediates, Module, Opcode, Operator, OperatorsReader, decode,
+};
 
 /// The operators of the second body: place, number of the opcode, word and immediates.
 const OPERATORS: [(u64, u32, &str, Immediates); 7] = [
@@ -81,11 +83,14 @@ fn place_of_type(module: &Module<'_>, number: usize) -> Option<u64> {
     }
 }
 
-/// Whether the module has this export at the place.
+/// Whether the module has this export of a function at the place.
 fn has_export(module: &Module<'_>, number: usize, place: u64, name: &str, function: u32) -> bool {
     match module.exports().get(number) {
         Some(export) => {
-            export.place() == place && export.name() == name && export.function() == function
+            export.place() == place
+                && export.name() == name
+                && export.kind() == ExternKind::Func
+                && export.index() == function
         }
         None => false,
     }

@@ -25,6 +25,8 @@ mod recorder;
 #[cfg(test)]
 mod refusals;
 #[cfg(test)]
+mod sections;
+#[cfg(test)]
 mod strings;
 #[cfg(test)]
 mod texts;
