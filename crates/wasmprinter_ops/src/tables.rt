@@ -116,18 +116,32 @@ pub(crate) const ONE_BYTE_ROLES: [Role; BYTES] = [
     Role::CatchesAll, // 0x19
     Role::Plain, Role::Plain, Role::Plain, Role::Plain, Role::Plain, // 0x1a
     Role::Opens, // 0x1f
-    Role::Plain, Role::Plain, Role::Plain, Role::Plain, Role::Plain, Role::Plain, Role::Plain, Role::Plain, Role::Plain, Role::Plain, Role::Plain, Role::Plain, Role::Plain, Role::Plain, Role::Plain, Role::Plain, // 0x20
-    Role::Plain, Role::Plain, Role::Plain, Role::Plain, Role::Plain, Role::Plain, Role::Plain, Role::Plain, Role::Plain, Role::Plain, Role::Plain, Role::Plain, Role::Plain, Role::Plain, Role::Plain, Role::Plain, // 0x30
-    Role::Plain, Role::Plain, Role::Plain, Role::Plain, Role::Plain, Role::Plain, Role::Plain, Role::Plain, Role::Plain, Role::Plain, Role::Plain, Role::Plain, Role::Plain, Role::Plain, Role::Plain, Role::Plain, // 0x40
-    Role::Plain, Role::Plain, Role::Plain, Role::Plain, Role::Plain, Role::Plain, Role::Plain, Role::Plain, Role::Plain, Role::Plain, Role::Plain, Role::Plain, Role::Plain, Role::Plain, Role::Plain, Role::Plain, // 0x50
-    Role::Plain, Role::Plain, Role::Plain, Role::Plain, Role::Plain, Role::Plain, Role::Plain, Role::Plain, Role::Plain, Role::Plain, Role::Plain, Role::Plain, Role::Plain, Role::Plain, Role::Plain, Role::Plain, // 0x60
-    Role::Plain, Role::Plain, Role::Plain, Role::Plain, Role::Plain, Role::Plain, Role::Plain, Role::Plain, Role::Plain, Role::Plain, Role::Plain, Role::Plain, Role::Plain, Role::Plain, Role::Plain, Role::Plain, // 0x70
-    Role::Plain, Role::Plain, Role::Plain, Role::Plain, Role::Plain, Role::Plain, Role::Plain, Role::Plain, Role::Plain, Role::Plain, Role::Plain, Role::Plain, Role::Plain, Role::Plain, Role::Plain, Role::Plain, // 0x80
-    Role::Plain, Role::Plain, Role::Plain, Role::Plain, Role::Plain, Role::Plain, Role::Plain, Role::Plain, Role::Plain, Role::Plain, Role::Plain, Role::Plain, Role::Plain, Role::Plain, Role::Plain, Role::Plain, // 0x90
-    Role::Plain, Role::Plain, Role::Plain, Role::Plain, Role::Plain, Role::Plain, Role::Plain, Role::Plain, Role::Plain, Role::Plain, Role::Plain, Role::Plain, Role::Plain, Role::Plain, Role::Plain, Role::Plain, // 0xa0
-    Role::Plain, Role::Plain, Role::Plain, Role::Plain, Role::Plain, Role::Plain, Role::Plain, Role::Plain, Role::Plain, Role::Plain, Role::Plain, Role::Plain, Role::Plain, Role::Plain, Role::Plain, Role::Plain, // 0xb0
-    Role::Plain, Role::Plain, Role::Plain, Role::Plain, Role::Plain, Role::Plain, Role::Plain, Role::Plain, Role::Plain, Role::Plain, Role::Plain, Role::Plain, Role::Plain, Role::Plain, Role::Plain, Role::Plain, // 0xc0
-    Role::Plain, Role::Plain, Role::Plain, Role::Plain, Role::Plain, Role::Plain, Role::Plain, Role::Plain, Role::Plain, Role::Plain, Role::Plain, Role::Plain, Role::Plain, Role::Plain, Role::Plain, Role::Plain, // 0xd0
-    Role::Plain, Role::Plain, Role::Plain, Role::Plain, Role::Plain, Role::Plain, Role::Plain, Role::Plain, Role::Plain, Role::Plain, Role::Plain, Role::Plain, Role::Plain, Role::Plain, Role::Plain, Role::Plain, // 0xe0
-    Role::Plain, Role::Plain, Role::Plain, Role::Plain, Role::Plain, Role::Plain, Role::Plain, Role::Plain, Role::Plain, Role::Plain, Role::Plain, Role::Plain, Role::Plain, Role::Plain, Role::Plain, Role::Plain, // 0xf0
+    Role::Plain, Role::Plain, Role::Plain, Role::Plain, Role::Plain, Role::Plain, Role::Plain, Role::Plain, // 0x20
+    Role::Plain, Role::Plain, Role::Plain, Role::Plain, Role::Plain, Role::Plain, Role::Plain, Role::Plain, // 0x28
+    Role::Plain, Role::Plain, Role::Plain, Role::Plain, Role::Plain, Role::Plain, Role::Plain, Role::Plain, // 0x30
+    Role::Plain, Role::Plain, Role::Plain, Role::Plain, Role::Plain, Role::Plain, Role::Plain, Role::Plain, // 0x38
+    Role::Plain, Role::Plain, Role::Plain, Role::Plain, Role::Plain, Role::Plain, Role::Plain, Role::Plain, // 0x40
+    Role::Plain, Role::Plain, Role::Plain, Role::Plain, Role::Plain, Role::Plain, Role::Plain, Role::Plain, // 0x48
+    Role::Plain, Role::Plain, Role::Plain, Role::Plain, Role::Plain, Role::Plain, Role::Plain, Role::Plain, // 0x50
+    Role::Plain, Role::Plain, Role::Plain, Role::Plain, Role::Plain, Role::Plain, Role::Plain, Role::Plain, // 0x58
+    Role::Plain, Role::Plain, Role::Plain, Role::Plain, Role::Plain, Role::Plain, Role::Plain, Role::Plain, // 0x60
+    Role::Plain, Role::Plain, Role::Plain, Role::Plain, Role::Plain, Role::Plain, Role::Plain, Role::Plain, // 0x68
+    Role::Plain, Role::Plain, Role::Plain, Role::Plain, Role::Plain, Role::Plain, Role::Plain, Role::Plain, // 0x70
+    Role::Plain, Role::Plain, Role::Plain, Role::Plain, Role::Plain, Role::Plain, Role::Plain, Role::Plain, // 0x78
+    Role::Plain, Role::Plain, Role::Plain, Role::Plain, Role::Plain, Role::Plain, Role::Plain, Role::Plain, // 0x80
+    Role::Plain, Role::Plain, Role::Plain, Role::Plain, Role::Plain, Role::Plain, Role::Plain, Role::Plain, // 0x88
+    Role::Plain, Role::Plain, Role::Plain, Role::Plain, Role::Plain, Role::Plain, Role::Plain, Role::Plain, // 0x90
+    Role::Plain, Role::Plain, Role::Plain, Role::Plain, Role::Plain, Role::Plain, Role::Plain, Role::Plain, // 0x98
+    Role::Plain, Role::Plain, Role::Plain, Role::Plain, Role::Plain, Role::Plain, Role::Plain, Role::Plain, // 0xa0
+    Role::Plain, Role::Plain, Role::Plain, Role::Plain, Role::Plain, Role::Plain, Role::Plain, Role::Plain, // 0xa8
+    Role::Plain, Role::Plain, Role::Plain, Role::Plain, Role::Plain, Role::Plain, Role::Plain, Role::Plain, // 0xb0
+    Role::Plain, Role::Plain, Role::Plain, Role::Plain, Role::Plain, Role::Plain, Role::Plain, Role::Plain, // 0xb8
+    Role::Plain, Role::Plain, Role::Plain, Role::Plain, Role::Plain, Role::Plain, Role::Plain, Role::Plain, // 0xc0
+    Role::Plain, Role::Plain, Role::Plain, Role::Plain, Role::Plain, Role::Plain, Role::Plain, Role::Plain, // 0xc8
+    Role::Plain, Role::Plain, Role::Plain, Role::Plain, Role::Plain, Role::Plain, Role::Plain, Role::Plain, // 0xd0
+    Role::Plain, Role::Plain, Role::Plain, Role::Plain, Role::Plain, Role::Plain, Role::Plain, Role::Plain, // 0xd8
+    Role::Plain, Role::Plain, Role::Plain, Role::Plain, Role::Plain, Role::Plain, Role::Plain, Role::Plain, // 0xe0
+    Role::Plain, Role::Plain, Role::Plain, Role::Plain, Role::Plain, Role::Plain, Role::Plain, Role::Plain, // 0xe8
+    Role::Plain, Role::Plain, Role::Plain, Role::Plain, Role::Plain, Role::Plain, Role::Plain, Role::Plain, // 0xf0
+    Role::Plain, Role::Plain, Role::Plain, Role::Plain, Role::Plain, Role::Plain, Role::Plain, Role::Plain, // 0xf8
 ];
