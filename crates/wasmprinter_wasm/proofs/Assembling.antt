@@ -1,5 +1,5 @@
 -- A module is put together from its sections.
-use Rattle.std.proofs.Common.{◌≡◌, ℕ, ◌+◌, ◌<◌, ◌≤◌, true, List, [], ◌∷◌, length, Some, refl, sym, ap, subst, ◌∙◌, arith, inl, inr, lit≤}
+use Rattle.std.proofs.Common.{◌≡◌, ℕ, ◌+◌, ◌<◌, ◌≤◌, true, List, [], ◌∷◌, length, Option, Some, refl, sym, ap, subst, ◌∙◌, arith, inl, inr, lit≤}
 use Rattle.std.specs.Prelude.{Result, Ok, Err, IsOk, IsOkUnless}
 use Rattle.std.proofs.lemmas.List.{nil_from_length}
 use Rattle.std.specs.List.{AllByRecursion}
@@ -7,9 +7,10 @@ use Rattle.wasmprinter_spec.specs.Grammar.{Input, input, ◌>>=◌, bind_some, s
 use Rattle.wasmprinter_spec.specs.Choices.{tested}
 use Rattle.wasmprinter_spec.specs.Repeated.{until_end}
 use Rattle.wasmprinter_spec.specs.Sized.{headed}
+use Rattle.wasmprinter_spec.specs.Types.{MemoryType}
 use Rattle.wasmprinter_spec.specs.Placed.{TypeGroup, Export, PlacedFunction, PlacedModule}
-use Rattle.wasmprinter_spec.specs.Sections.{FunctionSection, TypeSection, ExportSection, CodeSection, Section, section, are_above}
-use Rattle.wasmprinter_spec.specs.Binary.{AreBytes, preamble, types_in, type_indices_in, exports_in, bodies_in, function_pairs, module_from, module_of_sections, binary, Spells}
+use Rattle.wasmprinter_spec.specs.Sections.{FunctionSection, TypeSection, MemorySection, TagSection, ExportSection, StartSection, CodeSection, Section, section, are_above}
+use Rattle.wasmprinter_spec.specs.Binary.{AreBytes, preamble, types_in, type_indices_in, memories_in, tags_in, exports_in, bodies_in, function_pairs, module_from, module_of_sections, binary, Spells}
 use Rattle.wasmprinter_spec.specs.Limits.{HasFewLocals, IsWithinLimits, most_functions}
 use Rattle.wasmprinter_bytes.specs.Reads.{end_of}
 use Rattle.wasmprinter_error.specs.declared.error.Error.{Error}
@@ -19,7 +20,7 @@ use Rattle.wasmprinter_error.proofs.Reasons.{reason_implied, memory_alone}
 use Rattle.wasmprinter_wasm.specs.Refusals.{AnyIsOver}
 use Rattle.wasmprinter_wasm.specs.Contents.{HasFew}
 use Rattle.wasmprinter_wasm.specs.Gathering.{Gathered, sections_at, item_count_in, HoldsSections, sections_reasons}
-use Rattle.wasmprinter_wasm.specs.Modules.{functions_of, module_view, bodies_of, IsPaired}
+use Rattle.wasmprinter_wasm.specs.Modules.{functions_of, bodies_of, IsPaired}
 use Rattle.wasmprinter_wasm.specs.Decoding.{HoldsSome, HoldsNothing, module_reasons, IsFaultOf, TakesModule}
 use Rattle.wasmprinter_wasm.proofs.Later.{Later, later_none, later_more, many_later, section_later, items_later}
 use Rattle.wasmprinter_wasm.proofs.Pairing.{Paired, Pairs, paired_of, paired_length, pairs_of}
@@ -35,9 +36,12 @@ record Spelled (at : Input) (m : PlacedModule) (size : ℕ) : Type 0 where
   is : module_from size sections functions ≡ m
 
 -- modules of the same parts
-alike : (ts ts' : List (Placed TypeGroup)) (fs fs' : List PlacedFunction) (es es' : List (Placed Export)) (n n' : ℕ) → ts ≡ ts' → fs ≡ fs' → es ≡ es' → n ≡ n'
-    → ◌≡◌ {A = PlacedModule} (record { types = ts; functions = fs; exports = es; size = n }) (record { types = ts'; functions = fs'; exports = es'; size = n' })
-alike ts ts' fs fs' es es' n n' a b c d = rw (a, b, c, d) refl
+alike : {ts ts' : List (Placed TypeGroup)} {ms ms' : List (Placed MemoryType)} {gs gs' : List (Placed ℕ)} {es es' : List (Placed Export)} {f f' : Option (Placed ℕ)}
+    {fs fs' : List PlacedFunction} {n n' : ℕ} → ts ≡ ts' → ms ≡ ms' → gs ≡ gs' → es ≡ es' → f ≡ f' → fs ≡ fs' → n ≡ n'
+    → ◌≡◌ {A = PlacedModule}
+    (record { types = ts; memories = ms; tags = gs; exports = es; start = f; functions = fs; size = n })
+    (record { types = ts'; memories = ms'; tags = gs'; exports = es'; start = f'; functions = fs'; size = n' })
+alike a b c d e f g = rw (a, b, c, d, e, f, g) refl
 
 -- functions whose bodies have few locals have few
 few_functions : (fs : List PlacedFunction) → AllByRecursion HasFew (bodies_of fs) → AllByRecursion HasFewLocals fs
@@ -80,6 +84,8 @@ module _ (bytes pre : List ℕ) (at : Input) (first : preamble.parse (input 0 by
   holds_some : (m : PlacedModule) (s : Spelled at m size) → 0 < item_count_in s.sections → HoldsSome m
   holds_some m s some =
       let types : length m.types ≡ length (types_in s.sections) = ap (λ (x : PlacedModule). length x.types) (sym s.is) in
+      let memories : length m.memories ≡ length (memories_in s.sections) = ap (λ (x : PlacedModule). length x.memories) (sym s.is) in
+      let tags : length m.tags ≡ length (tags_in s.sections) = ap (λ (x : PlacedModule). length x.tags) (sym s.is) in
       let exports : length m.exports ≡ length (exports_in s.sections) = ap (λ (x : PlacedModule). length x.exports) (sym s.is) in
       let bodies = paired_length (type_indices_in s.sections) (bodies_in s.sections) s.functions s.pairs in
       omega (arith, (functions_are m s).count)
@@ -125,7 +131,15 @@ module _ (bytes pre : List ℕ) (at : Input) (first : preamble.parse (input 0 by
 
       -- the module that is put together
       abbrev seen : PlacedModule
-      seen = module_view g.types g.type_indices g.exports g.bodies (length bytes)
+      seen = record {
+        types = g.types;
+        memories = g.memories;
+        tags = g.tags;
+        exports = g.exports;
+        start = g.start;
+        functions = functions_of g.type_indices g.bodies;
+        size = length bytes;
+      }
 
       -- the functions that are paired
       made : Pairs g.type_indices g.bodies
@@ -146,7 +160,9 @@ module _ (bytes pre : List ℕ) (at : Input) (first : preamble.parse (input 0 by
       -- the bytes spell the module
       pub module_spelled : AreBytes bytes → Spells bytes seen
       module_spelled all =
-          let same_module : module_from size h.sections made.functions ≡ seen = alike _ _ _ _ _ _ _ _ (sym (h.held TypeSection)) (sym functions_made) (sym (h.held ExportSection)) (omega arith) in
+          let same_module : module_from size h.sections made.functions ≡ seen =
+          alike (sym (h.held TypeSection)) (sym (h.held MemorySection)) (sym (h.held TagSection)) (sym (h.held ExportSection)) (sym (h.held StartSection))
+          (sym functions_made) (omega arith) in
           record { are_bytes = all; spelled = binary.sound (input 0 bytes) seen (read ∙ ap (λ (m : PlacedModule). Some m) same_module) }
 
       -- the module is within the limits

@@ -102,8 +102,8 @@ module _ (old behind mid part new : Input) (id size : ℕ) (id_read : byte.parse
           (many_later old behind place later (many_in_part behind part p.0 new.bytes place p.1 p.2 h.0), of_section (HasOver place) h.1);
       functions = λ count h. (subst (λ (k : Kind). BeginsSection old k count) h.0 (begun count h.1), h.2, of_section (HasCount count) h.3);
       memory = λ h. (
-        record { kind = kind; count = h.0.count; some = h.0.some; begins = begun h.0.count (record { after = h.0.after; counted = h.0.counted }) },
-        of_section (λ (s : Section). 0 < item_count s) h.1,
+        record { kind = kind; listed = h.0; count = h.1.count; some = h.1.some; begins = begun h.1.count (record { after = h.1.after; counted = h.1.counted }) },
+        of_section (λ (s : Section). 0 < item_count s) h.2,
       );
     })
 

@@ -1,7 +1,7 @@
 -- What sections in order hold together.
 use Rattle.std.proofs.Common.{◌≡◌, ℕ, ◌<◌, ◌≤◌, lit≤, true, List, [], ◌∷◌, ◌++◌, length, refl, sym, ap, subst, ◌∙◌, arith}
 use Rattle.std.specs.List.{AllByRecursion}
-use Rattle.wasmprinter_spec.specs.Sections.{Kind, TypeSection, FunctionSection, ExportSection, CodeSection, Section, holds, section_kind, rank, rank_behind, are_above}
+use Rattle.wasmprinter_spec.specs.Sections.{Kind, TypeSection, FunctionSection, MemorySection, TagSection, ExportSection, StartSection, CodeSection, Section, holds, section_kind, rank, rank_behind, are_above}
 use Rattle.wasmprinter_spec.specs.Binary.{type_indices_in, bodies_in}
 use Rattle.wasmprinter_spec.specs.Limits.{most_functions}
 use Rattle.wasmprinter_spec.proofs.Ordered.{with_one, held_each, held_midst, held_picked}
@@ -15,14 +15,20 @@ use Rattle.wasmprinter_wasm.specs.Gathering.{Gathered, content_kept, with_sectio
 pub rank_added : (g : Gathered) (s : Section) → (with_section g s).rank ≡ rank_behind g.rank (rank (section_kind s))
 rank_added g (holds TypeSection x) = refl
 rank_added g (holds FunctionSection x) = refl
+rank_added g (holds MemorySection x) = refl
+rank_added g (holds TagSection x) = refl
 rank_added g (holds ExportSection x) = refl
+rank_added g (holds StartSection x) = refl
 rank_added g (holds CodeSection x) = refl
 
 -- a section sets what is kept of its kind, and leaves the rest
 pub kept_added : (kind : Kind) (g : Gathered) (s : Section) → content_kept kind (with_section g s) ≡ with_one kind (content_kept kind g) s
 kept_added TypeSection g (holds TypeSection x) = refl
 kept_added FunctionSection g (holds FunctionSection x) = refl
+kept_added MemorySection g (holds MemorySection x) = refl
+kept_added TagSection g (holds TagSection x) = refl
 kept_added ExportSection g (holds ExportSection x) = refl
+kept_added StartSection g (holds StartSection x) = refl
 kept_added CodeSection g (holds CodeSection x) = refl
 kept_added _ g _ = refl
 
@@ -30,6 +36,9 @@ kept_added _ g _ = refl
 pub some_midst : (xs : List Section) (s : Section) (ys : List Section) → are_above 0 (xs ++ s ∷ ys) ≡ true → 0 < item_count s → 0 < item_count_in (xs ++ s ∷ ys)
 some_midst xs (holds TypeSection x) ys up some = omega (arith, ap length (held_midst TypeSection 1 refl [] 0 xs x ys up))
 some_midst xs (holds FunctionSection x) ys up some = omega (arith, ap length (held_midst FunctionSection 3 refl [] 0 xs x ys up))
+some_midst xs (holds MemorySection x) ys up some = omega (arith, ap length (held_midst MemorySection 5 refl [] 0 xs x ys up))
+some_midst xs (holds TagSection x) ys up some = omega (arith, ap length (held_midst TagSection 6 refl [] 0 xs x ys up))
+some_midst xs (holds StartSection x) ys up some = absurd (omega (arith, some))
 some_midst xs (holds ExportSection x) ys up some = omega (arith, ap length (held_midst ExportSection 8 refl [] 0 xs x ys up))
 some_midst xs (holds CodeSection x) ys up some = omega (arith, ap length (held_midst CodeSection 12 refl [] 0 xs x ys up))
 

@@ -46,4 +46,4 @@ section_later start at kind count l h = record {
 
 -- and of one with items that are kept
 pub items_later : (start at : Input) → Later start at → BeginsItems at → BeginsItems start
-items_later start at l h = record { kind = h.kind; count = h.count; some = h.some; begins = section_later start at h.kind h.count l h.begins }
+items_later start at l h = record { kind = h.kind; listed = h.listed; count = h.count; some = h.some; begins = section_later start at h.kind h.count l h.begins }

@@ -5,16 +5,17 @@ use Rattle.wasmprinter_spec.specs.Grammar.{Input, Remainder, ◌>>=◌, Placed}
 use Rattle.wasmprinter_spec.specs.Name.{u32, vec}
 use Rattle.wasmprinter_spec.specs.Placed.{Body}
 use Rattle.wasmprinter_spec.specs.Binary.Code.{code_entry}
-use Rattle.wasmprinter_spec.specs.Sections.{Kind, TypeSection, FunctionSection, ExportSection, CodeSection, Content, content, holds, content_of, section}
+use Rattle.wasmprinter_spec.specs.Sections.{Kind, TypeSection, FunctionSection, MemorySection, TagSection, ExportSection, StartSection, CodeSection, Content, content, holds, content_of, section}
 use Rattle.wasmprinter_spec.specs.Sections.{Section as SectionValue}
 use Rattle.wasmprinter_spec.specs.Limits.{local_count, most_locals, most_functions}
 use Rattle.wasmprinter_bytes.specs.Reads.{end_of}
 use Rattle.wasmprinter_error.specs.declared.error.Error.{Error}
+use Rattle.wasmprinter_error.specs.declared.error.Malformed.{Malformed}
 use Rattle.wasmprinter_error.specs.Reasons.{Reasons, HasReason}
 use Rattle.wasmprinter_bytes.specs.Lists.{CountsItems, reader_reasons}
 use Rattle.wasmprinter_wasm.specs.declared.sections.Section.{Section}
 use Rattle.wasmprinter_wasm.specs.declared.sections.Section.TheVariants as s
-use Rattle.wasmprinter_wasm.specs.Refusals.{HasManyLocals, BeginsSection, BeginsItems, AnyIsOver}
+use Rattle.wasmprinter_wasm.specs.Refusals.{HasManyLocals, HoldsItems, BeginsSection, BeginsItems, AnyIsOver}
 
 -- ---- of each kind
 
@@ -22,7 +23,10 @@ use Rattle.wasmprinter_wasm.specs.Refusals.{HasManyLocals, BeginsSection, Begins
 abbrev pub section_view : Section → SectionValue
 section_view (s.Types ts) = holds TypeSection ts
 section_view (s.Functions is) = holds FunctionSection is.items
+section_view (s.Memories ms) = holds MemorySection ms.items
+section_view (s.Tags ts) = holds TagSection ts.items
 section_view (s.Exports es) = holds ExportSection es.items
+section_view (s.Start f) = holds StartSection (Some f)
 section_view (s.Code bs) = holds CodeSection bs.items
 
 -- a body of no more locals than are allowed
@@ -33,14 +37,20 @@ HasFew b = local_count b.value.locals ≤ most_locals
 abbrev pub IsSmall : SectionValue → Type 0
 IsSmall (holds TypeSection ts) = Unit {0}
 IsSmall (holds FunctionSection is) = length is ≤ most_functions
+IsSmall (holds MemorySection ms) = Unit {0}
+IsSmall (holds TagSection ts) = Unit {0}
 IsSmall (holds ExportSection es) = Unit {0}
+IsSmall (holds StartSection f) = Unit {0}
 IsSmall (holds CodeSection bs) = AllByRecursion HasFew bs
 
--- how many items the section holds
+-- how many items the section holds; the start function is none
 abbrev pub item_count : SectionValue → ℕ
 item_count (holds TypeSection ts) = length ts
 item_count (holds FunctionSection is) = length is
+item_count (holds MemorySection ms) = length ms
+item_count (holds TagSection ts) = length ts
 item_count (holds ExportSection es) = length es
+item_count (holds StartSection f) = 0
 item_count (holds CodeSection bs) = length bs
 
 -- the section holds the type indices of so many functions
@@ -98,20 +108,25 @@ pub record Counts (at : Input) (count : ℕ) : Type 0 where
   pub after : Input
   pub counted : u32.parse at ≡ Some (count, after)
 
--- Why the content of a section may be refused, which is spelled so and makes this section. `functions` says whether it may be for its
--- functions. What is said of the content is true of what stands there, if it is spelled at all.
-abbrev pub whole_reasons : {C : Type 0} → Remainder C → (C → SectionValue) → Type 0 → Input → Reasons
-whole_reasons {C} w made functions at = record {
+-- Why the content of a section may be refused, which is spelled so and makes this section. `items` says whether it is a list of items, and
+-- `functions` whether it may be refused for its functions. What is said of the content is true of what stands there, if it is spelled at all.
+abbrev pub whole_reasons : {C : Type 0} → Remainder C → (C → SectionValue) → Type 0 → Type 0 → Input → Reasons
+whole_reasons {C} w made items functions at = record {
   malformed = λ place. (w.parse at ≡ None) × (place ≤ end_of at);
   component = ⊥;
   locals = λ place. HasManyLocals at place × ((x : C) → w.parse at ≡ Some x → HasOver place (made x));
   functions = λ count. functions × Counts at count × (most_functions < count) × ((x : C) → w.parse at ≡ Some x → HasCount count (made x));
-  memory = CountsItems at × ((x : C) → w.parse at ≡ Some x → 0 < item_count (made x));
+  memory = items × CountsItems at × ((x : C) → w.parse at ≡ Some x → 0 < item_count (made x));
 }
 
 -- the content of a section of the kind
 abbrev pub content_reasons : Kind → Input → Reasons
-content_reasons kind at = whole_reasons (content kind) (holds kind) (kind ≡ FunctionSection) at
+content_reasons kind at = whole_reasons (content kind) (holds kind) (HoldsItems kind) (kind ≡ FunctionSection) at
+
+-- the value takes all bytes, or nothing of the kind does
+abbrev pub ReadsAll : {X A : Type 0} → (X → A) → (Input → Option A) → Input → Result X Malformed → Type 0
+ReadsAll view parse at (Ok x) = parse at ≡ Some (view x)
+ReadsAll view parse at (Err e) = (parse at ≡ None) × (e.place ≤ end_of at)
 
 -- content of the kind within the limits takes all bytes, or the refusal is true
 abbrev pub TakesHeld : (kind : Kind) → {X : Type 0} → (X → Content kind) → Input → Result X Error → Type 0

@@ -10,11 +10,11 @@ use Rattle.wasmprinter_error.specs.Reasons.{Reasons, HasReason}
 use Rattle.wasmprinter_wasm.specs.Refusals.{HasManyLocals, BeginsSection, BeginsItems, AnyIsOver}
 use Rattle.wasmprinter_wasm.specs.Modules.{bodies_of}
 
--- how many groups of types, functions and exports it has
+-- how many groups of types, functions, memories, tags and exports it has
 abbrev pub items_held : PlacedModule → ℕ
-items_held m = length m.types + length m.functions + length m.exports
+items_held m = length m.types + length m.functions + length m.memories + length m.tags + length m.exports
 
--- it has a group of types, a function or an export
+-- it has a group of types, a function, a memory, a tag or an export
 abbrev pub HoldsSome : PlacedModule → Type 0
 HoldsSome m = 0 < items_held m
 

@@ -1,3 +1,4 @@
+pub mod Externs
 pub mod Refusals
 pub mod Bodies
 pub mod Contents

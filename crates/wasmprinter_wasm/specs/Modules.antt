@@ -2,17 +2,13 @@
 use Rattle.std.specs.Prelude.{◌≡◌, ℕ, ◌≤◌, List, [], length, map, Option, slice_get}
 use Rattle.wasmprinter_spec.specs.Grammar.{Placed}
 use Rattle.wasmprinter_spec.specs.Repeated.{some_or}
-use Rattle.wasmprinter_spec.specs.Placed.{TypeGroup, Body, Export, PlacedFunction, PlacedModule}
+use Rattle.wasmprinter_spec.specs.Placed.{Body, PlacedFunction}
 use Rattle.wasmprinter_spec.specs.Binary.{function_pairs}
 use Rattle.wasmprinter_spec.specs.Limits.{most_functions}
 
 -- each type index with its body, none where the numbers differ
 abbrev pub functions_of : List ℕ → List (Placed Body) → List PlacedFunction
 functions_of is bs = some_or (function_pairs is bs) [] (λ fs. fs)
-
--- the module of the definitions
-abbrev pub module_view : List (Placed TypeGroup) → List ℕ → List (Placed Export) → List (Placed Body) → ℕ → PlacedModule
-module_view ts is es bs size = record { types = ts; functions = functions_of is bs; exports = es; size = size }
 
 -- there is a body for each type index, and no more functions than are allowed
 pub record IsPaired (is : List ℕ) (bs : List (Placed Body)) : Type 0 where

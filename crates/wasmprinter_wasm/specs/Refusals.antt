@@ -4,7 +4,7 @@ use Rattle.std.specs.Prelude.{◌≡◌, ℕ, ◌+◌, ◌<◌, ◌⊎◌, List,
 use Rattle.wasmprinter_spec.specs.Grammar.{Input, Placed, placed}
 use Rattle.wasmprinter_spec.specs.Name.{u32, vec}
 use Rattle.wasmprinter_spec.specs.Placed.{LocalEntry, Body}
-use Rattle.wasmprinter_spec.specs.Sections.{Kind, kind_of}
+use Rattle.wasmprinter_spec.specs.Sections.{Kind, StartSection, kind_of}
 use Rattle.wasmprinter_spec.specs.Binary.Code.{local_entry}
 use Rattle.wasmprinter_spec.specs.Limits.{local_count, most_locals}
 
@@ -32,9 +32,15 @@ pub record BeginsSection (at : Input) (kind : Kind) (count : ℕ) : Type 0 where
   pub sized : u32.spells (at.place + length before + 1) size_text size
   pub counted : u32.spells (at.place + length before + 1 + length size_text) count_text count
 
--- among the bytes begins a section, of a kind whose items are kept as all are so far, with a count above zero
+-- sections of the kind hold a list of items
+abbrev pub HoldsItems : Kind → Type 0
+HoldsItems StartSection = ⊥
+HoldsItems _ = Unit {0}
+
+-- among the bytes begins a section, of a kind that holds items, with a count above zero
 pub record BeginsItems (at : Input) : Type 0 where
   pub kind : Kind
+  pub listed : HoldsItems kind
   pub count : ℕ
   pub some : 0 < count
   pub begins : BeginsSection at kind count

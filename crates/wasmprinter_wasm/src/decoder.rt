@@ -13,6 +13,9 @@ use crate::module::Module;
 use crate::sections::Section;
 use crate::sections::code::Body;
 use crate::sections::exports::Export;
+use crate::sections::memories::Memory;
+use crate::sections::start::Start;
+use crate::sections::tags::Tag;
 use crate::sections::types::Types;
 use std::alloc::Global;
 use std::marker::Model;
@@ -51,7 +54,10 @@ struct Gathered<'a> {
     rank: u8,
     types: Types<'a>,
     type_indices: Vec<u32>,
+    memories: Vec<Memory>,
+    tags: Vec<Tag>,
     exports: Vec<Export<'a>>,
+    start: Option<Start>,
     bodies: Vec<Body<'a>>,
 }
 
@@ -64,7 +70,10 @@ impl<'a> Model for Gathered<'a> {
       rank = g.rank;
       types = g.types;
       type_indices = g.type_indices.items;
+      memories = g.memories.items;
+      tags = g.tags.items;
       exports = g.exports.items;
+      start = g.start;
       bodies = g.bodies.items;
     } };
 }
@@ -78,7 +87,10 @@ impl<'a> Gathered<'a> {
             rank: 0,
             types: Types::new(alloc),
             type_indices: Vec::new(alloc),
+            memories: Vec::new(alloc),
+            tags: Vec::new(alloc),
             exports: Vec::new(alloc),
+            start: None,
             bodies: Vec::new(alloc),
         }
     }
@@ -101,7 +113,10 @@ impl<'a> Gathered<'a> {
         match section {
             Section::Types(types) => self.types.replace(types),
             Section::Functions(type_indices) => self.type_indices = type_indices,
+            Section::Memories(memories) => self.memories = memories,
+            Section::Tags(tags) => self.tags = tags,
             Section::Exports(exports) => self.exports = exports,
+            Section::Start(start) => self.start = Some(start),
             Section::Code(bodies) => self.bodies = bodies,
         }
     }
@@ -137,7 +152,10 @@ fn read_module<'a>(alloc: Global, wasm: &'a [u8]) -> Result<Module<'a>, Error>
     Ok(Module {
         types: gathered.types,
         type_indices: gathered.type_indices,
+        memories: gathered.memories,
+        tags: gathered.tags,
         exports: gathered.exports,
+        start: gathered.start,
         bodies: gathered.bodies,
         size,
     })
@@ -158,7 +176,7 @@ pub fn decode<'a>(alloc: Global, wasm: &'a [u8]) -> Result<Module<'a>, Error>
     // Bytes that spell a module within the limits are refused for memory alone.
     ensures within { (m : PlacedModule) → Spells wasm.now m → IsWithinLimits m → IsOkUnless result Error.Memory }
 
-    // Bytes that spell a module without groups of types, functions and exports are never refused.
+    // Bytes that spell a module without groups of types, functions, memories, tags and exports are never refused.
     ensures empty { (m : PlacedModule) → Spells wasm.now m → HoldsNothing m → IsOk result }
 {
     if is_component(wasm) {

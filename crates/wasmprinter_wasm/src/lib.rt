@@ -10,7 +10,10 @@ pub use decoder::decode;
 pub use module::Module;
 pub use readers::Function;
 pub use sections::code::{Body, LocalEntry, Locals};
-pub use sections::exports::Export;
+pub use sections::exports::{Export, ExternKind};
+pub use sections::memories::{Limits, Memory, MemoryType};
+pub use sections::start::Start;
+pub use sections::tags::Tag;
 pub use sections::types::TypeGroup;
 
 #[cfg(test)]

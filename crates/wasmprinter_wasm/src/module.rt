@@ -4,6 +4,9 @@ ghost use Rattle.wasmprinter_wasm.specs.Modules.{body_at};
 
 use crate::sections::code::Body;
 use crate::sections::exports::Export;
+use crate::sections::memories::Memory;
+use crate::sections::start::Start;
+use crate::sections::tags::Tag;
 use crate::sections::types::Types;
 use std::marker::Model;
 
@@ -12,18 +15,29 @@ use std::marker::Model;
 pub struct Module<'a> {
     pub(crate) types: Types<'a>,
     pub(crate) type_indices: Vec<u32>,
+    pub(crate) memories: Vec<Memory>,
+    pub(crate) tags: Vec<Tag>,
     pub(crate) exports: Vec<Export<'a>>,
+    pub(crate) start: Option<Start>,
     pub(crate) bodies: Vec<Body<'a>>,
     pub(crate) size: u64,
 }
 
 impl<'a> Model for Module<'a> {
     ghost use Rattle.wasmprinter_spec.specs.Placed.{PlacedModule};
-    ghost use Rattle.wasmprinter_wasm.specs.Modules.{module_view, IsPaired};
+    ghost use Rattle.wasmprinter_wasm.specs.Modules.{functions_of, IsPaired};
 
     ghost Value = { PlacedModule };
 
-    ghost view = { λ m. module_view m.types m.type_indices.items m.exports.items m.bodies.items m.size };
+    ghost view = { λ m. record {
+      types = m.types;
+      memories = m.memories.items;
+      tags = m.tags.items;
+      exports = m.exports.items;
+      start = m.start;
+      functions = functions_of m.type_indices.items m.bodies.items;
+      size = m.size;
+    } };
 
     ghost invariant = { λ m. IsPaired m.type_indices.items m.bodies.items };
 }

@@ -6,6 +6,9 @@ ghost use Rattle.wasmprinter_spec.specs.Module.{groups_of};
 use crate::module::Module;
 use crate::sections::code::Body;
 use crate::sections::exports::Export;
+use crate::sections::memories::Memory;
+use crate::sections::start::Start;
+use crate::sections::tags::Tag;
 use crate::sections::types::TypeGroup;
 use std::marker::Model;
 use wasmprinter_ops::types::composite::FuncType;
@@ -59,11 +62,32 @@ impl<'a> Module<'a> {
         self.types.signature(index)
     }
 
+    /// The memories that the module defines.
+    pub fn memories(&self) -> &[Memory]
+        ensures { result.now ≡ self.now.memories }
+    {
+        &self.memories
+    }
+
+    /// The tags that the module defines.
+    pub fn tags(&self) -> &[Tag]
+        ensures { result.now ≡ self.now.tags }
+    {
+        &self.tags
+    }
+
     /// The exports.
     pub fn exports(&self) -> &[Export<'a>]
         ensures { result.now ≡ self.now.exports }
     {
         &self.exports
+    }
+
+    /// The start function, `None` where there is no start section.
+    pub fn start(&self) -> Option<Start>
+        ensures { result ≡ self.now.start }
+    {
+        self.start
     }
 
     /// How many bytes the module has.

@@ -8,11 +8,17 @@ ghost use Rattle.wasmprinter_wasm.specs.Contents.{section_view, TakesContent, Ta
 pub mod code;
 pub mod exports;
 mod functions;
+pub mod memories;
+pub mod start;
+pub mod tags;
 pub mod types;
 
 use crate::sections::code::{Body, read_code};
 use crate::sections::exports::{Export, read_exports};
 use crate::sections::functions::read_functions;
+use crate::sections::memories::{Memory, read_memories};
+use crate::sections::start::{Start, read_start};
+use crate::sections::tags::{Tag, read_tags};
 use crate::sections::types::Types;
 use std::alloc::Global;
 use wasmprinter_bytes::bytes::Cursor;
@@ -22,9 +28,15 @@ const TYPE: u8 = 1;
 
 const FUNCTION: u8 = 3;
 
+const MEMORY: u8 = 5;
+
 const EXPORT: u8 = 7;
 
+const START: u8 = 8;
+
 const CODE: u8 = 10;
+
+const TAG: u8 = 13;
 
 /// What a section holds.
 #[derive(Drop)]
@@ -33,8 +45,14 @@ pub(crate) enum Section<'a> {
     Types(Types<'a>),
     /// The type index of each defined function.
     Functions(Vec<u32>),
+    /// Memories.
+    Memories(Vec<Memory>),
+    /// Tags.
+    Tags(Vec<Tag>),
     /// Exports.
     Exports(Vec<Export<'a>>),
+    /// The start function.
+    Start(Start),
     /// The bodies of the defined functions.
     Code(Vec<Body<'a>>),
 }
@@ -74,7 +92,10 @@ fn read_content<'a>(alloc: Global, id: u8, cursor: &mut Cursor<'a>) -> Result<Se
     match id {
         TYPE => Ok(Section::Types(Types::read(alloc, cursor)?)),
         FUNCTION => Ok(Section::Functions(read_functions(alloc, cursor)?)),
+        MEMORY => Ok(Section::Memories(read_memories(alloc, cursor)?)),
+        TAG => Ok(Section::Tags(read_tags(alloc, cursor)?)),
         EXPORT => Ok(Section::Exports(read_exports(alloc, cursor)?)),
+        START => Ok(Section::Start(read_start(cursor)?)),
         CODE => Ok(Section::Code(read_code(alloc, cursor)?)),
         _ => Err(Error::Malformed {
             place: cursor.place(),
@@ -101,7 +122,10 @@ impl<'a> Section<'a> {
         match self {
             Section::Types(_) => Some(1),
             Section::Functions(_) => Some(3),
+            Section::Memories(_) => Some(5),
+            Section::Tags(_) => Some(6),
             Section::Exports(_) => Some(8),
+            Section::Start(_) => Some(9),
             Section::Code(_) => Some(12),
         }
     }
