@@ -21,7 +21,7 @@ mod limits;
 #[cfg(test)]
 mod modules;
 #[cfg(test)]
-mod opcode_runs;
+mod opcode_words;
 #[cfg(test)]
 mod opcodes;
 #[cfg(test)]

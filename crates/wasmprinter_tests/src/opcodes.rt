@@ -1,8 +1,9 @@
 //! All opcodes: the line of each operator, and the numbers that no operator has, which are malformed.
 
 use crate::control::text_of;
-use crate::opcode_runs::GROUPS;
+use crate::opcode_words::{Group, INDICES, LANES, MEMORIES, OTHERS, PLAIN};
 use std::alloc::{AllocError, Global};
+use std::num::ParseIntError;
 use std::test::Fail;
 use wasmprinter::Error;
 
@@ -36,22 +37,80 @@ fn opcode(alloc: Global, prefix: u8, number: u32) -> Result<Vec<u8>, AllocError>
     Ok(bytes)
 }
 
-#[test]
-fn prints_each_operator(rt: HostRuntime) -> Result<(), Fail> {
-    let alloc = rt.alloc();
-    for group in GROUPS {
-        for (prefix, first, beginning, endings) in group.runs {
-            let mut number = *first;
-            for ending in endings.split_ascii_whitespace() {
-                let mut bytes = opcode(alloc, *prefix, number)?;
+/// An operator and the line that it is printed on.
+#[derive(Drop)]
+struct Sample {
+    bytes: Vec<u8>,
+    line: String,
+}
+
+/// The operators of a group.
+fn samples_of(alloc: Global, group: &Group) -> Result<Vec<Sample>, Fail> {
+    let mut samples = Vec::new(alloc);
+    let mut number = 0;
+    for item in group.words.split_ascii_whitespace() {
+        match item.strip_prefix('@') {
+            Some(digits) => number = number_of(group.prefix, digits)?,
+            None => {
+                let mut bytes = opcode(alloc, group.prefix, number)?;
                 bytes.extend_from_slice(group.immediates)?;
-                let line = format!(in alloc; "{beginning}{ending}{}", group.text)?;
-                let text = text_of(alloc, &bytes)?;
-                assert_eq!(rt; text.as_str(), expected(alloc, &[line.as_str()])?.as_str());
+                let line = format!(in alloc; "{item}{}", group.text)?;
+                samples.push(Sample { bytes, line })?;
                 number = number.saturating_add(1);
             }
         }
     }
+    Ok(samples)
+}
+
+/// A number as a group writes it.
+fn number_of(prefix: u8, digits: &str) -> Result<u32, ParseIntError> {
+    match prefix {
+        0 | 0xfe => u32::from_str_radix(digits, 16),
+        _ => u32::from_str_radix(digits, 10),
+    }
+}
+
+/// The first operator of some groups that isn't printed on its line, by the text that is printed.
+fn first_fault(alloc: Global, groups: &[Group]) -> Result<Option<String>, Fail> {
+    for group in groups {
+        for sample in &samples_of(alloc, group)? {
+            let text = text_of(alloc, &sample.bytes)?;
+            if text != expected(alloc, &[sample.line.as_str()])? {
+                return Ok(Some(text));
+            }
+        }
+    }
+    Ok(None)
+}
+
+#[test]
+fn prints_operators_without_immediates(rt: HostRuntime) -> Result<(), Fail> {
+    assert_eq!(rt; first_fault(rt.alloc(), &PLAIN)?, None);
+    Ok(())
+}
+
+#[test]
+fn prints_operators_on_memories(rt: HostRuntime) -> Result<(), Fail> {
+    assert_eq!(rt; first_fault(rt.alloc(), &MEMORIES)?, None);
+    Ok(())
+}
+
+#[test]
+fn prints_operators_with_lanes(rt: HostRuntime) -> Result<(), Fail> {
+    assert_eq!(rt; first_fault(rt.alloc(), &LANES)?, None);
+    Ok(())
+}
+
+#[test]
+fn prints_operators_with_indices(rt: HostRuntime) -> Result<(), Fail> {
+    assert_eq!(rt; first_fault(rt.alloc(), &INDICES)?, None);
+    Ok(())
+}
+
+#[test]
+fn prints_operators_with_types_and_numbers(rt: HostRuntime) -> Result<(), Fail> {
+    assert_eq!(rt; first_fault(rt.alloc(), &OTHERS)?, None);
     Ok(())
 }
 
@@ -90,7 +149,7 @@ fn prints_operators_of_blocks(rt: HostRuntime) -> Result<(), Fail> {
 }
 
 /// Other immediates: what is left out, what isn't, and longer spellings.
-const OTHERS: [(&[u8], &str); 20] = [
+const SPECIAL: [(&[u8], &str); 20] = [
     (&[0x11, 0x00, 0x00], "call_indirect (type 0)"),
     (&[0x3f, 0x00], "memory.size"),
     (&[0x40, 0x00], "memory.grow"),
@@ -132,7 +191,7 @@ const OTHERS: [(&[u8], &str); 20] = [
 
 #[test]
 fn prints_other_immediates(rt: HostRuntime) -> Result<(), Fail> {
-    for (operator, line) in OTHERS {
+    for (operator, line) in SPECIAL {
         let text = text_of(rt.alloc(), operator)?;
         assert_eq!(rt; text.as_str(), expected(rt.alloc(), &[line])?.as_str());
     }
@@ -211,21 +270,38 @@ fn refuses_each_other_number(rt: HostRuntime) -> Result<(), Fail> {
     Ok(())
 }
 
+/// How many operators are in some groups.
+fn count_of(alloc: Global, groups: &[Group]) -> Result<u32, Fail> {
+    let mut count = 0u32;
+    for group in groups {
+        for _ in &samples_of(alloc, group)? {
+            count = count.saturating_add(1);
+        }
+    }
+    Ok(count)
+}
+
 /// Each number is printed or refused by a test above.
 #[test]
 fn leaves_out_no_number(rt: HostRuntime) -> Result<(), Fail> {
-    let mut numbers = BLOCK_OPCODES;
-    for group in GROUPS {
-        for (_, _, _, endings) in group.runs {
-            for _ in endings.split_ascii_whitespace() {
-                numbers = numbers.saturating_add(1);
-            }
-        }
-    }
+    let alloc = rt.alloc();
+    let mut refused = 0u32;
     for (_, first, last) in UNLISTED {
         for _ in first..=last {
-            numbers = numbers.saturating_add(1);
+            refused = refused.saturating_add(1);
         }
+    }
+    let printed = [
+        BLOCK_OPCODES,
+        count_of(alloc, &PLAIN)?,
+        count_of(alloc, &MEMORIES)?,
+        count_of(alloc, &LANES)?,
+        count_of(alloc, &INDICES)?,
+        count_of(alloc, &OTHERS)?,
+    ];
+    let mut numbers = refused;
+    for count in printed {
+        numbers = numbers.saturating_add(count);
     }
     assert_eq!(rt; numbers, NUMBERS);
     Ok(())
