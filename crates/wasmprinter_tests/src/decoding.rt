@@ -68,8 +68,13 @@ fn has_no_words_for_opcodes_that_are_not_listed(rt: HostRuntime) {
         (0, 0x27),
         (0, 0x100),
         (0, u32::MAX),
-        (0xfc, 0x10),
-        (0xfb, 0x0f),
+        (0xfc, 18),
+        (0xfc, 0x100),
+        (0xfb, 31),
+        (0xfd, 154),
+        (0xfd, 0x1_0000),
+        (0xfe, 0x04),
+        (0xff, 0x00),
     ] {
         assert_eq!(rt; Opcode { prefix, number }.word(), "");
     }

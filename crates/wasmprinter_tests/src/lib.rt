@@ -21,6 +21,10 @@ mod limits;
 #[cfg(test)]
 mod modules;
 #[cfg(test)]
+mod opcode_words;
+#[cfg(test)]
+mod opcodes;
+#[cfg(test)]
 mod recorder;
 #[cfg(test)]
 mod refusals;
