@@ -1,106 +1,132 @@
--- The layouts of a module's fields with their groups written out: parenthesis, what the group holds, parenthesis.
-use Rattle.std.specs.Prelude.{◌≡◌, ℕ, suc, ◌+◌, ◌<◌, ◌==◌, not, drop, List, [], ◌∷◌, ◌++◌, Bool, true, false, ◌||◌, ◌≤◌, length, chars, codes, Option, Some, None, slice_get, refl}
-use Rattle.std.proofs.Common.{sym, ap, ap₂, ◌∙◌, add-one, append_assoc, drop-cons, get_or}
+-- The layouts of a module's fields by their groups, on one line or over lines.
+use Rattle.std.specs.Prelude.{◌≡◌, ℕ, suc, ◌+◌, ◌<◌, ◌==◌, not, drop, List, [], ◌∷◌, ◌++◌, Bool, true, false, ◌||◌, ◌≤◌, length, chars, codes, Option, Some, None, is_some, slice_get, refl}
+use Rattle.std.proofs.Common.{sym, ap, ap₂, ◌∙◌, add-one, drop-cons, get_or}
 use Rattle.std.proofs.Math.Dec.{eqb-suc-zero}
 use Rattle.std.proofs.lemmas.Option.{slice_get_past, slice_get_within, get_or_from_slice_get}
 use Rattle.std.proofs.lemmas.List.{drop_all}
 use Rattle.wasmprinter_spec.specs.Grammar.{Placed}
-use Rattle.wasmprinter_spec.specs.Types.{FuncType, SubType, all_types, signature_at}
-use Rattle.wasmprinter_spec.specs.Module.{groups_of}
+use Rattle.wasmprinter_spec.specs.Types.{FuncType, SubType, MemoryType, ExternKind, TagKind, signature_at}
 use Rattle.wasmprinter_spec.specs.Placed.{TypeGroup, Export, PlacedFunction, PlacedModule}
 use Rattle.wasmprinter_spec.specs.Options.{Options}
-use Rattle.wasmprinter_spec.specs.Piece.{Piece, Begin, Feed, Break, Gap, Open, OpenGap, Shut, Word, Number, Mark, Quoted}
-use Rattle.wasmprinter_spec.specs.Layout.{export_pieces, signature_if, header_pieces, local_pieces, body_pieces, function_group, function_pieces, module_field_pieces, module_pieces}
-use Rattle.wasmprinter_spec.specs.Layout.Groups.{has_break, close, numbered, group_gap, group_at, group_gap_at}
-use Rattle.wasmprinter_spec.specs.Layout.Types.{signature_pieces, type_group_pieces, type_section_pieces}
-use Rattle.wasmprinter_lines.proofs.Groups.{has_break-append, line-append, group-line, group_gap-line, line-group, line-group_gap}
+use Rattle.wasmprinter_spec.specs.Piece.{Piece, Break, Gap, Word, Number, Quoted}
+use Rattle.wasmprinter_spec.specs.Layout.{signature_if, header_pieces, local_pieces, body_pieces, tag_pieces, start_pieces, function_group, function_pieces, module_field_pieces}
+use Rattle.wasmprinter_spec.specs.Layout.Groups.{has_break, numbered, group_gap, group_gap_at, line_group_gap}
+use Rattle.wasmprinter_spec.specs.Layout.Types.{type_group_pieces, type_section_pieces}
+use Rattle.wasmprinter_spec.specs.Layout.Memories.{wide_pieces, limits_pieces, shared_pieces, page_pieces, memory_type_pieces, memory_pieces}
+use Rattle.wasmprinter_spec.specs.Layout.Exports.{kind_word, extern_index_pieces, export_pieces}
+use Rattle.wasmprinter_spec.specs.Layout.Operators.{signature_behind}
+use Rattle.wasmprinter_lines.proofs.Groups.{has_break-append, line-append, group_gap-line, line-group_gap}
 use Rattle.wasmprinter_text.proofs.Signatures.{signature-line}
+use Rattle.wasmprinter.specs.Parts.{types_of, memory_parts, header_parts, export_parts, outline_parts, definition_parts}
 
--- the signature of no function type
-pub signature-none : (r : Option FuncType) → r ≡ None → signature_if r ≡ []
-unfolding signature_if
-signature-none r e = ap signature_if e
+-- a group whose lines don't change
+in_line : (nesting : ℕ) (w : List ℕ) (ps : List Piece) → has_break ps ≡ false → group_gap nesting w ps ≡ line_group_gap w ps
+unfolding line_group_gap
+in_line nesting w ps e = group_gap-line nesting w ps e
 
--- that of a function type
-pub signature-some : (r : Option FuncType) (t : FuncType) → r ≡ Some t → signature_if r ≡ signature_pieces t
+-- ---- memories
+
+wide-line : (wide : Bool) → has_break (wide_pieces wide) ≡ false
+wide-line true = refl
+wide-line false = refl
+
+shared-line : (shared : Bool) → has_break (shared_pieces shared) ≡ false
+shared-line true = refl
+shared-line false = refl
+
+page-line : (page : Option ℕ) → has_break (page_pieces page) ≡ false
+unfolding line_group_gap
+page-line None = refl
+page-line (Some e) = refl
+
+memory_type-line : (m : MemoryType) → has_break (memory_type_pieces m) ≡ false
+unfolding memory_type_pieces limits_pieces
+memory_type-line m =
+    line-append (wide_pieces m.wide) (limits_pieces m.limits ++ (shared_pieces m.shared ++ page_pieces m.page)) (wide-line m.wide)
+    (line-append (shared_pieces m.shared) (page_pieces m.page) (shared-line m.shared) (page-line m.page))
+
+-- a memory stands on one line
+pub memory-out : (i : ℕ) (m : Placed MemoryType) → memory_pieces i m ≡ Break (Some m.place) 1 ∷ line_group_gap (codes "memory") (memory_parts i m.value)
+unfolding memory_pieces
+memory-out i m = ap (λ ps. Break (Some m.place) 1 ∷ ps) (in_line 1 (codes "memory") (memory_parts i m.value) (memory_type-line m.value))
+
+-- ---- heads of tags and functions
+
+-- the two names of a signature
+pub signature-behind : (t : Option FuncType) → signature_behind t ≡ signature_if t
 unfolding signature_if
-signature-some r t e = ap signature_if e
+signature-behind None = refl
+signature-behind (Some t) = refl
 
 signature_if-line : (t : Option FuncType) → has_break (signature_if t) ≡ false
 unfolding signature_if
 signature_if-line None = refl
 signature_if-line (Some t) = signature-line t
 
-header-line : (i n : ℕ) (t : Option FuncType) → has_break (header_pieces i n t) ≡ false
+header-line : (ts : List SubType) (i n : ℕ) → has_break (header_parts ts i n) ≡ false
 unfolding header_pieces
-header-line i n t =
-    line-append (group_gap 2 (codes "type") (Number n ∷ [])) (signature_if t) (line-group_gap 2 (codes "type") (Number n ∷ []) refl) (signature_if-line t)
+header-line ts i n =
+    line-append (group_gap 2 (codes "type") (Number n ∷ [])) (signature_if (signature_at ts n)) (line-group_gap 2 (codes "type") (Number n ∷ []) refl)
+    (signature_if-line (signature_at ts n))
 
--- a function without its body, written out
-pub skeleton-out : (offsets : Bool) (ts : List SubType) (t : Option FuncType) (i : ℕ) (f : PlacedFunction) →
-    function_group true offsets ts t i f ≡ OpenGap (codes "func") ∷ (header_pieces i f.type_index t ++ (Gap ∷ (Word (codes "...") ∷ (Shut ∷ []))))
-unfolding function_group
-skeleton-out offsets ts t i f =
-    group_gap-line 1 (codes "func") (header_pieces i f.type_index t ++ (Gap ∷ (Word (codes "...") ∷ []))) (line-append (header_pieces i f.type_index t) (Gap ∷ (Word (codes "...") ∷ [])) (header-line i f.type_index t) refl)
-    ∙ ap (λ ps. OpenGap (codes "func") ∷ ps) (append_assoc (header_pieces i f.type_index t) (Gap ∷ (Word (codes "...") ∷ [])) (Shut ∷ []))
+-- a tag stands on one line
+pub tag-out : (ts : List SubType) (i : ℕ) (t : Placed ℕ) → tag_pieces ts i t ≡ Break (Some t.place) 1 ∷ line_group_gap (codes "tag") (header_parts ts i t.value)
+unfolding tag_pieces
+tag-out ts i t = ap (λ ps. Break (Some t.place) 1 ∷ ps) (in_line 1 (codes "tag") (header_parts ts i t.value) (header-line ts i t.value))
 
--- a function, written out
-pub function-out : (offsets : Bool) (ts : List SubType) (t : Option FuncType) (i : ℕ) (f : PlacedFunction) →
-    function_group false offsets ts t i f
-    ≡ OpenGap (codes "func") ∷ (header_pieces i f.type_index t ++ (local_pieces f.body.value.locals ++ (body_pieces ts f.body.value.operators
-    ++ close (Some f.body.value.end) 1 (offsets || (has_break (local_pieces f.body.value.locals) || has_break (body_pieces ts f.body.value.operators))))))
-unfolding function_group group_gap_at
-function-out offsets ts t i f =
-    let head : List Piece = header_pieces i f.type_index t in
-    let locals : List Piece = local_pieces f.body.value.locals in
-    let body : List Piece = body_pieces ts f.body.value.operators in
-    let changed : has_break (head ++ (locals ++ body)) ≡ (has_break locals || has_break body) =
-    has_break-append head (locals ++ body) ∙ ap (λ b. b || has_break (locals ++ body)) (header-line i f.type_index t) ∙ has_break-append locals body in
-    ap (λ b. OpenGap (codes "func") ∷ ((head ++ (locals ++ body)) ++ close (Some f.body.value.end) 1 (offsets || b))) changed
-    ∙ ap (λ ps. OpenGap (codes "func") ∷ ps)
-    (append_assoc head (locals ++ body) (close (Some f.body.value.end) 1 (offsets || (has_break locals || has_break body)))
-    ∙ ap (λ ps. head ++ ps) (append_assoc locals body (close (Some f.body.value.end) 1 (offsets || (has_break locals || has_break body)))))
+-- ---- exports
 
--- a module, written out
-pub module-out : (o : Options) (m : PlacedModule) →
-    module_pieces o m
-    ≡ Begin 0 ∷ (Open (codes "module") ∷ (module_field_pieces o m ++ (close (Some m.size) 0 (o.offsets || has_break (module_field_pieces o m)) ++ (Feed ∷ []))))
-unfolding module_pieces group_at
-module-out o m =
-    ap (λ ps. Begin 0 ∷ (Open (codes "module") ∷ ps)) (append_assoc (module_field_pieces o m) (close (Some m.size) 0 (o.offsets || has_break (module_field_pieces o m))) (Feed ∷ []))
+extern-line : (k : ExternKind) (n : ℕ) → has_break (extern_index_pieces k n) ≡ false
+unfolding extern_index_pieces
+extern-line TagKind n = refl
+extern-line _ n = refl
 
--- an export, written out
-pub export-out : (e : Placed Export) →
-    export_pieces e ≡ Break (Some e.place) 1 ∷ (OpenGap (codes "export") ∷ (Quoted (chars e.value.name) ∷ (Gap ∷ (group_gap 2 (codes "func") (Number e.value.function ∷ []) ++ (Shut ∷ [])))))
+-- an export stands on one line
+pub export-out : (e : Placed Export) → export_pieces e ≡ Break (Some e.place) 1 ∷ line_group_gap (codes "export") (export_parts e.value)
 unfolding export_pieces
 export-out e =
+    let k : ExternKind = e.value.kind in
+    let n : ℕ = e.value.index in
+    let given : List Piece = group_gap 2 (kind_word k) (extern_index_pieces k n) in
     ap (λ ps. Break (Some e.place) 1 ∷ ps)
-    (group_gap-line 1 (codes "export") (Quoted (chars e.value.name) ∷ (Gap ∷ group_gap 2 (codes "func") (Number e.value.function ∷ []))) (line-group_gap 2 (codes "func") (Number e.value.function ∷ []) refl))
+    (in_line 1 (codes "export") (Quoted (chars e.value.name) ∷ (Gap ∷ given)) (line-group_gap 2 (kind_word k) (extern_index_pieces k n) (extern-line k n))
+    ∙ ap (λ ps. line_group_gap (codes "export") (Quoted (chars e.value.name) ∷ (Gap ∷ ps))) (in_line 2 (kind_word k) (extern_index_pieces k n) (extern-line k n)))
 
--- a function without its body, with the line that it begins
-pub outline-out : (o : Options) (ts : List SubType) (i : ℕ) (f : PlacedFunction) → o.skeleton ≡ true →
-    function_pieces o ts i f ≡ Break (Some f.body.place) 1 ∷ (OpenGap (codes "func") ∷ (header_pieces i f.type_index (signature_at ts f.type_index) ++ (Gap ∷ (Word (codes "...") ∷ (Shut ∷ [])))))
-unfolding function_pieces
-outline-out o ts i f e =
-    let t : Option FuncType = signature_at ts f.type_index in
-    ap (λ b. Break (Some f.body.place) 1 ∷ function_group b o.offsets ts t i f) e ∙ ap (λ ps. Break (Some f.body.place) 1 ∷ ps) (skeleton-out o.offsets ts t i f)
+-- ---- functions
 
--- a function with its body, with the line that it begins
-pub whole-out : (o : Options) (ts : List SubType) (i : ℕ) (f : PlacedFunction) → o.skeleton ≡ false →
-    function_pieces o ts i f
-    ≡ Break (Some f.body.place) 1 ∷ (OpenGap (codes "func") ∷ (header_pieces i f.type_index (signature_at ts f.type_index)
-    ++ (local_pieces f.body.value.locals ++ (body_pieces ts f.body.value.operators
-    ++ close (Some f.body.value.end) 1 (o.offsets || (has_break (local_pieces f.body.value.locals) || has_break (body_pieces ts f.body.value.operators)))))))
-unfolding function_pieces
-whole-out o ts i f e =
-    let t : Option FuncType = signature_at ts f.type_index in
-    ap (λ b. Break (Some f.body.place) 1 ∷ function_group b o.offsets ts t i f) e ∙ ap (λ ps. Break (Some f.body.place) 1 ∷ ps) (function-out o.offsets ts t i f)
+-- a function without its body stands on one line
+outline-out : (offsets : Bool) (ts : List SubType) (i : ℕ) (f : PlacedFunction) →
+    function_group true offsets ts (signature_at ts f.type_index) i f ≡ line_group_gap (codes "func") (outline_parts ts i f)
+unfolding function_group
+outline-out offsets ts i f =
+    in_line 1 (codes "func") (outline_parts ts i f)
+    (line-append (header_parts ts i f.type_index) (Gap ∷ (Word (codes "...") ∷ [])) (header-line ts i f.type_index) refl)
 
--- the line that a function begins, whatever stands on it
-pub function-line : (o : Options) (ts : List SubType) (i : ℕ) (f : PlacedFunction) →
-    function_pieces o ts i f ≡ Break (Some f.body.place) 1 ∷ function_group o.skeleton o.offsets ts (signature_at ts f.type_index) i f
-unfolding function_pieces
-function-line o ts i f = refl
+definition-out : (offsets : Bool) (ts : List SubType) (i : ℕ) (f : PlacedFunction) →
+    function_group false offsets ts (signature_at ts f.type_index) i f ≡ group_gap_at offsets f.body.value.end 1 (codes "func") (definition_parts ts i f)
+unfolding function_group
+definition-out offsets ts i f = refl
+
+-- a function in a skeleton
+pub skeleton-group : (skeleton offsets : Bool) (ts : List SubType) (i : ℕ) (f : PlacedFunction) → skeleton ≡ true →
+    function_group skeleton offsets ts (signature_at ts f.type_index) i f ≡ line_group_gap (codes "func") (outline_parts ts i f)
+skeleton-group skeleton offsets ts i f e =
+    ap (λ b. function_group b offsets ts (signature_at ts f.type_index) i f) e ∙ outline-out offsets ts i f
+
+-- a function elsewhere
+pub whole-group : (skeleton offsets : Bool) (ts : List SubType) (i : ℕ) (f : PlacedFunction) → skeleton ≡ false →
+    function_group skeleton offsets ts (signature_at ts f.type_index) i f ≡ group_gap_at offsets f.body.value.end 1 (codes "func") (definition_parts ts i f)
+whole-group skeleton offsets ts i f e =
+    ap (λ b. function_group b offsets ts (signature_at ts f.type_index) i f) e ∙ definition-out offsets ts i f
+
+-- whether lines change for a function
+pub definition-break : (ts : List SubType) (i : ℕ) (f : PlacedFunction) →
+    has_break (definition_parts ts i f) ≡ (has_break (local_pieces f.body.value.locals) || has_break (body_pieces ts f.body.value.operators))
+definition-break ts i f =
+    let head : List Piece = header_parts ts i f.type_index in
+    let locals : List Piece = local_pieces f.body.value.locals in
+    let body : List Piece = body_pieces ts f.body.value.operators in
+    has_break-append head (locals ++ body) ∙ ap (λ b. b || has_break (locals ++ body)) (header-line ts i f.type_index) ∙ has_break-append locals body
 
 -- ---- lists of fields, each with its number
 
@@ -137,29 +163,49 @@ numbered-break f i [] b = refl
 numbered-break f i (x ∷ xs) b =
     has_break-append (f i x) (numbered f (i + 1) xs) ∙ ap (λ y. y || has_break (numbered f (i + 1) xs)) (b i x) ∙ sym (ap not (eqb-suc-zero (length xs)))
 
--- whether lines change for groups of types: each begins a line
+-- ---- whether lines change
+
+-- for groups of types: each begins a line
 types-break : (i : ℕ) (gs : List (Placed TypeGroup)) → has_break (type_section_pieces i gs) ≡ not (length gs == 0)
 unfolding type_section_pieces type_group_pieces
 types-break i [] = refl
 types-break i (g ∷ gs) = sym (ap not (eqb-suc-zero (length gs)))
 
+memory-break : (i : ℕ) (m : Placed MemoryType) → has_break (memory_pieces i m) ≡ true
+unfolding memory_pieces
+memory-break i m = refl
+
+tag-break : (ts : List SubType) (i : ℕ) (t : Placed ℕ) → has_break (tag_pieces ts i t) ≡ true
+unfolding tag_pieces
+tag-break ts i t = refl
+
 export-break : (i : ℕ) (e : Placed Export) → has_break (export_pieces e) ≡ true
 unfolding export_pieces
 export-break i e = refl
+
+start-break : (start : Option (Placed ℕ)) → has_break (start_pieces start) ≡ is_some start
+unfolding start_pieces
+start-break None = refl
+start-break (Some start) = refl
 
 function-break : (o : Options) (ts : List SubType) (i : ℕ) (f : PlacedFunction) → has_break (function_pieces o ts i f) ≡ true
 unfolding function_pieces
 function-break o ts i f = refl
 
--- whether lines change for the fields of a module
+-- of two parts
+both-break : (xs ys : List Piece) {a b : Bool} → has_break xs ≡ a → has_break ys ≡ b → has_break (xs ++ ys) ≡ (a || b)
+both-break xs ys e f = has_break-append xs ys ∙ ap₂ (λ a b. a || b) e f
+
+-- for the fields of a module
 pub fields-break : (o : Options) (m : PlacedModule) →
-    has_break (module_field_pieces o m) ≡ (not (length m.types == 0) || (not (length m.exports == 0) || not (length m.functions == 0)))
+    has_break (module_field_pieces o m)
+    ≡ (not (length m.types == 0) || (not (length m.memories == 0) || (not (length m.tags == 0) || (not (length m.exports == 0) || (is_some m.start || not (length m.functions == 0))))))
 unfolding module_field_pieces
 fields-break o m =
-    let types : List Piece = type_section_pieces 0 m.types in
-    let exports : List Piece = numbered (λ i e. export_pieces e) 0 m.exports in
-    let functions : List Piece = numbered (function_pieces o (all_types (groups_of m.types))) 0 m.functions in
-    has_break-append types (exports ++ functions)
-    ∙ ap₂ (λ a b. a || b) (types-break 0 m.types)
-    (has_break-append exports functions
-    ∙ ap₂ (λ a b. a || b) (numbered-break (λ i e. export_pieces e) 0 m.exports export-break) (numbered-break (function_pieces o (all_types (groups_of m.types))) 0 m.functions (function-break o (all_types (groups_of m.types)))))
+    let ts : List SubType = types_of m in
+    both-break (type_section_pieces 0 m.types) _ (types-break 0 m.types)
+    (both-break (numbered memory_pieces 0 m.memories) _ (numbered-break memory_pieces 0 m.memories memory-break)
+    (both-break (numbered (tag_pieces ts) 0 m.tags) _ (numbered-break (tag_pieces ts) 0 m.tags (tag-break ts))
+    (both-break (numbered (λ i e. export_pieces e) 0 m.exports) _ (numbered-break (λ i e. export_pieces e) 0 m.exports export-break)
+    (both-break (start_pieces m.start) _ (start-break m.start)
+    (numbered-break (function_pieces o ts) 0 m.functions (function-break o ts))))))

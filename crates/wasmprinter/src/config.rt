@@ -84,6 +84,13 @@ mod tests {
         0x04, 0x00, 0x20, 0x00, 0x0b,
     ];
 
+    /// A memory, a tag that is exported, and a function without operators that is the start function.
+    const STARTED: [u8; 44] = [
+        0x00, 0x61, 0x73, 0x6d, 0x01, 0x00, 0x00, 0x00, 0x01, 0x04, 0x01, 0x60, 0x00, 0x00, 0x03,
+        0x02, 0x01, 0x00, 0x05, 0x03, 0x01, 0x00, 0x01, 0x0d, 0x03, 0x01, 0x00, 0x00, 0x07, 0x05,
+        0x01, 0x01, 0x74, 0x04, 0x00, 0x08, 0x01, 0x00, 0x0a, 0x04, 0x01, 0x02, 0x00, 0x0b,
+    ];
+
     fn printed(alloc: Global, config: &Config, wasm: &[u8]) -> Result<String, Error> {
         let mut printer = PrintFmtWrite(String::new(alloc));
         config.print(alloc, wasm, &mut printer)?;
@@ -112,6 +119,47 @@ mod tests {
         assert_eq!(rt;
             text.as_str(),
             "(module\n  (type (;0;) (func (param i32) (result i32)))\n  (export \"f\" (func 0))\n  (func (;0;) (type 0) (param i32) (result i32) ...)\n)\n"
+        );
+        Ok(())
+    }
+
+    #[test]
+    fn prints_places_of_fields(rt: HostRuntime) -> Result<(), Fail> {
+        let mut config = Config::new();
+        config.options.offsets = true;
+        let text = printed(rt.alloc(), &config, &STARTED)?;
+        assert_eq!(rt;
+            text.as_str(),
+            r#"(module
+(;@b     ;)  (type (;0;) (func))
+(;@15    ;)  (memory (;0;) 1)
+(;@1a    ;)  (tag (;0;) (type 0))
+(;@1f    ;)  (export "t" (tag 0))
+(;@25    ;)  (start 0)
+(;@2a    ;)  (func (;0;) (type 0)
+(;@2b    ;)  )
+(;@2c    ;))
+"#
+        );
+        Ok(())
+    }
+
+    #[test]
+    fn prints_fields_of_a_skeleton(rt: HostRuntime) -> Result<(), Fail> {
+        let mut config = Config::new();
+        config.options.skeleton = true;
+        let text = printed(rt.alloc(), &config, &STARTED)?;
+        assert_eq!(rt;
+            text.as_str(),
+            r#"(module
+  (type (;0;) (func))
+  (memory (;0;) 1)
+  (tag (;0;) (type 0))
+  (export "t" (tag 0))
+  (start 0)
+  (func (;0;) (type 0) ...)
+)
+"#
         );
         Ok(())
     }

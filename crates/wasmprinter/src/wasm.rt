@@ -4,4 +4,4 @@ pub use wasmprinter_ops::expression::OperatorsReader;
 pub use wasmprinter_ops::opcode::Opcode;
 pub use wasmprinter_ops::operator::{Immediates, Operator};
 pub use wasmprinter_ops::types::{HeapType, RefType, ValType, ValTypes};
-pub use wasmprinter_wasm::{Body, Module, decode};
+pub use wasmprinter_wasm::{Body, ExternKind, Module, decode};

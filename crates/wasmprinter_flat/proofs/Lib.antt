@@ -1,3 +1,4 @@
+pub mod Lanes
 pub mod Depths
 pub mod LabelTexts
 pub mod Clauses

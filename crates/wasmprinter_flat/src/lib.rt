@@ -2,5 +2,10 @@
 #![tactic(auto)]
 
 mod blocks;
+mod constants;
+mod indices;
 mod labels;
+mod memory;
 pub mod operators;
+mod references;
+mod vectors;

@@ -2,7 +2,8 @@
 ghost use Rattle.std.specs.Prelude.{◌≡◌, ◌<◌, ◌≤◌, ◌^◌, [], ◌∷◌};
 ghost use Rattle.wasmprinter_spec.specs.Call.{Text};
 ghost use Rattle.wasmprinter_spec.specs.Float.{single, double};
-ghost use Rattle.wasmprinter_spec.specs.FloatText.{digits_behind, fraction_digits, behind_point, exponent_text, normal_text, subnormal_text, finite_text, special_text, remark, unsigned_calls, float_calls};
+ghost use Rattle.wasmprinter_spec.specs.FloatText.{digits_behind, fraction_digits, behind_point, exponent_text, normal_text};
+ghost use Rattle.wasmprinter_spec.specs.FloatText.{subnormal_text, finite_text, special_text, remark, unsigned_calls, float_calls};
 ghost use Rattle.wasmprinter_spec.specs.Options.{Options};
 ghost use Rattle.wasmprinter_spec.specs.Piece.{Float};
 ghost use Rattle.wasmprinter_print.specs.Emits.{Emits, EmitsOrFails};

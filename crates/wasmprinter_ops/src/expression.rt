@@ -1,5 +1,5 @@
-//! Expressions (section 5.4, "Expressions"): operators up to the `end` that closes them. The operators aren't kept: they are read again from
-//! the bytes as they are asked for.
+//! Expressions (section 5.4, "Expressions"): operators up to the `end` that closes them. The operators aren't kept: they are read
+//! again from the bytes as they are asked for.
 ghost use Rattle.std.specs.Prelude.{◌≡◌, ◌<◌, ◌^◌, length};
 ghost use Rattle.wasmprinter_spec.specs.Instructions.{expression, roles};
 ghost use Rattle.wasmprinter_spec.specs.Nesting.{Nests, Sequence};

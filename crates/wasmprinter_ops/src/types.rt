@@ -2,7 +2,8 @@
 ghost use Rattle.std.specs.Prelude.{◌≡◌, ◌≤◌, ◌^◌, ◌<ℤ◌, pos, IfOk, option_map};
 ghost use Rattle.wasmprinter_spec.specs.Grammar.{byte as byte_grammar};
 ghost use Rattle.wasmprinter_spec.specs.Name.{vec};
-ghost use Rattle.wasmprinter_spec.specs.Binary.ValTypes.{abstract_heap_of, number_type_of, non_negative, signed_index, heap_type, ref_type_behind, reference_type, val_type_behind, val_type, begins_val_type};
+ghost use Rattle.wasmprinter_spec.specs.Binary.ValTypes.{abstract_heap_of, number_type_of, non_negative, signed_index, heap_type};
+ghost use Rattle.wasmprinter_spec.specs.Binary.ValTypes.{ref_type_behind, reference_type, val_type_behind, val_type, begins_val_type};
 ghost use Rattle.wasmprinter_bytes.specs.Reads.{Reads, IsWithin, end_of};
 ghost use Rattle.wasmprinter_ops.specs.ValTypes.{heap_view, ref_view, type_view, types_view, type_at};
 

@@ -11,10 +11,15 @@ use std::io;
 /// What a style call chooses, `reset_color` apart.
 #[derive(Clone, Copy)]
 pub enum Style {
+    /// Numbers and strings.
     Literal,
+    /// The name or the number of an item.
     Name,
+    /// A keyword.
     Keyword,
+    /// The word of a type.
     TypeName,
+    /// A comment.
     Comment,
 }
 

@@ -54,7 +54,8 @@ AllSpelled-choose true first second = first
 AllSpelled-choose false first second = second
 
 -- One grammar or another, as a test says.
-pub AllSpelled-choose_by : {A : Type 0} {g h : Grammar A} {P : A → Type 0} → (b : Bool) → (b ≡ true → AllSpelled g P) → (b ≡ false → AllSpelled h P) → AllSpelled (choose b g h) P
+pub AllSpelled-choose_by : {A : Type 0} {g h : Grammar A} {P : A → Type 0} → (b : Bool) → (b ≡ true → AllSpelled g P) → (b ≡ false → AllSpelled h P) →
+    AllSpelled (choose b g h) P
 AllSpelled-choose_by true first second = first refl
 AllSpelled-choose_by false first second = second refl
 
@@ -93,7 +94,8 @@ pub AllSpelled-exactly : {A : Type 0} {g : Grammar A} {P : A → Type 0} → All
 AllSpelled-exactly all n = record { has = λ p text a bytes s. all.has p text a bytes s.1 }
 
 -- A value that takes exactly n bytes measures at most n by what takes at least so many bytes.
-pub AllSpelled-within : {A : Type 0} {g : Grammar A} {P : A → Type 0} {size : A → ℕ} → ((p : ℕ) (text : List ℕ) (a : A) → g.spells p text a → size a ≤ length text) →
+pub AllSpelled-within : {A : Type 0} {g : Grammar A} {P : A → Type 0} {size : A → ℕ} →
+    ((p : ℕ) (text : List ℕ) (a : A) → g.spells p text a → size a ≤ length text) →
     AllSpelled g P → (n : ℕ) → AllSpelled (exactly (alone g) n) (λ a. P a × (size a ≤ n))
 AllSpelled-within {size = size} takes all n = record {
   has = λ p text a bytes s. (all.has p text a bytes s.1, subst (λ k. size a ≤ k) s.0 (takes p text a s.1));

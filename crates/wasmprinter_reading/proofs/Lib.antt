@@ -14,5 +14,6 @@ pub mod Ranges
 pub mod Fields
 pub mod Back
 pub mod Stays
+pub mod Nested
 pub mod Main
 pub mod OperatorRows

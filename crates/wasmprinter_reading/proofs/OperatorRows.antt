@@ -127,7 +127,8 @@ prefixed p n i = record { place = 0; value = record { opcode = opcode p n; immed
 abbrev sharing : List (Placed Operator)
 sharing =
     operator 0x1b NoImmediates ∷ operator 0x1c (Types (types.I32 ∷ []))
-    ∷ prefixed 0xfb 20 (Heap types.Any) ∷ prefixed 0xfb 21 (Heap types.Any) ∷ prefixed 0xfb 22 (Heap (types.Index 0)) ∷ prefixed 0xfb 23 (Heap (types.Index 0)) ∷ []
+    ∷ prefixed 0xfb 20 (Heap types.Any) ∷ prefixed 0xfb 21 (Heap types.Any)
+    ∷ prefixed 0xfb 22 (Heap (types.Index 0)) ∷ prefixed 0xfb 23 (Heap (types.Index 0)) ∷ []
 
 abbrev sharing_text : List ℕ
 sharing_text = codes "select select (result i32) ref.test (ref any) ref.test anyref ref.cast (ref 0) ref.cast (ref null 0)"

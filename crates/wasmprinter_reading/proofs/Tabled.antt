@@ -171,7 +171,8 @@ pub told_apart_later : (s : Row) (rs : List Row) → are_told_apart (map keyed (
 told_apart_later s rs t = (and_parts (all (λ y. not (eqb y.0 (key s)) || refuses s.shape y.1) (map keyed rs)) (are_told_apart (map keyed rs)) t).1
 
 -- a row before another of its word refuses what that is written as
-pub refuses_later : (s r : Row) (rs : List Row) → are_told_apart (map keyed (s ∷ rs)) ≡ true → In r rs → has_word r.word s ≡ true → refuses s.shape r.shape ≡ true
+pub refuses_later : (s r : Row) (rs : List Row) → are_told_apart (map keyed (s ∷ rs)) ≡ true → In r rs → has_word r.word s ≡ true →
+    refuses s.shape r.shape ≡ true
 refuses_later s r rs t i e =
     let apart : all (λ (y : ℕ × Shape). not (eqb y.0 (key s)) || refuses s.shape y.1) (map keyed rs) ≡ true =
     (and_parts (all (λ (y : ℕ × Shape). not (eqb y.0 (key s)) || refuses s.shape y.1) (map keyed rs)) (are_told_apart (map keyed rs)) t).0 in
@@ -198,7 +199,8 @@ row_for o h = by (by_opcode o.opcode) refl h.shape
     by None e l = absurd cc
     by (Some r) e l =
         let found : In r table × (has_opcode o.opcode r ≡ true) = first_gives (has_opcode o.opcode) table r e in
-        let codes : (eqb r.prefix o.opcode.prefix ≡ true) × (eqb r.number o.opcode.number ≡ true) = and_parts (eqb r.prefix o.opcode.prefix) (eqb r.number o.opcode.number) found.1 in
+        let codes : (eqb r.prefix o.opcode.prefix ≡ true) × (eqb r.number o.opcode.number ≡ true) =
+        and_parts (eqb r.prefix o.opcode.prefix) (eqb r.number o.opcode.number) found.1 in
         record {
           row = r;
           found = e;
@@ -256,7 +258,8 @@ plain_by_word r s i j same p =
 none_of_argument : (w : List ℕ) (rs : List Row) → is_argument w ≡ true → all (λ r. not (is_argument r.word)) rs ≡ true → filter (has_word w) rs ≡ []
 none_of_argument w [] n h = refl
 none_of_argument w (r ∷ rs) n h =
-    let parts : (not (is_argument r.word) ≡ true) × (all (λ x. not (is_argument x.word)) rs ≡ true) = and_parts (not (is_argument r.word)) (all (λ x. not (is_argument x.word)) rs) h in
+    let parts : (not (is_argument r.word) ≡ true) × (all (λ x. not (is_argument x.word)) rs ≡ true) =
+    and_parts (not (is_argument r.word)) (all (λ x. not (is_argument x.word)) rs) h in
     let no : has_word w r ≡ false = false_from_ne_true (has_word w r) (λ e.
     both_ways (is_argument r.word) (not-true (is_argument r.word) parts.0) (ap is_argument (bytes_same r.word w e) ∙ n)) in
     ap (λ t. cond t (r ∷ filter (has_word w) rs) (filter (has_word w) rs)) no ∙ none_of_argument w rs n parts.1

@@ -2,12 +2,17 @@
 //! with an empty body. No code of the printer is in them: they relate the grammar, the layout and the reader of text.
 #![tactic(auto)]
 
-ghost use Rattle.wasmprinter_spec.specs.Laws.{SpellsOne, ReadsBack, TokensStay, PrintsPlainText, PlainTextIsUtf8, PlainTextHasNoColour, PlainTextsJoin};
+ghost use Rattle.wasmprinter_spec.specs.Laws.{SpellsOne, TakesNested, ReadsBack, TokensStay, PrintsPlainText, PlainTextIsUtf8, PlainTextHasNoColour, PlainTextsJoin};
 ghost use Rattle.wasmprinter_reading.specs.OperatorLaws.{OperatorsReadBack, NamedLabelsReadBack};
 
 /// Given bytes spell at most one module with its places (section 5.5 of the standard, "Modules").
 pub fn bytes_spell_one_module()
     ensures { SpellsOne }
+{}
+
+/// The test by which the reader takes operators holds exactly where they are well nested.
+pub fn reader_takes_nested_operators()
+    ensures { TakesNested }
 {}
 
 /// The reading law: the text that is laid out for a module that some bytes spell reads as exactly that module.

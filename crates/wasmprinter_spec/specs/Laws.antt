@@ -1,5 +1,5 @@
 -- The laws of these definitions. Functions of the crates above have them as their contracts.
-use Rattle.std.specs.Prelude.{◌≡◌, ℕ, ◌<◌, ◌^◌, List, [], ◌∷◌, ◌++◌, false, Some, ◌↔◌, chars, IsUtf8}
+use Rattle.std.specs.Prelude.{◌≡◌, ℕ, ◌<◌, ◌^◌, List, [], ◌∷◌, ◌++◌, map, false, Some, ◌↔◌, chars, IsUtf8}
 use Rattle.std.specs.List.{AllByRecursion}
 use Rattle.wasmprinter_spec.specs.Binary.{AreBytes, Spells}
 use Rattle.wasmprinter_spec.specs.Placed.{PlacedModule}
@@ -15,6 +15,10 @@ use Rattle.wasmprinter_spec.specs.Quoted.{quoted_text, quoted_bytes}
 use Rattle.wasmprinter_spec.specs.Float.{Width, IsWidth, single, double, Scaled, IsValue, bits_with_value, float}
 use Rattle.wasmprinter_spec.specs.FloatText.{float_text, float_calls}
 use Rattle.wasmprinter_spec.specs.Token.{tokens, word, string}
+use Rattle.wasmprinter_spec.specs.Operator.{Operator}
+use Rattle.wasmprinter_spec.specs.Table.{role_of}
+use Rattle.wasmprinter_spec.specs.Nesting.{Nests, Sequence}
+use Rattle.wasmprinter_spec.specs.Text.Operators.{if_nested}
 use Rattle.wasmprinter_spec.specs.Read.{read}
 
 -- Given bytes spell at most one module with its places.
@@ -45,6 +49,10 @@ FloatTextReads = ((bits : ℕ) → bits < 2 ^ 32 → FloatReads single bits) × 
 -- A number reads as the bits of the finite float that is equal to it, and as no bits where there is none.
 abbrev pub FloatsAreExact : Type 0
 FloatsAreExact = (w : Width) (s : Scaled) (bits : ℕ) → IsWidth w → (bits_with_value w (Some s) ≡ Some bits) ↔ IsValue w bits s
+
+-- The reader's test takes operators exactly where they are well nested.
+abbrev pub TakesNested : Type 0
+TakesNested = (os : List Operator) → (if_nested os ≡ Some os) ↔ Nests Sequence (map (λ o. role_of o.opcode) os)
 
 -- The reading law: printed text reads back as the module that the bytes spell. (No initialiser of a table is empty: the text of such a table is
 -- that of one without.)

@@ -2,7 +2,9 @@
 
 use crate::modules::{EVERYTHING, PREAMBLE};
 use std::test::Fail;
-use wasmprinter::wasm::{Body, Immediates, Module, Opcode, Operator, OperatorsReader, decode};
+use wasmprinter::wasm::{
+    Body, ExternKind, Immediates, Module, Opcode, Operator, OperatorsReader, decode,
+};
 
 /// The operators of the second body: place, number of the opcode, word and immediates.
 const OPERATORS: [(u64, u32, &str, Immediates); 7] = [
@@ -66,8 +68,13 @@ fn has_no_words_for_opcodes_that_are_not_listed(rt: HostRuntime) {
         (0, 0x27),
         (0, 0x100),
         (0, u32::MAX),
-        (0xfc, 0x10),
-        (0xfb, 0x0f),
+        (0xfc, 18),
+        (0xfc, 0x100),
+        (0xfb, 31),
+        (0xfd, 154),
+        (0xfd, 0x1_0000),
+        (0xfe, 0x04),
+        (0xff, 0x00),
     ] {
         assert_eq!(rt; Opcode { prefix, number }.word(), "");
     }
@@ -81,11 +88,14 @@ fn place_of_type(module: &Module<'_>, number: usize) -> Option<u64> {
     }
 }
 
-/// Whether the module has this export at the place.
+/// Whether the module has this export of a function at the place.
 fn has_export(module: &Module<'_>, number: usize, place: u64, name: &str, function: u32) -> bool {
     match module.exports().get(number) {
         Some(export) => {
-            export.place() == place && export.name() == name && export.function() == function
+            export.place() == place
+                && export.name() == name
+                && export.kind() == ExternKind::Func
+                && export.index() == function
         }
         None => false,
     }

@@ -21,9 +21,15 @@ mod limits;
 #[cfg(test)]
 mod modules;
 #[cfg(test)]
+mod opcode_words;
+#[cfg(test)]
+mod opcodes;
+#[cfg(test)]
 mod recorder;
 #[cfg(test)]
 mod refusals;
+#[cfg(test)]
+mod sections;
 #[cfg(test)]
 mod strings;
 #[cfg(test)]

@@ -105,3 +105,52 @@ pub const EVERYTHING_CALLS: &str = r#"[0x0]({K}module{R}
 [0x45]  )
 [0x46])
 "#;
+
+/// A field of each kind: types, memories, a tag, an export of each kind, the start function and a function.
+pub const KINDS: [u8; 69] = [
+    0x00, 0x61, 0x73, 0x6d, 0x01, 0x00, 0x00, 0x00, // preamble
+    0x01, 0x09, 0x02, 0x60, 0x00, 0x00, 0x60, 0x02, 0x7f, 0x7c, 0x00, // types from 0x08
+    0x03, 0x02, 0x01, 0x00, // functions from 0x13
+    0x05, 0x07, 0x02, 0x00, 0x01, 0x0f, 0x01, 0x02, 0x10, // memories from 0x17
+    0x0d, 0x03, 0x01, 0x00, 0x01, // tags from 0x20
+    0x07, 0x15, 0x05, // exports from 0x25
+    0x01, 0x66, 0x00, 0x00, // a function, at 0x28
+    0x01, 0x61, 0x01, 0x00, // a table, at 0x2c
+    0x01, 0x6d, 0x02, 0x01, // a memory, at 0x30
+    0x01, 0x67, 0x03, 0x03, // a global variable, at 0x34
+    0x01, 0x74, 0x04, 0x00, // a tag, at 0x38
+    0x08, 0x01, 0x00, // start from 0x3c
+    0x0a, 0x04, 0x01, 0x02, 0x00, 0x0b, // code from 0x3f, with the body at 0x43
+];
+
+pub const KINDS_TEXT: &str = r#"(module
+  (type (;0;) (func))
+  (type (;1;) (func (param i32 f64)))
+  (memory (;0;) 1)
+  (memory (;1;) i64 1 2 shared (pagesize 0x10000))
+  (tag (;0;) (type 1) (param i32 f64))
+  (export "f" (func 0))
+  (export "a" (table 0))
+  (export "m" (memory 1))
+  (export "g" (global 3))
+  (export "t" (tag 0))
+  (start 0)
+  (func (;0;) (type 0))
+)
+"#;
+
+pub const KINDS_CALLS: &str = r#"[0x0]({K}module{R}
+[0xb]  ({K}type {R}{N}(;0;){R} ({K}func{R}))
+[0xe]  ({K}type {R}{N}(;1;){R} ({K}func{R} ({K}param{R} {T}i32{R} {T}f64{R})))
+[0x1a]  ({K}memory {R}{N}(;0;){R} {L}1{R})
+[0x1c]  ({K}memory {R}{N}(;1;){R} {T}i64 {R}{L}1 2{R}{T} shared{R} ({K}pagesize {R}0x10000))
+[0x23]  ({K}tag {R}{N}(;0;){R} ({K}type {R}{N}1{R}) ({K}param{R} {T}i32{R} {T}f64{R}))
+[0x28]  ({K}export {R}{L}"f"{R} ({K}func {R}{N}0{R}))
+[0x2c]  ({K}export {R}{L}"a"{R} ({K}table {R}{N}0{R}))
+[0x30]  ({K}export {R}{L}"m"{R} ({K}memory {R}{N}1{R}))
+[0x34]  ({K}export {R}{L}"g"{R} ({K}global {R}{N}3{R}))
+[0x38]  ({K}export {R}{L}"t"{R} ({K}tag {R}0))
+[0x3e]  ({K}start {R}{N}0{R})
+[0x43]  ({K}func {R}{N}(;0;){R} ({K}type {R}{N}0{R}))
+[0x45])
+"#;

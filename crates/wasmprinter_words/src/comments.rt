@@ -19,29 +19,11 @@ fn write_between<P: Print>(p: &mut P, before: &str, s: &str, after: &str) -> io:
     text(p, after)
 }
 
-/// Writes a blank and a comment.
-pub fn remark<P: Print>(p: &mut P, s: &str) -> io::Result<()>
-    ensures { (o : Options) → Prints P.meaning o p.old p.new result (Remark true s.now ∷ []) }
-{
-    start(p, Style::Comment)?;
-    write_between(p, " (;", s, ";)")?;
-    reset(p)
-}
-
 /// Writes a blank and a comment without a style.
 pub fn unstyled_remark<P: Print>(p: &mut P, content: &str) -> io::Result<()>
     ensures { (o : Options) → Prints P.meaning o p.old p.new result (Remark false content.now ∷ []) }
 {
     write_between(p, " (;", content, ";)")
-}
-
-/// Writes a comment up to the end of the line.
-pub fn ending<P: Print>(p: &mut P, s: &str) -> io::Result<()>
-    ensures { (o : Options) → Prints P.meaning o p.old p.new result (Ending s.now ∷ []) }
-{
-    start(p, Style::Comment)?;
-    write_between(p, ";; ", s, "")?;
-    reset(p)
 }
 
 /// Writes a number between two texts, in the style of comments.
@@ -62,7 +44,8 @@ pub fn block_remark<P: Print>(p: &mut P, block: u64) -> io::Result<()>
 
 /// Writes a blank and a comment that names the label of a block.
 pub fn label_remark<P: Print>(p: &mut P, block: u64) -> io::Result<()>
-    ensures { (o : Options) → Prints P.meaning o p.old p.new result (Remark true (codes " label = @" ++ (decimal block ++ codes " ")) ∷ []) }
+    ensures { (o : Options) → Prints P.meaning o p.old p.new result
+        (Remark true (codes " label = @" ++ (decimal block ++ codes " ")) ∷ []) }
 {
     write_number_comment(p, " (; label = @", block, " ;)")
 }

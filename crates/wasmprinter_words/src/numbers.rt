@@ -122,8 +122,10 @@ pub fn numbered_word<P: Print>(p: &mut P, word: &str, n: u64) -> io::Result<()>
 /// Writes an index as a group behind a keyword.
 #[tactic(auto, unfolding(wasmprinter_spec::specs::Layout::Groups::group_gap, wasmprinter_spec::specs::Layout::Groups::line_group_gap))]
 pub fn write_index_group<P: Print>(p: &mut P, keyword: &str, index: u32) -> io::Result<()>
-    ensures in_line { (o : Options) → Prints P.meaning o p.old p.new result (line_group_gap keyword.now (Number index ∷ [])) }
-    ensures nested { (o : Options) (nesting : ℕ) → Prints P.meaning o p.old p.new result (group_gap nesting keyword.now (Number index ∷ [])) }
+    ensures in_line { (o : Options) → Prints P.meaning o p.old p.new result
+        (line_group_gap keyword.now (Number index ∷ [])) }
+    ensures nested { (o : Options) (nesting : ℕ) → Prints P.meaning o p.old p.new result
+        (group_gap nesting keyword.now (Number index ∷ [])) }
 {
     open_gap(p, keyword)?;
     number(p, u64::from(index))?;

@@ -1,5 +1,6 @@
 //! A writer that shows colours by the sequences of a terminal.
-ghost use Rattle.std.specs.Prelude.{◌≡◌, true, false};
+ghost use Rattle.std.specs.Prelude.{◌≡◌, true, false, OnOk};
+ghost use Rattle.std.specs.Io.KnownBytes.{Appends};
 ghost use Rattle.wasmprinter_writers.specs.Writing.{WritesEach};
 ghost use Rattle.wasmprinter_writers.specs.ColourCalls.{PaintsBySequences};
 ghost use Rattle.wasmprinter_writers.specs.Looks.{foreground, bold_sequences, colour_sequences};
@@ -36,7 +37,7 @@ impl<W> Ansi<W> {
     }
 }
 
-impl<W: Write> Write for Ansi<W> {
+impl<W: WriteBytes> Write for Ansi<W> {
     ghost contents = { λ s. W.contents s.inner };
 
     fn write(&mut self, buf: &[u8]) -> io::Result<usize> {
@@ -47,8 +48,11 @@ impl<W: Write> Write for Ansi<W> {
         self.inner.flush()
     }
 
-    fn write_all(&mut self, buf: &[u8]) -> io::Result<()> {
-        self.inner.write_all(buf)
+    fn write_all(&mut self, buf: &[u8]) -> io::Result<()>
+        ensures exact { W.takes self.old.inner buf.now result self.new.inner }
+        ensures bytes { OnOk result (Appends (W.contents self.old.inner) (W.contents self.new.inner) buf.now) }
+    {
+        self.inner.write_bytes(buf)
     }
 }
 

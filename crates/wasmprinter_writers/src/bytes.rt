@@ -1,5 +1,6 @@
 //! Writers that take bytes whole.
-ghost use Rattle.std.specs.Prelude.{ℕ, List, Result};
+ghost use Rattle.std.specs.Prelude.{ℕ, List, Result, OnOk};
+ghost use Rattle.std.specs.Io.KnownBytes.{Appends};
 ghost use Rattle.std.specs.declared.io.Error.{Error};
 ghost use Rattle.wasmprinter_writers.specs.Writing.{Writing, TakesWhole};
 
@@ -16,7 +17,8 @@ pub trait WriteBytes: Write {
 
     /// Writes all the bytes, or fails.
     fn write_bytes(&mut self, bytes: &[u8]) -> io::Result<()>
-        ensures { takes self.old bytes.now result self.new };
+        ensures exact { takes self.old bytes.now result self.new }
+        ensures bytes { OnOk result (Appends (Self.contents self.old) (Self.contents self.new) bytes.now) };
 }
 
 // What a writer tells of its bytes grows by these, where it takes them.

@@ -1,11 +1,16 @@
 //! Colours of a terminal.
 
-/// A colour that text is printed in.
+/// A colour that text is printed in. With each stands its number among a terminal's 256 colours, and that of its intense shade.
 #[derive(Debug, Clone, Copy, PartialEq, Eq)]
 pub enum Color {
+    /// 1, intense 9.
     Red,
+    /// 2, intense 10.
     Green,
+    /// 3, intense 11.
     Yellow,
+    /// 5, intense 13.
     Magenta,
+    /// 6, intense 14.
     Cyan,
 }

@@ -1,8 +1,9 @@
 //! A writer that shows no colours.
-ghost use Rattle.std.specs.Prelude.{◌≡◌, false};
+ghost use Rattle.std.specs.Prelude.{◌≡◌, false, OnOk};
+ghost use Rattle.std.specs.Io.KnownBytes.{Appends};
 ghost use Rattle.wasmprinter_writers.specs.ColourCalls.{PaintsNothing};
 
-use crate::{ColorSpec, WriteColor};
+use crate::{ColorSpec, WriteBytes, WriteColor};
 use std::io;
 use std::io::Write;
 
@@ -28,7 +29,7 @@ impl<W> NoColor<W> {
     }
 }
 
-impl<W: Write> Write for NoColor<W> {
+impl<W: WriteBytes> Write for NoColor<W> {
     ghost contents = { λ s. W.contents s.inner };
 
     fn write(&mut self, buf: &[u8]) -> io::Result<usize> {
@@ -39,12 +40,15 @@ impl<W: Write> Write for NoColor<W> {
         self.inner.flush()
     }
 
-    fn write_all(&mut self, buf: &[u8]) -> io::Result<()> {
-        self.inner.write_all(buf)
+    fn write_all(&mut self, buf: &[u8]) -> io::Result<()>
+        ensures exact { W.takes self.old.inner buf.now result self.new.inner }
+        ensures bytes { OnOk result (Appends (W.contents self.old.inner) (W.contents self.new.inner) buf.now) }
+    {
+        self.inner.write_bytes(buf)
     }
 }
 
-impl<W: Write> WriteColor for NoColor<W> {
+impl<W: WriteBytes> WriteColor for NoColor<W> {
     ghost paints = { PaintsNothing };
 
     ghost is_colored = { λ _. false };

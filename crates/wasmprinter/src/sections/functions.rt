@@ -134,6 +134,7 @@ fn write_function_group<P: Print>(
 }
 
 /// Writes the function with the number.
+#[tactic(auto, unfolding(wasmprinter_spec::specs::Layout::function_pieces))]
 pub(crate) fn write_function<P: Print>(
     p: &mut P,
     options: &PrintOptions,

@@ -13,6 +13,7 @@ use wasmprinter_words::numbers::{mark, write_index_group};
 use wasmprinter_words::words::gap;
 
 /// Writes a number, the index of a type of the module, and its signature, which is nothing where it is no function type.
+#[tactic(auto, unfolding(wasmprinter_spec::specs::Layout::header_pieces))]
 pub(crate) fn write_header<P: Print>(
     p: &mut P,
     module: &Module<'_>,

@@ -1,5 +1,5 @@
 -- Floats: what they are written as reads back as their bits, and is no operator's word.
-use Rattle.std.proofs.Common.{◌≡◌, ℕ, ◌<◌, ◌/◌, ◌%◌, ◌^◌, ◌-◌, Bool, true, false, cond, eqb, ltb, [], ◌∷◌, ◌++◌, refl, codes, lit≤}
+use Rattle.std.proofs.Common.{◌≡◌, ℕ, ◌<◌, ◌/◌, ◌%◌, ◌^◌, ◌-◌, Bool, true, false, cond, eqb, ltb, List, [], ◌∷◌, ◌++◌, refl, codes, lit≤}
 use Rattle.std.specs.Fmt.{digits}
 use Rattle.wasmprinter_spec.specs.Forest.{Forest, End, Word}
 use Rattle.wasmprinter_spec.specs.Float.{Width, IsWidth, single, double, greatest_exponent, sign_bit, canonical_payload}
@@ -41,14 +41,17 @@ unsigned_is_argument w exponent fraction = by (eqb exponent (greatest_exponent w
     by true = special_is_argument w fraction
     by false = finite_is_argument w exponent fraction
 
+-- with a minus sign too
+signed_is_argument : (b : Bool) (s t : List ℕ) → is_argument s ≡ true → is_argument (cond b s (45 ∷ t)) ≡ true
+signed_is_argument true s t h = h
+signed_is_argument false s t h = refl
+
 float_is_argument : (w : Width) (bits : ℕ) → is_argument (float_text w bits) ≡ true
 unfolding float_text
-float_is_argument w bits = by (ltb bits (sign_bit w))
-  where
-    by : (b : Bool) →
-        is_argument (cond b (unsigned_text w (bits / 2 ^ w.fraction) (bits % 2 ^ w.fraction)) (45 ∷ unsigned_text w ((bits - sign_bit w) / 2 ^ w.fraction) ((bits - sign_bit w) % 2 ^ w.fraction))) ≡ true
-    by true = unsigned_is_argument w (bits / 2 ^ w.fraction) (bits % 2 ^ w.fraction)
-    by false = refl
+float_is_argument w bits =
+    signed_is_argument (ltb bits (sign_bit w)) (unsigned_text w (bits / 2 ^ w.fraction) (bits % 2 ^ w.fraction))
+    (unsigned_text w ((bits - sign_bit w) / 2 ^ w.fraction) ((bits - sign_bit w) % 2 ^ w.fraction))
+    (unsigned_is_argument w (bits / 2 ^ w.fraction) (bits % 2 ^ w.fraction))
 
 pub float_arguments : (w : Width) (bits : ℕ) → AreArguments (float_items w bits)
 float_arguments w bits = (no_rows (float_text w bits) (float_is_argument w bits), tt)

@@ -1,5 +1,5 @@
 -- The immediates of an operator, by their shape: what they are written as, that this reads back, and that their pieces write it.
-use Rattle.std.proofs.Common.{◌≡◌, ℕ, ◌<◌, ◌^◌, suc, true, List, ◌++◌, length, Option, Some, None, refl, sym, ◌∙◌, subst}
+use Rattle.std.proofs.Common.{◌≡◌, ℕ, ◌<◌, ◌^◌, suc, true, List, length, Option, Some, None, refl, sym, ◌∙◌, subst}
 use Rattle.std.specs.Fmt.{signed_decimal}
 use Rattle.std.specs.Int.Signed.{mag}
 use Rattle.std.specs.List.{AllByRecursion}
@@ -13,7 +13,7 @@ use Rattle.wasmprinter_spec.specs.Labels.{Naming, AreApart}
 use Rattle.wasmprinter_spec.specs.Indexed.{Counts, IsFunctionType, AreDeclared}
 use Rattle.wasmprinter_spec.specs.IndexSpaces.{Identifiers, Context}
 use Rattle.wasmprinter_spec.specs.Text.Operators.{id_of, behind_id, block_type, immediates}
-use Rattle.wasmprinter_spec.specs.Layout.Operators.{Setting, id_pieces, block_pieces, ending_pieces, catches_pieces, immediate_pieces, pieces_by}
+use Rattle.wasmprinter_spec.specs.Layout.Operators.{Setting, immediate_pieces, pieces_by}
 use Rattle.wasmprinter_lexical.proofs.Grown.{onto-End}
 use Rattle.wasmprinter_lexical.proofs.Floats.{single-reads, double-reads}
 use Rattle.wasmprinter_lexical.proofs.Pieces.{Bound}
@@ -71,8 +71,10 @@ items_by signature inner xs own (Some s) i = immediate_items signature inner xs 
 
 -- ---- arguments
 
-immediate_arguments : (signature : ℕ → Option FuncType) (inner xs : List labels.Label) (own : labels.Label) (s : Shape) (i : Immediates) → AreInRange i → AreArguments (immediate_items signature inner xs own s i)
-immediate_arguments signature inner xs own BlockShape (Block t) h = arguments_onto (id_items own) (block_items signature t) (id_arguments own) (block_arguments signature t)
+immediate_arguments : (signature : ℕ → Option FuncType) (inner xs : List labels.Label) (own : labels.Label) (s : Shape) (i : Immediates) → AreInRange i →
+    AreArguments (immediate_items signature inner xs own s i)
+immediate_arguments signature inner xs own BlockShape (Block t) h =
+    arguments_onto (id_items own) (block_items signature t) (id_arguments own) (block_arguments signature t)
 immediate_arguments signature inner xs own TryTableShape (TryTable t cs) h =
     arguments_onto (id_items own) (onto (block_items signature t) (catches_items inner xs cs)) (id_arguments own)
     (arguments_onto (block_items signature t) (catches_items inner xs cs) (block_arguments signature t) (catches_arguments inner xs cs))
@@ -100,14 +102,15 @@ immediate_arguments signature inner xs own VectorShape (Bytes bs) h = vector_arg
 immediate_arguments signature inner xs own LanesShape (Bytes bs) h = lanes_arguments bs h.each
 immediate_arguments signature inner xs own _ _ h = tt
 
-pub arguments_by : (signature : ℕ → Option FuncType) (inner xs : List labels.Label) (own : labels.Label) (s : Option Shape) (i : Immediates) → AreInRange i → AreArguments (items_by signature inner xs own s i)
+pub arguments_by : (signature : ℕ → Option FuncType) (inner xs : List labels.Label) (own : labels.Label) (s : Option Shape) (i : Immediates) → AreInRange i →
+    AreArguments (items_by signature inner xs own s i)
 arguments_by signature inner xs own None i h = tt
 arguments_by signature inner xs own (Some s) i h = immediate_arguments signature inner xs own s i h
 
 -- ---- they read back
 
-module _ (c : Context) (signature : ℕ → Option FuncType) (same : (i : ℕ) → c.signature i ≡ signature i) (n : Counts) (counted : (i : ℕ) → n.signature i ≡ signature i)
-    (ranged : AreSignaturesInRange signature)
+module _ (c : Context) (signature : ℕ → Option FuncType) (same : (i : ℕ) → c.signature i ≡ signature i)
+    (n : Counts) (counted : (i : ℕ) → n.signature i ≡ signature i) (ranged : AreSignaturesInRange signature)
     (naming : Naming) (apart : AreApart naming) (inner xs : List labels.Label) (o : Opened naming xs) where
   -- a function type is one for the reader too
   read_as_function : (t : ℕ) → IsFunctionType (n.signature t) → IsFunctionType (c.signature t)
@@ -119,7 +122,8 @@ module _ (c : Context) (signature : ℕ → Option FuncType) (same : (i : ℕ) �
   immediates_read own FenceShape NoImmediates k h d = refl
   immediates_read own BlockShape (Block t) k h d =
       let e : behind_id (onto (id_items own) (block_items signature t)) ≡ block_items signature t = rw onto-End at (behind_id-block signature own t End refl) in
-      let b : block_type c (block_items signature t) ≡ Some (t, End) = rw onto-End at (block_reads c signature same n counted ranged t End h d (end_behind_block c)) in
+      let b : block_type c (block_items signature t) ≡ Some (t, End) =
+      rw onto-End at (block_reads c signature same n counted ranged t End h d (end_behind_block c)) in
       rw (e, b)
   immediates_read own TryTableShape (TryTable t cs) k h d =
       let behind : IsBehindBlock c (catches_items inner xs cs) = catches_behind_block c inner xs cs in
@@ -153,14 +157,17 @@ module _ (c : Context) (signature : ℕ → Option FuncType) (same : (i : ℕ) �
   immediates_read own _ _ k h d = absurd cc
 
 -- the identifier of an operator that opens a block stands in front
-pub id_of-opening : (c : Context) (signature : ℕ → Option FuncType) (inner xs : List labels.Label) (own : labels.Label) (s : Shape) (i : Immediates) → has_block s ≡ true → has_shape s i ≡ true →
+pub id_of-opening : (c : Context) (signature : ℕ → Option FuncType) (inner xs : List labels.Label) (own : labels.Label) (s : Shape) (i : Immediates) →
+    has_block s ≡ true → has_shape s i ≡ true →
     id_of (immediate_items signature inner xs own s i) ≡ id own
 id_of-opening c signature inner xs own BlockShape (Block t) b k = rw onto-End at (id_of-block signature own t End refl)
-id_of-opening c signature inner xs own TryTableShape (TryTable t cs) b k = id_of-block signature own t (catches_items inner xs cs) (catches_behind_block c inner xs cs).no_id
+id_of-opening c signature inner xs own TryTableShape (TryTable t cs) b k =
+    id_of-block signature own t (catches_items inner xs cs) (catches_behind_block c inner xs cs).no_id
 id_of-opening c signature inner xs own _ _ b k = absurd cc
 
 -- a shape that refuses another reads nothing of it
-pub immediates_refused : (c : Context) (is : Identifiers) (signature : ℕ → Option FuncType) (inner xs : List labels.Label) (own : labels.Label) (s t : Shape) (i : Immediates) →
+pub immediates_refused : (c : Context) (is : Identifiers) (signature : ℕ → Option FuncType) (inner xs : List labels.Label) (own : labels.Label)
+    (s t : Shape) (i : Immediates) →
     refuses s t ≡ true → has_shape t i ≡ true → AreInRange i → immediates c is s (immediate_items signature inner xs own t i) ≡ None
 immediates_refused c is signature inner xs own NoneShape SelectShape (Types ts) r k h = refl
 immediates_refused c is signature inner xs own SelectShape NoneShape NoImmediates r k h = refl
@@ -169,18 +176,18 @@ immediates_refused c is signature inner xs own _ _ _ r k h = absurd cc
 
 -- ---- their pieces write them
 
-module _ (s : Setting) (ranged : AreSignaturesInRange s.signature) (inner xs : List labels.Label) (own : labels.Label) (labelled : AllByRecursion IsLabel xs) (named : IsLabel own) where
-  immediate_writes : (t : Shape) (i : Immediates) → AreInRange i → Writes Bound (immediate_pieces s inner xs own t i) (behind s.form) (immediate_items s.signature inner xs own t i)
+module _ (s : Setting) (ranged : AreSignaturesInRange s.signature) (inner xs : List labels.Label) (own : labels.Label)
+    (labelled : AllByRecursion IsLabel xs) (named : IsLabel own) where
+  immediate_writes : (t : Shape) (i : Immediates) → AreInRange i →
+      Writes Bound (immediate_pieces s inner xs own t i) (behind s.form) (immediate_items s.signature inner xs own t i)
   unfolding immediate_pieces
   immediate_writes BlockShape (Block t) r =
-      let w : Writes Bound (id_pieces own ++ (block_pieces s.signature t ++ ending_pieces s.form own (suc (length xs)))) (behind s.form) (onto (id_items own) (onto (block_items s.signature t) End)) =
-      both_write (id_writes own named) (both_write (block_writes s.signature ranged t r) (comment_writes s.form own (suc (length xs)))) in
-      rw onto-End at w
+      let comment = comment_writes s.form own (suc (length xs)) in
+      rw onto-End at (both_write (id_writes own named) (both_write (block_writes s.signature ranged t r) comment))
   immediate_writes TryTableShape (TryTable t cs) r =
-      let w : Writes Bound (id_pieces own ++ (block_pieces s.signature t ++ (catches_pieces inner xs cs ++ ending_pieces s.form own (suc (length xs))))) (behind s.form)
-      (onto (id_items own) (onto (block_items s.signature t) (onto (catches_items inner xs cs) End))) =
-      both_write (id_writes own named) (both_write (block_writes s.signature ranged t r.0) (both_write (catches_write inner xs cs labelled r.1) (comment_writes s.form own (suc (length xs))))) in
-      rw onto-End at w
+      let comment = comment_writes s.form own (suc (length xs)) in
+      let clauses = both_write (catches_write inner xs cs labelled r.1) comment in
+      rw onto-End at (both_write (id_writes own named) (both_write (block_writes s.signature ranged t r.0) clauses))
   immediate_writes (IndexShape space) (Index n) r = may_end s.form (index_writes inner xs space n labelled r)
   immediate_writes (DefaultIndexShape space) (Index n) r = may_end s.form (default_writes n r)
   immediate_writes (PairShape first second) (Indices m n) r = may_end s.form (pair_writes m n r.0 r.1)
@@ -209,6 +216,7 @@ module _ (s : Setting) (ranged : AreSignaturesInRange s.signature) (inner xs : L
   immediate_writes LanesShape (Bytes bs) r = may_end s.form (lanes_write bs r)
   immediate_writes _ _ r = may_end s.form nothing_writes
 
-  pub writes_by : (t : Option Shape) (i : Immediates) → AreInRange i → Writes Bound (pieces_by s inner xs own t i) (behind s.form) (items_by s.signature inner xs own t i)
+  pub writes_by : (t : Option Shape) (i : Immediates) → AreInRange i →
+      Writes Bound (pieces_by s inner xs own t i) (behind s.form) (items_by s.signature inner xs own t i)
   writes_by None i r = may_end s.form nothing_writes
   writes_by (Some t) i r = immediate_writes t i r

@@ -121,12 +121,15 @@ module _ (c : Context) where
   -- a type use without a signature
   use_reads : (t : ℕ) (s : FuncType) → IsU32 t → c.signature t ≡ Some s → block_type c (use_items t) ≡ Some (OfType t, End)
   use_reads t s h e =
-      rw (index-decimal c.spaces.types t h, e, no_groups (variables c.spaces.types) (codes "param"), no_groups (val_types c.spaces.types) (codes "result"), absent_agrees s)
+      let no_params = no_groups (variables c.spaces.types) (codes "param") in
+      let no_results = no_groups (val_types c.spaces.types) (codes "result") in
+      rw (index-decimal c.spaces.types t h, e, no_params, no_results, absent_agrees s)
 
   pub call_reads : (t n : ℕ) → IsU32 t → IsU32 n → IsFunctionType (c.signature t) → call_parts c (call_items t n) ≡ Some (Indices t n)
   call_reads t n h k is = by (c.signature t) refl is (eqb n 0) refl
     where
-      by : (x : Option FuncType) → c.signature t ≡ x → IsFunctionType x → (b : Bool) → eqb n 0 ≡ b → call_parts c (onto (cond b End (Word (decimal n) End)) (use_items t)) ≡ Some (Indices t n)
+      by : (x : Option FuncType) → c.signature t ≡ x → IsFunctionType x → (b : Bool) → eqb n 0 ≡ b →
+          call_parts c (onto (cond b End (Word (decimal n) End)) (use_items t)) ≡ Some (Indices t n)
       by None f i b e = absurd i
       by (Some s) f i true e = rw (use_reads t s h f) (ap (λ m. Some (Indices t m)) (sym (eqb-true n 0 e)))
       by (Some s) f i false e = rw (index-decimal c.spaces.tables n k, use_reads t s h f)
@@ -149,7 +152,8 @@ module _ (c : Context) where
 
 -- ---- their pieces write them
 
-pub index_writes : (inner xs : List labels.Label) (space : Space) (n : ℕ) → AllByRecursion IsLabel xs → IsU32 n → Writes Bound (index_pieces inner xs space n) Bound (index_items inner xs space n)
+pub index_writes : (inner xs : List labels.Label) (space : Space) (n : ℕ) → AllByRecursion IsLabel xs → IsU32 n →
+    Writes Bound (index_pieces inner xs space n) Bound (index_items inner xs space n)
 unfolding index_pieces
 index_writes inner xs Label n h r = label_writes inner xs n h r
 index_writes inner xs _ n h r = let small : n < 2 ^ 64 = omega arith in search writing
@@ -176,7 +180,8 @@ count_writes t n h k =
     let word : is_word (decimal n) ≡ true = is_word-decimal n (omega arith) in
     search writing
 
-pub call_writes : (t n : ℕ) → IsU32 t → IsU32 n → Writes Bound (default_index_pieces n ++ (Gap ∷ line_group_gap (codes "type") (Number t ∷ []))) Bound (call_items t n)
+pub call_writes : (t n : ℕ) → IsU32 t → IsU32 n →
+    Writes Bound (default_index_pieces n ++ (Gap ∷ line_group_gap (codes "type") (Number t ∷ []))) Bound (call_items t n)
 unfolding class
 call_writes t n h k =
     let small : t < 2 ^ 64 = omega arith in

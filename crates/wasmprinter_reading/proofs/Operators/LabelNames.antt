@@ -116,7 +116,8 @@ printed_is_utf8 text h = plain_is_utf8 text (plain_text text h)
 utf8-decimal : (n : ℕ) → IsUtf8 (decimal n)
 utf8-decimal n = printed_is_utf8 (decimal n) (remark (decimal n) (is_remark-decimal n)).printed
 
-label_is_named : (invents : Bool) (n d : ℕ) (x : Option (List ℕ)) (m : Named) → ((s : List ℕ) → x ≡ Some s → IsUtf8 s) → label_named invents n d x ≡ Some m → IsNamed m
+label_is_named : (invents : Bool) (n d : ℕ) (x : Option (List ℕ)) (m : Named) → ((s : List ℕ) → x ≡ Some s → IsUtf8 s) → label_named invents n d x ≡ Some m →
+    IsNamed m
 label_is_named invents n d (Some s) m utf8 e =
     let same : record { given = Some s; content = label_content n s } ≡ m = cc in
     subst IsNamed same (by (is_clean s) refl)
@@ -143,7 +144,8 @@ label_is_named true n d None m utf8 e =
     subst IsNamed same (record { given = tt; content = IsUtf8-append (codes "#label") (decimal d) (printed_is_utf8 (codes "#label") refl) (utf8-decimal d); some = omega arith })
 label_is_named false n d None m utf8 e = absurd cc
 
-pub label_naming_names : (invents : Bool) (names : ℕ → Option (List ℕ)) → ((n : ℕ) (s : List ℕ) → names n ≡ Some s → IsUtf8 s) → AreNames (label_naming invents names)
+pub label_naming_names : (invents : Bool) (names : ℕ → Option (List ℕ)) → ((n : ℕ) (s : List ℕ) → names n ≡ Some s → IsUtf8 s) →
+    AreNames (label_naming invents names)
 label_naming_names invents names utf8 i d m e = label_is_named invents i d (names i) m (utf8 i) e
 
 -- ---- no label has a name

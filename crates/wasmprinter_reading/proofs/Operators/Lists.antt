@@ -59,7 +59,8 @@ row_word : (o : Operator) (r : HasRow o) → word_of o.opcode ≡ r.row.word
 row_word o r = ap word_of_row r.found
 
 -- an operator's word takes what stands behind it
-word_takes : (r : Row) → In r table → (w : List ℕ) → w ≡ r.word → (f : Forest) (is : List Instruction) → with_word (rows_of w) w (Some (code_of f is)) ≡ Some (code_of End (Flat (chunk (rows_of w) f) ∷ is))
+word_takes : (r : Row) → In r table → (w : List ℕ) → w ≡ r.word → (f : Forest) (is : List Instruction) →
+    with_word (rows_of w) w (Some (code_of f is)) ≡ Some (code_of End (Flat (chunk (rows_of w) f) ∷ is))
 word_takes r at w e f is =
     let rows : IsSome (rows_of r.word) = rows_of-row r at in
     let same : rows_of w ≡ rows.first ∷ rows.others = ap rows_of e ∙ rows.is in
@@ -78,7 +79,8 @@ code-operators signature naming n xs (o ∷ os) h =
     let e : code (onto a (operators_items signature naming m ys os)) ≡ Some (code_of a (map Flat (chunks_of signature naming m ys os))) =
     arguments_front a (arguments_by signature (inside role xs) (outside role xs) own (shape_of o.opcode) o.immediates h.0.range)
     (operators_items signature naming m ys os) (map Flat (chunks_of signature naming m ys os)) (code-operators signature naming m ys os h.1) in
-    ap (with_word (rows_of (word_of o.opcode)) (word_of o.opcode)) e ∙ word_takes r.row r.in_table (word_of o.opcode) (row_word o r) a (map Flat (chunks_of signature naming m ys os))
+    ap (with_word (rows_of (word_of o.opcode)) (word_of o.opcode)) e
+    ∙ word_takes r.row r.in_table (word_of o.opcode) (row_word o r) a (map Flat (chunks_of signature naming m ys os))
 
 flattened-Flat : (cs : List Chunk) → flattened (map Flat cs) ≡ Some cs
 flattened-Flat [] = refl
@@ -102,7 +104,8 @@ nested-roles : (os : List (Placed Operator)) → Nests Sequence (roles os) → a
 nested-roles os h = ap (λ rs. stops advance at_start rs Ends) (same_roles os) ∙ stops_at_end (roles os) h
 
 module _ (s : Setting) (c : Context) (k : Counts) (same : HaveSameTypes s c k) (naming : Naming) (apart : AreApart naming) where
-  operators-read : (n : ℕ) (xs : List Label) (os : List Operator) → Opened naming xs → length xs + length os ≤ 2 ^ 64 → AllByRecursion IsListed os → AllByRecursion (IsIndexedOperator k) os →
+  operators-read : (n : ℕ) (xs : List Label) (os : List Operator) → Opened naming xs → length xs + length os ≤ 2 ^ 64 → AllByRecursion IsListed os →
+      AllByRecursion (IsIndexedOperator k) os →
       operators c (ids xs) (chunks_of s.signature naming n xs os) ≡ Some os
   operators-read n xs [] o small h d = refl
   operators-read n xs (p ∷ ps) o small h d =
@@ -121,7 +124,8 @@ module _ (s : Setting) (c : Context) (k : Counts) (same : HaveSameTypes s c k) (
       ap (λ x. immediates c (seen x (ids xs)) r.row.shape a) (sym role)
       ∙ ap (λ x. immediates c x r.row.shape a) (outside_ids is xs)
       ∙ ap (immediates c (ids (outside is xs)) r.row.shape) written
-      ∙ immediates_read c s.signature same.read k same.counted same.in_range naming apart (inside is xs) (outside is xs) (outside_opened naming is xs o) own r.row.shape p.immediates r.shape h.0.range (declared_by_row k p r.row r.found d.0) in
+      ∙ immediates_read c s.signature same.read k same.counted same.in_range naming apart (inside is xs) (outside is xs) (outside_opened naming is xs o) own
+      r.row.shape p.immediates r.shape h.0.range (declared_by_row k p r.row r.found d.0) in
       let fit : fits is r.row.shape ≡ true = ap (λ x. fits x r.row.shape) role ∙ r.fit in
       let after : open_behind r.row.role (id_of a) (ids xs) ≡ ids ys =
       ap (λ x. open_behind x (id_of a) (ids xs)) (sym role)
@@ -140,12 +144,14 @@ module _ (s : Setting) (c : Context) (k : Counts) (same : HaveSameTypes s c k) (
       )
 
   -- operators that are well nested read as themselves
-  pub expression_reads : (os : List (Placed Operator)) → AreOperators k os → read_operators c (chunks_of s.signature naming 0 [] (without_places os)) ≡ Some (without_places os)
+  pub expression_reads : (os : List (Placed Operator)) → AreOperators k os →
+      read_operators c (chunks_of s.signature naming 0 [] (without_places os)) ≡ Some (without_places os)
   expression_reads os h = rw (operators-read 0 [] (without_places os) tt (omega (arith, h.count)) h.listed h.indexed, nested-roles os h.nested)
 
 -- ---- their pieces write them
 
-operator_writes : (s : Setting) → AreSignaturesInRange s.signature → (first : Bool) (own : Label) (xs : List Label) (o : Placed Operator) → AllByRecursion IsLabel xs → IsLabel own → IsListed o.value →
+operator_writes : (s : Setting) → AreSignaturesInRange s.signature → (first : Bool) (own : Label) (xs : List Label) (o : Placed Operator) →
+    AllByRecursion IsLabel xs → IsLabel own → IsListed o.value →
     Writes (ahead s.form first) (operator_pieces s first own xs o) (behind s.form) (Word (word_of o.value.opcode) (arguments_items s.signature own xs o.value))
 unfolding operator_pieces
 operator_writes s ranged first own xs o h k l =
@@ -153,9 +159,11 @@ operator_writes s ranged first own xs o h k l =
     let role : Role = role_of o.value.opcode in
     let is : is_word (word_of o.value.opcode) ≡ true = ap is_word (ap word_of_row r.found) ∙ r.is_its_word in
     before_writes s.form first o.place (s.nesting + level role (length xs))
-    (word_writes is (writes_by s ranged (inside role xs) (outside role xs) own (outside_labels role xs h) k (shape_of o.value.opcode) o.value.immediates l.range))
+    (word_writes is
+    (writes_by s ranged (inside role xs) (outside role xs) own (outside_labels role xs h) k (shape_of o.value.opcode) o.value.immediates l.range))
 
-operators_write : (s : Setting) → AreSignaturesInRange s.signature → (naming : Naming) → AreNames naming → (first : Bool) (n : ℕ) (xs : List Label) (os : List (Placed Operator)) → AllByRecursion IsLabel xs → AllByRecursion IsListed (without_places os) →
+operators_write : (s : Setting) → AreSignaturesInRange s.signature → (naming : Naming) → AreNames naming →
+    (first : Bool) (n : ℕ) (xs : List Label) (os : List (Placed Operator)) → AllByRecursion IsLabel xs → AllByRecursion IsListed (without_places os) →
     Writes (ahead s.form first) (operators_pieces s naming first n xs os) (behind s.form) (operators_items s.signature naming n xs (without_places os))
 unfolding operators_pieces
 operators_write s ranged naming names first n xs [] h l = no_operators_write s.form first
@@ -166,7 +174,8 @@ operators_write s ranged naming names first n xs (o ∷ os) h l =
     both_write (operator_writes s ranged first own xs o h k l.0)
     (goes_on s.form (operators_write s ranged naming names false (count_after role n) (labels_after role own xs) os (after_labels role own xs k h) l.1))
 
-pub expression_writes : (s : Setting) → AreSignaturesInRange s.signature → (naming : Naming) → AreNames naming → (os : List (Placed Operator)) → AllByRecursion IsListed (without_places os) →
+pub expression_writes : (s : Setting) → AreSignaturesInRange s.signature → (naming : Naming) → AreNames naming → (os : List (Placed Operator)) →
+    AllByRecursion IsListed (without_places os) →
     Writes (ahead s.form true) (expression_pieces s naming os) (behind s.form) (expression_items s.signature naming (without_places os))
 unfolding expression_pieces
 expression_writes s ranged naming names os l = operators_write s ranged naming names true 0 [] os tt l

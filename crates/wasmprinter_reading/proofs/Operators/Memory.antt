@@ -112,15 +112,19 @@ with_memory-align natural memory e h = by (eqb e natural) (alignment-items natur
     by true a = ap (option_map (λ k. mem_arg_of k memory 0)) a
     by false a = rw a
 
-with_memory-options : (natural memory offset e : ℕ) → offset < 2 ^ 64 → e < 64 → with_memory natural memory (options_items natural offset e) ≡ Some (mem_arg_of e memory offset)
+with_memory-options : (natural memory offset e : ℕ) → offset < 2 ^ 64 → e < 64 →
+    with_memory natural memory (options_items natural offset e) ≡ Some (mem_arg_of e memory offset)
 with_memory-options natural memory offset e small h = by (eqb offset 0) refl
   where
-    by : (b : Bool) → eqb offset 0 ≡ b → with_memory natural memory (onto (cond b End (Word (codes "offset=" ++ decimal offset) End)) (align_items natural e)) ≡ Some (mem_arg_of e memory offset)
+    by : (b : Bool) → eqb offset 0 ≡ b →
+        with_memory natural memory (onto (cond b End (Word (codes "offset=" ++ decimal offset) End)) (align_items natural e))
+        ≡ Some (mem_arg_of e memory offset)
     by true none = with_memory-align natural memory e h ∙ ap (λ k. Some (mem_arg_of e memory k)) (sym (eqb-true offset 0 none))
     by false some = rw (u64-decimal offset small, alignment-items natural e h)
 
 -- where no memory stands, it is the first
-without_memory : (c : Context) (natural offset e : ℕ) → mem_arg c natural (options_items natural offset e) ≡ with_memory natural 0 (options_items natural offset e)
+without_memory : (c : Context) (natural offset e : ℕ) →
+    mem_arg c natural (options_items natural offset e) ≡ with_memory natural 0 (options_items natural offset e)
 without_memory c natural offset e = by (eqb offset 0) (eqb e natural)
   where
     by : (b d : Bool) →
@@ -143,7 +147,8 @@ decimal_no_option n h = digits_no_option (decimal n) (decimal_is_IsNumeral n h).
 pub mem_arg_reads : (c : Context) (natural : ℕ) (m : MemArg) → IsMemArgInRange m → mem_arg c natural (mem_arg_items natural m) ≡ Some m
 mem_arg_reads c natural m h = by (eqb m.memory 0) refl
   where
-    by : (b : Bool) → eqb m.memory 0 ≡ b → mem_arg c natural (onto (cond b End (Word (decimal m.memory) End)) (options_items natural m.offset m.exponent)) ≡ Some m
+    by : (b : Bool) → eqb m.memory 0 ≡ b →
+        mem_arg c natural (onto (cond b End (Word (decimal m.memory) End)) (options_items natural m.offset m.exponent)) ≡ Some m
     by true first =
         without_memory c natural m.offset m.exponent
         ∙ with_memory-options natural 0 m.offset m.exponent h.offset h.exponent
@@ -187,7 +192,8 @@ but_last-words (Word v End) w h = refl
 but_last-words (Word v (Word u f)) w h = rw (but_last-words (Word u f) w h)
 but_last-words _ w h = absurd h
 
-pub mem_arg_lane_reads : (c : Context) (natural : ℕ) (m : MemArg) (k : ℕ) → IsMemArgInRange m → IsByte k → mem_arg_and_lane c natural (mem_arg_lane_items natural m k) ≡ Some (MemoryLane m k)
+pub mem_arg_lane_reads : (c : Context) (natural : ℕ) (m : MemArg) (k : ℕ) → IsMemArgInRange m → IsByte k →
+    mem_arg_and_lane c natural (mem_arg_lane_items natural m k) ≡ Some (MemoryLane m k)
 mem_arg_lane_reads c natural m k h l =
     let words : AreWords (mem_arg_items natural m) =
     words_onto (default_items m.memory) (options_items natural m.offset m.exponent) (default_words m.memory) (options_words natural m.offset m.exponent) in
@@ -208,7 +214,8 @@ offset_writes : (n : ℕ) → n < 2 ^ 64 → Writes Bound (offset_pieces n) Boun
 unfolding offset_pieces
 offset_writes n h = by (eqb n 0) (is_word-offset n h)
   where
-    by : (b : Bool) → is_word (codes "offset=" ++ decimal n) ≡ true → Writes Bound (cond b [] (Gap ∷ (piece.Word (codes "offset=" ++ decimal n) ∷ []))) Bound (cond b End (Word (codes "offset=" ++ decimal n) End))
+    by : (b : Bool) → is_word (codes "offset=" ++ decimal n) ≡ true →
+        Writes Bound (cond b [] (Gap ∷ (piece.Word (codes "offset=" ++ decimal n) ∷ []))) Bound (cond b End (Word (codes "offset=" ++ decimal n) End))
     by true word = search writing
     by false word = search writing
 
@@ -232,5 +239,6 @@ lane_writes k h =
     let word : is_word (decimal k) ≡ true = is_word-decimal k (omega arith) in
     search writing
 
-pub mem_arg_lane_writes : (natural : ℕ) (m : MemArg) (k : ℕ) → IsMemArgInRange m → IsByte k → Writes Bound (mem_arg_pieces natural m ++ lane_pieces k) Bound (mem_arg_lane_items natural m k)
+pub mem_arg_lane_writes : (natural : ℕ) (m : MemArg) (k : ℕ) → IsMemArgInRange m → IsByte k →
+    Writes Bound (mem_arg_pieces natural m ++ lane_pieces k) Bound (mem_arg_lane_items natural m k)
 mem_arg_lane_writes natural m k h l = both_write (mem_arg_writes natural m h) (lane_writes k l)

@@ -31,7 +31,8 @@ outside_labels _ xs h = h
 
 -- ---- the labels behind an operator
 
-pub after_opened : (naming : Naming) (n : ℕ) (r : Role) (xs : List Label) → length xs < 2 ^ 64 → Opened naming xs → Opened naming (labels_after r (naming n (length xs)) xs)
+pub after_opened : (naming : Naming) (n : ℕ) (r : Role) (xs : List Label) → length xs < 2 ^ 64 → Opened naming xs →
+    Opened naming (labels_after r (naming n (length xs)) xs)
 after_opened naming n Opens xs small o = ((n, refl), small, o)
 after_opened naming n OpensIf xs small o = ((n, refl), small, o)
 after_opened naming n OpensTry xs small o = ((n, refl), small, o)
@@ -62,7 +63,8 @@ after_length Ends own [] = omega arith
 after_length Ends own (x ∷ xs) = omega arith
 after_length _ own xs = omega arith
 
-pub after_ids : (c : Context) (signature : ℕ → Option FuncType) (inner ys : List Label) (r : Role) (s : Shape) (own : Label) (xs : List Label) (i : Immediates) → fits r s ≡ true → has_shape s i ≡ true →
+pub after_ids : (c : Context) (signature : ℕ → Option FuncType) (inner ys : List Label) (r : Role) (s : Shape) (own : Label) (xs : List Label) (i : Immediates) →
+    fits r s ≡ true → has_shape s i ≡ true →
     open_behind r (id_of (immediate_items signature inner ys own s i)) (ids xs) ≡ ids (labels_after r own xs)
 after_ids c signature inner ys Opens s own xs i f k = ap (λ t. t ∷ ids xs) (id_of-opening c signature inner ys own s i f k)
 after_ids c signature inner ys OpensIf s own xs i f k = ap (λ t. t ∷ ids xs) (id_of-opening c signature inner ys own s i f k)

@@ -99,19 +99,23 @@ module _ (c : Context) where
   test_reads null h r = rw (ref_reads null h r, same_flag-self null)
 
   -- and not where the other is wanted
-  pub test_refuses : (null wanted : Bool) (h : HeapType) → IsRangedHeap h → not (same_flag null wanted) ≡ true → (reference_type c.spaces.types (ref_items_by null h) >>= heap_with wanted) ≡ None
+  pub test_refuses : (null wanted : Bool) (h : HeapType) → IsRangedHeap h → not (same_flag null wanted) ≡ true →
+      (reference_type c.spaces.types (ref_items_by null h) >>= heap_with wanted) ≡ None
   test_refuses true true h r n = absurd cc
   test_refuses false false h r n = absurd cc
   test_refuses true false h r n = rw (ref_reads true h r)
   test_refuses false true h r n = rw (ref_reads false h r)
 
-  two_reads : (r t : RefType) → IsRangedHeap r.heap → IsRangedHeap t.heap → all_items ref_named (ref_group c.spaces.types) (onto (ref_items r) (ref_items t)) ≡ Some (r ∷ (t ∷ []))
+  two_reads : (r t : RefType) → IsRangedHeap r.heap → IsRangedHeap t.heap →
+      all_items ref_named (ref_group c.spaces.types) (onto (ref_items r) (ref_items t)) ≡ Some (r ∷ (t ∷ []))
   two_reads r t h k =
       let second : all_items ref_named (ref_group c.spaces.types) (onto (ref_items t) End) ≡ Some (t ∷ []) =
       all_items-reads ref_named (ref_group c.spaces.types) (ref_items t) t End [] (ref_item c.spaces.types t.nullable t.heap k) refl in
-      all_items-reads ref_named (ref_group c.spaces.types) (ref_items r) r (ref_items t) (t ∷ []) (ref_item c.spaces.types r.nullable r.heap h) (rw onto-End at second)
+      let first = ref_item c.spaces.types r.nullable r.heap h in
+      all_items-reads ref_named (ref_group c.spaces.types) (ref_items r) r (ref_items t) (t ∷ []) first (rw onto-End at second)
 
-  pub cast_reads : (naming : Naming) → AreApart naming → (inner xs : List Label) → Opened naming xs → (l : ℕ) (r t : RefType) → IsU32 l → IsRangedHeap r.heap → IsRangedHeap t.heap →
+  pub cast_reads : (naming : Naming) → AreApart naming → (inner xs : List Label) → Opened naming xs → (l : ℕ) (r t : RefType) → IsU32 l → IsRangedHeap r.heap →
+      IsRangedHeap t.heap →
       cast_parts c (ids xs) (cast_items inner xs l r t) ≡ Some (Cast l r t)
   cast_reads naming apart inner xs o l r t small h k =
       let alone : IsAlone (label_items inner xs l) (onto (ref_items r) (ref_items t)) = label_alone inner xs l (onto (ref_items r) (ref_items t)) in
@@ -123,7 +127,8 @@ pub select_writes : (ts : List ValType) → AllByRecursion IsRangedVal ts → Wr
 unfolding select_pieces class
 select_writes [] r = gap_writes refl (line_group_writes (codes "result") (type_list []) refl refl (type_list_writes [] r))
 select_writes (t ∷ []) r =
-    let one : Writes Free (val_pieces t) Bound (types_items (t ∷ [])) = subst (λ f. Writes Free (val_pieces t) Bound f) (sym (onto-End (val_items t))) (val_writes t r.0) in
+    let one : Writes Free (val_pieces t) Bound (types_items (t ∷ [])) =
+    subst (λ f. Writes Free (val_pieces t) Bound f) (sym (onto-End (val_items t))) (val_writes t r.0) in
     gap_writes refl (line_group_gap_writes (codes "result") (val_pieces t) refl refl one)
 select_writes (t ∷ u ∷ ts) r = gap_writes refl (line_group_writes (codes "result") (type_list (t ∷ (u ∷ ts))) refl refl (type_list_writes (t ∷ (u ∷ ts)) r))
 

@@ -47,7 +47,8 @@ module _ (c : Context) (is : Identifiers) (f : Forest) (i : Immediates) where
   passed_over s rs e = rw e
 
   first_of_word : (rs : List Row) (r : Row) → are_told_apart (map keyed rs) ≡ true → In r rs → immediates c (seen r.role is) r.shape f ≡ Some i →
-      ((s : Row) → refuses s.shape r.shape ≡ true → immediates c (seen s.role is) s.shape f ≡ None) → first_reading c is (filter (has_word r.word) rs) f ≡ Some (r, i)
+      ((s : Row) → refuses s.shape r.shape ≡ true → immediates c (seen s.role is) s.shape f ≡ None) →
+      first_reading c is (filter (has_word r.word) rs) f ≡ Some (r, i)
   first_of_word [] r t at e refused = elim at [ ]
   first_of_word (s ∷ rs) r t here e refused =
       ap (λ b. first_reading c is (cond b (r ∷ filter (has_word r.word) rs) (filter (has_word r.word) rs)) f) (same_bytes r.word) ∙ first_reads r (filter (has_word r.word) rs) e

@@ -61,9 +61,11 @@ AllSpelled-mem_arg =
   where
     by : (n : ℕ) → AllSpelled (mem_arg_by n) IsMemArgInRange
     by n =
-        AllSpelled-choose_by (ltb n 64) (λ small. AllSpelled-map_value AllSpelled-u64 (λ offset h. record { exponent = ltb-true n 64 small; memory = omega arith; offset = h }))
+        AllSpelled-choose_by (ltb n 64)
+        (λ small. AllSpelled-map_value AllSpelled-u64 (λ offset h. record { exponent = ltb-true n 64 small; memory = omega arith; offset = h }))
         (λ _. AllSpelled-choose_by (ltb n 128)
-        (λ small. AllSpelled-map_value (AllSpelled-seq AllSpelled-u32 (λ _. AllSpelled-u64)) (λ x h. record { exponent = omega (arith, ltb-true n 128 small); memory = h.0; offset = h.1 }))
+        (λ small. AllSpelled-map_value (AllSpelled-seq AllSpelled-u32 (λ _. AllSpelled-u64))
+        (λ x h. record { exponent = omega (arith, ltb-true n 128 small); memory = h.0; offset = h.1 }))
         (λ _. AllSpelled-fail))
 
 -- Two indices, or an index and a number.
@@ -73,7 +75,8 @@ AllSpelled-indices = AllSpelled-map_value (AllSpelled-seq AllSpelled-u32 (λ _. 
 -- A cast: a label, and two heap types.
 AllSpelled-cast : AllSpelled cast (HasShape CastShape)
 AllSpelled-cast =
-    AllSpelled-map_value (AllSpelled-seq (AllSpelled-any (try_map cast_nulls byte)) (λ _. AllSpelled-seq AllSpelled-u32 (λ _. AllSpelled-seq AllSpelled-heap_type (λ _. AllSpelled-heap_type))))
+    AllSpelled-map_value (AllSpelled-seq (AllSpelled-any (try_map cast_nulls byte))
+    (λ _. AllSpelled-seq AllSpelled-u32 (λ _. AllSpelled-seq AllSpelled-heap_type (λ _. AllSpelled-heap_type))))
     (λ x h. (refl, (h.1.0, h.1.1.0, h.1.1.1)))
 
 -- The number of so many bytes.

@@ -71,7 +71,8 @@ hex_value n [] h = refl
 hex_value n (b ∷ bs) h =
     let high : digit_value (digit_glyph false (b / 16)) ≡ b / 16 = glyph_is (b / 16) (omega (arith, h.0)) in
     let low : digit_value (digit_glyph false (b % 16)) ≡ b % 16 = glyph_is (b % 16) (omega arith) in
-    let byte : (n * 16 + digit_value (digit_glyph false (b / 16))) * 16 + digit_value (digit_glyph false (b % 16)) ≡ n * 256 + b = rw (high, low) (omega arith) in
+    let byte : (n * 16 + digit_value (digit_glyph false (b / 16))) * 16 + digit_value (digit_glyph false (b % 16)) ≡ n * 256 + b =
+    rw (high, low) (omega arith) in
     ap (λ m. digits_value_after 16 m (hex_digits bs)) byte ∙ hex_value (n * 256 + b) bs h.1
 
 -- a number of four bytes, without a sign
