@@ -1,7 +1,7 @@
 //! What stands behind an operator's word, by the shape of its immediates (section 6.5 of the WebAssembly Core Specification).
-ghost use Rattle.std.specs.Prelude.{◌+◌, ◌<◌, ◌^◌, ◌++◌, List, None};
+ghost use Rattle.std.specs.Prelude.{ℕ, ◌+◌, ◌<◌, ◌^◌, ◌++◌, List, None};
 ghost use Rattle.wasmprinter_spec.specs.Labels.{Label};
-ghost use Rattle.wasmprinter_spec.specs.Operator.{Index, Indices, Heap, Bytes};
+ghost use Rattle.wasmprinter_spec.specs.Operator.{Index, Indices, Heap, Memory, MemoryLane, Bytes};
 ghost use Rattle.wasmprinter_spec.specs.Options.{Options};
 ghost use Rattle.wasmprinter_spec.specs.Layout.Operators as layout;
 ghost use Rattle.wasmprinter_spec.specs.Layout.Operators.{block_pieces, catches_pieces, ending_pieces, index_pieces, mem_arg_pieces, lane_pieces};
@@ -149,7 +149,12 @@ fn write_memory<P: Print>(p: &mut P, shape: Shape, operand: MemArg) -> io::Resul
 }
 
 /// Writes a memory operand and a lane.
-fn write_operand_and_lane<P: Print>(p: &mut P, natural: u32, operand: MemArg, lane: u8) -> io::Result<()>
+fn write_operand_and_lane<P: Print>(
+    p: &mut P,
+    natural: u32,
+    operand: MemArg,
+    lane: u8,
+) -> io::Result<()>
     ensures { (o : Options) → Prints P.meaning o p.old p.new result
         (mem_arg_pieces natural operand ++ lane_pieces lane) }
 {

@@ -50,11 +50,7 @@ pub(crate) fn write_count<P: Print>(p: &mut P, count: u32) -> io::Result<()>
 }
 
 /// Writes the index of an array type and how many elements the array has.
-pub(crate) fn write_index_and_count<P: Print>(
-    p: &mut P,
-    index: u32,
-    count: u32,
-) -> io::Result<()>
+pub(crate) fn write_index_and_count<P: Print>(p: &mut P, index: u32, count: u32) -> io::Result<()>
     ensures { (o : Options) → Prints P.meaning o p.old p.new result
         (Gap ∷ (Number index ∷ lane_pieces count)) }
 {
