@@ -1,4 +1,5 @@
-//! Operators (section 6.5 of the WebAssembly Core Specification), each on a line of its own or all in one line.
+//! Operators (section 6.5 of the WebAssembly Core Specification), each on a line of its own or all
+//! in one line.
 ghost use Rattle.std.specs.Prelude.{◌≡◌, ◌+◌, ◌<◌, ◌^◌, [], ◌∷◌, ℕ, List, Option, Some, None};
 ghost use Rattle.wasmprinter_spec.specs.Labels.{Label};
 ghost use Rattle.wasmprinter_spec.specs.Options.{Options};
@@ -45,7 +46,8 @@ pub struct Setting<'s, S: Signatures> {
     pub nesting: u64,
 }
 
-/// How deep an operator stands in so many blocks: what ends a block or a part of it stands further out.
+/// How deep an operator stands in so many blocks: what ends a block or a part of it stands further
+/// out.
 fn level(role: Role, depth: u64) -> u64
     ensures { result ≡ level_of (role_view role) depth }
 {
@@ -65,7 +67,8 @@ fn break_inside<P: Print>(
     nesting: u64,
     blocks: u64,
 ) -> io::Result<()>
-    ensures { Prints P.meaning options.now p.old p.new result (Break (Some place) (nesting + blocks) ∷ []) }
+    ensures { Prints P.meaning options.now p.old p.new result
+        (Break (Some place) (nesting + blocks) ∷ []) }
 {
     break_line(p, options, Some(place), nesting.saturating_add(blocks))
 }
@@ -93,7 +96,7 @@ fn write_before<P: Print, S: Signatures>(
     }
 }
 
-/// Writes what stands behind an operator's word, with so many blocks open around those that it may mean.
+/// Writes what stands behind an operator's word, where so many blocks are open that it may mean.
 fn write_behind<P: Print, S: Signatures>(
     p: &mut P,
     setting: &Setting<'_, S>,
@@ -123,7 +126,8 @@ fn write_operator<P: Print, S: Signatures>(
 ) -> io::Result<()>
     requires { depth + 1 < 2 ^ 64 }
     ensures { Prints P.meaning options.now p.old p.new result
-        (operator_pieces (setting_view S.signature_at setting.now) first None (unnamed depth) (record { place = place; value = operator.now })) }
+        (operator_pieces (setting_view S.signature_at setting.now) first None (unnamed depth)
+        (record { place = place; value = operator.now })) }
 {
     let role = operator.opcode.role();
     write_before(p, options, setting, first, place, level(role, depth))?;
