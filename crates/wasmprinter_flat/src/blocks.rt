@@ -26,7 +26,8 @@ use wasmprinter_words::words::{gap, open, shut};
 /// Writes a comment that names the label of a block, which is counted from 1.
 #[tactic(auto, unfolding(wasmprinter_spec::specs::Layout::Operators::ending_pieces))]
 pub(crate) fn write_ending<P: Print>(p: &mut P, form: Form, block: u64) -> io::Result<()>
-    ensures { (o : Options) → Prints P.meaning o p.old p.new result (ending_pieces (form_view form) None block) }
+    ensures { (o : Options) → Prints P.meaning o p.old p.new result
+        (ending_pieces (form_view form) None block) }
 {
     match form {
         Form::OverLines => {
@@ -42,7 +43,8 @@ pub(crate) fn write_ending<P: Print>(p: &mut P, form: Form, block: u64) -> io::R
 
 /// Writes the signature of a function type, and nothing where the index is no function type's.
 fn write_signature<P: Print, S: Signatures>(p: &mut P, types: &S, index: u32) -> io::Result<()>
-    ensures { (o : Options) → Prints P.meaning o p.old p.new result (signature_behind (S.signature_at types.now index)) }
+    ensures { (o : Options) → Prints P.meaning o p.old p.new result
+        (signature_behind (S.signature_at types.now index)) }
 {
     match types.signature(index) {
         Some(found) => signature(p, &found),
@@ -67,7 +69,8 @@ pub(crate) fn write_block_type<P: Print, S: Signatures>(
     types: &S,
     block_type: BlockType,
 ) -> io::Result<()>
-    ensures { (o : Options) → Prints P.meaning o p.old p.new result (block_pieces (S.signature_at types.now) (block_type_view block_type)) }
+    ensures { (o : Options) → Prints P.meaning o p.old p.new result
+        (block_pieces (S.signature_at types.now) (block_type_view block_type)) }
 {
     match block_type {
         BlockType::Empty => Ok(()),
@@ -109,7 +112,8 @@ fn write_untagged<P: Print>(p: &mut P, keyword: &str, depth: u64, label: u32) ->
 /// Writes a catch clause, with so many blocks open around the `try_table`.
 #[tactic(auto, unfolding(wasmprinter_spec::specs::Layout::Operators::catch_pieces))]
 fn write_catch<P: Print>(p: &mut P, depth: u64, clause: Catch) -> io::Result<()>
-    ensures { (o : Options) (inner : List Label) → Prints P.meaning o p.old p.new result (catch_pieces inner (unnamed depth) (catch_view clause)) }
+    ensures { (o : Options) (inner : List Label) → Prints P.meaning o p.old p.new result
+        (catch_pieces inner (unnamed depth) (catch_view clause)) }
 {
     match clause {
         Catch::One(tag, label) => write_tagged(p, "catch", depth, tag, label),
@@ -121,7 +125,8 @@ fn write_catch<P: Print>(p: &mut P, depth: u64, clause: Catch) -> io::Result<()>
 
 /// Writes a blank and a catch clause.
 fn write_clause<P: Print>(p: &mut P, depth: u64, clause: Catch) -> io::Result<()>
-    ensures { (o : Options) (inner : List Label) → Prints P.meaning o p.old p.new result (Gap ∷ catch_pieces inner (unnamed depth) (catch_view clause)) }
+    ensures { (o : Options) (inner : List Label) → Prints P.meaning o p.old p.new result
+        (Gap ∷ catch_pieces inner (unnamed depth) (catch_view clause)) }
 {
     gap(p)?;
     write_catch(p, depth, clause)
@@ -133,7 +138,8 @@ pub(crate) fn write_catches<P: Print>(
     depth: u64,
     clauses: &Catches<'_>,
 ) -> io::Result<()>
-    ensures { (o : Options) (inner : List Label) → Prints P.meaning o p.old p.new result (catches_pieces inner (unnamed depth) (catches_view clauses.now)) }
+    ensures { (o : Options) (inner : List Label) → Prints P.meaning o p.old p.new result
+        (catches_pieces inner (unnamed depth) (catches_view clauses.now)) }
 {
     for clause in clauses.iter() {
         write_clause(p, depth, clause)?;

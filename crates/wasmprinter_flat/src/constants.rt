@@ -1,4 +1,5 @@
-//! Floats behind an operator's word (section 6.5 of the WebAssembly Core Specification, "Numeric Instructions"), by their bits.
+//! Floats behind an operator's word (section 6.5 of the WebAssembly Core Specification, "Numeric
+//! Instructions"), by their bits.
 ghost use Rattle.std.specs.Prelude.{[], ◌∷◌};
 ghost use Rattle.wasmprinter_spec.specs.Float.{single, double};
 ghost use Rattle.wasmprinter_spec.specs.Options.{Options};
@@ -12,7 +13,8 @@ use wasmprinter_words::words::gap;
 
 /// Writes a blank and a float of 32 bits.
 pub(crate) fn write_f32<P: Print>(p: &mut P, bits: u32) -> io::Result<()>
-    ensures { (o : Options) → Prints P.meaning o p.old p.new result (Gap ∷ (Float single bits ∷ [])) }
+    ensures { (o : Options) → Prints P.meaning o p.old p.new result
+        (Gap ∷ (Float single bits ∷ [])) }
 {
     gap(p)?;
     write_single(p, bits)
@@ -20,7 +22,8 @@ pub(crate) fn write_f32<P: Print>(p: &mut P, bits: u32) -> io::Result<()>
 
 /// Writes a blank and a float of 64 bits.
 pub(crate) fn write_f64<P: Print>(p: &mut P, bits: u64) -> io::Result<()>
-    ensures { (o : Options) → Prints P.meaning o p.old p.new result (Gap ∷ (Float double bits ∷ [])) }
+    ensures { (o : Options) → Prints P.meaning o p.old p.new result
+        (Gap ∷ (Float double bits ∷ [])) }
 {
     gap(p)?;
     write_double(p, bits)

@@ -1,10 +1,11 @@
-//! What stands behind an operator's word, by the shape of its immediates (section 6.5 of the WebAssembly Core Specification).
-ghost use Rattle.std.specs.Prelude.{◌+◌, ◌<◌, ◌^◌, ◌++◌, List, None};
+//! What stands behind an operator's word, by the shape of its immediates (section 6.5 of the
+//! WebAssembly Core Specification).
+ghost use Rattle.std.specs.Prelude.{ℕ, ◌+◌, ◌<◌, ◌^◌, ◌++◌, List, None};
 ghost use Rattle.wasmprinter_spec.specs.Labels.{Label};
-ghost use Rattle.wasmprinter_spec.specs.Operator.{Index, Indices, Heap, Bytes};
+ghost use Rattle.wasmprinter_spec.specs.Operator.{Index, Indices, Heap, Memory, MemoryLane, Bytes};
 ghost use Rattle.wasmprinter_spec.specs.Options.{Options};
 ghost use Rattle.wasmprinter_spec.specs.Layout.Operators as layout;
-ghost use Rattle.wasmprinter_spec.specs.Layout.Operators.{block_pieces, catches_pieces, ending_pieces, index_pieces, mem_arg_pieces, lane_pieces};
+ghost use Rattle.wasmprinter_spec.specs.Layout.Operators.{block_pieces, catches_pieces, ending_pieces, index_pieces};
 ghost use Rattle.wasmprinter_print.specs.Prints.{Prints};
 ghost use Rattle.wasmprinter_ops.specs.Blocks.{block_type_view, catches_view};
 ghost use Rattle.wasmprinter_ops.specs.Immediates.{immediates_view, HasShape};
@@ -84,7 +85,8 @@ fn write_index_of<P: Print>(p: &mut P, space: Space, depth: u64, index: u32) -> 
 /// Writes an index by its shape, with so many blocks open.
 fn write_index<P: Print>(p: &mut P, shape: Shape, depth: u64, index: u32) -> io::Result<()>
     requires { HasShape (shape_view shape) (Index index) }
-    ensures { (o : Options) (s : layout.Setting) (inner : List Label) → Prints P.meaning o p.old p.new result
+    ensures { (o : Options) (s : layout.Setting) (inner : List Label) →
+        Prints P.meaning o p.old p.new result
         (unnamed_pieces s inner depth (shape_view shape) (Index index)) }
 {
     match shape {
@@ -97,7 +99,8 @@ fn write_index<P: Print>(p: &mut P, shape: Shape, depth: u64, index: u32) -> io:
 /// Writes two indices, or an index and a number, by their shape.
 fn write_indices<P: Print>(p: &mut P, shape: Shape, first: u32, second: u32) -> io::Result<()>
     requires { HasShape (shape_view shape) (Indices first second) }
-    ensures { (o : Options) (s : layout.Setting) (inner : List Label) (depth : ℕ) → Prints P.meaning o p.old p.new result
+    ensures { (o : Options) (s : layout.Setting) (inner : List Label) (depth : ℕ) →
+        Prints P.meaning o p.old p.new result
         (unnamed_pieces s inner depth (shape_view shape) (Indices first second)) }
 {
     match shape {
@@ -113,7 +116,8 @@ fn write_indices<P: Print>(p: &mut P, shape: Shape, first: u32, second: u32) -> 
 /// Writes a heap type by its shape: as it is, or as the type of references to it.
 fn write_heap_by<P: Print>(p: &mut P, shape: Shape, heap: HeapType) -> io::Result<()>
     requires { HasShape (shape_view shape) (Heap (heap_view heap)) }
-    ensures { (o : Options) (s : layout.Setting) (inner : List Label) (depth : ℕ) → Prints P.meaning o p.old p.new result
+    ensures { (o : Options) (s : layout.Setting) (inner : List Label) (depth : ℕ) →
+        Prints P.meaning o p.old p.new result
         (unnamed_pieces s inner depth (shape_view shape) (Heap (heap_view heap))) }
 {
     match shape {
@@ -126,7 +130,8 @@ fn write_heap_by<P: Print>(p: &mut P, shape: Shape, heap: HeapType) -> io::Resul
 /// Writes sixteen bytes by their shape: as a vector, or as lanes.
 fn write_bytes<P: Print>(p: &mut P, shape: Shape, bytes: &[u8]) -> io::Result<()>
     requires { HasShape (shape_view shape) (Bytes bytes.now) }
-    ensures { (o : Options) (s : layout.Setting) (inner : List Label) (depth : ℕ) → Prints P.meaning o p.old p.new result
+    ensures { (o : Options) (s : layout.Setting) (inner : List Label) (depth : ℕ) →
+        Prints P.meaning o p.old p.new result
         (unnamed_pieces s inner depth (shape_view shape) (Bytes bytes.now)) }
 {
     match shape {
@@ -139,34 +144,28 @@ fn write_bytes<P: Print>(p: &mut P, shape: Shape, bytes: &[u8]) -> io::Result<()
 /// Writes a memory operand by its shape, which gives the natural alignment.
 fn write_memory<P: Print>(p: &mut P, shape: Shape, operand: MemArg) -> io::Result<()>
     requires { HasShape (shape_view shape) (Memory operand) }
-    ensures { (o : Options) (s : layout.Setting) (inner : List Label) (depth : ℕ) → Prints P.meaning o p.old p.new result
+    ensures { (o : Options) (s : layout.Setting) (inner : List Label) (depth : ℕ) →
+        Prints P.meaning o p.old p.new result
         (unnamed_pieces s inner depth (shape_view shape) (Memory operand)) }
 {
-    match shape {
-        Shape::Memory(natural) => write_mem_arg(p, natural, operand),
-        _ => unreachable!(),
-    }
-}
-
-/// Writes a memory operand and a lane.
-fn write_operand_and_lane<P: Print>(p: &mut P, natural: u32, operand: MemArg, lane: u8) -> io::Result<()>
-    ensures { (o : Options) → Prints P.meaning o p.old p.new result
-        (mem_arg_pieces natural operand ++ lane_pieces lane) }
-{
-    write_mem_arg(p, natural, operand)?;
-    write_lane(p, lane)
+    let Shape::Memory(natural) = shape else {
+        unreachable!()
+    };
+    write_mem_arg(p, natural, operand)
 }
 
 /// Writes a memory operand and a lane by their shape.
 fn write_memory_lane<P: Print>(p: &mut P, shape: Shape, operand: MemArg, lane: u8) -> io::Result<()>
     requires { HasShape (shape_view shape) (MemoryLane operand lane) }
-    ensures { (o : Options) (s : layout.Setting) (inner : List Label) (depth : ℕ) → Prints P.meaning o p.old p.new result
+    ensures { (o : Options) (s : layout.Setting) (inner : List Label) (depth : ℕ) →
+        Prints P.meaning o p.old p.new result
         (unnamed_pieces s inner depth (shape_view shape) (MemoryLane operand lane)) }
 {
-    match shape {
-        Shape::MemoryLane(natural) => write_operand_and_lane(p, natural, operand, lane),
-        _ => unreachable!(),
-    }
+    let Shape::MemoryLane(natural) = shape else {
+        unreachable!()
+    };
+    write_mem_arg(p, natural, operand)?;
+    write_lane(p, lane)
 }
 
 /// Writes immediates by their shape, with so many blocks open around those that they may mean.
@@ -180,7 +179,8 @@ pub(crate) fn write_immediates<P: Print, S: Signatures>(
     requires depth { depth + 1 < 2 ^ 64 }
     requires shape { HasShape (shape_view shape) (immediates_view immediates.now) }
     ensures { (o : Options) (inner : List Label) → Prints P.meaning o p.old p.new result
-        (unnamed_pieces (setting_view S.signature_at setting.now) inner depth (shape_view shape) (immediates_view immediates.now)) }
+        (unnamed_pieces (setting_view S.signature_at setting.now) inner depth (shape_view shape)
+        (immediates_view immediates.now)) }
 {
     match immediates {
         Immediates::None => Ok(()),

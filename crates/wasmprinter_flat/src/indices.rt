@@ -1,4 +1,5 @@
-//! Indices behind an operator's word (section 6.5 of the WebAssembly Core Specification), each with a blank in front.
+//! Indices behind an operator's word (section 6.5 of the WebAssembly Core Specification), each with
+//! a blank in front.
 ghost use Rattle.std.specs.Prelude.{◌≡◌, [], ◌∷◌, ◌++◌, codes, cond, ◌&&◌, ◌==◌};
 ghost use Rattle.wasmprinter_spec.specs.Options.{Options};
 ghost use Rattle.wasmprinter_spec.specs.Piece.{Gap, Number};
@@ -34,7 +35,8 @@ pub(crate) fn write_default_index<P: Print>(p: &mut P, index: u32) -> io::Result
 /// Writes two indices.
 #[tactic(auto, unfolding(wasmprinter_spec::specs::Layout::Operators::two_index_pieces))]
 pub(crate) fn write_two<P: Print>(p: &mut P, first: u32, second: u32) -> io::Result<()>
-    ensures { (o : Options) → Prints P.meaning o p.old p.new result (two_index_pieces first second) }
+    ensures { (o : Options) → Prints P.meaning o p.old p.new result
+        (two_index_pieces first second) }
 {
     write_number(p, first)?;
     write_number(p, second)
@@ -50,11 +52,7 @@ pub(crate) fn write_count<P: Print>(p: &mut P, count: u32) -> io::Result<()>
 }
 
 /// Writes the index of an array type and how many elements the array has.
-pub(crate) fn write_index_and_count<P: Print>(
-    p: &mut P,
-    index: u32,
-    count: u32,
-) -> io::Result<()>
+pub(crate) fn write_index_and_count<P: Print>(p: &mut P, index: u32, count: u32) -> io::Result<()>
     ensures { (o : Options) → Prints P.meaning o p.old p.new result
         (Gap ∷ (Number index ∷ lane_pieces count)) }
 {
@@ -74,13 +72,15 @@ fn write_type_group<P: Print>(p: &mut P, index: u32) -> io::Result<()>
 /// Writes what an indirect call names: its table unless that is 0, and the index of its type.
 pub(crate) fn write_call<P: Print>(p: &mut P, type_index: u32, table: u32) -> io::Result<()>
     ensures { (o : Options) → Prints P.meaning o p.old p.new result
-        (default_index_pieces table ++ (Gap ∷ line_group_gap (codes "type") (Number type_index ∷ []))) }
+        (default_index_pieces table
+        ++ (Gap ∷ line_group_gap (codes "type") (Number type_index ∷ []))) }
 {
     write_default_index(p, table)?;
     write_type_group(p, type_index)
 }
 
-/// Writes a segment of elements or data, in front of it the table or memory that it is copied to, unless that is 0.
+/// Writes a segment of elements or data, in front of it the table or memory that it is copied to,
+/// unless that is 0.
 pub(crate) fn write_segment<P: Print>(p: &mut P, segment: u32, target: u32) -> io::Result<()>
     ensures { (o : Options) → Prints P.meaning o p.old p.new result
         (default_index_pieces target ++ (Gap ∷ (Number segment ∷ []))) }

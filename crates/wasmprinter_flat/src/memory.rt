@@ -1,4 +1,5 @@
-//! Memory operands (section 6.5 of the WebAssembly Core Specification, "Memory Instructions"), a blank in front of each part.
+//! Memory operands (section 6.5 of the WebAssembly Core Specification, "Memory Instructions"), with
+//! a blank in front of each part.
 ghost use Rattle.std.specs.Prelude.{◌<◌, ◌^◌, [], ◌∷◌, ◌++◌, codes, decimal};
 ghost use Rattle.wasmprinter_spec.specs.Options.{Options};
 ghost use Rattle.wasmprinter_spec.specs.Piece.{Gap, Word};
@@ -14,7 +15,8 @@ use wasmprinter_words::words::gap;
 
 /// Writes a word that ends in a number.
 fn write_numbered<P: Print>(p: &mut P, word: &str, n: u64) -> io::Result<()>
-    ensures { (o : Options) → Prints P.meaning o p.old p.new result (Gap ∷ (Word (word.now ++ decimal n) ∷ [])) }
+    ensures { (o : Options) → Prints P.meaning o p.old p.new result
+        (Gap ∷ (Word (word.now ++ decimal n) ∷ [])) }
 {
     gap(p)?;
     numbered_word(p, word, n)
@@ -36,7 +38,8 @@ fn write_offset<P: Print>(p: &mut P, offset: u64) -> io::Result<()>
 #[tactic(auto, unfolding(wasmprinter_spec::specs::Layout::Operators::align_pieces))]
 fn write_align<P: Print>(p: &mut P, natural: u32, exponent: u32) -> io::Result<()>
     requires { exponent < 64 }
-    ensures { (o : Options) → Prints P.meaning o p.old p.new result (align_pieces natural exponent) }
+    ensures { (o : Options) → Prints P.meaning o p.old p.new result
+        (align_pieces natural exponent) }
 {
     if exponent == natural {
         Ok(())
@@ -49,7 +52,8 @@ fn write_align<P: Print>(p: &mut P, natural: u32, exponent: u32) -> io::Result<(
 #[tactic(auto, unfolding(wasmprinter_spec::specs::Layout::Operators::mem_arg_pieces))]
 pub(crate) fn write_mem_arg<P: Print>(p: &mut P, natural: u32, operand: MemArg) -> io::Result<()>
     requires { operand.exponent < 64 }
-    ensures { (o : Options) → Prints P.meaning o p.old p.new result (mem_arg_pieces natural operand) }
+    ensures { (o : Options) → Prints P.meaning o p.old p.new result
+        (mem_arg_pieces natural operand) }
 {
     write_default_index(p, operand.memory)?;
     write_offset(p, operand.offset)?;

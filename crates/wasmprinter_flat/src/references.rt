@@ -1,4 +1,5 @@
-//! Types behind an operator's word (section 6.5 of the WebAssembly Core Specification), each with a blank in front.
+//! Types behind an operator's word (section 6.5 of the WebAssembly Core Specification), each with a
+//! blank in front.
 ghost use Rattle.std.specs.Prelude.{◌≡◌, [], ◌∷◌, ◌++◌, List, codes};
 ghost use Rattle.wasmprinter_spec.specs.Labels.{Label};
 ghost use Rattle.wasmprinter_spec.specs.Options.{Options};
@@ -43,7 +44,8 @@ fn only_type(types: &ValTypes<'_>) -> Option<ValType>
 
 /// Writes the types that `select` names.
 pub(crate) fn write_select<P: Print>(p: &mut P, types: &ValTypes<'_>) -> io::Result<()>
-    ensures { (o : Options) → Prints P.meaning o p.old p.new result (select_pieces (types_view types.now)) }
+    ensures { (o : Options) → Prints P.meaning o p.old p.new result
+        (select_pieces (types_view types.now)) }
 {
     match only_type(types) {
         Some(value_type) => write_result(p, value_type),
@@ -53,7 +55,8 @@ pub(crate) fn write_select<P: Print>(p: &mut P, types: &ValTypes<'_>) -> io::Res
 
 /// Writes a heap type.
 pub(crate) fn write_heap<P: Print>(p: &mut P, heap: HeapType) -> io::Result<()>
-    ensures { (o : Options) → Prints P.meaning o p.old p.new result (Gap ∷ heap_pieces (heap_view heap)) }
+    ensures { (o : Options) → Prints P.meaning o p.old p.new result
+        (Gap ∷ heap_pieces (heap_view heap)) }
 {
     gap(p)?;
     write_heap_type(p, heap)
@@ -61,7 +64,8 @@ pub(crate) fn write_heap<P: Print>(p: &mut P, heap: HeapType) -> io::Result<()>
 
 /// Writes a reference type.
 pub(crate) fn write_ref<P: Print>(p: &mut P, ref_type: RefType) -> io::Result<()>
-    ensures { (o : Options) → Prints P.meaning o p.old p.new result (Gap ∷ ref_pieces (ref_view ref_type)) }
+    ensures { (o : Options) → Prints P.meaning o p.old p.new result
+        (Gap ∷ ref_pieces (ref_view ref_type)) }
 {
     gap(p)?;
     write_ref_type(p, ref_type)
@@ -76,7 +80,7 @@ fn write_refs<P: Print>(p: &mut P, source: RefType, target: RefType) -> io::Resu
     write_ref(p, target)
 }
 
-/// Writes a label, with so many blocks open, the type of what is cast, and the type to which it is cast.
+/// Writes a label, with so many blocks open, the type of what is cast, and the type that is wanted.
 pub(crate) fn write_cast<P: Print>(
     p: &mut P,
     depth: u64,

@@ -63,7 +63,8 @@ fn write_hex_words<P: Print>(p: &mut P, bytes: &[u8]) -> io::Result<()>
 
 /// Writes numbers of 32 bits in the style of literals.
 fn write_hex_literals<P: Print>(p: &mut P, bytes: &[u8]) -> io::Result<()>
-    ensures { (o : Options) → Prints P.meaning o p.old p.new result (GapLiterals (hex_words bytes.now) ∷ []) }
+    ensures { (o : Options) → Prints P.meaning o p.old p.new result
+        (GapLiterals (hex_words bytes.now) ∷ []) }
 {
     start(p, Style::Literal)?;
     write_hex_words(p, bytes)?;
