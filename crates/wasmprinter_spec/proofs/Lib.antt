@@ -35,3 +35,4 @@ pub mod ShapeCallRows
 pub mod SectionSamples
 pub mod SectionRows
 pub mod SectionTextRows
+pub mod SectionIndexedRows

@@ -4,7 +4,7 @@ use Rattle.std.specs.Prelude.{◌≡◌, ℕ, pos, List, [], ◌∷◌, map, tru
 use Rattle.std.specs.List.{AllByRecursion}
 use Rattle.wasmprinter_spec.specs.Types as types
 use Rattle.wasmprinter_spec.specs.Types.{limits_of, ref_type, table_type_of, global_type_of, FuncExtern, GlobalExtern}
-use Rattle.wasmprinter_spec.specs.Operator.{Operator}
+use Rattle.wasmprinter_spec.specs.Operator.{opcode, NoImmediates, Operator}
 use Rattle.wasmprinter_spec.specs.Placed.{table_of, global_of, Passive, Declared, Active, Functions, Expressions, Element, element_of, PassiveData, ActiveData, Data, data_of, import_of, PlacedModule}
 use Rattle.wasmprinter_spec.specs.Module.{Module}
 use Rattle.wasmprinter_spec.specs.Call.{text_of}
@@ -145,12 +145,13 @@ element_texts : map read (
 unfolding reading
 element_texts = refl
 
--- the same of data, whose bytes stand in any number of strings
+-- the same of data, whose bytes stand in any number of strings; a folded offset of several operators
 data_texts : map read (
     codes "(module (data (offset i32.const 0) \"a\"))"
     ∷ codes "(module (data $d (memory 0x0) (i32.const 0) \"\\61\" \"\"))"
     ∷ codes "(module (data (memory $m) (offset)) (memory 0) (memory $m 0))"
     ∷ codes "(module (data))"
+    ∷ codes "(module (data (i32.add (i32.const 0) (i32.const 0))))"
     ∷ codes "(module (data \"a\" \"\" \"bc\"))"
     ∷ [])
     ≡ data_module (data_of (ActiveData 0 (zero_const ∷ [])) (codes "a"))
@@ -161,6 +162,7 @@ data_texts : map read (
       datas = data_of (ActiveData 1 []) [] ∷ [];
     })
     ∷ data_module (data_of PassiveData [])
+    ∷ data_module (data_of (ActiveData 0 (zero_const ∷ zero_const ∷ record { opcode = opcode 0 0x6a; immediates = NoImmediates } ∷ [])) [])
     ∷ data_module (data_of PassiveData (codes "abc"))
     ∷ []
 unfolding reading
