@@ -76,7 +76,11 @@ fn write_memory_type<P: Print>(p: &mut P, memory_type: MemoryType) -> io::Result
 
 /// Writes a memory with its number, as a group.
 #[tactic(auto, unfolding(wasmprinter_spec::specs::Layout::Groups::line_group_gap))]
-fn write_memory_group<P: Print>(p: &mut P, number: u64, memory_type: MemoryType) -> io::Result<()>
+fn write_memory_group<P: Print>(
+    p: &mut P,
+    number: u64,
+    memory_type: MemoryType,
+) -> io::Result<()>
     requires { IsPage memory_type.page }
     ensures { (o : Options) → Prints P.meaning o p.old p.new result
         (line_group_gap (codes "memory") (memory_parts number (memory_type_view memory_type))) }
