@@ -102,10 +102,12 @@ fields-gathered {w = w} {held = held} {holding = holding} g items (x ∷ xs) f m
 fields-start : (start : Option (Placed ℕ)) (f : Forest) (m : Fields) → m.start ≡ None → fields f ≡ Some m →
     fields (onto (start_items start) f) ≡ Some (record m { start = start_held start })
 fields-start None f m none e = e ∙ ap (λ s. Some (record m { start = s })) none
-fields-start (Some i) f m none e = ap (λ o. o >>= with_field (codes "start") (Word (decimal i.value) End)) e ∙ ap (with_start (Word (decimal i.value) End) m) none
+fields-start (Some i) f m none e = ap (λ o. o >>= with_field (codes "start") (Word (decimal i.value) End)) e ∙ ap
+    (with_start (Word (decimal i.value) End) m) none
 
 -- imports stand before the others
-fields-imports : (ts : List SubType) (is : List (Placed Import)) (f : Forest) (m : Fields) → AllByRecursion (λ i. IsRangedImport i.value) is → fields f ≡ Some m →
+fields-imports : (ts : List SubType) (is : List (Placed Import)) (f : Forest) (m : Fields) → AllByRecursion (λ i. IsRangedImport i.value) is →
+    fields f ≡ Some m →
     fields (onto (imports_items ts is) f) ≡ Some (record m { imports = map (λ i. import_held ts i.value) is ++ m.imports })
 unfolding rows
 fields-imports ts [] f m h e = e
@@ -186,12 +188,14 @@ imported_distinct kind ts (i ∷ is) ids d =
     held = map (λ j. import_held ts j.value) is
 
     by : (t : Bool) → are_distinct (imported_ids kind held ++ ids) ≡ true → (identified (extern_items ts i.value.type)).0 ≡ None →
-        are_distinct (declared (map (λ x. x.item) (cond t (import_held ts i.value ∷ filter (λ x. same_kind kind x.kind) held) (filter (λ x. same_kind kind x.kind) held))) ++ ids) ≡ true
+        are_distinct (declared (map (λ x. x.item) (cond t (import_held ts i.value ∷ filter (λ x. same_kind kind x.kind) held)
+        (filter (λ x. same_kind kind x.kind) held))) ++ ids) ≡ true
     by true more none = rw none more
     by false more none = more
 
 -- declarations without identifiers, behind such imports
-space_distinct : {A : Type 0} (kind : ExternKind) (ts : List SubType) (is : List (Placed Import)) (items : A → Forest) → ((x : A) → (identified (items x)).0 ≡ None) → (xs : List A) →
+space_distinct : {A : Type 0} (kind : ExternKind) (ts : List SubType) (is : List (Placed Import)) (items : A → Forest) →
+    ((x : A) → (identified (items x)).0 ≡ None) → (xs : List A) →
     are_distinct (imported_ids kind (map (λ i. import_held ts i.value) is) ++ declared (map items xs)) ≡ true
 space_distinct kind ts is items none xs = imported_distinct kind ts is (declared (map items xs)) (declared_alone items none xs)
 
@@ -386,7 +390,8 @@ module _ (m : PlacedModule) where
   has_type (GlobalExtern t) k = tt
   has_type (TagExtern i) k = k
 
-  read_import-own : IsRanged m → (i : Placed Import) → IsRangedImport i.value × IsIndexedImport (module_of m) i.value → read_import whole_context (own_import i) ≡ Some i.value
+  read_import-own : IsRanged m → (i : Placed Import) → IsRangedImport i.value × IsIndexedImport (module_of m) i.value →
+      read_import whole_context (own_import i) ≡ Some i.value
   read_import-own r i h = read_import-items whole_context own_types (λ j. refl) (signatures_ranged r) i.value h.0 (has_type i.value.type h.1)
 
   indexed_init : (r : IsRanged m) (i : Option (List (Placed Operator))) → indexed.IsIndexedInit (module_of m) (option_map without_places i) →
@@ -394,12 +399,14 @@ module _ (m : PlacedModule) where
   indexed_init r None k = tt
   indexed_init r (Some os) k = k
 
-  read_table-own : (r : IsRanged m) (t : Placed (Table (Placed Operator))) → (IsRangedTable t.value × HasNoEmptyInit t.value.init) × IsIndexedTable (module_of m) (table_without_places t.value) →
+  read_table-own : (r : IsRanged m) (t : Placed (Table (Placed Operator))) →
+      (IsRangedTable t.value × HasNoEmptyInit t.value.init) × IsIndexedTable (module_of m) (table_without_places t.value) →
       read_table whole_context (own_table t) ≡ Some (table_without_places t.value)
   read_table-own r t h =
       read_table-items whole_context own_types (counts_of (module_of m)) (in_one_line r) t.value h.0.0 h.0.1 (indexed_init r t.value.init h.1.init)
 
-  read_global-own : (r : IsRanged m) (g : Placed (Global (Placed Operator))) → IsRangedGlobal g.value × IsIndexedGlobal (module_of m) (global_without_places g.value) →
+  read_global-own : (r : IsRanged m) (g : Placed (Global (Placed Operator))) →
+      IsRangedGlobal g.value × IsIndexedGlobal (module_of m) (global_without_places g.value) →
       read_global whole_context (own_global g) ≡ Some (global_without_places g.value)
   read_global-own r g h = read_global-items whole_context own_types (counts_of (module_of m)) (in_one_line r) g.value h.0 h.1.init
 
@@ -409,7 +416,8 @@ module _ (m : PlacedModule) where
   indexed_mode r Declared k = tt
   indexed_mode r (Active t offset) k = k.1
 
-  indexed_expressions : (r : IsRanged m) (es : List (List (Placed Operator))) → AllByRecursion (indexed.IsIndexedExpression (module_of m)) (map without_places es) →
+  indexed_expressions : (r : IsRanged m) (es : List (List (Placed Operator))) →
+      AllByRecursion (indexed.IsIndexedExpression (module_of m)) (map without_places es) →
       AllByRecursion (AreIndexed whole_context own_types (counts_of (module_of m)) (in_one_line r)) es
   indexed_expressions r [] k = tt
   indexed_expressions r (e ∷ es) k = (k.0, indexed_expressions r es k.1)
@@ -446,7 +454,8 @@ module _ (m : PlacedModule) where
         each-items (read_function whole_context) (own_function false) function_of (read_function-own h) m.functions
         (both_of_each IsRangedFunction (IsIndexedFunction (module_of m)) function_of m.functions h.each_function k.functions)
 
-    read_tables : AllByRecursion (λ t. HasNoEmptyInit t.value.init) m.tables → each (read_table whole_context) (map own_table m.tables) ≡ Some (each_value table_without_places m.tables)
+    read_tables : AllByRecursion (λ t. HasNoEmptyInit t.value.init) m.tables →
+        each (read_table whole_context) (map own_table m.tables) ≡ Some (each_value table_without_places m.tables)
     read_tables some =
         each-items (read_table whole_context) own_table (λ t. table_without_places t.value) (read_table-own h) m.tables
         (both_of_each (λ t. IsRangedTable t.value × HasNoEmptyInit t.value.init) (IsIndexedTable (module_of m)) (λ t. table_without_places t.value) m.tables
@@ -473,7 +482,8 @@ module _ (m : PlacedModule) where
     read_elements : each (read_element whole_context) (map (own_element false) m.elements) ≡ Some (each_value element_without_places m.elements)
     read_elements =
         each-items (read_element whole_context) (own_element false) (λ e. element_without_places e.value) (read_element-own h) m.elements
-        (both_of_each (λ e. IsRangedElement e.value) (IsIndexedElement (module_of m)) (λ e. element_without_places e.value) m.elements h.each_element k.elements)
+        (both_of_each (λ e. IsRangedElement e.value) (IsIndexedElement (module_of m))
+        (λ e. element_without_places e.value) m.elements h.each_element k.elements)
 
     read_datas : each (read_data whole_context) (map (own_data false) m.datas) ≡ Some (each_value data_without_places m.datas)
     read_datas =

@@ -69,7 +69,8 @@ FewSpelled-times all n = record { has = λ p text xs few s. (s.0, items_have all
 
 pub FewSpelled-vec : {A : Type 0} {g : Grammar A} {P : A → Type 0} → FewSpelled g P → FewSpelled (vec g) (IsVector P)
 FewSpelled-vec all =
-    FewSpelled-map_value (FewSpelled-seq (FewSpelled-all AllSpelled-u32) (FewSpelled-times all)) (λ x h. record { count = omega (arith, h.0, h.1.0); each = h.1.1 })
+    FewSpelled-map_value (FewSpelled-seq (FewSpelled-all AllSpelled-u32) (FewSpelled-times all))
+    (λ x h. record { count = omega (arith, h.0, h.1.0); each = h.1.1 })
 
 -- a value of n bytes, where these are few
 pub AllSpelled-few : {A : Type 0} {g : Grammar A} {P : A → Type 0} → FewSpelled g P → (n : ℕ) → AllSpelled (exactly (alone g) n) (λ a. n < 2 ^ 32 → P a)

@@ -77,28 +77,35 @@ module _ (o : Options) (m : PlacedModule) (h : IsRanged m) where
 
   own_imports_write : Writes Bound (imports_pieces (own_types m) no_numbers m.imports) Bound (imports_items (own_types m) m.imports)
   own_imports_write =
+      let small : 0 + length m.imports ≤ 2 ^ 64 = omega (arith, h.imports) in
       imports_write (own_types m) (signatures_ranged m h) no_numbers m.imports
-      (record { functions = omega (arith, h.imports); tables = omega (arith, h.imports); memories = omega (arith, h.imports); globals = omega (arith, h.imports); tags = omega (arith, h.imports) })
+      (record { functions = small; tables = small; memories = small; globals = small; tags = small })
       h.each_import
 
-  tables_write : Writes Bound (numbered (table_pieces (own_types m)) (length (imported table_import own_imports)) m.tables) Bound (field_rows (codes "table") (own_table m) m.tables)
+  tables_write : Writes Bound (numbered (table_pieces (own_types m)) (length (imported table_import own_imports)) m.tables) Bound
+      (field_rows (codes "table") (own_table m) m.tables)
   tables_write =
-      numbered_writes (λ t. IsRangedTable t.value) (table_pieces (own_types m)) (λ t. Word (codes "table") (own_table m t)) (table_writes (own_types m) (signatures_ranged m h))
+      numbered_writes (λ t. IsRangedTable t.value) (table_pieces (own_types m)) (λ t. Word (codes "table") (own_table m t))
+      (table_writes (own_types m) (signatures_ranged m h))
       _ m.tables (numbers_fit table_import _ h.tables) h.each_table
 
-  memories_write : Writes Bound (numbered memory_pieces (length (imported memory_import own_imports)) m.memories) Bound (field_rows (codes "memory") (λ x. memory_items x.value) m.memories)
+  memories_write : Writes Bound (numbered memory_pieces (length (imported memory_import own_imports)) m.memories) Bound
+      (field_rows (codes "memory") (λ x. memory_items x.value) m.memories)
   memories_write =
       numbered_writes (λ x. IsRangedMemory x.value) memory_pieces (λ x. Word (codes "memory") (memory_items x.value)) memory_writes
       _ m.memories (numbers_fit memory_import _ h.memories) h.each_memory
 
-  tags_write : Writes Bound (numbered (tag_pieces (own_types m)) (length (imported tag_import own_imports)) m.tags) Bound (field_rows (codes "tag") (own_tag m) m.tags)
+  tags_write : Writes Bound (numbered (tag_pieces (own_types m)) (length (imported tag_import own_imports)) m.tags) Bound
+      (field_rows (codes "tag") (own_tag m) m.tags)
   tags_write =
       numbered_writes (λ t. t.value < 2 ^ 32) (tag_pieces (own_types m)) (λ t. Word (codes "tag") (own_tag m t)) tag_pieces_write
       _ m.tags (numbers_fit tag_import _ h.tags) h.each_tag
 
-  globals_write : Writes Bound (numbered (global_pieces (own_types m)) (length (imported global_import own_imports)) m.globals) Bound (field_rows (codes "global") (own_global m) m.globals)
+  globals_write : Writes Bound (numbered (global_pieces (own_types m)) (length (imported global_import own_imports)) m.globals) Bound
+      (field_rows (codes "global") (own_global m) m.globals)
   globals_write =
-      numbered_writes (λ g. IsRangedGlobal g.value) (global_pieces (own_types m)) (λ g. Word (codes "global") (own_global m g)) (global_writes (own_types m) (signatures_ranged m h))
+      numbered_writes (λ g. IsRangedGlobal g.value) (global_pieces (own_types m)) (λ g. Word (codes "global") (own_global m g))
+      (global_writes (own_types m) (signatures_ranged m h))
       _ m.globals (numbers_fit global_import _ h.globals) h.each_global
 
   exports_write : Writes Bound (numbered (λ i e. export_pieces e) 0 m.exports) Bound (field_rows (codes "export") (λ e. export_items e.value) m.exports)
@@ -106,12 +113,14 @@ module _ (o : Options) (m : PlacedModule) (h : IsRanged m) where
       numbered_writes (λ e. IsRangedExport e.value) (λ i e. export_pieces e) (λ e. Word (codes "export") (export_items e.value))
       (λ i e small k. export_writes e k) 0 m.exports (omega (arith, h.exports)) h.each_export
 
-  elements_write : Writes Bound (numbered (element_pieces o.skeleton (own_types m)) 0 m.elements) Bound (field_rows (codes "elem") (own_element m o.skeleton) m.elements)
+  elements_write : Writes Bound (numbered (element_pieces o.skeleton (own_types m)) 0 m.elements) Bound
+      (field_rows (codes "elem") (own_element m o.skeleton) m.elements)
   elements_write =
       numbered_writes (λ e. IsRangedElement e.value) (element_pieces o.skeleton (own_types m)) (λ e. Word (codes "elem") (own_element m o.skeleton e))
       (element_writes (own_types m) (signatures_ranged m h) o.skeleton) 0 m.elements (omega (arith, h.elements)) h.each_element
 
-  functions_write : Writes Bound (numbered (function_pieces o (own_types m)) (length (imported func_import own_imports)) m.functions) Bound (field_rows (codes "func") (own_function m o.skeleton) m.functions)
+  functions_write : Writes Bound (numbered (function_pieces o (own_types m)) (length (imported func_import own_imports)) m.functions) Bound
+      (field_rows (codes "func") (own_function m o.skeleton) m.functions)
   functions_write =
       numbered_writes IsRangedFunction (function_pieces o (own_types m)) (λ f. Word (codes "func") (own_function m o.skeleton f))
       function_pieces_write _ m.functions (numbers_fit func_import _ h.functions) h.each_function

@@ -88,7 +88,8 @@ FewSpelled-constant = FewSpelled-map_value nested (λ x h. h)
 -- The limits of a table.
 AllSpelled-table_limits : (flags : ℕ) → AllSpelled (table_limits_behind flags) (λ x. (x.1.min < 2 ^ 64) × IsRangedMax x.1.max)
 AllSpelled-table_limits flags =
-    AllSpelled-choose (flags == 0 || flags == 1 || flags == 4 || flags == 5) (AllSpelled-map_value (AllSpelled-limits (has_bit 0 flags)) (λ l h. h)) AllSpelled-fail
+    AllSpelled-choose (flags == 0 || flags == 1 || flags == 4 || flags == 5)
+    (AllSpelled-map_value (AllSpelled-limits (has_bit 0 flags)) (λ l h. h)) AllSpelled-fail
 
 -- The type of a table.
 AllSpelled-table_type : AllSpelled table_type IsRangedTableType
@@ -195,5 +196,6 @@ AllSpelled-byte_vec = AllSpelled-map_value (AllSpelled-seq AllSpelled-u32 (λ n.
 
 pub FewSpelled-data : FewSpelled segments.segment IsRangedData
 FewSpelled-data =
-    FewSpelled-map_value (FewSpelled-seq (FewSpelled-all AllSpelled-u32) (λ flags. FewSpelled-seq (FewSpelled-data_mode flags) (λ _. FewSpelled-all AllSpelled-byte_vec)))
+    FewSpelled-map_value (FewSpelled-seq (FewSpelled-all AllSpelled-u32)
+    (λ flags. FewSpelled-seq (FewSpelled-data_mode flags) (λ _. FewSpelled-all AllSpelled-byte_vec)))
     (λ x h. record { mode = h.1.0; bytes = h.1.1 })

@@ -84,8 +84,10 @@ module _ (o p : Options) (same : o.skeleton ≡ p.skeleton) where
       (behind_stays (numbered (global_pieces ts) (length (imported global_import is)) m.globals) _ _
       (behind_stays (numbered (λ i e. export_pieces e) 0 m.exports) _ _
       (behind_stays (start_pieces m.start) _ _
-      (both_stay (elements o.skeleton) (elements p.skeleton) (functions o ++ datas o.skeleton) (functions p ++ datas p.skeleton) (ap (λ s. all_tokens (elements s)) same)
-      (both_stay (functions o) (functions p) (datas o.skeleton) (datas p.skeleton) (numbered_stays (function_pieces o ts) (function_pieces p ts) (function_pieces_stay ts) (length (imported func_import is)) m.functions)
+      (both_stay (elements o.skeleton) (elements p.skeleton) (functions o ++ datas o.skeleton) (functions p ++ datas p.skeleton)
+      (ap (λ s. all_tokens (elements s)) same)
+      (both_stay (functions o) (functions p) (datas o.skeleton) (datas p.skeleton)
+      (numbered_stays (function_pieces o ts) (function_pieces p ts) (function_pieces_stay ts) (length (imported func_import is)) m.functions)
       (ap (λ s. all_tokens (datas s)) same))))))))))
 
   pub module_pieces_stay : (m : PlacedModule) → all_tokens (module_pieces o m) ≡ all_tokens (module_pieces p m)

@@ -249,8 +249,10 @@ same_flag-true false true e = absurd cc
 -- operators with one word are plain, or none of them is
 pub plain_by_word : (r s : Row) → In r table → In s table → s.word ≡ r.word → r.role ≡ Plain → s.role ≡ Plain
 plain_by_word r s i j same p =
-    let first : is_plain r.role ≡ not (is_block_word r.word) = same_flag-true _ _ (all_at (λ x. same_flag (is_plain x.role) (not (is_block_word x.word))) r table plain_words i) in
-    let second : is_plain s.role ≡ not (is_block_word s.word) = same_flag-true _ _ (all_at (λ x. same_flag (is_plain x.role) (not (is_block_word x.word))) s table plain_words j) in
+    let first : is_plain r.role ≡ not (is_block_word r.word) = same_flag-true _ _
+    (all_at (λ x. same_flag (is_plain x.role) (not (is_block_word x.word))) r table plain_words i) in
+    let second : is_plain s.role ≡ not (is_block_word s.word) = same_flag-true _ _
+    (all_at (λ x. same_flag (is_plain x.role) (not (is_block_word x.word))) s table plain_words j) in
     is_plain-true s.role (second ∙ ap (λ w. not (is_block_word w)) same ∙ sym first ∙ ap is_plain p)
 
 -- ---- a word of immediates is no word of the table

@@ -15,7 +15,8 @@ pub fn reader_takes_nested_operators()
     ensures { TakesNested }
 {}
 
-/// The reading law: the text that is laid out for a module that some bytes spell reads as exactly that module.
+/// The reading law: the text that is laid out for a module that some bytes spell reads as exactly that module. No initialiser of a table is
+/// empty: the text of such a table is that of one without.
 pub fn printed_text_reads_back()
     ensures { ReadsBack }
 {}

@@ -32,3 +32,7 @@ pub mod ShapeSamples
 pub mod ShapeRows
 pub mod ShapeTextRows
 pub mod ShapeCallRows
+pub mod SectionSamples
+pub mod SectionRows
+pub mod SectionTextRows
+pub mod SectionIndexedRows

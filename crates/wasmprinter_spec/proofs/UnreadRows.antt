@@ -23,7 +23,7 @@ numbers_from n [] = []
 numbers_from n (t ∷ ts) = number_if (read t) n ++ numbers_from (n + 1) ts
 
 -- which of these texts write a module, counted from 0
-abbrev numbers_read : List (List ℕ) → List ℕ
+abbrev pub numbers_read : List (List ℕ) → List ℕ
 numbers_read ts = numbers_from 0 ts
 
 -- a text that reads is seen

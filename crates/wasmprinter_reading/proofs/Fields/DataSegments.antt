@@ -50,15 +50,18 @@ data_items ts skeleton d = data_mode_items ts d.mode (bytes_items skeleton d.byt
 
 -- ---- their pieces write it
 
-named_memory_writes : (m : ℕ) → m < 2 ^ 32 → {qs : List piece.Piece} {f : Forest} → Writes Free qs Free f → Writes Free (named_memory m ++ qs) Free (named_memory_items m f)
+named_memory_writes : (m : ℕ) → m < 2 ^ 32 → {qs : List piece.Piece} {f : Forest} → Writes Free qs Free f →
+    Writes Free (named_memory m ++ qs) Free (named_memory_items m f)
 unfolding class
 named_memory_writes m h {qs} {f} w = by (m == 0)
   where
-    by : (t : Bool) → Writes Free (cond t [] (line_group_gap (codes "memory") (piece.Number m ∷ []) ++ (piece.Gap ∷ [])) ++ qs) Free (named_memory_items_by t m f)
+    by : (t : Bool) →
+        Writes Free (cond t [] (line_group_gap (codes "memory") (piece.Number m ∷ []) ++ (piece.Gap ∷ [])) ++ qs) Free (named_memory_items_by t m f)
     by true = w
     by false =
         let small : m < 2 ^ 64 = omega (arith, h) in
-        both_write (both_write (line_group_gap_writes {b = Bound} (codes "memory") _ refl refl (number_writes small nothing_writes)) (gap_writes refl nothing_writes)) w
+        both_write (both_write (line_group_gap_writes {b = Bound} (codes "memory") _ refl refl (number_writes small nothing_writes))
+        (gap_writes refl nothing_writes)) w
 
 bytes_write : (skeleton : Bool) (bs : List ℕ) → AreBytes bs → Writes Free (shown_bytes skeleton bs) Bound (bytes_items skeleton bs)
 unfolding class
@@ -66,7 +69,8 @@ bytes_write true bs h = word_writes refl nothing_writes
 bytes_write false bs h = quoted_bytes_writes h nothing_writes
 
 module _ (ts : List SubType) (s : AreSignaturesInRange (signature_at ts)) where
-  data_mode_writes : (m : DataMode (Placed Operator)) → IsRangedDataMode m → Writes Free (data_mode_pieces ts m) Free (data_mode_items ts (data_mode_without_places m) End)
+  data_mode_writes : (m : DataMode (Placed Operator)) → IsRangedDataMode m →
+      Writes Free (data_mode_pieces ts m) Free (data_mode_items ts (data_mode_without_places m) End)
   unfolding data_mode_pieces class
   data_mode_writes PassiveData h = nothing_writes
   data_mode_writes (ActiveData m offset) h =
@@ -127,10 +131,13 @@ module _ (c : Context) (ts : List SubType) (k : Counts) (same : HaveSameTypes (i
       ∙ ap (λ b. cond b (index c.spaces.memories o.rest >>= (λ m. active_in c m f)) (active_in c 0 (Group (Word o.word o.rest) f))) o.memory
       ∙ ap (λ x. active_in c 0 (Group x f)) (sym o.is)
 
-  segment-active : (t : Bool) (m : ℕ) → (m == 0) ≡ t → (offset : List (Placed Operator)) (f : Forest) → m < 2 ^ 32 → IsRangedExpression offset → AreIndexed c ts k same offset →
-      segment c (named_memory_items_by t m (Group (constant_held ts (codes "offset") (without_places offset)) f)) ≡ with_bytes c (ActiveData m (without_places offset)) f
+  segment-active : (t : Bool) (m : ℕ) → (m == 0) ≡ t → (offset : List (Placed Operator)) (f : Forest) → m < 2 ^ 32 → IsRangedExpression offset →
+      AreIndexed c ts k same offset →
+      segment c (named_memory_items_by t m (Group (constant_held ts (codes "offset") (without_places offset)) f)) ≡ with_bytes c
+      (ActiveData m (without_places offset)) f
   segment-active true m e offset f small h d =
-      segment-offset _ f (offset_stands ts offset h) ∙ active-items 0 offset f h d ∙ ap (λ i. with_bytes c (ActiveData i (without_places offset)) f) (sym (eqb-true m 0 e))
+      segment-offset _ f (offset_stands ts offset h) ∙ active-items 0 offset f h d ∙ ap (λ i. with_bytes c (ActiveData i (without_places offset)) f)
+      (sym (eqb-true m 0 e))
   segment-active false m e offset f small h d =
       ap (λ o. o >>= λ i. active_in c i (Group (constant_held ts (codes "offset") (without_places offset)) f)) (index-decimal c.spaces.memories m small)
       ∙ active-items m offset f h d
@@ -140,7 +147,8 @@ module _ (c : Context) (ts : List SubType) (k : Counts) (same : HaveSameTypes (i
   segment-items PassiveData bs h d = refl
   segment-items (ActiveData m offset) bs h d = segment-active (m == 0) m refl offset (String bs End) h.0 h.1 d
 
-  pub read_data-items : (d : Data (Placed Operator)) → IsRangedData d → IsIndexedMode d.mode → read_data c (data_items ts false (data_without_places d)) ≡ Some (data_without_places d)
+  pub read_data-items : (d : Data (Placed Operator)) → IsRangedData d → IsIndexedMode d.mode →
+      read_data c (data_items ts false (data_without_places d)) ≡ Some (data_without_places d)
   read_data-items d h i =
       ap (λ x. segment c x.1) (identified-data ts (data_without_places d))
       ∙ segment-items d.mode d.bytes h.mode i

@@ -129,7 +129,8 @@ pub identified-element : (ts : List SubType) (e : ElementEntry) → identified (
 identified-element ts e = by e.names_table (mode_without_places e.element.mode)
   where
     by : (names : Bool) (m : Mode Operator) →
-        identified (mode_items ts names m (items_items ts (items_without_places e.element.items))) ≡ (None, mode_items ts names m (items_items ts (items_without_places e.element.items)))
+        identified (mode_items ts names m (items_items ts (items_without_places e.element.items))) ≡
+        (None, mode_items ts names m (items_items ts (items_without_places e.element.items)))
     by names Passive = identified-items ts (items_without_places e.element.items)
     by names Declared = refl
     by true (Active t offset) = refl
@@ -150,7 +151,8 @@ module _ (c : Context) (ts : List SubType) (k : Counts) (same : HaveSameTypes (i
   expressions-items [] h d = refl
   expressions-items (e ∷ es) h d = rw (constant_group-items c ts k same (codes "item") no_item e h.0 d.0, expressions-items es h.1 d.1)
 
-  typed_items-items : (t : RefType) (es : List (List (Placed Operator))) → IsRangedHeap t.heap → AllByRecursion IsRangedExpression es → AllByRecursion (AreIndexed c ts k same) es →
+  typed_items-items : (t : RefType) (es : List (List (Placed Operator))) → IsRangedHeap t.heap → AllByRecursion IsRangedExpression es →
+      AllByRecursion (AreIndexed c ts k same) es →
       typed_items c (onto (ref_items t) (expressions_items ts (map without_places es))) ≡ Some (Expressions t (map without_places es))
   typed_items-items t es r h d =
       let rest : Forest = expressions_items ts (map without_places es) in
@@ -167,13 +169,15 @@ module _ (c : Context) (ts : List SubType) (k : Counts) (same : HaveSameTypes (i
   segment-typed true _ f = refl
   segment-typed false h f = refl
 
-  items-items : (is : Items (Placed Operator)) → AreRangedItems is → AreIndexedItems is → items c (items_items ts (items_without_places is)) ≡ Some (items_without_places is)
+  items-items : (is : Items (Placed Operator)) → AreRangedItems is → AreIndexedItems is →
+      items c (items_items ts (items_without_places is)) ≡ Some (items_without_places is)
   items-items (Functions is) h d = rw (numbers-items c is h)
   items-items (Expressions t es) h d =
       items-typed t.nullable t.heap (expressions_items ts (map without_places es)) ∙ typed_items-items t es h.0 h.1 d
 
   -- a passive segment
-  segment-passive : (is : Items (Placed Operator)) → segment c (items_items ts (items_without_places is)) ≡ with_mode c Passive (items_items ts (items_without_places is))
+  segment-passive : (is : Items (Placed Operator)) →
+      segment c (items_items ts (items_without_places is)) ≡ with_mode c Passive (items_items ts (items_without_places is))
   segment-passive (Functions is) = refl
   segment-passive (Expressions t es) = segment-typed t.nullable t.heap (expressions_items ts (map without_places es))
 
@@ -189,12 +193,15 @@ module _ (c : Context) (ts : List SubType) (k : Counts) (same : HaveSameTypes (i
       let w : List ℕ = o.word in
       let inner : Forest = Group (Word w o.rest) f in
       ap (λ x. segment c (Group x f)) o.is
-      ∙ ap (λ b. cond b (with_mode c Passive inner) (cond (bytes_eq w (codes "table")) (index c.spaces.tables o.rest >>= (λ t. active_in c t f)) (active_in c 0 inner))) o.ref
+      ∙ ap (λ b. cond b (with_mode c Passive inner) (cond (bytes_eq w (codes "table")) (index c.spaces.tables o.rest >>= (λ t. active_in c t f))
+      (active_in c 0 inner))) o.ref
       ∙ ap (λ b. cond b (index c.spaces.tables o.rest >>= (λ t. active_in c t f)) (active_in c 0 inner)) o.table
       ∙ ap (λ x. active_in c 0 (Group x f)) (sym o.is)
 
-  segment-active : (names : Bool) (t : ℕ) (offset : List (Placed Operator)) (f : Forest) → IsNamedTable names t → IsRangedExpression offset → AreIndexed c ts k same offset →
-      segment c (named_table_items names t (Group (constant_held ts (codes "offset") (without_places offset)) f)) ≡ with_mode c (Active t (without_places offset)) f
+  segment-active : (names : Bool) (t : ℕ) (offset : List (Placed Operator)) (f : Forest) → IsNamedTable names t → IsRangedExpression offset →
+      AreIndexed c ts k same offset →
+      segment c (named_table_items names t (Group (constant_held ts (codes "offset") (without_places offset)) f)) ≡ with_mode c
+      (Active t (without_places offset)) f
   segment-active true t offset f n h d =
       ap (λ o. o >>= λ i. active_in c i (Group (constant_held ts (codes "offset") (without_places offset)) f)) (index-decimal c.spaces.tables t n)
       ∙ active-items t offset f h d
@@ -202,7 +209,8 @@ module _ (c : Context) (ts : List SubType) (k : Counts) (same : HaveSameTypes (i
       segment-offset _ f (offset_stands ts offset h) ∙ active-items 0 offset f h d ∙ ap (λ i. with_mode c (Active i (without_places offset)) f) (sym n)
 
   segment-items : (names : Bool) (m : Mode (Placed Operator)) (is : Items (Placed Operator)) → IsRangedMode names m → IsIndexedMode m →
-      segment c (mode_items ts names (mode_without_places m) (items_items ts (items_without_places is))) ≡ with_mode c (mode_without_places m) (items_items ts (items_without_places is))
+      segment c (mode_items ts names (mode_without_places m) (items_items ts (items_without_places is))) ≡ with_mode c (mode_without_places m)
+      (items_items ts (items_without_places is))
   segment-items names Passive is h d = segment-passive is
   segment-items names Declared is h d = refl
   segment-items names (Active t offset) is h d = segment-active names t offset _ h.0 h.1 d

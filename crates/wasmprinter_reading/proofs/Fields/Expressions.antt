@@ -143,7 +143,8 @@ module _ (c : Context) (ts : List SubType) (k : Counts) (same : HaveSameTypes (i
   chunks-read os h d =
       expression_reads (in_line ts) c k same no_names no_names_are_apart os (record { listed = h.listed; nested = h.nested; count = h.count; indexed = d })
 
-  pub expression-items : (os : List (Placed Operator)) → IsRangedExpression os → AreIndexed os → expression c (constant_items ts (without_places os)) ≡ Some (without_places os)
+  pub expression-items : (os : List (Placed Operator)) → IsRangedExpression os → AreIndexed os →
+      expression c (constant_items ts (without_places os)) ≡ Some (without_places os)
   expression-items os h d =
       ap (λ cs. cs >>= read_operators c) (unfolded-operators (signature_at ts) no_names 0 [] (without_places os) h.listed) ∙ chunks-read os h d
 
@@ -151,22 +152,26 @@ module _ (c : Context) (ts : List SubType) (k : Counts) (same : HaveSameTypes (i
   worded-items : (w : List ℕ) (os : List (Placed Operator)) → IsRangedExpression os → AreIndexed os →
       expression_group c w (Word w (constant_items ts (without_places os))) ≡ Some (without_places os)
   worded-items w os h d =
-      ap (λ t. cond t (expression c (constant_items ts (without_places os))) (expression c (Group (Word w (constant_items ts (without_places os))) End))) (same_bytes w)
+      ap (λ t. cond t (expression c (constant_items ts (without_places os)))
+      (expression c (Group (Word w (constant_items ts (without_places os))) End))) (same_bytes w)
       ∙ expression-items os h d
 
-  alone-items : (w : List ℕ) → ((v : List ℕ) → StandsAlone v → bytes_eq v w ≡ false) → (o : Placed Operator) → IsRangedExpression (o ∷ []) → AreIndexed (o ∷ []) →
+  alone-items : (w : List ℕ) → ((v : List ℕ) → StandsAlone v → bytes_eq v w ≡ false) → (o : Placed Operator) → IsRangedExpression (o ∷ []) →
+      AreIndexed (o ∷ []) →
       expression_group c w (constant_items ts (o.value ∷ [])) ≡ Some (o.value ∷ [])
   alone-items w apart o h d =
       let a : Forest = arguments_items (signature_at ts) None [] o.value in
       let v : List ℕ = word_of o.value.opcode in
       let role : Role = role_of o.value.opcode in
       let its : IsAlone o.value = alone_for o.value h.listed.0 h.nested in
-      let args : AreArguments a = arguments_by (signature_at ts) (inside role []) (outside role []) None (shape_of o.value.opcode) o.value.immediates h.listed.0.range in
+      let args : AreArguments a = arguments_by (signature_at ts) (inside role []) (outside role []) None
+      (shape_of o.value.opcode) o.value.immediates h.listed.0.range in
       ap (λ t. cond t (expression c (onto a End)) (expression c (Group (Word v (onto a End)) End))) (apart v its.alone)
       ∙ ap (λ cs. cs >>= read_operators c) (unfolded-alone o.value a its args)
       ∙ chunks-read (o ∷ []) h d
 
-  pub constant_group-items : (w : List ℕ) → ((v : List ℕ) → StandsAlone v → bytes_eq v w ≡ false) → (os : List (Placed Operator)) → IsRangedExpression os → AreIndexed os →
+  pub constant_group-items : (w : List ℕ) → ((v : List ℕ) → StandsAlone v → bytes_eq v w ≡ false) → (os : List (Placed Operator)) → IsRangedExpression os →
+      AreIndexed os →
       expression_group c w (constant_held ts w (without_places os)) ≡ Some (without_places os)
   constant_group-items w apart [] h d = worded-items w [] h d
   constant_group-items w apart (o ∷ []) h d = alone-items w apart o h d

@@ -50,12 +50,14 @@ pub global_type_writes : (t : GlobalType) → IsRangedVal t.type → Writes Free
 unfolding global_type_pieces
 global_type_writes t h = mutable_writes t.mutable t.type h
 
-pub global_writes : (ts : List SubType) → AreSignaturesInRange (signature_at ts) → (i : ℕ) (g : Placed (Global (Placed Operator))) → i < 2 ^ 64 → IsRangedGlobal g.value →
+pub global_writes : (ts : List SubType) → AreSignaturesInRange (signature_at ts) → (i : ℕ) (g : Placed (Global (Placed Operator))) → i < 2 ^ 64 →
+    IsRangedGlobal g.value →
     Writes Bound (global_pieces ts i g) Bound (Group (Word (codes "global") (global_items ts (global_without_places g.value))) End)
 unfolding global_pieces class
 global_writes ts s i g small h =
     break_writes (group_gap_writes 1 (codes "global") _ refl refl
-    (mark_writes refl small (gap_writes refl (both_write (global_type_writes g.value.type h.type) (gap_writes refl (in_line_writes ts s g.value.init h.init))))))
+    (mark_writes refl small (gap_writes refl (both_write (global_type_writes g.value.type h.type)
+    (gap_writes refl (in_line_writes ts s g.value.init h.init))))))
 
 -- ---- they read back
 
@@ -83,7 +85,8 @@ module _ (c : Context) where
   global_type-items t f h =
       leading_item-reads global_named (global_group c) (global_type_items t) t f (mutable_item t.mutable t.type h)
 
-pub read_global-items : (c : Context) (ts : List SubType) (k : Counts) (same : HaveSameTypes (in_line ts) c k) (g : Global (Placed Operator)) → IsRangedGlobal g →
+pub read_global-items : (c : Context) (ts : List SubType) (k : Counts) (same : HaveSameTypes (in_line ts) c k) (g : Global (Placed Operator)) →
+    IsRangedGlobal g →
     AreIndexed c ts k same g.init → read_global c (global_items ts (global_without_places g)) ≡ Some (global_without_places g)
 read_global-items c ts k same g h d =
     let rest : Forest = constant_items ts (without_places g.init) in

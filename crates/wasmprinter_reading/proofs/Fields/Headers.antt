@@ -45,7 +45,8 @@ pub header_alone_writes : (t : Option FuncType) (i n : ℕ) → i < 2 ^ 64 → I
 header_alone_writes t i n h s r = rw append-nil at (header_writes t i n [] End h s r nothing_writes)
 
 -- the type is a function type
-pub type_index-items : (c : Context) (t : FuncType) (i : ℕ) → c.signature i ≡ Some t → IsRangedFunc t → i < 2 ^ 32 → type_index c (header_items (Some t) i End) ≡ Some i
+pub type_index-items : (c : Context) (t : FuncType) (i : ℕ) → c.signature i ≡ Some t → IsRangedFunc t → i < 2 ^ 32 →
+    type_index c (header_items (Some t) i End) ≡ Some i
 type_index-items c t i own r h =
     let e : signature c.spaces.types (onto (signature_items t) End) ≡ Some (printed_signature t, End) =
     signature-items c.spaces.types t End r (end_behind_signature c.spaces.types) in

@@ -71,6 +71,7 @@ pub record LeaveRoom (n : Numbers) (more : ℕ) : Type 0 where
   pub globals : n.globals + more ≤ 2 ^ 64
   pub tags : n.tags + more ≤ 2 ^ 64
 
+-- the number of the next import
 number_small : (t : ExternType) (n : Numbers) (more : ℕ) → LeaveRoom n (suc more) → number_of t n < 2 ^ 64
 number_small (FuncExtern i) n more h = omega (arith, h.functions)
 number_small (TableExtern t) n more h = omega (arith, h.tables)
@@ -78,11 +79,13 @@ number_small (MemoryExtern t) n more h = omega (arith, h.memories)
 number_small (GlobalExtern t) n more h = omega (arith, h.globals)
 number_small (TagExtern i) n more h = omega (arith, h.tags)
 
+-- an import takes a place of its kind
 room_behind : (t : ExternType) (n : Numbers) (more : ℕ) → LeaveRoom n (suc more) → LeaveRoom (numbers_behind t n) more
-room_behind t n more h = by t (omega (arith, h.functions)) (omega (arith, h.tables)) (omega (arith, h.memories)) (omega (arith, h.globals)) (omega (arith, h.tags))
+room_behind t n more h =
+    by t (omega (arith, h.functions)) (omega (arith, h.tables)) (omega (arith, h.memories)) (omega (arith, h.globals)) (omega (arith, h.tags))
   where
-    by : (t : ExternType) → n.functions + 1 + more ≤ 2 ^ 64 → n.tables + 1 + more ≤ 2 ^ 64 → n.memories + 1 + more ≤ 2 ^ 64 → n.globals + 1 + more ≤ 2 ^ 64 → n.tags + 1 + more ≤ 2 ^ 64 →
-        LeaveRoom (numbers_behind t n) more
+    by : (t : ExternType) → n.functions + 1 + more ≤ 2 ^ 64 → n.tables + 1 + more ≤ 2 ^ 64 → n.memories + 1 + more ≤ 2 ^ 64 → n.globals + 1 + more ≤ 2 ^ 64 →
+        n.tags + 1 + more ≤ 2 ^ 64 → LeaveRoom (numbers_behind t n) more
     by (FuncExtern i) f t m g k = record { functions = f; tables = omega arith; memories = omega arith; globals = omega arith; tags = omega arith }
     by (TableExtern i) f t m g k = record { functions = omega arith; tables = t; memories = omega arith; globals = omega arith; tags = omega arith }
     by (MemoryExtern i) f t m g k = record { functions = omega arith; tables = omega arith; memories = m; globals = omega arith; tags = omega arith }

@@ -81,6 +81,7 @@ pub limits-items : (l : Limits) (f : Forest) → l.min < 2 ^ 64 → IsRangedMax 
 limits-items l f h k behind = rw (u64-decimal l.min h, max-items l.min l.max f k behind)
 
 -- no identifier stands in front
-pub identified-limits : (wide : Bool) (l : Limits) (f : Forest) → identified (onto (wide_items wide) (onto (limits_items l) f)) ≡ (None, onto (wide_items wide) (onto (limits_items l) f))
+pub identified-limits : (wide : Bool) (l : Limits) (f : Forest) →
+    identified (onto (wide_items wide) (onto (limits_items l) f)) ≡ (None, onto (wide_items wide) (onto (limits_items l) f))
 identified-limits true l f = refl
 identified-limits false l f = refl

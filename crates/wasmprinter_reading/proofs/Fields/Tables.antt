@@ -50,7 +50,8 @@ table_type_writes t h =
     both_write (wide_writes t.wide) (both_write (limits_write t.limits h.min h.max) (gap_writes refl (ref_writes t.element h.element)))
 
 -- a table by itself, or imported, with its number
-pub numbered_table_writes : {a : Edge} (i : ℕ) (t : TableType) {qs : List piece.Piece} {f : Forest} → is_open a ≡ true → i < 2 ^ 64 → IsRangedTableType t → Writes Bound qs Bound f →
+pub numbered_table_writes : {a : Edge} (i : ℕ) (t : TableType) {qs : List piece.Piece} {f : Forest} → is_open a ≡ true → i < 2 ^ 64 → IsRangedTableType t →
+    Writes Bound qs Bound f →
     Writes a (piece.Mark i ∷ (piece.Gap ∷ (table_type_pieces t ++ qs))) Bound (onto (table_type_items t) f)
 numbered_table_writes i t e small h w = mark_writes e small (gap_writes refl (both_write (table_type_writes t h) w))
 
@@ -75,7 +76,8 @@ no_number-ref true (Index n) f min = refl
 no_number-ref true _ f min = refl
 no_number-ref false h f min = refl
 
-table_type_onto : (t : TableType) (f : Forest) → onto (table_type_items t) f ≡ onto (wide_items t.wide) (onto (limits_items t.limits) (onto (ref_items t.element) f))
+table_type_onto : (t : TableType) (f : Forest) →
+    onto (table_type_items t) f ≡ onto (wide_items t.wide) (onto (limits_items t.limits) (onto (ref_items t.element) f))
 table_type_onto t f =
     onto_assoc (wide_items t.wide) (onto (limits_items t.limits) (ref_items t.element)) f
     ∙ ap (onto (wide_items t.wide)) (onto_assoc (limits_items t.limits) (ref_items t.element) f)
@@ -90,7 +92,8 @@ table_type-items c t f h =
       table_type_onto t f,
       address_type-items t.wide t.limits behind h.min,
       limits-items t.limits behind h.min h.max (no_number-ref t.element.nullable t.element.heap f),
-      leading_item-reads ref_named (ref_group c.spaces.types) (ref_items t.element) t.element f (ref_item c.spaces.types t.element.nullable t.element.heap h.element),
+      leading_item-reads ref_named (ref_group c.spaces.types) (ref_items t.element) t.element f
+          (ref_item c.spaces.types t.element.nullable t.element.heap h.element),
     )
 
 module _ (c : Context) (ts : List SubType) (k : Counts) (same : HaveSameTypes (in_line ts) c k) where
