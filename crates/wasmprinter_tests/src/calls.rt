@@ -1,7 +1,8 @@
 //! The calls on a printer, in their order, and which error comes where one of them fails.
 
 use crate::modules::{
-    EMPTY_CALLS, EVERYTHING, EVERYTHING_CALLS, IDENTITY, IDENTITY_CALLS, PREAMBLE,
+    CONTROL, CONTROL_CALLS, EMPTY_CALLS, EVERYTHING, EVERYTHING_CALLS, IDENTITY, IDENTITY_CALLS,
+    PREAMBLE,
 };
 use crate::recorder::{REFUSED, Recorder};
 use std::io::ErrorKind;
@@ -10,10 +11,11 @@ use wasmprinter::{Config, Error};
 
 #[test]
 fn makes_each_call_in_order(rt: HostRuntime) -> Result<(), Fail> {
-    let modules: [(&[u8], &str); 3] = [
+    let modules: [(&[u8], &str); 4] = [
         (&PREAMBLE, EMPTY_CALLS),
         (&IDENTITY, IDENTITY_CALLS),
         (&EVERYTHING, EVERYTHING_CALLS),
+        (&CONTROL, CONTROL_CALLS),
     ];
     for (wasm, calls) in modules {
         let mut recorder = Recorder::new(rt.alloc());

@@ -21,9 +21,13 @@ mod limits;
 #[cfg(test)]
 mod modules;
 #[cfg(test)]
+mod passing;
+#[cfg(test)]
 mod recorder;
 #[cfg(test)]
 mod refusals;
+#[cfg(test)]
+mod scripted;
 #[cfg(test)]
 mod strings;
 #[cfg(test)]

@@ -1,19 +1,20 @@
 //! Whole texts.
 
 use crate::modules::{
-    EMPTY_TEXT, EVERYTHING, EVERYTHING_TEXT, IDENTITY, IDENTITY_TEXT, MINUS_ONE, MINUS_ONE_TEXT,
-    PREAMBLE,
+    CONTROL, CONTROL_TEXT, EMPTY_TEXT, EVERYTHING, EVERYTHING_TEXT, IDENTITY, IDENTITY_TEXT,
+    MINUS_ONE, MINUS_ONE_TEXT, PREAMBLE,
 };
 use std::test::Fail;
 use wasmprinter::print_bytes;
 
 #[test]
 fn prints_each_module(rt: HostRuntime) -> Result<(), Fail> {
-    let modules: [(&[u8], &str); 4] = [
+    let modules: [(&[u8], &str); 5] = [
         (&PREAMBLE, EMPTY_TEXT),
         (&IDENTITY, IDENTITY_TEXT),
         (&MINUS_ONE, MINUS_ONE_TEXT),
         (&EVERYTHING, EVERYTHING_TEXT),
+        (&CONTROL, CONTROL_TEXT),
     ];
     for (wasm, text) in modules {
         let printed = print_bytes(rt.alloc(), wasm)?;
