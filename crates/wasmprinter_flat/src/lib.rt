@@ -2,5 +2,11 @@
 #![tactic(auto)]
 
 mod blocks;
+mod constants;
+mod immediates;
+mod indices;
 mod labels;
+mod memory;
 pub mod operators;
+mod references;
+mod vectors;

@@ -23,6 +23,7 @@ pub struct MemArg {
 }
 
 impl Model for MemArg {
+    ghost use Rattle.std.specs.Prelude.{◌<◌};
     ghost use Rattle.wasmprinter_spec.specs.Operator.{MemArg as MemArgValue};
 
     ghost Value = { MemArgValue };
@@ -30,6 +31,8 @@ impl Model for MemArg {
     ghost view = { λ m. record { exponent = m.exponent; memory = m.memory; offset = m.offset } };
 
     ghost inverse = { λ m. record { exponent = m.exponent; memory = m.memory; offset = m.offset } };
+
+    ghost invariant = { λ m. m.exponent < 64 };
 }
 
 /// The first number of a memory operand from here on has the index of a memory behind it.

@@ -2,10 +2,10 @@
 //! and leave.
 ghost use Rattle.std.specs.Prelude.{◌≡◌, [], ◌∷◌, ◌++◌, codes};
 ghost use Rattle.wasmprinter_spec.specs.Options.{Options};
-ghost use Rattle.wasmprinter_spec.specs.Piece.{Gap, Open, Shut};
+ghost use Rattle.wasmprinter_spec.specs.Piece.{Gap};
 ghost use Rattle.wasmprinter_spec.specs.Types.{Index};
 ghost use Rattle.wasmprinter_spec.specs.Layout.Types.{heap_word, ref_word, heap_pieces, null_ref_pieces, ref_pieces_by, ref_pieces, val_pieces, type_list as list_of_types, list_group as group_of_types, signature_pieces};
-ghost use Rattle.wasmprinter_spec.specs.Layout.Groups.{line_group_gap};
+ghost use Rattle.wasmprinter_spec.specs.Layout.Groups.{line_group, line_group_gap};
 ghost use Rattle.wasmprinter_print.specs.Prints.{Prints};
 ghost use Rattle.wasmprinter_ops.specs.ValTypes.{heap_view, ref_view, type_view, types_view};
 
@@ -150,8 +150,11 @@ fn type_list<P: Print>(p: &mut P, types: &ValTypes<'_>) -> io::Result<()>
     Ok(())
 }
 
-fn write_group<P: Print>(p: &mut P, keyword: &str, types: &ValTypes<'_>) -> io::Result<()>
-    ensures { (o : Options) → Prints P.meaning o p.old p.new result (Gap ∷ (Open keyword.now ∷ (list_of_types (types_view types.now) ++ (Shut ∷ [])))) }
+/// Writes a blank and a group of types behind a keyword.
+#[tactic(auto, unfolding(wasmprinter_spec::specs::Layout::Groups::line_group))]
+pub fn write_group<P: Print>(p: &mut P, keyword: &str, types: &ValTypes<'_>) -> io::Result<()>
+    ensures { (o : Options) → Prints P.meaning o p.old p.new result
+        (Gap ∷ line_group keyword.now (list_of_types (types_view types.now))) }
 {
     gap(p)?;
     open(p, keyword)?;

@@ -1,5 +1,5 @@
 use Rattle.wasmprinter_print.specs.PrintsLaws.{both_pieces, pieces_end}
-use Rattle.wasmprinter_flat.proofs.operators.write_try_table.Goals as goal
+use Rattle.wasmprinter_flat.proofs.immediates.write_try_table.Goals as goal
 
 pub returns-in_err-write_block_type : goal.returns-in_err-write_block_type
 returns-in_err-write_block_type g c o inner =
