@@ -1,5 +1,4 @@
 pub mod Parts
-pub mod Opening
 pub mod Over
 pub mod Later
 pub mod Listing
