@@ -9,7 +9,7 @@ pub struct Shape {
     pub functions: u32,
 }
 
-pub const SHAPES: [Shape; 6] = [
+pub const SHAPES: [Shape; 7] = [
     Shape {
         name: "empty",
         wasm: &EMPTY,
@@ -39,6 +39,12 @@ pub const SHAPES: [Shape; 6] = [
         wasm: &BODIES,
         text: BODIES_TEXT,
         functions: 2,
+    },
+    Shape {
+        name: "blocks",
+        wasm: &BLOCKS,
+        text: BLOCKS_TEXT,
+        functions: 1,
     },
     Shape {
         name: "everything",
@@ -109,6 +115,58 @@ const BODIES_TEXT: &str = "(module
   (func (;1;) (type 0)
     call 0
     return
+  )
+)
+";
+
+const BLOCKS: [u8; 92] = [
+    0x00, 0x61, 0x73, 0x6d, 0x01, 0x00, 0x00, 0x00, // preamble
+    0x01, 0x1e, 0x04, // types
+    0x4e, 0x02, 0x5f, 0x01, 0x63, 0x01, 0x01, 0x60, 0x01, 0x64, 0x00, 0x00, // a group of two
+    0x4e, 0x00, // a group of none
+    0x50, 0x01, 0x00, 0x5f, 0x01, 0x63, 0x01, 0x01, // one by itself, with a supertype
+    0x60, 0x02, 0x63, 0x00, 0x6f, 0x01, 0x70, // that of the function
+    0x03, 0x02, 0x01, 0x03, // functions
+    0x0a, 0x2e, 0x01, 0x2c, 0x01, 0x01, 0x64, 0x00, // code, with a local
+    0x02, 0x40, 0x03, 0x70, 0x02, 0x03, // block, loop, block
+    0x41, 0x00, 0x04, 0x40, 0x05, // i32.const, if, else
+    0x06, 0x40, 0x07, 0x00, 0x1f, 0x40, 0x01, 0x02, 0x04, // try, catch, try_table
+    0x02, 0x40, 0x02, 0x40, 0x02, 0x40, 0x0e, 0x01, 0x00, 0x07, // three blocks, br_table
+    0x0b, 0x0b, 0x0b, 0x0b, 0x0b, 0x0b, 0x0b, 0x0b, 0x0b, 0x0b, // an end for each block and for the body
+];
+
+const BLOCKS_TEXT: &str = "(module
+  (rec
+    (type (;0;) (struct (field (mut (ref null 1)))))
+    (type (;1;) (func (param (ref 0))))
+  )
+  (rec)
+  (type (;2;) (sub 0 (struct (field (mut (ref null 1))))))
+  (type (;3;) (func (param (ref null 0) externref) (result funcref)))
+  (func (;0;) (type 3) (param (ref null 0) externref) (result funcref)
+    (local (ref 0))
+    block ;; label = @1
+      loop (result funcref) ;; label = @2
+        block (type 3) (param (ref null 0) externref) (result funcref) ;; label = @3
+          i32.const 0
+          if ;; label = @4
+          else
+            try ;; label = @5
+            catch 0
+              try_table (catch_all 4 (;@1;)) ;; label = @6
+                block ;; label = @7
+                  block ;; label = @8
+                    block ;; label = @9
+                      br_table 0 (;@9;) 7 (;@2;)
+                    end
+                  end
+                end
+              end
+            end
+          end
+        end
+      end
+    end
   )
 )
 ";

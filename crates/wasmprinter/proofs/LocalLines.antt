@@ -6,7 +6,7 @@ use Rattle.wasmprinter_spec.specs.Grammar.{Placed}
 use Rattle.wasmprinter_spec.specs.Types.{ValType}
 use Rattle.wasmprinter_spec.specs.Placed.{LocalEntry}
 use Rattle.wasmprinter_spec.specs.Module.{locals_of}
-use Rattle.wasmprinter_spec.specs.Piece.{Break, Open, Shut}
+use Rattle.wasmprinter_spec.specs.Piece.{Break}
 use Rattle.wasmprinter_spec.specs.Layout.{locals_place, local_group, local_pieces}
 use Rattle.wasmprinter_spec.specs.Layout.Groups.{has_break, line_group}
 use Rattle.wasmprinter_spec.specs.Layout.Types.{type_list}
@@ -81,12 +81,12 @@ locals-none es h = ap (local_group (locals_place es)) (declares-none es h)
 
 -- the line of locals, written out
 pub locals-some : (es : List (Placed LocalEntry)) (place : ℕ) → locals_place es ≡ Some place →
-    local_pieces es ≡ Break (Some place) 2 ∷ (Open (codes "local") ∷ (type_list (locals_of es) ++ (Shut ∷ [])))
-unfolding local_pieces local_group line_group
+    local_pieces es ≡ Break (Some place) 2 ∷ line_group (codes "local") (type_list (locals_of es))
+unfolding local_pieces local_group
 locals-some es place h =
     let d = declares-some es place h in
     ap₂ local_group h d.types
-    ∙ sym (ap (λ xs. Break (Some place) 2 ∷ (Open (codes "local") ∷ (type_list xs ++ (Shut ∷ [])))) d.types)
+    ∙ sym (ap (λ xs. Break (Some place) 2 ∷ line_group (codes "local") (type_list xs)) d.types)
 
 -- whether the line changes for locals
 pub locals-break : (es : List (Placed LocalEntry)) → has_break (local_pieces es) ≡ is_some (locals_place es)

@@ -39,7 +39,8 @@ pub(crate) trait Field {
         module: &Module<'_>,
         number: u64,
     ) -> io::Result<()>
-        ensures { Prints P.meaning options.now p.old p.new result (pieces (types_of module.now) number self.now) };
+        ensures { Prints P.meaning options.now p.old p.new result
+            (pieces (types_of module.now) number self.now) };
 }
 
 /// Writes the fields of one kind, in order.
@@ -49,7 +50,8 @@ fn write_each<P: Print, F: Field>(
     module: &Module<'_>,
     fields: &[F],
 ) -> io::Result<()>
-    ensures { Prints P.meaning options.now p.old p.new result (numbered (F.pieces (types_of module.now)) 0 fields.now) }
+    ensures { Prints P.meaning options.now p.old p.new result
+        (numbered (F.pieces (types_of module.now)) 0 fields.now) }
 {
     for (number, field) in fields.iter().enumerate() {
         field.write(p, options, module, number as u64)?;

@@ -179,7 +179,8 @@ other_arities = refl
 
 unlisted : words (
     opcodes 0 (0x16 ∷ 0x17 ∷ 0x1d ∷ 0x1e ∷ 0x27 ∷ 0xc5 ∷ 0xcf ∷ 0xd7 ∷ 0xfa ∷ 0xff ∷ [])
-    ++ opcodes 0xfb (31 ∷ []) ++ opcodes 0xfc (18 ∷ 23 ∷ []) ++ opcodes 0xfd (154 ∷ 276 ∷ []) ++ opcodes 0xfe (0x04 ∷ 0x0f ∷ 0x4f ∷ []) ++ opcodes 0xff (0 ∷ []))
+    ++ opcodes 0xfb (31 ∷ [])
+    ++ opcodes 0xfc (18 ∷ 23 ∷ []) ++ opcodes 0xfd (154 ∷ 276 ∷ []) ++ opcodes 0xfe (0x04 ∷ 0x0f ∷ 0x4f ∷ []) ++ opcodes 0xff (0 ∷ []))
     ≡ replicate 19 []
 unfolding table
 unlisted = refl

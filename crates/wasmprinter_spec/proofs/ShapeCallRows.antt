@@ -32,7 +32,8 @@ one_result t = plain (codes " (") ++ in_style Keyword (codes "result ") ++ in_st
 -- indices are names, also of memories and tables
 index_calls : called 0 0x11 (Indices 0 1) ++ called 0xfc 12 (Indices 3 1) ++ called 0xfc 10 (Indices 0 2)
     ≡ atoms (
-    plain (codes "call_indirect") ++ index (codes "1") ++ plain (codes " (") ++ in_style Keyword (codes "type ") ++ in_style Name (codes "0") ++ plain (codes ")")
+    plain (codes "call_indirect") ++ index (codes "1")
+    ++ plain (codes " (") ++ in_style Keyword (codes "type ") ++ in_style Name (codes "0") ++ plain (codes ")")
     ++ plain (codes "table.init") ++ index (codes "1") ++ index (codes "3")
     ++ plain (codes "memory.copy") ++ index (codes "0") ++ index (codes "2"))
 unfolding printing
@@ -58,8 +59,8 @@ selection_calls : called 0 0x1c (Types (types.I32 ∷ [])) ++ called 0 0x1c (Typ
     ≡ atoms (
     plain (codes "select") ++ one_result (codes "i32")
     ++ plain (codes "select (") ++ in_style Keyword (codes "result") ++ plain (codes ")")
-    ++ plain (codes "select (") ++ in_style Keyword (codes "result") ++ plain (codes " ") ++ in_style TypeName (codes "i32") ++ plain (codes " ") ++ in_style TypeName (codes "f64")
-    ++ plain (codes ")"))
+    ++ plain (codes "select (") ++ in_style Keyword (codes "result") ++ plain (codes " ") ++ in_style TypeName (codes "i32")
+    ++ plain (codes " ") ++ in_style TypeName (codes "f64") ++ plain (codes ")"))
 unfolding printing
 selection_calls = refl
 

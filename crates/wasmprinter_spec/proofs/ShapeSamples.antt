@@ -118,9 +118,12 @@ references =
 
 abbrev casts : List Sample
 casts =
-    sample (0xfb ∷ 0x18 ∷ 0x00 ∷ 0x00 ∷ 0x6e ∷ 0x6c ∷ []) 0xfb 24 (Cast 0 (ref_type false types.Any) (ref_type false types.I31)) (codes "br_on_cast 0 (ref any) (ref i31)")
-    ∷ sample (0xfb ∷ 0x18 ∷ 0x01 ∷ 0x00 ∷ 0x6e ∷ 0x6c ∷ []) 0xfb 24 (Cast 0 (ref_type true types.Any) (ref_type false types.I31)) (codes "br_on_cast 0 anyref (ref i31)")
-    ∷ sample (0xfb ∷ 0x19 ∷ 0x02 ∷ 0x00 ∷ 0x6e ∷ 0x6c ∷ []) 0xfb 25 (Cast 0 (ref_type false types.Any) (ref_type true types.I31)) (codes "br_on_cast_fail 0 (ref any) i31ref")
+    sample (0xfb ∷ 0x18 ∷ 0x00 ∷ 0x00 ∷ 0x6e ∷ 0x6c ∷ []) 0xfb 24 (Cast 0 (ref_type false types.Any) (ref_type false types.I31))
+    (codes "br_on_cast 0 (ref any) (ref i31)")
+    ∷ sample (0xfb ∷ 0x18 ∷ 0x01 ∷ 0x00 ∷ 0x6e ∷ 0x6c ∷ []) 0xfb 24 (Cast 0 (ref_type true types.Any) (ref_type false types.I31))
+    (codes "br_on_cast 0 anyref (ref i31)")
+    ∷ sample (0xfb ∷ 0x19 ∷ 0x02 ∷ 0x00 ∷ 0x6e ∷ 0x6c ∷ []) 0xfb 25 (Cast 0 (ref_type false types.Any) (ref_type true types.I31))
+    (codes "br_on_cast_fail 0 (ref any) i31ref")
     ∷ sample (0xfb ∷ 0x19 ∷ 0x03 ∷ 0x00 ∷ 0x01 ∷ 0x00 ∷ []) 0xfb 25 (Cast 0 (ref_type true (types.Index 1)) (ref_type true (types.Index 0)))
     (codes "br_on_cast_fail 0 (ref null 1) (ref null 0)")
     ∷ []

@@ -1,59 +1,13 @@
-//! Printers over writers of bytes that take few bytes at once, count the calls on them, or fail at one.
+//! Printers over writers of bytes that take few bytes at once, write down the calls on them, or fail at one.
 
 use crate::colors::{EMPTY_COLORED, print_colors_to};
 use crate::modules::{EMPTY_TEXT, IDENTITY, IDENTITY_TEXT, PREAMBLE};
+use crate::scripted::Scripted;
 use std::alloc::Global;
-use std::io;
 use std::io::{ErrorKind, Write};
 use std::test::Fail;
 use wasmprinter::print::{Ansi, Color, ColorSpec, NoColor, WriteColor};
 use wasmprinter::{Config, Error, Print, PrintIoWrite, PrintTermcolor};
-
-/// A writer that takes only so many bytes at once, counts its calls, and fails at one of them.
-#[derive(Drop)]
-pub struct Scripted {
-    pub bytes: Vec<u8>,
-    /// How many bytes it takes in one call at most.
-    most: usize,
-    /// How many times it was asked to write.
-    pub writes: u32,
-    /// Which of them fails, and how; the first is 1.
-    failure: Option<(u32, ErrorKind)>,
-}
-
-impl Scripted {
-    pub fn new(alloc: Global, most: usize) -> Scripted {
-        Scripted {
-            bytes: Vec::new(alloc),
-            most,
-            writes: 0,
-            failure: None,
-        }
-    }
-
-    pub fn failing(alloc: Global, most: usize, write: u32, kind: ErrorKind) -> Scripted {
-        let mut writer = Scripted::new(alloc, most);
-        writer.failure = Some((write, kind));
-        writer
-    }
-}
-
-impl Write for Scripted {
-    fn write(&mut self, buf: &[u8]) -> io::Result<usize> {
-        self.writes = self.writes.saturating_add(1);
-        match self.failure {
-            Some((write, kind)) if write == self.writes => return Err(io::Error::from(kind)),
-            _ => (),
-        }
-        let taken = buf.len().min(self.most);
-        self.bytes.extend_from_slice(&buf[..taken])?;
-        Ok(taken)
-    }
-
-    fn flush(&mut self) -> io::Result<()> {
-        Ok(())
-    }
-}
 
 /// Prints to any writer of bytes.
 pub fn print_bytes_to<W: Write + Drop>(alloc: Global, wasm: &[u8], writer: W) -> Result<W, Error> {
@@ -107,12 +61,12 @@ impl<'a> Run<'a> {
     }
 
     /// Whether printing stops at a write that fails, with its error, and nothing is written behind it.
-    fn stops_at(&self, alloc: Global, write: u32, kind: ErrorKind) -> bool {
+    fn stops_at(&self, alloc: Global, write: usize, kind: ErrorKind) -> bool {
         let mut writer = Scripted::failing(alloc, self.most, write, kind);
         let refused = self.print(alloc, &mut writer);
         let wanted = self.wanted.as_bytes();
         matches!(refused, Err(Error::Printer(e)) if e.kind() == kind)
-            && writer.writes == write
+            && writer.calls.len() == write
             && wanted.starts_with(writer.bytes.as_slice())
             && writer.bytes.len() < wanted.len()
     }
@@ -136,7 +90,7 @@ fn stops_at_the_write_that_fails_and_answers_its_error(rt: HostRuntime) -> Resul
         let mut whole = Scripted::new(alloc, run.most);
         run.print(alloc, &mut whole)?;
         assert_eq!(rt; whole.bytes.as_slice(), run.wanted.as_bytes());
-        let one_more = whole.writes.saturating_add(1);
+        let one_more = whole.calls.len().saturating_add(1);
         for write in 1..one_more {
             let way = run.way;
             assert!(rt;
@@ -158,9 +112,14 @@ fn tries_a_write_again_that_was_interrupted(rt: HostRuntime) -> Result<(), Fail>
     for run in runs() {
         let mut whole = Scripted::new(alloc, run.most);
         run.print(alloc, &mut whole)?;
-        let mut writer = Scripted::failing(alloc, run.most, whole.writes, ErrorKind::Interrupted);
+        let mut writer = Scripted::failing(
+            alloc,
+            run.most,
+            whole.calls.len(),
+            ErrorKind::Interrupted,
+        );
         run.print(alloc, &mut writer)?;
-        assert_eq!(rt; writer.writes, whole.writes.saturating_add(1));
+        assert_eq!(rt; writer.calls.len(), whole.calls.len().saturating_add(1));
         assert_eq!(rt; writer.bytes.as_slice(), run.wanted.as_bytes());
     }
     Ok(())
@@ -172,7 +131,7 @@ fn fails_where_a_writer_takes_nothing(rt: HostRuntime) {
         let mut writer = Scripted::new(rt.alloc(), 0);
         let refused = run.print(rt.alloc(), &mut writer);
         assert!(rt; matches!(refused, Err(Error::Printer(e)) if e.kind() == ErrorKind::WriteZero));
-        assert_eq!(rt; writer.writes, 1);
+        assert_eq!(rt; writer.calls.len(), 1);
         assert!(rt; writer.bytes.is_empty());
     }
 }
@@ -205,7 +164,7 @@ fn leaves_the_sequences_up_to_the_one_that_failed(rt: HostRuntime) {
                 Ok(())
             }
         );
-        assert_eq!(rt; script.writes, write.min(3));
+        assert_eq!(rt; script.calls.len(), write.min(3));
         assert_eq!(rt; script.bytes.as_slice(), left.as_bytes());
     }
 }
@@ -226,11 +185,11 @@ fn fails_only_where_it_writes(rt: HostRuntime) -> Result<(), Fail> {
     printer.start_comment()?;
     printer.reset_color()?;
     assert_eq!(rt; printer.print_custom_section("name", 8, &[0])?, false);
-    assert_eq!(rt; printer.0.writes, 0);
+    assert_eq!(rt; printer.0.calls.len(), 0);
     let refused = printer.newline();
     assert!(rt; matches!(refused, Err(e) if e.kind() == ErrorKind::BrokenPipe));
     printer.write_str("b")?;
-    assert_eq!(rt; printer.0.writes, 2);
+    assert_eq!(rt; printer.0.calls.len(), 2);
     assert_eq!(rt; printer.0.bytes.as_slice(), b"b".as_slice());
     Ok(())
 }
@@ -249,7 +208,7 @@ fn fails_at_a_style_where_it_writes_a_sequence(rt: HostRuntime) -> Result<(), Fa
     assert!(rt; matches!(refused, Err(e) if e.kind() == ErrorKind::BrokenPipe));
     printer.start_comment()?;
     let script = printer.0.into_inner();
-    assert_eq!(rt; script.writes, 3);
+    assert_eq!(rt; script.calls.len(), 3);
     assert_eq!(rt; script.bytes.as_slice(), b"\x1b[0m\x1b[36m".as_slice());
     Ok(())
 }

@@ -1,8 +1,8 @@
 //! The calls on a printer, in their order, and which error comes where one of them fails.
 
 use crate::modules::{
-    EMPTY_CALLS, EVERYTHING, EVERYTHING_CALLS, IDENTITY, IDENTITY_CALLS, KINDS, KINDS_CALLS,
-    PREAMBLE,
+    CONTROL, CONTROL_CALLS, EMPTY_CALLS, EVERYTHING, EVERYTHING_CALLS, IDENTITY, IDENTITY_CALLS,
+    KINDS, KINDS_CALLS, PREAMBLE,
 };
 use crate::recorder::{REFUSED, Recorder};
 use std::io::ErrorKind;
@@ -16,6 +16,7 @@ fn makes_each_call_in_order(rt: HostRuntime) -> Result<(), Fail> {
         (&IDENTITY, IDENTITY_CALLS),
         (&EVERYTHING, EVERYTHING_CALLS),
         (&KINDS, KINDS_CALLS),
+        (&CONTROL, CONTROL_CALLS),
     ];
     for (wasm, calls) in modules {
         let mut recorder = Recorder::new(rt.alloc());

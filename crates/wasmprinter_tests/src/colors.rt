@@ -1,8 +1,9 @@
 //! Printers in colours. The sequences are typed by hand.
 ghost use Rattle.std.specs.Prelude.{◌≡◌, true, Ok};
 
-use crate::byte_writers::{Scripted, print_bytes_to};
+use crate::byte_writers::print_bytes_to;
 use crate::modules::{EMPTY_TEXT, EVERYTHING, EVERYTHING_TEXT, IDENTITY, IDENTITY_TEXT, PREAMBLE};
+use crate::scripted::Scripted;
 use std::alloc::Global;
 use std::io;
 use std::io::Write;

@@ -112,6 +112,32 @@ fn prints_the_signature_of_a_block(rt: HostRuntime) -> Result<(), Fail> {
     Ok(())
 }
 
+/// A type section with the type of functions without parameters and results, and that of arrays of i32.
+const ARRAY: [u8; 9] = [0x01, 0x07, 0x02, 0x60, 0x00, 0x00, 0x5e, 0x7f, 0x00];
+
+#[test]
+fn prints_no_signature_of_a_type_that_has_none(rt: HostRuntime) -> Result<(), Fail> {
+    // the type of a block is that of arrays, and then one that isn't declared
+    let operators = [0x02, 0x01, 0x0b, 0x03, 0x02, 0x0b];
+    let wasm = with_operators(rt.alloc(), &ARRAY, &operators)?;
+    let text = print_bytes(rt.alloc(), &wasm)?;
+    assert_eq!(rt;
+        text.as_str(),
+        r#"(module
+  (type (;0;) (func))
+  (type (;1;) (array i32))
+  (func (;0;) (type 0)
+    block (type 1) ;; label = @1
+    end
+    loop (type 2) ;; label = @1
+    end
+  )
+)
+"#
+    );
+    Ok(())
+}
+
 #[test]
 fn leaves_the_block_of_a_delegate(rt: HostRuntime) -> Result<(), Fail> {
     let text = text_of(

@@ -1,31 +1,124 @@
 //! What a decoded module gives out, through the crate's own paths.
 
-use crate::modules::{EVERYTHING, PREAMBLE};
+use crate::modules::{CONTROL, EVERYTHING, PREAMBLE};
 use std::test::Fail;
 use wasmprinter::wasm::{
-    Body, ExternKind, Immediates, Module, Opcode, Operator, OperatorsReader, decode,
+    BlockType, Body, Catch, ExternKind, Immediates, Module, Opcode, Operator, OperatorsReader,
+    ValType, decode,
 };
 
-/// The operators of the second body: place, number of the opcode, word and immediates.
-const OPERATORS: [(u64, u32, &str, Immediates); 7] = [
-    (0x2f, 0x41, "i32.const", Immediates::I32(-2)),
-    (0x31, 0x42, "i64.const", Immediates::I64(i64::MIN)),
-    (0x3c, 0x1a, "drop", Immediates::None),
-    (0x3d, 0x21, "local.set", Immediates::Index(1)),
-    (0x3f, 0x20, "local.get", Immediates::Index(1)),
-    (0x42, 0x10, "call", Immediates::Index(0)),
-    (0x44, 0x0f, "return", Immediates::None),
+/// What stands behind an opcode, with lists as slices.
+#[derive(Clone, Copy)]
+enum Wanted {
+    None,
+    Index(u32),
+    I32(i32),
+    I64(i64),
+    Block(BlockType),
+    TryTable(BlockType, &'static [Catch]),
+    BrTable(&'static [u32], u32),
+}
+
+impl Wanted {
+    /// Whether these are the immediates.
+    fn are(self, immediates: &Immediates<'_>) -> bool {
+        match (immediates, self) {
+            (Immediates::None, Wanted::None) => true,
+            (Immediates::Index(found), Wanted::Index(index)) => *found == index,
+            (Immediates::I32(found), Wanted::I32(number)) => *found == number,
+            (Immediates::I64(found), Wanted::I64(number)) => *found == number,
+            (Immediates::Block(found), Wanted::Block(block_type)) => *found == block_type,
+            (Immediates::TryTable(found, clauses), Wanted::TryTable(block_type, catches)) => {
+                *found == block_type && clauses.iter().eq(catches.iter().copied())
+            }
+            (Immediates::BrTable(labels, found), Wanted::BrTable(targets, otherwise)) => {
+                *found == otherwise && labels.iter().eq(targets.iter().copied())
+            }
+            _ => false,
+        }
+    }
+}
+
+/// An operator: its place, the number of its opcode, its word and its immediates.
+type Row = (u64, u32, &'static str, Wanted);
+
+/// The operators of the second body of `EVERYTHING`.
+const OPERATORS: [Row; 7] = [
+    (0x2f, 0x41, "i32.const", Wanted::I32(-2)),
+    (0x31, 0x42, "i64.const", Wanted::I64(i64::MIN)),
+    (0x3c, 0x1a, "drop", Wanted::None),
+    (0x3d, 0x21, "local.set", Wanted::Index(1)),
+    (0x3f, 0x20, "local.get", Wanted::Index(1)),
+    (0x42, 0x10, "call", Wanted::Index(0)),
+    (0x44, 0x0f, "return", Wanted::None),
 ];
 
-/// Whether two operators without blocks and branches have the same immediates.
-fn are_alike(one: &Immediates<'_>, other: &Immediates<'_>) -> bool {
-    match (one, other) {
-        (Immediates::None, Immediates::None) => true,
-        (Immediates::Index(m), Immediates::Index(n)) => m == n,
-        (Immediates::I32(m), Immediates::I32(n)) => m == n,
-        (Immediates::I64(m), Immediates::I64(n)) => m == n,
-        _ => false,
+/// The catch clauses of `CONTROL`.
+const CATCHES: [Catch; 4] = [
+    Catch::One(2, 0),
+    Catch::OneRef(3, 1),
+    Catch::All(0),
+    Catch::AllRef(0),
+];
+
+/// The operators of `CONTROL`.
+const BLOCKS: [Row; 26] = [
+    (0x1c, 0x02, "block", Wanted::Block(BlockType::Empty)),
+    (0x1e, 0x41, "i32.const", Wanted::I32(0)),
+    (
+        0x20,
+        0x04,
+        "if",
+        Wanted::Block(BlockType::Value(ValType::I32)),
+    ),
+    (0x22, 0x41, "i32.const", Wanted::I32(1)),
+    (0x24, 0x05, "else", Wanted::None),
+    (0x25, 0x41, "i32.const", Wanted::I32(2)),
+    (0x27, 0x0b, "end", Wanted::None),
+    (0x28, 0x0e, "br_table", Wanted::BrTable(&[0, 1], 0)),
+    (0x2d, 0x0b, "end", Wanted::None),
+    (0x2e, 0x03, "loop", Wanted::Block(BlockType::Func(1))),
+    (0x30, 0x01, "nop", Wanted::None),
+    (0x31, 0x0c, "br", Wanted::Index(0)),
+    (0x33, 0x0b, "end", Wanted::None),
+    (0x34, 0x06, "try", Wanted::Block(BlockType::Empty)),
+    (0x36, 0x00, "unreachable", Wanted::None),
+    (0x37, 0x18, "delegate", Wanted::Index(0)),
+    (0x39, 0x06, "try", Wanted::Block(BlockType::Empty)),
+    (0x3b, 0x08, "throw", Wanted::Index(3)),
+    (0x3d, 0x07, "catch", Wanted::Index(3)),
+    (0x3f, 0x09, "rethrow", Wanted::Index(0)),
+    (0x41, 0x19, "catch_all", Wanted::None),
+    (0x42, 0x0d, "br_if", Wanted::Index(0)),
+    (0x44, 0x0b, "end", Wanted::None),
+    (
+        0x45,
+        0x1f,
+        "try_table",
+        Wanted::TryTable(BlockType::Empty, &CATCHES),
+    ),
+    (0x52, 0x0a, "throw_ref", Wanted::None),
+    (0x53, 0x0b, "end", Wanted::None),
+];
+
+/// Whether these operators come, and then none.
+fn comes_out(mut reader: OperatorsReader<'_>, rows: &[Row]) -> bool {
+    for (wanted_place, number, word, immediates) in rows {
+        let Some((place, operator)): Option<(u64, Operator<'_>)> = reader.next() else {
+            return false;
+        };
+        let opcode = Opcode {
+            prefix: 0,
+            number: *number,
+        };
+        if place != *wanted_place || operator.opcode != opcode || operator.opcode.word() != *word {
+            return false;
+        }
+        if !immediates.are(&operator.immediates) {
+            return false;
+        }
     }
+    reader.next().is_none()
 }
 
 #[test]
@@ -45,20 +138,21 @@ fn counts_the_functions_that_are_defined(rt: HostRuntime) -> Result<(), Fail> {
 fn walks_over_operators(rt: HostRuntime) -> Result<(), Fail> {
     let module = decode(rt.alloc(), &EVERYTHING)?;
     let first: Body<'_> = module.body(0).ok_or("no first body")?;
-    assert!(rt; first.operators().next().is_none());
+    assert!(rt; comes_out(first.operators(), &[]));
     let second = module.body(1).ok_or("no second body")?;
-    let mut reader: OperatorsReader<'_> = second.operators();
-    for (wanted_place, number, word, immediates) in OPERATORS {
-        let (place, operator): (u64, Operator<'_>) = reader.next().ok_or("an operator is missing")?;
-        assert_eq!(rt; place, wanted_place);
-        assert_eq!(rt; operator.opcode, Opcode { prefix: 0, number });
-        assert_eq!(rt; operator.opcode.word(), word);
-        assert!(rt; are_alike(&operator.immediates, &immediates));
-    }
-    assert!(rt; reader.next().is_none());
+    assert!(rt; comes_out(second.operators(), &OPERATORS));
     // a second walk over the same body begins at its first operator
-    let (place, _) = second.operators().next().ok_or("no second walk")?;
-    assert_eq!(rt; place, 0x2f);
+    assert!(rt; comes_out(second.operators(), &OPERATORS));
+    assert!(rt; !comes_out(second.operators(), &OPERATORS[..6]));
+    Ok(())
+}
+
+#[test]
+fn walks_over_blocks(rt: HostRuntime) -> Result<(), Fail> {
+    let module = decode(rt.alloc(), &CONTROL)?;
+    let body = module.body(0).ok_or("no body")?;
+    assert!(rt; comes_out(body.operators(), &BLOCKS));
+    assert_eq!(rt; body.end(), 0x54);
     Ok(())
 }
 
@@ -122,13 +216,11 @@ fn gives_out_what_a_body_holds(rt: HostRuntime) -> Result<(), Fail> {
     assert_eq!(rt; body.end(), 0x45);
     let mut locals = body.locals();
     assert_eq!(rt; locals.len(), 2);
-    for (place, count, val_type) in [(0x2b, 2, "I32"), (0x2d, 1, "I64")] {
+    for (place, count, val_type) in [(0x2b, 2, ValType::I32), (0x2d, 1, ValType::I64)] {
         let entry = locals.next().ok_or("an entry is missing")?;
         assert_eq!(rt; entry.place(), place);
         assert_eq!(rt; entry.count(), count);
-        let shown = entry.val_type();
-        let shown = format!(in rt.alloc(); "{shown:?}")?;
-        assert_eq!(rt; shown.as_str(), val_type);
+        assert_eq!(rt; entry.val_type(), val_type);
     }
     assert_eq!(rt; module.function_count(), 2);
     let function = module.function(0);

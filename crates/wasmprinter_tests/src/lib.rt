@@ -25,9 +25,13 @@ mod opcode_words;
 #[cfg(test)]
 mod opcodes;
 #[cfg(test)]
+mod passing;
+#[cfg(test)]
 mod recorder;
 #[cfg(test)]
 mod refusals;
+#[cfg(test)]
+mod scripted;
 #[cfg(test)]
 mod sections;
 #[cfg(test)]

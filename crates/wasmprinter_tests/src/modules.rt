@@ -54,7 +54,8 @@ pub const MINUS_ONE_TEXT: &str = r#"(module
 )
 "#;
 
-/// Two types, two exports and two functions: the first without operators, the second with locals and each operator.
+/// Two types, two exports and two functions: the first without operators, the second with locals and operators. `CONTROL` has all other
+/// operators.
 pub const EVERYTHING: [u8; 70] = [
     0x00, 0x61, 0x73, 0x6d, 0x01, 0x00, 0x00, 0x00, // preamble
     0x01, 0x09, 0x02, 0x60, 0x00, 0x00, 0x60, 0x01, 0x7f, 0x01, 0x7e, // types from 0x08
@@ -153,4 +154,89 @@ pub const KINDS_CALLS: &str = r#"[0x0]({K}module{R}
 [0x3e]  ({K}start {R}{N}0{R})
 [0x43]  ({K}func {R}{N}(;0;){R} ({K}type {R}{N}0{R}))
 [0x45])
+"#;
+
+/// A function of blocks in each form, with branches, exceptions and what else `EVERYTHING` lacks.
+pub const CONTROL: [u8; 85] = [
+    0x00, 0x61, 0x73, 0x6d, 0x01, 0x00, 0x00, 0x00, // preamble
+    0x01, 0x09, 0x02, 0x60, 0x00, 0x00, 0x60, 0x01, 0x7f, 0x01, 0x7e, // types from 0x08
+    0x03, 0x02, 0x01, 0x00, // functions from 0x13
+    0x0a, 0x3c, 0x01, 0x3a, 0x00, // code from 0x17, with the body at 0x1b
+    0x02, 0x40, 0x41, 0x00, // at 0x1c and 0x1e
+    0x04, 0x7f, 0x41, 0x01, 0x05, 0x41, 0x02, 0x0b, // at 0x20, 0x22, 0x24, 0x25 and 0x27
+    0x0e, 0x02, 0x00, 0x01, 0x00, 0x0b, // at 0x28 and 0x2d
+    0x03, 0x01, 0x01, 0x0c, 0x00, 0x0b, // at 0x2e, 0x30, 0x31 and 0x33
+    0x06, 0x40, 0x00, 0x18, 0x00, // at 0x34, 0x36 and 0x37
+    0x06, 0x40, 0x08, 0x03, 0x07, 0x03, 0x09, 0x00, // at 0x39, 0x3b, 0x3d and 0x3f
+    0x19, 0x0d, 0x00, 0x0b, // at 0x41, 0x42 and 0x44
+    0x1f, 0x40, 0x04, 0x00, 0x02, 0x00, 0x01, 0x03, 0x01, 0x02, 0x00, 0x03, 0x00, // at 0x45
+    0x0a, 0x0b, 0x0b, // at 0x52, 0x53 and 0x54
+];
+
+pub const CONTROL_TEXT: &str = r#"(module
+  (type (;0;) (func))
+  (type (;1;) (func (param i32) (result i64)))
+  (func (;0;) (type 0)
+    block ;; label = @1
+      i32.const 0
+      if (result i32) ;; label = @2
+        i32.const 1
+      else
+        i32.const 2
+      end
+      br_table 0 (;@1;) 1 0 (;@1;)
+    end
+    loop (type 1) (param i32) (result i64) ;; label = @1
+      nop
+      br 0 (;@1;)
+    end
+    try ;; label = @1
+      unreachable
+    delegate 0
+    try ;; label = @1
+      throw 3
+    catch 3
+      rethrow 0 (;@1;)
+    catch_all
+      br_if 0 (;@1;)
+    end
+    try_table (catch 2 0) (catch_ref 3 1 (; INVALID ;)) (catch_all 0) (catch_all_ref 0) ;; label = @1
+      throw_ref
+    end
+  )
+)
+"#;
+
+pub const CONTROL_CALLS: &str = r#"[0x0]({K}module{R}
+[0xb]  ({K}type {R}{N}(;0;){R} ({K}func{R}))
+[0xe]  ({K}type {R}{N}(;1;){R} ({K}func{R} ({K}param{R} {T}i32{R}) ({K}result{R} {T}i64{R})))
+[0x1b]  ({K}func {R}{N}(;0;){R} ({K}type {R}{N}0{R})
+[0x1c]    block {C};; label = @1{R}
+[0x1e]      i32.const{L} 0{R}
+[0x20]      if ({K}result {R}{T}i32{R}) {C};; label = @2{R}
+[0x22]        i32.const{L} 1{R}
+[0x24]      else
+[0x25]        i32.const{L} 2{R}
+[0x27]      end
+[0x28]      br_table {N}0{R}{C} (;@1;){R} {N}1{R} {N}0{R}{C} (;@1;){R}
+[0x2d]    end
+[0x2e]    loop ({K}type {R}{N}1{R}) ({K}param{R} {T}i32{R}) ({K}result{R} {T}i64{R}) {C};; label = @1{R}
+[0x30]      nop
+[0x31]      br {N}0{R}{C} (;@1;){R}
+[0x33]    end
+[0x34]    try {C};; label = @1{R}
+[0x36]      unreachable
+[0x37]    delegate {N}0{R}
+[0x39]    try {C};; label = @1{R}
+[0x3b]      throw {N}3{R}
+[0x3d]    catch {N}3{R}
+[0x3f]      rethrow {N}0{R}{C} (;@1;){R}
+[0x41]    catch_all
+[0x42]      br_if {N}0{R}{C} (;@1;){R}
+[0x44]    end
+[0x45]    try_table ({K}catch{R} {N}2{R} {N}0{R}) ({K}catch_ref{R} {N}3{R} 1 (; INVALID ;)) ({K}catch_all{R} {N}0{R}) ({K}catch_all_ref{R} {N}0{R}) {C};; label = @1{R}
+[0x52]      throw_ref
+[0x53]    end
+[0x54]  )
+[0x55])
 "#;

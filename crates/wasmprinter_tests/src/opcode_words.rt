@@ -1,5 +1,5 @@
-//! Each operator but those that open, part or end blocks, with immediates and how these are printed. All is typed from tables of opcodes, and
-//! none of it made from a table of the program or of the definitions.
+//! Each operator but those that open, part or end blocks, with immediates and how these are printed. All is typed from tables of opcodes,
+//! and none of it made from a table of the program or of the definitions.
 
 /// Operators with the same prefix and the same immediates.
 pub struct Group {

@@ -198,8 +198,8 @@ fn prints_other_immediates(rt: HostRuntime) -> Result<(), Fail> {
     Ok(())
 }
 
-/// Immediates that are no operator's: the flags of a cast, the first number of a memory operand, the byte of a fence, a type, a lane that is
-/// cut off.
+/// Immediates that are no operator's: the flags of a cast, the first number of a memory operand, the byte of a fence, a type, a lane that
+/// is cut off.
 const MISSPELLED: [&[u8]; 7] = [
     &[0xfb, 0x18, 0x04, 0x00, 0x6e, 0x6e],
     &[0xfb, 0x19, 0xff, 0x00, 0x6e, 0x6e],

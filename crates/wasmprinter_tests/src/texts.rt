@@ -1,8 +1,8 @@
 //! Whole texts.
 
 use crate::modules::{
-    EMPTY_TEXT, EVERYTHING, EVERYTHING_TEXT, IDENTITY, IDENTITY_TEXT, KINDS, KINDS_TEXT, MINUS_ONE,
-    MINUS_ONE_TEXT, PREAMBLE,
+    CONTROL, CONTROL_TEXT, EMPTY_TEXT, EVERYTHING, EVERYTHING_TEXT, IDENTITY, IDENTITY_TEXT, KINDS,
+    KINDS_TEXT, MINUS_ONE, MINUS_ONE_TEXT, PREAMBLE,
 };
 use std::test::Fail;
 use wasmprinter::print_bytes;
@@ -15,6 +15,7 @@ fn prints_each_module(rt: HostRuntime) -> Result<(), Fail> {
         (&MINUS_ONE, MINUS_ONE_TEXT),
         (&EVERYTHING, EVERYTHING_TEXT),
         (&KINDS, KINDS_TEXT),
+        (&CONTROL, CONTROL_TEXT),
     ];
     for (wasm, text) in modules {
         let printed = print_bytes(rt.alloc(), wasm)?;

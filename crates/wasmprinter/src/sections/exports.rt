@@ -33,7 +33,8 @@ fn kind_word(kind: ExternKind) -> &'static str
 /// Writes the index of what is given out: that of a tag has no style.
 #[tactic(auto, unfolding(wasmprinter_spec::specs::Layout::Exports::extern_index_pieces))]
 fn write_extern_index<P: Print>(p: &mut P, kind: ExternKind, index: u32) -> io::Result<()>
-    ensures { (o : Options) → Prints P.meaning o p.old p.new result (extern_index_pieces (kind_view kind) index) }
+    ensures { (o : Options) → Prints P.meaning o p.old p.new result
+        (extern_index_pieces (kind_view kind) index) }
 {
     match kind {
         ExternKind::Tag => number_word(p, u64::from(index)),

@@ -29,7 +29,8 @@ fn write_outline<P: Print>(
     number: u64,
     function: &Function<'_>,
 ) -> io::Result<()>
-    ensures { (o : Options) → Prints P.meaning o p.old p.new result (outline_parts (types_of module.now) number function.now) }
+    ensures { (o : Options) → Prints P.meaning o p.old p.new result
+        (outline_parts (types_of module.now) number function.now) }
 {
     write_header(p, module, number, function.type_index())?;
     gap(p)?;
@@ -68,7 +69,8 @@ fn write_body<P: Print>(
     module: &Module<'_>,
     body: &Body<'_>,
 ) -> io::Result<()>
-    ensures { Prints P.meaning options.now p.old p.new result (body_pieces (types_of module.now) body.now.value.operators) }
+    ensures { Prints P.meaning options.now p.old p.new result
+        (body_pieces (types_of module.now) body.now.value.operators) }
 {
     let types = ModuleTypes { module };
     let setting = Setting {
@@ -87,7 +89,8 @@ fn write_definition<P: Print>(
     number: u64,
     function: &Function<'_>,
 ) -> io::Result<()>
-    ensures { Prints P.meaning options.now p.old p.new result (definition_parts (types_of module.now) number function.now) }
+    ensures { Prints P.meaning options.now p.old p.new result
+        (definition_parts (types_of module.now) number function.now) }
 {
     let body = function.body();
     write_header(p, module, number, function.type_index())?;

@@ -1,10 +1,10 @@
 //! Locals (section 6.6 of the WebAssembly Core Specification, "Functions").
-ghost use Rattle.std.specs.Prelude.{◌≡◌, [], ◌∷◌, ◌++◌, Some, codes, replicate};
+ghost use Rattle.std.specs.Prelude.{◌≡◌, ◌∷◌, Some, codes, replicate};
 ghost use Rattle.wasmprinter_spec.specs.Options.{Options};
 ghost use Rattle.wasmprinter_spec.specs.Module.{locals_of};
-ghost use Rattle.wasmprinter_spec.specs.Piece.{Break, Open, Shut};
+ghost use Rattle.wasmprinter_spec.specs.Piece.{Break};
 ghost use Rattle.wasmprinter_spec.specs.Layout.{locals_place, local_pieces};
-ghost use Rattle.wasmprinter_spec.specs.Layout.Groups.{has_break};
+ghost use Rattle.wasmprinter_spec.specs.Layout.Groups.{has_break, line_group};
 ghost use Rattle.wasmprinter_spec.specs.Layout.Types.{type_list as list_of_types};
 ghost use Rattle.wasmprinter_print.specs.Prints.{Prints};
 ghost use Rattle.wasmprinter_ops.specs.ValTypes.{type_view};
@@ -42,7 +42,8 @@ pub(crate) fn has_locals(locals: &Locals<'_>) -> bool
 
 /// Writes a value type so many times, a blank before each.
 fn write_times<P: Print>(p: &mut P, value_type: ValType, count: u32) -> io::Result<()>
-    ensures { (o : Options) → Prints P.meaning o p.old p.new result (list_of_types (replicate count (type_view value_type))) }
+    ensures { (o : Options) → Prints P.meaning o p.old p.new result
+        (list_of_types (replicate count (type_view value_type))) }
 {
     for _ in 0..count {
         write_type(p, value_type)?;
@@ -59,13 +60,15 @@ fn write_entries<P: Print>(p: &mut P, locals: &Locals<'_>) -> io::Result<()>
     Ok(())
 }
 
+#[tactic(auto, unfolding(wasmprinter_spec::specs::Layout::Groups::line_group))]
 fn write_line<P: Print>(
     p: &mut P,
     options: &PrintOptions,
     place: u64,
     locals: &Locals<'_>,
 ) -> io::Result<()>
-    ensures { Prints P.meaning options.now p.old p.new result (Break (Some place) 2 ∷ (Open (codes "local") ∷ (list_of_types (locals_of locals.now) ++ (Shut ∷ [])))) }
+    ensures { Prints P.meaning options.now p.old p.new result
+        (Break (Some place) 2 ∷ line_group (codes "local") (list_of_types (locals_of locals.now))) }
 {
     break_line(p, options, Some(place), LOCALS_NESTING)?;
     open(p, "local")?;

@@ -1,4 +1,5 @@
-//! Memories (section 6.6 of the WebAssembly Core Specification, "Memories"), and their types (section 6.4, "Memory Types").
+//! Memories (section 6.6 of the WebAssembly Core Specification, "Memories"), and their types
+//! (section 6.4, "Memory Types").
 ghost use Rattle.std.specs.Prelude.{◌<◌, Some, codes};
 ghost use Rattle.wasmprinter_spec.specs.Options.{Options};
 ghost use Rattle.wasmprinter_spec.specs.Layout.Groups.{line_group_gap};
@@ -66,7 +67,8 @@ fn write_page<P: Print>(p: &mut P, page: Option<u32>) -> io::Result<()>
 #[tactic(auto, unfolding(wasmprinter_spec::specs::Layout::Memories::memory_type_pieces))]
 fn write_memory_type<P: Print>(p: &mut P, memory_type: MemoryType) -> io::Result<()>
     requires { IsPage memory_type.page }
-    ensures { (o : Options) → Prints P.meaning o p.old p.new result (memory_type_pieces (memory_type_view memory_type)) }
+    ensures { (o : Options) → Prints P.meaning o p.old p.new result
+        (memory_type_pieces (memory_type_view memory_type)) }
 {
     write_wide(p, memory_type.wide)?;
     write_limits(p, memory_type.limits.min, memory_type.limits.max)?;

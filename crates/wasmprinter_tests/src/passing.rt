@@ -1,0 +1,177 @@
+//! What writers hand on to the writer below them: each call, once and as it is, with its answer.
+
+use crate::scripted::{Asked, Scripted};
+use std::alloc::Global;
+use std::io;
+use std::io::{ErrorKind, Write};
+use std::test::Fail;
+use wasmprinter::print::{Ansi, NoColor, WriteBytes};
+
+/// How long the pieces are at most that are handed on in each length.
+const LONGEST: usize = 300;
+
+const PIECES: [u8; LONGEST] = [b'x'; LONGEST];
+
+/// How a call comes to the writer below.
+#[derive(Clone, Copy, Debug)]
+enum Way {
+    /// From the writer's own `WriteBytes`.
+    Itself,
+    Colored,
+    Uncolored,
+}
+
+const WAYS: [Way; 3] = [Way::Itself, Way::Colored, Way::Uncolored];
+
+impl Way {
+    /// Hands on all of a piece.
+    fn write_all(self, writer: &mut Scripted, piece: &[u8]) -> io::Result<()> {
+        match self {
+            Way::Itself => writer.write_bytes(piece),
+            Way::Colored => Ansi::new(writer).write_all(piece),
+            Way::Uncolored => NoColor::new(writer).write_all(piece),
+        }
+    }
+
+    /// Hands on some of a piece.
+    fn write(self, writer: &mut Scripted, piece: &[u8]) -> io::Result<usize> {
+        match self {
+            Way::Itself => writer.write(piece),
+            Way::Colored => Ansi::new(writer).write(piece),
+            Way::Uncolored => NoColor::new(writer).write(piece),
+        }
+    }
+
+    fn flush(self, writer: &mut Scripted) -> io::Result<()> {
+        match self {
+            Way::Itself => writer.flush(),
+            Way::Colored => Ansi::new(writer).flush(),
+            Way::Uncolored => NoColor::new(writer).flush(),
+        }
+    }
+}
+
+/// Whether a call that succeeded came to the writer alone, and left just these bytes.
+fn took(writer: &Scripted, call: Asked, bytes: &[u8]) -> bool {
+    writer.calls.as_slice() == [call].as_slice() && writer.bytes.as_slice() == bytes
+}
+
+/// A writer that takes all bytes at once.
+fn taking(alloc: Global) -> Scripted {
+    Scripted::new(alloc, usize::MAX)
+}
+
+/// A writer whose first call fails.
+fn refusing(alloc: Global, kind: ErrorKind) -> Scripted {
+    Scripted::failing(alloc, usize::MAX, 1, kind)
+}
+
+#[test]
+fn hands_on_a_piece_of_each_length_whole(rt: HostRuntime) -> Result<(), Fail> {
+    for way in WAYS {
+        for len in 1..=LONGEST {
+            let piece = &PIECES[..len];
+            let mut writer = taking(rt.alloc());
+            way.write_all(&mut writer, piece)?;
+            assert!(rt;
+                took(&writer, Asked::Write(len), piece),
+                "{way:?}: {len} bytes"
+            );
+        }
+        let mut writer = taking(rt.alloc());
+        way.write_all(&mut writer, b"")?;
+        assert!(rt; writer.calls.is_empty());
+    }
+    Ok(())
+}
+
+#[test]
+fn hands_on_a_part_of_a_piece_of_each_length(rt: HostRuntime) -> Result<(), Fail> {
+    for way in WAYS {
+        for len in 0..=LONGEST {
+            let piece = &PIECES[..len];
+            let mut writer = taking(rt.alloc());
+            assert_eq!(rt; way.write(&mut writer, piece)?, len);
+            assert!(rt;
+                took(&writer, Asked::Write(len), piece),
+                "{way:?}: {len} bytes"
+            );
+            let half = len / 2;
+            let mut writer = Scripted::new(rt.alloc(), half);
+            assert_eq!(rt; way.write(&mut writer, piece)?, half);
+            assert!(rt;
+                took(&writer, Asked::Write(len), &piece[..half]),
+                "{way:?}: {len} bytes"
+            );
+        }
+    }
+    Ok(())
+}
+
+#[test]
+fn answers_the_error_of_the_writer_for_a_piece_of_each_length(rt: HostRuntime) {
+    for way in WAYS {
+        for len in 1..=LONGEST {
+            for kind in [ErrorKind::BrokenPipe, ErrorKind::StorageFull] {
+                let mut writer = refusing(rt.alloc(), kind);
+                let refused = way.write_all(&mut writer, &PIECES[..len]);
+                assert!(rt;
+                    matches!(refused, Err(e) if e.kind() == kind),
+                    "{way:?}: {len} bytes"
+                );
+                assert!(rt;
+                    took(&writer, Asked::Write(len), b""),
+                    "{way:?}: {len} bytes"
+                );
+                let mut writer = refusing(rt.alloc(), kind);
+                let refused = way.write(&mut writer, &PIECES[..len]);
+                assert!(rt;
+                    matches!(refused, Err(e) if e.kind() == kind),
+                    "{way:?}: {len} bytes"
+                );
+                assert!(rt;
+                    took(&writer, Asked::Write(len), b""),
+                    "{way:?}: {len} bytes"
+                );
+            }
+        }
+    }
+}
+
+#[test]
+fn flushes_the_writer_and_answers_as_it_does(rt: HostRuntime) -> Result<(), Fail> {
+    for way in WAYS {
+        let mut writer = taking(rt.alloc());
+        way.flush(&mut writer)?;
+        assert!(rt; took(&writer, Asked::Flush, b""), "{way:?}");
+        let mut writer = refusing(rt.alloc(), ErrorKind::BrokenPipe);
+        let refused = way.flush(&mut writer);
+        assert!(rt;
+            matches!(refused, Err(e) if e.kind() == ErrorKind::BrokenPipe),
+            "{way:?}"
+        );
+        assert!(rt; took(&writer, Asked::Flush, b""), "{way:?}");
+    }
+    Ok(())
+}
+
+#[test]
+fn hands_on_a_long_piece_whole(rt: HostRuntime) -> Result<(), Fail> {
+    let mut piece = Vec::new(rt.alloc());
+    for _ in 0..1_000 {
+        piece.extend_from_slice(&PIECES)?;
+    }
+    for way in WAYS {
+        let mut writer = taking(rt.alloc());
+        way.write_all(&mut writer, &piece)?;
+        assert!(rt; took(&writer, Asked::Write(300_000), &piece), "{way:?}");
+        let mut writer = refusing(rt.alloc(), ErrorKind::BrokenPipe);
+        let refused = way.write_all(&mut writer, &piece);
+        assert!(rt;
+            matches!(refused, Err(e) if e.kind() == ErrorKind::BrokenPipe),
+            "{way:?}"
+        );
+        assert!(rt; took(&writer, Asked::Write(300_000), b""), "{way:?}");
+    }
+    Ok(())
+}
