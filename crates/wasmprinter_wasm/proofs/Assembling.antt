@@ -9,8 +9,10 @@ use Rattle.wasmprinter_spec.specs.Repeated.{until_end}
 use Rattle.wasmprinter_spec.specs.Sized.{headed}
 use Rattle.wasmprinter_spec.specs.Types.{MemoryType}
 use Rattle.wasmprinter_spec.specs.Placed.{TypeGroup, Export, PlacedFunction, PlacedModule}
-use Rattle.wasmprinter_spec.specs.Sections.{FunctionSection, TypeSection, MemorySection, TagSection, ExportSection, StartSection, CodeSection, Section, section, are_above}
-use Rattle.wasmprinter_spec.specs.Binary.{AreBytes, preamble, types_in, type_indices_in, memories_in, tags_in, exports_in, bodies_in, function_pairs, module_from, module_of_sections, binary, Spells}
+use Rattle.wasmprinter_spec.specs.Sections.{TypeSection, FunctionSection, MemorySection, TagSection, ExportSection, StartSection, CodeSection}
+use Rattle.wasmprinter_spec.specs.Sections.{Section, section, are_above}
+use Rattle.wasmprinter_spec.specs.Binary.{types_in, type_indices_in, memories_in, tags_in, exports_in, bodies_in}
+use Rattle.wasmprinter_spec.specs.Binary.{AreBytes, preamble, function_pairs, module_from, module_of_sections, binary, Spells}
 use Rattle.wasmprinter_spec.specs.Limits.{HasFewLocals, IsWithinLimits, most_functions}
 use Rattle.wasmprinter_bytes.specs.Reads.{end_of}
 use Rattle.wasmprinter_error.specs.declared.error.Error.{Error}

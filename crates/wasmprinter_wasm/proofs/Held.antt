@@ -1,7 +1,8 @@
 -- What sections in order hold together.
 use Rattle.std.proofs.Common.{◌≡◌, ℕ, ◌<◌, ◌≤◌, lit≤, true, List, [], ◌∷◌, ◌++◌, length, refl, sym, ap, subst, ◌∙◌, arith}
 use Rattle.std.specs.List.{AllByRecursion}
-use Rattle.wasmprinter_spec.specs.Sections.{Kind, TypeSection, FunctionSection, MemorySection, TagSection, ExportSection, StartSection, CodeSection, Section, holds, section_kind, rank, rank_behind, are_above}
+use Rattle.wasmprinter_spec.specs.Sections.{TypeSection, FunctionSection, MemorySection, TagSection, ExportSection, StartSection, CodeSection}
+use Rattle.wasmprinter_spec.specs.Sections.{Kind, Section, holds, section_kind, rank, rank_behind, are_above}
 use Rattle.wasmprinter_spec.specs.Binary.{type_indices_in, bodies_in}
 use Rattle.wasmprinter_spec.specs.Limits.{most_functions}
 use Rattle.wasmprinter_spec.proofs.Ordered.{with_one, held_each, held_midst, held_picked}

@@ -18,18 +18,21 @@ alone_items : {A : Type 0} (g : Grammar A) (at : Input) → CountsItems at → (
 alone_items g at c x e = let s = alone_some (vec g) at x e in vec_some g at (x, s.0) s.1 c
 
 -- a fault of a list is one of the section that is the list
-pub list_fault : {A : Type 0} (g : Grammar A) (made : List A → Section) (items functions : Type 0) → items → ((xs : List A) → item_count (made xs) ≡ length xs) → (at : Input) (f : Error)
+pub list_fault : {A : Type 0} (g : Grammar A) (made : List A → Section) (items functions : Type 0) → items
+    → ((xs : List A) → item_count (made xs) ≡ length xs) → (at : Input) (f : Error)
     → HasReason (reader_reasons ((vec g).parse at ≡ None) (BeginsList g.parse at) at) f → HasReason (whole_reasons (alone (vec g)) made items functions at) f
-list_fault g made items functions listed counts at = reason_implied (reader_reasons ((vec g).parse at ≡ None) (BeginsList g.parse at) at) (whole_reasons (alone (vec g)) made items functions at) (record {
-  malformed = λ place h. (alone_none (vec g) at h.0, h.1);
-  component = λ h. h;
-  locals = λ place h. absurd h;
-  functions = λ count h. absurd h;
-  memory = λ h. (listed, h.counts, λ x e. let some = alone_items g at h.counts x e in omega (arith, counts x));
-})
+list_fault g made items functions listed counts at =
+    reason_implied (reader_reasons ((vec g).parse at ≡ None) (BeginsList g.parse at) at) (whole_reasons (alone (vec g)) made items functions at) (record {
+      malformed = λ place h. (alone_none (vec g) at h.0, h.1);
+      component = λ h. h;
+      locals = λ place h. absurd h;
+      functions = λ count h. absurd h;
+      memory = λ h. (listed, h.counts, λ x e. let some = alone_items g at h.counts x e in omega (arith, counts x));
+    })
 
 -- memory was wanting for what a list holds, which has items
-pub list_grown : {A : Type 0} (g : Grammar A) (made : List A → Section) (items functions : Type 0) → items → ((xs : List A) → item_count (made xs) ≡ length xs) → (at : Input) (x : List A × Input)
+pub list_grown : {A : Type 0} (g : Grammar A) (made : List A → Section) (items functions : Type 0) → items
+    → ((xs : List A) → item_count (made xs) ≡ length xs) → (at : Input) (x : List A × Input)
     → (vec g).parse at ≡ Some x → 0 < length x.0 → (whole_reasons (alone (vec g)) made items functions at).memory
 list_grown g made items functions listed counts at x read some =
     let c = counts_items g at x read some in

@@ -5,7 +5,8 @@ use Rattle.wasmprinter_spec.specs.Grammar.{Input, Remainder, ◌>>=◌, Placed}
 use Rattle.wasmprinter_spec.specs.Name.{u32, vec}
 use Rattle.wasmprinter_spec.specs.Placed.{Body}
 use Rattle.wasmprinter_spec.specs.Binary.Code.{code_entry}
-use Rattle.wasmprinter_spec.specs.Sections.{Kind, TypeSection, FunctionSection, MemorySection, TagSection, ExportSection, StartSection, CodeSection, Content, content, holds, content_of, section}
+use Rattle.wasmprinter_spec.specs.Sections.{TypeSection, FunctionSection, MemorySection, TagSection, ExportSection, StartSection, CodeSection}
+use Rattle.wasmprinter_spec.specs.Sections.{Kind, Content, content, holds, content_of, section}
 use Rattle.wasmprinter_spec.specs.Sections.{Section as SectionValue}
 use Rattle.wasmprinter_spec.specs.Limits.{local_count, most_locals, most_functions}
 use Rattle.wasmprinter_bytes.specs.Reads.{end_of}

@@ -5,7 +5,8 @@ use Rattle.wasmprinter_spec.specs.Grammar.{Input, Placed}
 use Rattle.wasmprinter_spec.specs.Repeated.{until_end}
 use Rattle.wasmprinter_spec.specs.Types.{MemoryType}
 use Rattle.wasmprinter_spec.specs.Placed.{TypeGroup, Body, Export}
-use Rattle.wasmprinter_spec.specs.Sections.{Kind, TypeSection, FunctionSection, MemorySection, TagSection, ExportSection, StartSection, CodeSection, Content, Section, holds, section, rank, rank_behind, are_above, content_in}
+use Rattle.wasmprinter_spec.specs.Sections.{TypeSection, FunctionSection, MemorySection, TagSection, ExportSection, StartSection, CodeSection}
+use Rattle.wasmprinter_spec.specs.Sections.{Kind, Content, Section, holds, section, rank, rank_behind, are_above, content_in}
 use Rattle.wasmprinter_spec.specs.Binary.{types_in, type_indices_in, memories_in, tags_in, exports_in, bodies_in}
 use Rattle.wasmprinter_spec.specs.Limits.{most_functions}
 use Rattle.wasmprinter_bytes.specs.Reads.{end_of}

@@ -1,5 +1,5 @@
-//! The memory section (section 5.5, "Memory Section"), with limits and types of memories (section 5.3, "Limits" and
-//! "Memory Types").
+//! The memory section (section 5.5, "Memory Section"), with limits and types of memories (section
+//! 5.3, "Limits" and "Memory Types").
 ghost use Rattle.std.specs.Prelude.{◌≡◌, ◌<◌, IfOk};
 ghost use Rattle.wasmprinter_spec.specs.Grammar.{placed};
 ghost use Rattle.wasmprinter_spec.specs.Binary.Memories.{has_bit as bit_of, limits as limits_grammar};

@@ -8,8 +8,8 @@ use std::marker::Model;
 use wasmprinter_bytes::bytes::Cursor;
 use wasmprinter_error::Malformed;
 
-/// The function that is called when the module is instantiated (section 2.5, "Start Function"), with
-/// the place of its index.
+/// The function that is called when the module is instantiated (section 2.5, "Start Function"),
+/// with the place of its index.
 #[derive(Clone, Copy)]
 pub struct Start {
     place: u64,

@@ -13,7 +13,8 @@ use Rattle.wasmprinter_wasm.proofs.decoder.read_module.Goals as goal
 are_bytes : (bytes : List ℕ) → ((i : ℕ) → Fits w8 (get_or bytes i 0)) → AreBytes bytes
 are_bytes bytes h = recursion_from_All (λ b. b < 256) bytes (All-from_get_or (λ b. b < 256) bytes 0 (λ i l. (h i).fits))
 
-abbrev gathered_of : ℕ → List (Placed TypeGroup) → List ℕ → List (Placed MemoryType) → List (Placed ℕ) → List (Placed Export) → Option (Placed ℕ) → List (Placed Body) → Gathered
+abbrev gathered_of : ℕ → List (Placed TypeGroup) → List ℕ → List (Placed MemoryType) → List (Placed ℕ) → List (Placed Export) → Option (Placed ℕ)
+    → List (Placed Body) → Gathered
 gathered_of n ts is ms gs es f bs = record { rank = n; types = ts; type_indices = is; memories = ms; tags = gs; exports = es; start = f; bodies = bs }
 
 pub returns-in_err-gathered : goal.returns-in_err-gathered

@@ -11,4 +11,5 @@ pub returns-in_err-memories : goal.returns-in_err-memories
 returns-in_err-memories c =
     let p = err_from_is_err_and c.from_residual.result c.from_residual.ensures.1 in
     rw (p.1, p.2)
-    (list_fault (placed memory_type) (holds MemorySection) (HoldsItems MemorySection) (MemorySection ≡ FunctionSection) tt (λ xs. refl) c.args.cursor.now c.in_err-memories.field-0.0 c.in_err-memories.ensures.reads)
+    (list_fault (placed memory_type) (holds MemorySection) (HoldsItems MemorySection) (MemorySection ≡ FunctionSection) tt (λ xs. refl)
+    c.args.cursor.now c.in_err-memories.field-0.0 c.in_err-memories.ensures.reads)

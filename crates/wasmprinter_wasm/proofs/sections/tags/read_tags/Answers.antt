@@ -11,4 +11,5 @@ pub returns-in_err-tags : goal.returns-in_err-tags
 returns-in_err-tags c =
     let p = err_from_is_err_and c.from_residual.result c.from_residual.ensures.1 in
     rw (p.1, p.2)
-    (list_fault (placed tag) (holds TagSection) (HoldsItems TagSection) (TagSection ≡ FunctionSection) tt (λ xs. refl) c.args.cursor.now c.in_err-tags.field-0.0 c.in_err-tags.ensures.reads)
+    (list_fault (placed tag) (holds TagSection) (HoldsItems TagSection) (TagSection ≡ FunctionSection) tt (λ xs. refl)
+    c.args.cursor.now c.in_err-tags.field-0.0 c.in_err-tags.ensures.reads)
