@@ -31,6 +31,13 @@ pub few_operators : (at : Input) → HasOperators at → length (operators_in at
 few_operators at h = entries-few (placed operator) at.place at.bytes (operators_in at) (operators.sound at (operators_in at) (stand_there at h))
 
 -- one operator was read, and the others stand behind it
+-- there are none where no bytes are left
+pub none_left : (at : Input) → HasOperators at → (at.bytes ≡ [] → operators_in at ≡ []) × (operators_in at ≡ [] → at.bytes ≡ [])
+none_left at h = (
+  λ e. let few = few_operators at h in nil_from_length (operators_in at) (omega (arith, ap length e)),
+  λ e. subst (λ (ops : List (Placed Operator)). Entries (placed operator) at.place at.bytes ops) e (operators.sound at (operators_in at) (stand_there at h)),
+)
+
 pub record NextOperator (at after : Input) (o : ℕ × Operator) : Type 0 where
   pub stands : HasOperators after
   pub steps : pairs (operators_in at) ≡ o ∷ pairs (operators_in after)

@@ -1,5 +1,6 @@
 pub mod Parts
 pub mod Over
+pub mod Emptied
 pub mod Later
 pub mod Listing
 pub mod Counting
