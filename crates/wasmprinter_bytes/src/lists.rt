@@ -87,11 +87,11 @@ pub fn read_grown_list<'a, T: GrownIn<'a>>(
     ensures end { end_of cursor.new ≡ end_of cursor.old }
 {
     let count = cursor.u32()?;
-    let mut values = Vec::new(alloc);
+    let mut grown = Vec::new(alloc);
     for _ in 0..count {
-        values.push(T::read(alloc, cursor)?)?;
+        grown.push(T::read(alloc, cursor)?)?;
     }
-    Ok(values)
+    Ok(grown)
 }
 
 /// So many values that are known to stand one after the other; they are read again as they are asked for.

@@ -14,3 +14,7 @@ pub mod Until
 pub mod Held
 pub mod Gathering
 pub mod Assembling
+pub mod Constants
+pub mod Elements
+pub mod Tables
+pub mod Imported

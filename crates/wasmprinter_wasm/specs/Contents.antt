@@ -50,7 +50,7 @@ abbrev pub IsSmall : SectionValue → Type 0
 IsSmall (holds FunctionSection is) = length is ≤ most_functions
 IsSmall (holds TableSection ts) = AllByRecursion HasNoEmpty ts
 IsSmall (holds CodeSection bs) = AllByRecursion HasFew bs
-IsSmall (holds _ x) = Unit {0}
+IsSmall _ = Unit {0}
 
 -- how many items the section holds; the start function and the data count are none
 abbrev pub item_count : SectionValue → ℕ

@@ -9,7 +9,7 @@ use Rattle.wasmprinter_spec.specs.Placed.{TypeGroup, Import, Table, Global, Elem
 use Rattle.wasmprinter_spec.specs.Sections.{TypeSection, ImportSection, FunctionSection, TableSection, MemorySection, TagSection, GlobalSection}
 use Rattle.wasmprinter_spec.specs.Sections.{ExportSection, StartSection, ElementSection, DataCountSection, CodeSection, DataSection}
 use Rattle.wasmprinter_spec.specs.Sections.{Kind, Content, Section, holds, section, rank, rank_behind, are_above, content_in}
-use Rattle.wasmprinter_spec.specs.Binary.{types_in, imports_in, type_indices_in, tables_in, memories_in, tags_in, globals_in, exports_in, elements_in, bodies_in, datas_in}
+use Rattle.wasmprinter_spec.specs.Binary.{types_in, imports_in, type_indices_in, tables_in, memories_in, tags_in, globals_in, exports_in, elements_in, bodies_in, datas_in, counts_data}
 use Rattle.wasmprinter_spec.specs.Limits.{most_functions}
 use Rattle.wasmprinter_bytes.specs.Reads.{end_of}
 use Rattle.wasmprinter_error.specs.declared.error.Error.{Error}
@@ -88,6 +88,11 @@ with_section g (holds DataSection ds) = record g { rank = rank_behind g.rank (ra
 -- what is gathered is what the sections hold of each kind
 abbrev pub IsHeld : Gathered → List Section → Type 0
 IsHeld g ss = (kind : Kind) → content_kept kind g ≡ content_in kind (content_kept kind none_gathered) ss
+
+-- there are as many bodies as type indices, and as many data segments as are counted
+pub record IsWhole (g : Gathered) : Type 0 where
+  pub paired : length g.type_indices ≡ length g.bodies
+  pub counted : counts_data g.data_count (length g.datas) ≡ true
 
 -- sections up to the end of the bytes
 abbrev pub sections_at : Input → Option (List Section)

@@ -6,7 +6,7 @@ ghost use Rattle.wasmprinter_spec.specs.Sections.{section_kind, rank, follows};
 ghost use Rattle.wasmprinter_spec.specs.Limits.{IsWithinLimits};
 ghost use Rattle.wasmprinter_bytes.specs.Reads.{Reads, IsWithin, end_of};
 ghost use Rattle.wasmprinter_wasm.specs.Contents.{section_view};
-ghost use Rattle.wasmprinter_wasm.specs.Gathering.{none_gathered, with_section, TakesSections};
+ghost use Rattle.wasmprinter_wasm.specs.Gathering.{none_gathered, with_section, IsWhole, TakesSections};
 ghost use Rattle.wasmprinter_wasm.specs.Decoding.{IsRefusal, HoldsNothing, TakesModule};
 
 use crate::module::Module;
@@ -160,6 +160,13 @@ impl<'a> Gathered<'a> {
         }
     }
 
+    /// Whether there are as many bodies as type indices, and as many data segments as are counted.
+    fn is_whole(&self) -> bool
+        ensures { IsTrue result ↔ IsWhole self.now }
+    {
+        self.type_indices.len() == self.bodies.len() && self.counts_data()
+    }
+
     /// Reads sections up to the end of the bytes.
     fn read(alloc: Global, cursor: &mut Cursor<'a>) -> Result<Self, Error>
         ensures { TakesSections cursor.old result }
@@ -185,7 +192,7 @@ fn read_module<'a>(alloc: Global, wasm: &'a [u8]) -> Result<Module<'a>, Error>
     read_preamble(&mut cursor)?;
     let gathered = Gathered::read(alloc, &mut cursor)?;
     let size = wasm.len() as u64;
-    if gathered.type_indices.len() != gathered.bodies.len() || !gathered.counts_data() {
+    if !gathered.is_whole() {
         return Err(Error::Malformed { place: size });
     }
     Ok(Module {

@@ -23,4 +23,6 @@ pub use sections::tags::Tag;
 pub use sections::types::TypeGroup;
 
 #[cfg(test)]
+mod segment_tests;
+#[cfg(test)]
 mod tests;

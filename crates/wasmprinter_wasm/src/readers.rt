@@ -80,7 +80,7 @@ impl<'a> Module<'a> {
         ensures { result ≡ imported_count (kind_view kind) self.now.imports }
     {
         let mut count = 0;
-        for import in &self.imports {
+        for import in self.imports() {
             if import.is_of(kind) {
                 count += 1;
             }

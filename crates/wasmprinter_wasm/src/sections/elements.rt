@@ -103,7 +103,7 @@ impl<'a> ElementItems<'a> {
         ensures within { IsWithin cursor.old result }
         ensures end { end_of cursor.new ≡ end_of cursor.old }
     {
-        Ok(ElementItems::Functions(Items::read(cursor)?))
+        Ok(ElementItems::Functions(Items::<u32>::read(cursor)?))
     }
 
     /// Reads a count and so many expressions.

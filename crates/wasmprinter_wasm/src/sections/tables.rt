@@ -130,7 +130,10 @@ impl<'a> Table<'a> {
     pub fn init(&self) -> Option<&Expression<'a>>
         ensures { init_view result ≡ self.now.value.init }
     {
-        self.init.as_ref()
+        match &self.init {
+            Some(init) => Some(init),
+            None => None,
+        }
     }
 
     /// Whether there is an initialiser without operators.
