@@ -163,7 +163,8 @@ module _ (bytes pre : List ℕ) (at : Input) (first : preamble.parse (input 0 by
           subst (λ (ss : List Section). counts_data (data_count_in ss) (length (datas_in ss)) ≡ true) same p.counted in
           ne (record {
             paired = ap length (h.held FunctionSection ∙ ap type_indices_in (sym same)) ∙ lengths ∙ ap length (ap bodies_in same ∙ sym (h.held CodeSection));
-            counted = rw (h.held DataCountSection, h.held DataSection) counted;
+            counted =
+                ap₂ (λ (n : Option ℕ) (ds : List (Placed (Data (Placed Operator)))). counts_data n (length ds)) (h.held DataCountSection) (h.held DataSection) ∙ counted;
           }),
       omega arith,
     )

@@ -26,8 +26,16 @@ module _ (old mid : Input) (flags : ℕ) (read : u32.parse old ≡ Some (flags, 
   pub element_past : 8 ≤ flags → (placed element).parse old ≡ None
   element_past le =
       let none : (element_behind flags).parse mid ≡ None =
-      rw (ne_eqb flags 0 (λ z. omega arith), ne_eqb flags 1 (λ z. omega arith), ne_eqb flags 2 (λ z. omega arith), ne_eqb flags 3 (λ z. omega arith),
-      ne_eqb flags 4 (λ z. omega arith), ne_eqb flags 5 (λ z. omega arith), ne_eqb flags 6 (λ z. omega arith), ne_eqb flags 7 (λ z. omega arith)) refl in
+      rw (
+        ne_eqb flags 0 (λ z. omega arith),
+        ne_eqb flags 1 (λ z. omega arith),
+        ne_eqb flags 2 (λ z. omega arith),
+        ne_eqb flags 3 (λ z. omega arith),
+        ne_eqb flags 4 (λ z. omega arith),
+        ne_eqb flags 5 (λ z. omega arith),
+        ne_eqb flags 6 (λ z. omega arith),
+        ne_eqb flags 7 (λ z. omega arith),
+      ) refl in
       rw (read, none) refl
 
   module _ (lt : flags < 8) where

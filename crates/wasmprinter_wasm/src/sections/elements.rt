@@ -107,11 +107,7 @@ impl<'a> ElementItems<'a> {
     }
 
     /// Reads a count and so many expressions.
-    fn read_expressions(
-        alloc: Global,
-        ty: RefType,
-        cursor: &mut Cursor<'a>,
-    ) -> Result<Self, Error>
+    fn read_expressions(alloc: Global, ty: RefType, cursor: &mut Cursor<'a>) -> Result<Self, Error>
         ensures reads { Takes items_view (expression_items (ref_view ty)).parse Anywhere cursor.old result cursor.new }
         ensures end { end_of cursor.new ≡ end_of cursor.old }
     {

@@ -19,8 +19,23 @@ abbrev gathered_of : ℕ → List (Placed TypeGroup) → List (Placed Import) �
     List (Placed (Global (Placed Operator))) → List (Placed Export) → Option (Placed ℕ) → List (Placed ElementEntry) → Option ℕ → List (Placed Body) →
     List (Placed (Data (Placed Operator))) → Gathered
 gathered_of n ts is js us ms gs vs es f ss k bs ds =
-    record { rank = n; types = ts; imports = is; type_indices = js; tables = us; memories = ms; tags = gs; globals = vs; exports = es; start = f; elements
-    = ss; data_count = k; bodies = bs; datas = ds }
+    record {
+      rank = n;
+      types = ts;
+      imports = is;
+      type_indices = js;
+      tables = us;
+      memories = ms;
+      tags = gs;
+      globals = vs;
+      exports = es;
+      start = f;
+      elements
+          = ss;
+      data_count = k;
+      bodies = bs;
+      datas = ds;
+    }
 
 pub returns-in_err-gathered : goal.returns-in_err-gathered
 returns-in_err-gathered c =
@@ -62,8 +77,7 @@ returns c =
     c.gathered.inside.exports.items c.gathered.inside.start c.gathered.inside.elements.items c.gathered.inside.data_count c.gathered.inside.bodies.items
     c.gathered.inside.datas.items in
     let h : HoldsSections c.read_preamble.new.cursor g = subst (HoldsSections c.read_preamble.new.cursor) (sym c.gathered.view_is) c.in_ok-gathered.ensures in
-    let whole : IsWhole g = subst IsWhole (sym c.gathered.view_is) (c.is_whole.ensures.0 c.if-not-is_whole.false) in
-    (
+    let whole : IsWhole g = subst IsWhole (sym c.gathered.view_is) (c.is_whole.ensures.0 c.if-not-is_whole.false) in (
       module_spelled c.args.wasm.now preamble_bytes c.read_preamble.new.cursor first g h whole (are_bytes c.args.wasm.now c.type_inv.wasm),
       module_within c.args.wasm.now preamble_bytes c.read_preamble.new.cursor first g h whole,
     )
