@@ -2,8 +2,9 @@
 use Rattle.std.proofs.Common.{◌≡◌, ℕ, ◌+◌, List, [], ◌∷◌, ◌++◌, length, Some, refl, sym, ap, ◌∙◌, arith, append_assoc, append-nil, length-append}
 use Rattle.wasmprinter_spec.specs.Grammar.{Input, Grammar}
 use Rattle.wasmprinter_spec.specs.Sections.{Kind}
-use Rattle.wasmprinter_wasm.specs.Refusals.{HasManyLocals, BeginsSection, BeginsItems}
+use Rattle.wasmprinter_wasm.specs.Refusals.{HasManyLocals, HasEmptyInit, BeginsSection, BeginsItems}
 use Rattle.wasmprinter_wasm.proofs.Over.{many_in_part}
+use Rattle.wasmprinter_wasm.proofs.Emptied.{empty_in_part}
 
 -- the bytes from the second place on end those from the first
 pub record Later (start at : Input) : Type 0 where
@@ -28,6 +29,10 @@ later_more g start at after x e l =
 -- what is among the later bytes is among all of them
 pub many_later : (start at : Input) (place : ℕ) → Later start at → HasManyLocals at place → HasManyLocals start place
 many_later start at place l m = many_in_part start at l.text [] place (l.parts ∙ ap (λ (bs : List ℕ). l.text ++ bs) (sym (append-nil at.bytes))) l.begins m
+
+-- the same of a table
+pub empty_later : (start at : Input) (place : ℕ) → Later start at → HasEmptyInit at place → HasEmptyInit start place
+empty_later start at place l h = empty_in_part start at l.text [] place (l.parts ∙ ap (λ (bs : List ℕ). l.text ++ bs) (sym (append-nil at.bytes))) l.begins h
 
 -- the same of a section that begins
 pub section_later : (start at : Input) (kind : Kind) (count : ℕ) → Later start at → BeginsSection at kind count → BeginsSection start kind count

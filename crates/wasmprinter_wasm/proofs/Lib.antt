@@ -1,5 +1,6 @@
 pub mod Parts
 pub mod Over
+pub mod Emptied
 pub mod Later
 pub mod Listing
 pub mod Counting
@@ -13,3 +14,7 @@ pub mod Until
 pub mod Held
 pub mod Gathering
 pub mod Assembling
+pub mod Constants
+pub mod Elements
+pub mod Tables
+pub mod Imported

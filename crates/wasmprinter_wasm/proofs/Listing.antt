@@ -89,5 +89,6 @@ module _ (old start at : Input) (count i : ℕ) (front : List (Placed Body)) (co
         let from_start : HasManyLocals start place = many_later start at place later h.0 in
         (many_later old start place (later_more u32 old old start count counted (later_none old)) from_start, any_over place h.1);
     functions = λ count h. h;
+    tables = λ place h. absurd h;
     memory = λ h. record { count = count; after = start; counted = counted; some = omega arith };
   })

@@ -82,6 +82,7 @@ module _ (at mid : Input) (locals : Entries) (read : (vec (placed local_entry)).
     component = λ h. h;
     locals = λ place h. absurd h;
     functions = λ count h. h;
+    tables = λ place h. absurd h;
     memory = λ h. record { locals = locals; behind = mid; read = read; block = h };
   })
 
@@ -114,6 +115,7 @@ module _ (old mid part new : Input) (size : ℕ) (size_read : u32.parse old ≡ 
     component = λ h. h;
     locals = entry_over;
     functions = λ count h. h;
+    tables = λ place h. absurd h;
     memory = λ h. record {
       size = size;
       behind = mid;

@@ -37,6 +37,7 @@ body_reasons parse grows at = record {
   component = ⊥;
   locals = λ place. HasManyLocals at place × ((x : Placed Body × Input) → parse at ≡ Some x → IsOver place x.0);
   functions = λ count. ⊥;
+  tables = λ place. ⊥;
   memory = grows;
 }
 

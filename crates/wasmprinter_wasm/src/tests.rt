@@ -2,7 +2,8 @@
 
 use crate::decoder::decode;
 use crate::sections::exports::ExternKind;
-use crate::sections::memories::{Limits, MemoryType};
+use crate::sections::limits::Limits;
+use crate::sections::memories::MemoryType;
 use std::alloc::{AllocError, Global};
 use std::test::Fail;
 use wasmprinter_error::Error;
@@ -28,7 +29,7 @@ const FUNCTIONS: [u8; 4] = [0x03, 0x02, 0x01, 0x00];
 const CODE: [u8; 6] = [0x0a, 0x04, 0x01, 0x02, 0x00, 0x0b];
 
 /// A preamble, and the sections behind it.
-fn module(alloc: Global, sections: &[&[u8]]) -> Result<Vec<u8>, AllocError> {
+pub(crate) fn module(alloc: Global, sections: &[&[u8]]) -> Result<Vec<u8>, AllocError> {
     let mut bytes = Vec::new(alloc);
     bytes.extend_from_slice(&PREAMBLE)?;
     for section in sections {
@@ -38,12 +39,12 @@ fn module(alloc: Global, sections: &[&[u8]]) -> Result<Vec<u8>, AllocError> {
 }
 
 /// Whether the bytes are accepted.
-fn is_accepted(alloc: Global, bytes: &[u8]) -> bool {
+pub(crate) fn is_accepted(alloc: Global, bytes: &[u8]) -> bool {
     decode(alloc, bytes).is_ok()
 }
 
 /// Whether the bytes are refused as malformed.
-fn is_malformed(alloc: Global, bytes: &[u8]) -> bool {
+pub(crate) fn is_malformed(alloc: Global, bytes: &[u8]) -> bool {
     matches!(decode(alloc, bytes), Err(Error::Malformed { .. }))
 }
 

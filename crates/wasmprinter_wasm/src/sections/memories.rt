@@ -1,15 +1,15 @@
-//! The memory section (section 5.5, "Memory Section"), with limits and types of memories (section
-//! 5.3, "Limits" and "Memory Types").
+//! The memory section (section 5.5, "Memory Section"), with types of memories (section 5.3, "Memory
+//! Types").
 ghost use Rattle.std.specs.Prelude.{◌≡◌, ◌<◌, IfOk};
 ghost use Rattle.wasmprinter_spec.specs.Grammar.{placed};
-ghost use Rattle.wasmprinter_spec.specs.Binary.Memories.{has_bit as bit_of, limits as limits_grammar};
 ghost use Rattle.wasmprinter_spec.specs.Binary.Memories.{page as page_grammar, memory_type as memory_type_grammar};
 ghost use Rattle.wasmprinter_spec.specs.Sections.{MemorySection};
 ghost use Rattle.wasmprinter_bytes.specs.Reads.{Reads, IsWithin, end_of};
 ghost use Rattle.wasmprinter_wasm.specs.Contents.{TakesHeld};
-ghost use Rattle.wasmprinter_wasm.specs.Externs.{limits_view, memory_type_view, IsPage};
+ghost use Rattle.wasmprinter_wasm.specs.Externs.{memory_type_view, IsPage};
 
 use crate::sections::expect_end;
+use crate::sections::limits::{Limits, MAX_BIT, WIDE_BIT, has_bit};
 use std::alloc::Global;
 use std::marker::Model;
 use wasmprinter_bytes::bytes::Cursor;
@@ -19,26 +19,11 @@ use wasmprinter_error::{Error, Malformed};
 /// Flags are below this.
 const FLAGS_END: u8 = 16;
 
-/// The bit of the flags that says that there is a greatest size.
-const MAX_BIT: u32 = 0;
-
 /// The bit of the flags that says that the memory is shared.
 const SHARED_BIT: u32 = 1;
 
-/// The bit of the flags that says that addresses have 64 bits.
-const WIDE_BIT: u32 = 2;
-
 /// The bit of the flags that says that the size of a page is given.
 const PAGE_BIT: u32 = 3;
-
-/// How large a memory is in pages (section 2.3, "Limits").
-#[derive(Clone, Copy, Debug, PartialEq, Eq)]
-pub struct Limits {
-    /// The least size.
-    pub min: u64,
-    /// The greatest size, `None` where none is given.
-    pub max: Option<u64>,
-}
 
 /// The type of a memory (section 2.3, "Memory Types").
 #[derive(Clone, Copy, Debug, PartialEq, Eq)]
@@ -73,27 +58,6 @@ impl Model for Memory {
     ghost invariant = { λ m. IsPage m.memory_type.page };
 }
 
-/// Whether the bit of the flags is set.
-fn has_bit(flags: u8, bit: u32) -> bool
-    requires { bit < 8 }
-    ensures { result ≡ bit_of bit flags }
-{
-    flags >> bit & 1 == 1
-}
-
-impl Limits {
-    /// Reads the least size, and the greatest if there is one.
-    fn read(cursor: &mut Cursor, has_max: bool) -> Result<Limits, Malformed>
-        ensures reads { Reads limits_view (limits_grammar has_max).parse cursor.old result cursor.new }
-        ensures within { IsWithin cursor.old result }
-        ensures end { end_of cursor.new ≡ end_of cursor.old }
-    {
-        let min = cursor.u64()?;
-        let max = if has_max { Some(cursor.u64()?) } else { None };
-        Ok(Limits { min, max })
-    }
-}
-
 /// Reads the exponent of the size of a page, if it is given.
 fn read_page(cursor: &mut Cursor, is_given: bool) -> Result<Option<u32>, Malformed>
     ensures reads { Reads (λ p. p) (page_grammar is_given).parse cursor.old result cursor.new }
@@ -115,7 +79,7 @@ fn read_page(cursor: &mut Cursor, is_given: bool) -> Result<Option<u32>, Malform
 
 impl MemoryType {
     /// Reads the flags, the limits and the size of a page.
-    fn read(cursor: &mut Cursor) -> Result<MemoryType, Malformed>
+    pub(crate) fn read(cursor: &mut Cursor) -> Result<MemoryType, Malformed>
         ensures reads { Reads memory_type_view memory_type_grammar.parse cursor.old result cursor.new }
         ensures within { IsWithin cursor.old result }
         ensures end { end_of cursor.new ≡ end_of cursor.old }

@@ -3,6 +3,7 @@ ghost use Rattle.std.specs.Prelude.{◌≡◌};
 ghost use Rattle.wasmprinter_spec.specs.Grammar.{placed};
 ghost use Rattle.wasmprinter_spec.specs.Binary.Tags.{tag as tag_grammar};
 ghost use Rattle.wasmprinter_spec.specs.Sections.{TagSection};
+ghost use Rattle.wasmprinter_bytes.specs.Reads.{Reads, IsWithin, end_of};
 ghost use Rattle.wasmprinter_wasm.specs.Contents.{TakesHeld};
 
 use crate::sections::{expect_end, read_only};
@@ -31,13 +32,22 @@ impl Model for Tag {
     ghost view = { λ t. record { place = t.place; value = t.type_index } };
 }
 
+/// Reads the byte of exceptions and the index of a type.
+pub(crate) fn read_tag_type(cursor: &mut Cursor) -> Result<u32, Malformed>
+    ensures reads { Reads (λ n. n) tag_grammar.parse cursor.old result cursor.new }
+    ensures within { IsWithin cursor.old result }
+    ensures end { end_of cursor.new ≡ end_of cursor.old }
+{
+    read_only(cursor, EXCEPTION)?;
+    cursor.u32()
+}
+
 impl<'a> SpelledIn<'a> for Tag {
     ghost parse = { (placed tag_grammar).parse };
 
     fn read(cursor: &mut Cursor<'a>) -> Result<Tag, Malformed> {
         let place = cursor.place();
-        read_only(cursor, EXCEPTION)?;
-        let type_index = cursor.u32()?;
+        let type_index = read_tag_type(cursor)?;
         Ok(Tag { place, type_index })
     }
 }
