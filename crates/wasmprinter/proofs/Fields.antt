@@ -88,9 +88,11 @@ export-out e =
     let k : ExternKind = e.value.kind in
     let n : ℕ = e.value.index in
     let given : List Piece = group_gap 2 (kind_word k) (extern_index_pieces k n) in
+    let short : has_break given ≡ false = line-group_gap 2 (kind_word k) (extern_index_pieces k n) (extern-line k n) in
+    let named : List Piece → List Piece = λ ps. Quoted (chars e.value.name) ∷ (Gap ∷ ps) in
     ap (λ ps. Break (Some e.place) 1 ∷ ps)
-    (in_line 1 (codes "export") (Quoted (chars e.value.name) ∷ (Gap ∷ given)) (line-group_gap 2 (kind_word k) (extern_index_pieces k n) (extern-line k n))
-    ∙ ap (λ ps. line_group_gap (codes "export") (Quoted (chars e.value.name) ∷ (Gap ∷ ps))) (in_line 2 (kind_word k) (extern_index_pieces k n) (extern-line k n)))
+    (in_line 1 (codes "export") (named given) short
+    ∙ ap (λ ps. line_group_gap (codes "export") (named ps)) (in_line 2 (kind_word k) (extern_index_pieces k n) (extern-line k n)))
 
 -- ---- functions
 
@@ -192,20 +194,34 @@ function-break : (o : Options) (ts : List SubType) (i : ℕ) (f : PlacedFunction
 unfolding function_pieces
 function-break o ts i f = refl
 
--- of two parts
-both-break : (xs ys : List Piece) {a b : Bool} → has_break xs ≡ a → has_break ys ≡ b → has_break (xs ++ ys) ≡ (a || b)
-both-break xs ys e f = has_break-append xs ys ∙ ap₂ (λ a b. a || b) e f
+-- for the next part, behind others
+next-break : (before x : Bool) (xs ys : List Piece) → has_break xs ≡ x → (before || has_break (xs ++ ys)) ≡ ((before || x) || has_break ys)
+next-break true x xs ys e = refl
+next-break false x xs ys e = has_break-append xs ys ∙ ap (λ b. b || has_break ys) e
+
+-- for six parts
+parts-break : (a b c d e f : List Piece) (p q r s t u : Bool) →
+    has_break a ≡ p → has_break b ≡ q → has_break c ≡ r → has_break d ≡ s → has_break e ≡ t → has_break f ≡ u →
+    has_break (a ++ (b ++ (c ++ (d ++ (e ++ f))))) ≡ (((((p || q) || r) || s) || t) || u)
+parts-break a b c d e f p q r s t u ha hb hc hd he hf =
+    next-break false p a (b ++ (c ++ (d ++ (e ++ f)))) ha
+    ∙ next-break p q b (c ++ (d ++ (e ++ f))) hb
+    ∙ next-break (p || q) r c (d ++ (e ++ f)) hc
+    ∙ next-break ((p || q) || r) s d (e ++ f) hd
+    ∙ next-break (((p || q) || r) || s) t e f he
+    ∙ ap (λ x. ((((p || q) || r) || s) || t) || x) hf
 
 -- for the fields of a module
 pub fields-break : (o : Options) (m : PlacedModule) →
     has_break (module_field_pieces o m)
-    ≡ (not (length m.types == 0) || (not (length m.memories == 0) || (not (length m.tags == 0) || (not (length m.exports == 0) || (is_some m.start || not (length m.functions == 0))))))
+    ≡ (((((not (length m.types == 0) || not (length m.memories == 0)) || not (length m.tags == 0)) || not (length m.exports == 0)) || is_some m.start)
+    || not (length m.functions == 0))
 unfolding module_field_pieces
 fields-break o m =
     let ts : List SubType = types_of m in
-    both-break (type_section_pieces 0 m.types) _ (types-break 0 m.types)
-    (both-break (numbered memory_pieces 0 m.memories) _ (numbered-break memory_pieces 0 m.memories memory-break)
-    (both-break (numbered (tag_pieces ts) 0 m.tags) _ (numbered-break (tag_pieces ts) 0 m.tags (tag-break ts))
-    (both-break (numbered (λ i e. export_pieces e) 0 m.exports) _ (numbered-break (λ i e. export_pieces e) 0 m.exports export-break)
-    (both-break (start_pieces m.start) _ (start-break m.start)
-    (numbered-break (function_pieces o ts) 0 m.functions (function-break o ts))))))
+    parts-break (type_section_pieces 0 m.types) (numbered memory_pieces 0 m.memories) (numbered (tag_pieces ts) 0 m.tags)
+    (numbered (λ i e. export_pieces e) 0 m.exports) (start_pieces m.start) (numbered (function_pieces o ts) 0 m.functions)
+    (not (length m.types == 0)) (not (length m.memories == 0)) (not (length m.tags == 0)) (not (length m.exports == 0)) (is_some m.start)
+    (not (length m.functions == 0)) (types-break 0 m.types) (numbered-break memory_pieces 0 m.memories memory-break)
+    (numbered-break (tag_pieces ts) 0 m.tags (tag-break ts)) (numbered-break (λ i e. export_pieces e) 0 m.exports export-break) (start-break m.start)
+    (numbered-break (function_pieces o ts) 0 m.functions (function-break o ts))

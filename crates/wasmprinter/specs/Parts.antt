@@ -1,5 +1,6 @@
 -- What stands in the groups of a module's fields.
-use Rattle.std.specs.Prelude.{ℕ, List, [], ◌∷◌, ◌++◌, codes, chars, decimal}
+use Rattle.std.specs.Prelude.{ℕ, ◌^◌, false, List, [], ◌∷◌, ◌++◌, codes, chars}
+use Rattle.std.specs.Fmt.{digits}
 use Rattle.wasmprinter_spec.specs.Types.{SubType, MemoryType, all_types, signature_at}
 use Rattle.wasmprinter_spec.specs.Placed.{Export, PlacedFunction, PlacedModule}
 use Rattle.wasmprinter_spec.specs.Module.{groups_of}
@@ -12,6 +13,10 @@ use Rattle.wasmprinter_spec.specs.Layout.Exports.{kind_word, extern_index_pieces
 -- the types of a module, by their indices
 abbrev pub types_of : PlacedModule → List SubType
 types_of m = all_types (groups_of m.types)
+
+-- the size of a page in bytes, by its exponent
+abbrev pub page_parts : ℕ → List Piece
+page_parts e = Word (codes "0x" ++ digits 16 false (2 ^ e)) ∷ []
 
 -- a memory with its number
 abbrev pub memory_parts : ℕ → MemoryType → List Piece

@@ -51,7 +51,6 @@ fn write_align<P: Print>(p: &mut P, natural: u32, exponent: u32) -> io::Result<(
 /// Writes a memory operand of an operator with this exponent of its natural alignment.
 #[tactic(auto, unfolding(wasmprinter_spec::specs::Layout::Operators::mem_arg_pieces))]
 pub(crate) fn write_mem_arg<P: Print>(p: &mut P, natural: u32, operand: MemArg) -> io::Result<()>
-    requires { operand.exponent < 64 }
     ensures { (o : Options) → Prints P.meaning o p.old p.new result
         (mem_arg_pieces natural operand) }
 {

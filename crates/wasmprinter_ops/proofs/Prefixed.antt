@@ -1,5 +1,5 @@
 -- The entries of one prefix, found among its rows alone: these are far fewer than all.
-use Rattle.std.proofs.Common.{◌≡◌, ℕ, zero, suc, ◌+◌, Bool, true, false, cond, eqb, ◌&&◌, List, [], ◌∷◌, Option, Some, None, refl, sym, ap, ◌∙◌}
+use Rattle.std.proofs.Common.{◌≡◌, ℕ, zero, suc, ◌+◌, Bool, true, false, cond, eqb, ◌&&◌, List, [], ◌∷◌, Option, Some, refl, sym, ap, ◌∙◌}
 use Rattle.wasmprinter_spec.specs.Operator.{opcode}
 use Rattle.wasmprinter_spec.specs.Row.{Row, Shape}
 use Rattle.wasmprinter_spec.specs.Table.{table, first, has_opcode}

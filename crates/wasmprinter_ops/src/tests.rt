@@ -38,48 +38,48 @@ enum Wanted {
 }
 
 /// Whether immediates are those that are expected.
-fn are_wanted(immediates: &Immediates, wanted: Wanted) -> bool {
+fn are_wanted(immediates: &Immediates, wanted: &Wanted) -> bool {
     match (immediates, wanted) {
         (Immediates::None, Wanted::None) => true,
-        (Immediates::Block(found), Wanted::Block(block_type)) => *found == block_type,
+        (Immediates::Block(found), Wanted::Block(block_type)) => found == block_type,
         (Immediates::TryTable(found, clauses), Wanted::TryTable(block_type, catches)) => {
-            *found == block_type
+            found == block_type
                 && clauses.len() as usize == catches.len()
                 && clauses
                     .iter()
                     .zip(catches.iter().copied())
                     .all(|(a, b)| a == b)
         }
-        (Immediates::Index(found), Wanted::Index(index)) => *found == index,
+        (Immediates::Index(found), Wanted::Index(index)) => found == index,
+        (Immediates::Indices(first, second), Wanted::Indices(one, other)) => {
+            first == one && second == other
+        }
         (Immediates::BrTable(targets, other), Wanted::BrTable(labels, label)) => {
-            *other == label
+            other == label
                 && targets.len() as usize == labels.len()
                 && targets
                     .iter()
                     .zip(labels.iter().copied())
                     .all(|(a, b)| a == b)
         }
-        (Immediates::Indices(first, second), Wanted::Indices(one, other)) => {
-            (*first, *second) == (one, other)
-        }
         (Immediates::Types(found), Wanted::Types(types)) => {
             found.len() as usize == types.len()
                 && found.iter().zip(types.iter().copied()).all(|(a, b)| a == b)
         }
-        (Immediates::Heap(found), Wanted::Heap(heap)) => *found == heap,
+        (Immediates::Heap(found), Wanted::Heap(heap)) => found == heap,
         (Immediates::Cast(flags, label, from, to), Wanted::Cast(bits, target, source, other)) => {
-            (*flags, *label, *from, *to) == (bits, target, source, other)
+            flags == bits && label == target && from == source && to == other
         }
-        (Immediates::Memory(found), Wanted::Memory(operand)) => *found == operand,
+        (Immediates::Memory(found), Wanted::Memory(operand)) => found == operand,
         (Immediates::MemoryLane(found, at), Wanted::MemoryLane(operand, lane)) => {
-            (*found, *at) == (operand, lane)
+            found == operand && at == lane
         }
-        (Immediates::Lane(found), Wanted::Lane(lane)) => *found == lane,
-        (Immediates::F32(found), Wanted::F32(bits)) => *found == bits,
-        (Immediates::F64(found), Wanted::F64(bits)) => *found == bits,
-        (Immediates::Bytes(found), Wanted::Bytes(bytes)) => *found == bytes,
-        (Immediates::I32(found), Wanted::I32(number)) => *found == number,
-        (Immediates::I64(found), Wanted::I64(number)) => *found == number,
+        (Immediates::Lane(found), Wanted::Lane(lane)) => found == lane,
+        (Immediates::I32(found), Wanted::I32(number)) => found == number,
+        (Immediates::I64(found), Wanted::I64(number)) => found == number,
+        (Immediates::F32(found), Wanted::F32(bits)) => found == bits,
+        (Immediates::F64(found), Wanted::F64(bits)) => found == bits,
+        (Immediates::Bytes(found), Wanted::Bytes(bytes)) => found == bytes,
         _ => false,
     }
 }
@@ -96,10 +96,10 @@ fn assert_walk(
     assert!(rt; cursor.is_empty());
     assert_eq!(rt; expression.end(), 0x19 + bytes.len() as u64);
     let mut reader = expression.operators();
-    for (wanted_place, word, immediates) in wanted.iter().copied() {
+    for (wanted_place, word, immediates) in wanted {
         let (place, operator) = reader.next().ok_or("an operator is missing")?;
-        assert_eq!(rt; place, wanted_place);
-        assert_eq!(rt; operator.opcode.word(), word);
+        assert_eq!(rt; place, *wanted_place);
+        assert_eq!(rt; operator.opcode.word(), *word);
         assert!(rt; are_wanted(&operator.immediates, immediates), "at {place}");
     }
     assert!(rt; reader.next().is_none());

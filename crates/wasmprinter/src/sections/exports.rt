@@ -18,6 +18,7 @@ use wasmprinter_words::strings::write_string;
 use wasmprinter_words::words::{gap, open_gap, shut};
 
 /// The keyword of a kind.
+#[tactic(auto, unfolding(wasmprinter_spec::specs::Layout::Exports::kind_word))]
 fn kind_word(kind: ExternKind) -> &'static str
     ensures { result.now ≡ kind_word (kind_view kind) }
 {

@@ -1,12 +1,12 @@
 //! Memories (section 6.6 of the WebAssembly Core Specification, "Memories"), and their types
 //! (section 6.4, "Memory Types").
-ghost use Rattle.std.specs.Prelude.{◌<◌, Some, codes};
+ghost use Rattle.std.specs.Prelude.{◌<◌, codes};
 ghost use Rattle.wasmprinter_spec.specs.Options.{Options};
 ghost use Rattle.wasmprinter_spec.specs.Layout.Groups.{line_group_gap};
 ghost use Rattle.wasmprinter_spec.specs.Layout.Memories.{wide_pieces, shared_pieces, page_pieces, memory_type_pieces, memory_pieces};
 ghost use Rattle.wasmprinter_print.specs.Prints.{Prints};
 ghost use Rattle.wasmprinter_wasm.specs.Externs.{memory_type_view, IsPage};
-ghost use Rattle.wasmprinter.specs.Parts.{memory_parts};
+ghost use Rattle.wasmprinter.specs.Parts.{page_parts, memory_parts};
 
 use crate::sections::{FIELD_NESTING, Field};
 use std::io;
@@ -40,13 +40,13 @@ fn write_shared<P: Print>(p: &mut P, shared: bool) -> io::Result<()>
     }
 }
 
-/// Writes a blank and the size of a page, by its exponent.
+/// Writes the size of a page as a group, by its exponent.
 #[tactic(auto, unfolding(wasmprinter_spec::specs::Layout::Groups::line_group_gap))]
-fn write_page_size<P: Print>(p: &mut P, exponent: u32) -> io::Result<()>
+fn write_page_group<P: Print>(p: &mut P, exponent: u32) -> io::Result<()>
     requires { exponent < 64 }
-    ensures { (o : Options) → Prints P.meaning o p.old p.new result (page_pieces (Some exponent)) }
+    ensures { (o : Options) → Prints P.meaning o p.old p.new result
+        (line_group_gap (codes "pagesize") (page_parts exponent)) }
 {
-    gap(p)?;
     open_gap(p, "pagesize")?;
     page_size(p, exponent)?;
     shut(p)
@@ -58,7 +58,10 @@ fn write_page<P: Print>(p: &mut P, page: Option<u32>) -> io::Result<()>
     ensures { (o : Options) → Prints P.meaning o p.old p.new result (page_pieces page) }
 {
     match page {
-        Some(exponent) => write_page_size(p, exponent),
+        Some(exponent) => {
+            gap(p)?;
+            write_page_group(p, exponent)
+        }
         None => Ok(()),
     }
 }

@@ -50,11 +50,11 @@ fn has_fields(module: &Module<'_>) -> bool
     ensures { (o : Options) → result ≡ has_break (module_field_pieces o module.now) }
 {
     !module.types().is_empty()
-        || !module.memories().is_empty()
-        || !module.tags().is_empty()
-        || !module.exports().is_empty()
-        || module.start().is_some()
-        || module.function_count() != 0
+        | !module.memories().is_empty()
+        | !module.tags().is_empty()
+        | !module.exports().is_empty()
+        | module.start().is_some()
+        | (module.function_count() != 0)
 }
 
 /// Writes the fields as a group.

@@ -212,7 +212,7 @@ pub(crate) static ONE_BYTE: [Option<Entry>; 0xd7] = [
 
 /// How the opcodes without a prefix stand to the blocks around them, by their numbers; those of greater numbers are plain.
 #[rattlefmt::skip]
-pub(crate) const ROLES: [Role; 0x20] = [
+pub(crate) static ROLES: [Role; 0x20] = [
     Role::Plain, Role::Plain, // 0x00
     Role::Opens, // 0x02
     Role::Opens, // 0x03

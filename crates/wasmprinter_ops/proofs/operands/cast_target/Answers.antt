@@ -1,4 +1,4 @@
-use Rattle.std.proofs.Common.{◌≡◌, ℕ, zero, suc, ◌<◌, ◌*◌, ◌/◌, ◌%◌, Bool, not, eqb, refl, ap, ◌∙◌, arith, bit_and}
+use Rattle.std.proofs.Common.{◌≡◌, ℕ, zero, suc, ◌<◌, ◌*◌, ◌/◌, ◌%◌, Bool, not, eqb, refl, ap, ◌∙◌, arith}
 use Rattle.std.proofs.lemmas.Nat.Bits.{and_pow}
 use Rattle.wasmprinter_spec.specs.Types.{ref_type}
 use Rattle.wasmprinter_ops.specs.ValTypes.{heap_view}
