@@ -101,24 +101,28 @@ const BLOCKS: [Row; 26] = [
     (0x53, 0x0b, "end", Wanted::None),
 ];
 
-/// Whether these operators come, and then none.
-fn comes_out(mut reader: OperatorsReader<'_>, rows: &[Row]) -> bool {
+/// The place of the first operator that is missing, another or one too many; none where just these come.
+fn difference(mut reader: OperatorsReader<'_>, rows: &[Row]) -> Option<u64> {
     for (wanted_place, number, word, immediates) in rows {
         let Some((place, operator)): Option<(u64, Operator<'_>)> = reader.next() else {
-            return false;
+            return Some(*wanted_place);
         };
-        let opcode = Opcode {
-            prefix: 0,
-            number: *number,
-        };
-        if place != *wanted_place || operator.opcode != opcode || operator.opcode.word() != *word {
-            return false;
-        }
-        if !immediates.are(&operator.immediates) {
-            return false;
+        let is_wanted = place == *wanted_place
+            && operator.opcode
+                == Opcode {
+                    prefix: 0,
+                    number: *number,
+                }
+            && operator.opcode.word() == *word
+            && immediates.are(&operator.immediates);
+        if !is_wanted {
+            return Some(*wanted_place);
         }
     }
-    reader.next().is_none()
+    match reader.next() {
+        Some((place, _)) => Some(place),
+        None => None,
+    }
 }
 
 #[test]
@@ -138,12 +142,12 @@ fn counts_the_functions_that_are_defined(rt: HostRuntime) -> Result<(), Fail> {
 fn walks_over_operators(rt: HostRuntime) -> Result<(), Fail> {
     let module = decode(rt.alloc(), &EVERYTHING)?;
     let first: Body<'_> = module.body(0).ok_or("no first body")?;
-    assert!(rt; comes_out(first.operators(), &[]));
+    assert_eq!(rt; difference(first.operators(), &[]), None);
     let second = module.body(1).ok_or("no second body")?;
-    assert!(rt; comes_out(second.operators(), &OPERATORS));
+    assert_eq!(rt; difference(second.operators(), &OPERATORS), None);
     // a second walk over the same body begins at its first operator
-    assert!(rt; comes_out(second.operators(), &OPERATORS));
-    assert!(rt; !comes_out(second.operators(), &OPERATORS[..6]));
+    assert_eq!(rt; difference(second.operators(), &OPERATORS), None);
+    assert_eq!(rt; difference(second.operators(), &OPERATORS[..6]), Some(0x44));
     Ok(())
 }
 
@@ -151,7 +155,7 @@ fn walks_over_operators(rt: HostRuntime) -> Result<(), Fail> {
 fn walks_over_blocks(rt: HostRuntime) -> Result<(), Fail> {
     let module = decode(rt.alloc(), &CONTROL)?;
     let body = module.body(0).ok_or("no body")?;
-    assert!(rt; comes_out(body.operators(), &BLOCKS));
+    assert_eq!(rt; difference(body.operators(), &BLOCKS), None);
     assert_eq!(rt; body.end(), 0x54);
     Ok(())
 }
