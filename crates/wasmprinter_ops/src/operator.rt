@@ -130,7 +130,7 @@ fn read_try_table<'a>(cursor: &mut Cursor<'a>) -> Result<Immediates<'a>, Malform
     ensures shape { IfOk result (λ i. HasShape TryTableShape (immediates_view i)) }
 {
     let block_type = read_block_type(cursor)?;
-    { read_catches(cursor)?; Ok(Immediates::Block(block_type)) }
+    Ok(Immediates::TryTable(block_type, read_catches(cursor)?))
 }
 
 /// Reads two indices, or an index and a number.
