@@ -1,4 +1,2 @@
 pub mod Outcome
-pub mod Parts
 pub mod Printed
-pub mod TypeLines

@@ -4,10 +4,10 @@ ghost use Rattle.wasmprinter_spec.specs.Binary.{IsComponent};
 ghost use Rattle.wasmprinter.specs.Printed.{Printed};
 ghost use Rattle.wasmprinter.specs.Outcome.{HasCause, IsTrueOf, Leaves};
 
-use crate::sections::write_module;
 use std::alloc::Global;
 use std::marker::Model;
 use wasmprinter_error::Error;
+use wasmprinter_fields::modules::write_module;
 use wasmprinter_lines::options::PrintOptions;
 use wasmprinter_print::Print;
 use wasmprinter_wasm::decode;

@@ -15,7 +15,7 @@ use Rattle.wasmprinter_spec.specs.Token.{left, left_note, right, word, name, str
 use Rattle.wasmprinter_spec.specs.Forest.{Forest, End, Word, Name, String, Group, Note, flat, onto, cut, row_customs, customs, forest, the_one, grow}
 use Rattle.wasmprinter_spec.specs.Piece as piece
 use Rattle.wasmprinter_spec.specs.Piece.{Piece, Begin, Feed, Break, Gap, Open, OpenGap, OpenPlain, OpenBare, OpenTypeGap, Shut, TypeWord, TypeWordGap, GapTypeWord, Number, Constant, Literals, GapLiterals, Float, Mark, Quoted, QuotedBytes, Identifier, NameNote, Remark, Ending, word_tokens, all_calls, all_tokens, piece_tokens}
-use Rattle.wasmprinter_spec.specs.Layout.Groups.{group, group_gap, group_at, group_gap_at, line_group, line_group_gap, close, has_break}
+use Rattle.wasmprinter_spec.specs.Layout.Groups.{group, line_group_gap, group_at, group_gap_at, line_group, close, has_break}
 use Rattle.wasmprinter_lexical.proofs.Runs.{is_word, are_words}
 use Rattle.wasmprinter_lexical.proofs.Grown.{flat-onto, one-flat, cut-onto, row_customs-onto, customs-onto}
 use Rattle.wasmprinter_lexical.proofs.Printed.{is_remark}
@@ -479,10 +479,6 @@ pub group_writes : {a b : Edge} (nesting : ℕ) (v : List ℕ) (ps : List Piece)
 unfolding group
 group_writes {a = a} nesting v ps o h w = closed_writes (Open v) (v ∷ []) None nesting (has_break ps) ps a o refl (opening v h) w
 
-pub group_gap_writes : {a b : Edge} (nesting : ℕ) (v : List ℕ) (ps : List Piece) {f : Forest} → is_open a ≡ true → is_word v ≡ true → Writes Free ps Bound f → Writes a (group_gap nesting v ps) b (Group (Word v f) End)
-unfolding group_gap
-group_gap_writes {a = a} nesting v ps o h w = closed_writes (OpenGap v) (v ∷ []) None nesting (has_break ps) ps a o refl (opening_gap v h) w
-
 pub group_at_writes : {a b : Edge} (offsets : Bool) (place nesting : ℕ) (v : List ℕ) (ps : List Piece) {f : Forest} → is_open a ≡ true → is_word v ≡ true → Writes Bound ps Bound f → Writes a (group_at offsets place nesting v ps) b (Group (Word v f) End)
 unfolding group_at
 group_at_writes {a = a} offsets place nesting v ps o h w = closed_writes (Open v) (v ∷ []) (Some place) nesting (offsets || has_break ps) ps a o refl (opening v h) w
@@ -510,8 +506,6 @@ line_group_gap_writes {a = a} v ps o h w = closed_writes (OpenGap v) (v ∷ []) 
 pub group_then : {a c : Edge} (nesting : ℕ) (v : List ℕ) (ps qs : List Piece) {f g : Forest} → is_open a ≡ true → is_word v ≡ true → Writes Bound ps Bound f → Writes Bound qs c g → Writes a (group nesting v ps ++ qs) c (Group (Word v f) g)
 group_then nesting v ps qs o h v' w = both_write (group_writes nesting v ps o h v') w
 
-pub group_gap_then : {a c : Edge} (nesting : ℕ) (v : List ℕ) (ps qs : List Piece) {f g : Forest} → is_open a ≡ true → is_word v ≡ true → Writes Free ps Bound f → Writes Bound qs c g → Writes a (group_gap nesting v ps ++ qs) c (Group (Word v f) g)
-group_gap_then nesting v ps qs o h v' w = both_write (group_gap_writes nesting v ps o h v') w
 
 pub group_at_then : {a c : Edge} (offsets : Bool) (place nesting : ℕ) (v : List ℕ) (ps qs : List Piece) {f g : Forest} → is_open a ≡ true → is_word v ≡ true → Writes Bound ps Bound f → Writes Bound qs c g → Writes a (group_at offsets place nesting v ps ++ qs) c (Group (Word v f) g)
 group_at_then offsets place nesting v ps qs o h v' w = both_write (group_at_writes offsets place nesting v ps o h v') w
@@ -545,4 +539,4 @@ bare_group_then {a = a} {c = c} {ps = ps} {qs = qs} {f = f} {g = g} o v' w =
 pub then : {a c : Edge} {ps qs : List Piece} {f g : Forest} → Writes a ps Bound f → Writes Bound qs c g → Writes a (ps ++ qs) c (onto f g)
 then v w = both_write v w
 
-pub ruleset writing = (nothing_writes, free_writes, begin_writes, feed_writes, gap_writes, break_writes, mark_writes, word_writes, type_word_writes, type_word_gap_writes, gap_type_word_writes, number_writes, constant_writes, literals_writes, gap_literals_writes, float_writes, quoted_writes, quoted_bytes_writes, identifier_writes, name_note_writes, remark_writes, ending_writes, group_writes, group_gap_writes, group_at_writes, group_gap_at_writes, line_group_writes, line_group_gap_writes, group_then, group_gap_then, group_at_then, line_group_then, line_group_gap_then, plain_group_then, type_group_then, bare_group_then, opened_writes, then)
+pub ruleset writing = (nothing_writes, free_writes, begin_writes, feed_writes, gap_writes, break_writes, mark_writes, word_writes, type_word_writes, type_word_gap_writes, gap_type_word_writes, number_writes, constant_writes, literals_writes, gap_literals_writes, float_writes, quoted_writes, quoted_bytes_writes, identifier_writes, name_note_writes, remark_writes, ending_writes, group_writes,  group_at_writes, group_gap_at_writes, line_group_writes, line_group_gap_writes, group_then,  group_at_then, line_group_then, line_group_gap_then, plain_group_then, type_group_then, bare_group_then, opened_writes, then)

@@ -22,7 +22,7 @@ use Rattle.wasmprinter_spec.specs.Read.{read}
 use Rattle.wasmprinter_spec.specs.Call.{Call, Style, Text, Newline, Line, Start, Name, Keyword, TypeName, Comment, Reset, text_of, atoms}
 use Rattle.wasmprinter_spec.specs.Options.{defaults}
 use Rattle.wasmprinter_spec.specs.Piece.{all_calls, repeated, left_in, place_text}
-use Rattle.wasmprinter_spec.specs.Layout.Groups.{group_gap, group_at, group_gap_at, line_group, line_group_gap, numbered}
+use Rattle.wasmprinter_spec.specs.Layout.Groups.{line_group_gap, group_at, group_gap_at, line_group, numbered}
 use Rattle.wasmprinter_spec.specs.Layout.Types.{heap_pieces, null_ref_pieces, ref_pieces, val_pieces, type_list, list_group, signature_pieces, composite_pieces, sub_pieces, type_pieces, type_group_pieces, type_section_pieces}
 use Rattle.wasmprinter_spec.specs.Layout.Operators.{Form, OverLines, InLine, Setting, label_pieces, labels_pieces, id_pieces, ending_pieces, block_pieces, catch_pieces, catches_pieces, index_pieces, immediate_pieces, operator_pieces, operators_pieces, expression_pieces}
 use Rattle.wasmprinter_spec.specs.Layout.{module_field_pieces, module_pieces, layout, tag_pieces, start_pieces}
@@ -74,7 +74,7 @@ abbrev printed : PlacedModule → List ℕ
 printed m = text_of (layout defaults (λ n. false) m)
 
 samples_printed : map (λ ss. map (λ s. printed (placed_module s.operators)) ss) all_samples ≡ map (λ ss. map (λ s. module_lines s.lines) ss) all_samples
-unfolding line_group line_group_gap heap_pieces null_ref_pieces ref_pieces val_pieces list_group composite_pieces sub_pieces type_pieces type_group_pieces type_section_pieces signature_if module_field_pieces numbered group_gap group_at group_gap_at type_list signature_pieces label_pieces labels_pieces id_pieces ending_pieces block_pieces catch_pieces catches_pieces index_pieces immediate_pieces operator_pieces operators_pieces expression_pieces body_pieces local_group local_pieces header_pieces function_group function_pieces module_pieces layout repeated digits table memory_pieces memory_type_pieces limits_pieces export_pieces kind_word extern_index_pieces tag_pieces start_pieces imports_pieces
+unfolding line_group line_group_gap heap_pieces null_ref_pieces ref_pieces val_pieces list_group composite_pieces sub_pieces type_pieces type_group_pieces type_section_pieces signature_if module_field_pieces numbered group_at group_gap_at type_list signature_pieces label_pieces labels_pieces id_pieces ending_pieces block_pieces catch_pieces catches_pieces index_pieces immediate_pieces operator_pieces operators_pieces expression_pieces body_pieces local_group local_pieces header_pieces function_group function_pieces module_pieces layout repeated digits table memory_pieces memory_type_pieces limits_pieces export_pieces kind_word extern_index_pieces tag_pieces start_pieces imports_pieces
 samples_printed = refl
 
 -- ---- the way back
@@ -197,5 +197,5 @@ with_places : option_map (λ m. text_of (layout (record defaults { offsets = tru
     ∷ codes "(;@1e    ;)  )"
     ∷ codes "(;@1f    ;))"
     ∷ []))
-unfolding line_group line_group_gap val_pieces list_group composite_pieces sub_pieces type_pieces type_group_pieces type_section_pieces signature_if module_field_pieces numbered group_gap group_at group_gap_at type_list signature_pieces label_pieces id_pieces ending_pieces block_pieces index_pieces immediate_pieces operator_pieces operators_pieces expression_pieces body_pieces local_group local_pieces header_pieces function_group function_pieces module_pieces layout place_text left_in repeated digits table memory_pieces memory_type_pieces limits_pieces export_pieces kind_word extern_index_pieces tag_pieces start_pieces imports_pieces
+unfolding line_group line_group_gap val_pieces list_group composite_pieces sub_pieces type_pieces type_group_pieces type_section_pieces signature_if module_field_pieces numbered group_at group_gap_at type_list signature_pieces label_pieces id_pieces ending_pieces block_pieces index_pieces immediate_pieces operator_pieces operators_pieces expression_pieces body_pieces local_group local_pieces header_pieces function_group function_pieces module_pieces layout place_text left_in repeated digits table memory_pieces memory_type_pieces limits_pieces export_pieces kind_word extern_index_pieces tag_pieces start_pieces imports_pieces
 with_places = refl

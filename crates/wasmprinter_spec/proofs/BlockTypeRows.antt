@@ -22,7 +22,7 @@ use Rattle.wasmprinter_spec.specs.Read.{read}
 use Rattle.wasmprinter_spec.specs.Call.{text_of}
 use Rattle.wasmprinter_spec.specs.Options.{defaults}
 use Rattle.wasmprinter_spec.specs.Piece.{repeated}
-use Rattle.wasmprinter_spec.specs.Layout.Groups.{group, group_gap, group_at, group_gap_at, line_group, line_group_gap, numbered}
+use Rattle.wasmprinter_spec.specs.Layout.Groups.{group, line_group_gap, group_at, group_gap_at, line_group, numbered}
 use Rattle.wasmprinter_spec.specs.Layout.Types.{heap_pieces, null_ref_pieces, ref_pieces, val_pieces, type_list, list_group, signature_pieces, struct_pieces, composite_pieces, sub_pieces, type_pieces, member_pieces, type_group_pieces, type_section_pieces}
 use Rattle.wasmprinter_spec.specs.Layout.Operators.{id_pieces, ending_pieces, block_pieces, immediate_pieces, operator_pieces, operators_pieces, expression_pieces, index_pieces}
 use Rattle.wasmprinter_spec.specs.Layout.{module_field_pieces, module_pieces, layout, tag_pieces, start_pieces}
@@ -81,7 +81,7 @@ unfolding table
 structure_decoded = refl
 
 structure_printed : printed structure_bytes ≡ Some (beside_structure_text (codes " (type 0)"))
-unfolding group group_gap group_at group_gap_at line_group line_group_gap list_group signature_pieces struct_pieces composite_pieces sub_pieces type_pieces type_group_pieces type_section_pieces id_pieces ending_pieces block_pieces immediate_pieces operator_pieces operators_pieces expression_pieces body_pieces local_group local_pieces signature_if header_pieces function_group function_pieces numbered module_field_pieces module_pieces layout repeated digits table memory_pieces memory_type_pieces limits_pieces export_pieces kind_word extern_index_pieces tag_pieces start_pieces index_pieces imports_pieces
+unfolding group line_group_gap group_at group_gap_at line_group list_group signature_pieces struct_pieces composite_pieces sub_pieces type_pieces type_group_pieces type_section_pieces id_pieces ending_pieces block_pieces immediate_pieces operator_pieces operators_pieces expression_pieces body_pieces local_group local_pieces signature_if header_pieces function_group function_pieces numbered module_field_pieces module_pieces layout repeated digits table memory_pieces memory_type_pieces limits_pieces export_pieces kind_word extern_index_pieces tag_pieces start_pieces index_pieces imports_pieces
 structure_printed = refl
 
 structure_unread : read (beside_structure_text (codes " (type 0)")) ≡ None
@@ -146,7 +146,7 @@ unfolding table
 group_decoded = refl
 
 group_printed : printed group_bytes ≡ Some group_text
-unfolding group group_gap group_at group_gap_at line_group line_group_gap heap_pieces null_ref_pieces ref_pieces val_pieces type_list list_group signature_pieces struct_pieces composite_pieces sub_pieces type_pieces member_pieces type_group_pieces type_section_pieces id_pieces ending_pieces block_pieces immediate_pieces operator_pieces operators_pieces expression_pieces body_pieces local_group local_pieces signature_if header_pieces function_group function_pieces numbered module_field_pieces module_pieces layout repeated digits table memory_pieces memory_type_pieces limits_pieces export_pieces kind_word extern_index_pieces tag_pieces start_pieces index_pieces imports_pieces
+unfolding group line_group_gap group_at group_gap_at line_group heap_pieces null_ref_pieces ref_pieces val_pieces type_list list_group signature_pieces struct_pieces composite_pieces sub_pieces type_pieces member_pieces type_group_pieces type_section_pieces id_pieces ending_pieces block_pieces immediate_pieces operator_pieces operators_pieces expression_pieces body_pieces local_group local_pieces signature_if header_pieces function_group function_pieces numbered module_field_pieces module_pieces layout repeated digits table memory_pieces memory_type_pieces limits_pieces export_pieces kind_word extern_index_pieces tag_pieces start_pieces index_pieces imports_pieces
 group_printed = refl
 
 group_read : read group_text ≡ Some over_group

@@ -11,7 +11,7 @@ use Rattle.wasmprinter_spec.specs.Module.{Module}
 use Rattle.wasmprinter_spec.specs.Call.{Call, Style, Text, Start, Name, Keyword, TypeName, Reset, text_of, atoms}
 use Rattle.wasmprinter_spec.specs.Options.{Options, defaults}
 use Rattle.wasmprinter_spec.specs.Piece.{Piece, repeated, left_in, place_text, all_calls}
-use Rattle.wasmprinter_spec.specs.Layout.Groups.{group, group_gap, group_at, group_gap_at, line_group, line_group_gap, numbered}
+use Rattle.wasmprinter_spec.specs.Layout.Groups.{group, line_group_gap, group_at, group_gap_at, line_group, numbered}
 use Rattle.wasmprinter_spec.specs.Layout.Types.{heap_pieces, null_ref_pieces, ref_pieces, val_pieces, type_list, list_group, signature_pieces, storage_pieces, field_pieces, struct_pieces, composite_pieces, supertype_pieces, sub_group, sub_pieces, type_pieces, member_pieces, type_group_pieces, type_section_pieces}
 use Rattle.wasmprinter_spec.specs.Layout.Operators.{operator_pieces, operators_pieces, expression_pieces}
 use Rattle.wasmprinter_spec.specs.Layout.{module_field_pieces, module_pieces, layout, tag_pieces, start_pieces}
@@ -127,7 +127,7 @@ functions_of_groups : printed (head_bytes
     ∷ codes "  )"
     ∷ codes "  (func (;1;) (type 0))"
     ∷ []))
-unfolding group group_gap group_at group_gap_at line_group line_group_gap heap_pieces ref_pieces val_pieces type_list list_group signature_pieces struct_pieces composite_pieces sub_pieces type_pieces member_pieces type_group_pieces type_section_pieces operator_pieces operators_pieces expression_pieces body_pieces local_group local_pieces signature_if header_pieces function_group function_pieces numbered module_field_pieces module_pieces layout repeated digits table memory_pieces memory_type_pieces limits_pieces export_pieces kind_word extern_index_pieces tag_pieces start_pieces imports_pieces
+unfolding group line_group_gap group_at group_gap_at line_group heap_pieces ref_pieces val_pieces type_list list_group signature_pieces struct_pieces composite_pieces sub_pieces type_pieces member_pieces type_group_pieces type_section_pieces operator_pieces operators_pieces expression_pieces body_pieces local_group local_pieces signature_if header_pieces function_group function_pieces numbered module_field_pieces module_pieces layout repeated digits table memory_pieces memory_type_pieces limits_pieces export_pieces kind_word extern_index_pieces tag_pieces start_pieces imports_pieces
 functions_of_groups = refl
 
 -- ---- calls

@@ -8,7 +8,7 @@ use Rattle.wasmprinter_spec.specs.Module.{groups_of, imported, func_import, tabl
 use Rattle.wasmprinter_spec.specs.Call.{Call}
 use Rattle.wasmprinter_spec.specs.Options.{Options, Answers}
 use Rattle.wasmprinter_spec.specs.Piece.{Piece, Begin, Feed, Break, Number, all_calls}
-use Rattle.wasmprinter_spec.specs.Layout.Groups.{group_at, group_gap, numbered}
+use Rattle.wasmprinter_spec.specs.Layout.Groups.{group_at, line_group_gap, numbered}
 use Rattle.wasmprinter_spec.specs.Layout.Types.{type_section_pieces}
 use Rattle.wasmprinter_spec.specs.Layout.Functions.{header_pieces, function_pieces}
 use Rattle.wasmprinter_spec.specs.Layout.Imports.{no_numbers, imports_pieces}
@@ -36,11 +36,11 @@ pub mod DataSegments
 
 -- a tag has a type as a function has
 unfoldable pub tag_pieces : List SubType → ℕ → Placed ℕ → List Piece
-tag_pieces ts i tag = Break (Some tag.place) 1 ∷ group_gap 1 (codes "tag") (header_pieces i tag.value (signature_at ts tag.value))
+tag_pieces ts i tag = Break (Some tag.place) 1 ∷ line_group_gap (codes "tag") (header_pieces i tag.value (signature_at ts tag.value))
 
 unfoldable pub start_pieces : Option (Placed ℕ) → List Piece
 start_pieces None = []
-start_pieces (Some start) = Break (Some start.place) 1 ∷ group_gap 1 (codes "start") (Number start.value ∷ [])
+start_pieces (Some start) = Break (Some start.place) 1 ∷ line_group_gap (codes "start") (Number start.value ∷ [])
 
 -- the fields, in the order of their sections
 unfoldable pub module_field_pieces : Options → PlacedModule → List Piece

@@ -5,7 +5,7 @@ ghost use Rattle.wasmprinter_spec.specs.Call.{Text};
 ghost use Rattle.wasmprinter_spec.specs.Options.{Options};
 ghost use Rattle.wasmprinter_spec.specs.Types.{limits_of};
 ghost use Rattle.wasmprinter_spec.specs.Piece.{Word, behind_blanks};
-ghost use Rattle.wasmprinter_spec.specs.Layout.Memories.{max_words, limits_pieces};
+ghost use Rattle.wasmprinter_spec.specs.Layout.Limits.{max_words, limits_pieces};
 ghost use Rattle.wasmprinter_print.specs.Emits.{Emits};
 ghost use Rattle.wasmprinter_print.specs.Prints.{Prints};
 
@@ -24,7 +24,7 @@ fn write_max<P: Print>(p: &mut P, max: Option<u64>) -> io::Result<()>
 }
 
 /// Writes the least and, if there is one, the greatest size, in one literal.
-#[tactic(auto, unfolding(wasmprinter_spec::specs::Layout::Memories::limits_pieces))]
+#[tactic(auto, unfolding(wasmprinter_spec::specs::Layout::Limits::limits_pieces))]
 pub fn write_limits<P: Print>(p: &mut P, min: u64, max: Option<u64>) -> io::Result<()>
     ensures { (o : Options) → Prints P.meaning o p.old p.new result (limits_pieces (limits_of min max)) }
 {

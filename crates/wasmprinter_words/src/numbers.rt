@@ -1,10 +1,10 @@
 //! Whole numbers (section 6.3 of the WebAssembly Core Specification, "Integers").
-ghost use Rattle.std.specs.Prelude.{ℕ, ◌≡◌, ◌<◌, ◌≤◌, ◌/◌, ◌%◌, ◌^◌, false, [], ◌∷◌, ◌++◌, decimal, length};
+ghost use Rattle.std.specs.Prelude.{◌≡◌, ◌<◌, ◌≤◌, ◌/◌, ◌%◌, ◌^◌, false, [], ◌∷◌, ◌++◌, decimal, length};
 ghost use Rattle.std.specs.Fmt.{digits, digit_glyph, signed_decimal};
 ghost use Rattle.wasmprinter_spec.specs.Call.{Text};
 ghost use Rattle.wasmprinter_spec.specs.Options.{Options};
 ghost use Rattle.wasmprinter_spec.specs.Piece.{Word, Number, Mark, Constant};
-ghost use Rattle.wasmprinter_spec.specs.Layout.Groups.{group_gap, line_group_gap};
+ghost use Rattle.wasmprinter_spec.specs.Layout.Groups.{line_group_gap};
 ghost use Rattle.wasmprinter_print.specs.Emits.{Emits};
 ghost use Rattle.wasmprinter_print.specs.Prints.{Prints};
 
@@ -120,12 +120,10 @@ pub fn numbered_word<P: Print>(p: &mut P, word: &str, n: u64) -> io::Result<()>
 }
 
 /// Writes an index as a group behind a keyword.
-#[tactic(auto, unfolding(wasmprinter_spec::specs::Layout::Groups::group_gap, wasmprinter_spec::specs::Layout::Groups::line_group_gap))]
+#[tactic(auto, unfolding(wasmprinter_spec::specs::Layout::Groups::line_group_gap))]
 pub fn write_index_group<P: Print>(p: &mut P, keyword: &str, index: u32) -> io::Result<()>
-    ensures in_line { (o : Options) → Prints P.meaning o p.old p.new result
+    ensures { (o : Options) → Prints P.meaning o p.old p.new result
         (line_group_gap keyword.now (Number index ∷ [])) }
-    ensures nested { (o : Options) (nesting : ℕ) → Prints P.meaning o p.old p.new result
-        (group_gap nesting keyword.now (Number index ∷ [])) }
 {
     open_gap(p, keyword)?;
     number(p, u64::from(index))?;

@@ -2,7 +2,7 @@
 ghost use Rattle.std.specs.Prelude.{◌≡◌, [], ◌∷◌, flat_map, chars};
 ghost use Rattle.wasmprinter_spec.specs.Call.{Text, Literal};
 ghost use Rattle.wasmprinter_spec.specs.Options.{Options};
-ghost use Rattle.wasmprinter_spec.specs.Piece.{Quoted, styled};
+ghost use Rattle.wasmprinter_spec.specs.Piece.{Quoted, QuotedBytes, styled};
 ghost use Rattle.wasmprinter_spec.specs.Quoted.{is_plain, char_text, byte_text, quoted_text, quoted_bytes};
 ghost use Rattle.wasmprinter_print.specs.Emits.{Emits, EmitsOrFails};
 ghost use Rattle.wasmprinter_print.specs.Prints.{Prints};
@@ -87,8 +87,9 @@ fn write_each_byte<P: Print>(p: &mut P, bytes: &[u8]) -> io::Result<()>
 
 /// Writes bytes in quotes, with what isn't printable by its hexadecimal digits.
 #[tactic(auto, unfolding(wasmprinter_spec::specs::Quoted::quoted_bytes))]
-fn write_byte_string<P: Print>(p: &mut P, bytes: &[u8]) -> io::Result<()>
-    ensures { Emits P.meaning p.old p.new result (styled Literal (quoted_bytes bytes.now)) }
+pub fn write_byte_string<P: Print>(p: &mut P, bytes: &[u8]) -> io::Result<()>
+    ensures calls { Emits P.meaning p.old p.new result (styled Literal (quoted_bytes bytes.now)) }
+    ensures pieces { (o : Options) → Prints P.meaning o p.old p.new result (QuotedBytes bytes.now ∷ []) }
 {
     start(p, Style::Literal)?;
     text(p, "\"")?;

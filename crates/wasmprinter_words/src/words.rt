@@ -1,7 +1,7 @@
 //! Parentheses, blanks and words.
 ghost use Rattle.std.specs.Prelude.{[], ◌∷◌, ◌++◌};
 ghost use Rattle.wasmprinter_spec.specs.Options.{Options};
-ghost use Rattle.wasmprinter_spec.specs.Piece.{Gap, Open, OpenGap, OpenPlain, Shut, Word, TypeWord, TypeWordGap, GapTypeWord, styled as in_style};
+ghost use Rattle.wasmprinter_spec.specs.Piece.{Gap, Open, OpenBare, OpenGap, OpenPlain, OpenTypeGap, Shut, Word, TypeWord, TypeWordGap, GapTypeWord, styled as in_style};
 ghost use Rattle.wasmprinter_print.specs.Emits.{Emits};
 ghost use Rattle.wasmprinter_print.specs.Prints.{Prints};
 ghost use Rattle.wasmprinter_print.specs.Styles.{style_of};
@@ -41,6 +41,22 @@ pub fn open_plain<P: Print>(p: &mut P, unstyled: &str) -> io::Result<()>
 {
     text(p, "(")?;
     text(p, unstyled)
+}
+
+/// Opens a group whose keyword is the word of a type, with a blank behind it.
+pub fn open_type_gap<P: Print>(p: &mut P, word: &str) -> io::Result<()>
+    ensures { (o : Options) → Prints P.meaning o p.old p.new result (OpenTypeGap word.now ∷ []) }
+{
+    text(p, "(")?;
+    type_word_gap(p, word)
+}
+
+/// Opens a group without a keyword.
+pub fn open_bare<P: Print>(p: &mut P) -> io::Result<()>
+    ensures { (o : Options) → Prints P.meaning o p.old p.new result (OpenBare ∷ []) }
+{
+    text(p, "(")?;
+    styled(p, Style::Keyword, "")
 }
 
 /// Closes a group on the line where it ends.

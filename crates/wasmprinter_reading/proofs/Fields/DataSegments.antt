@@ -18,7 +18,7 @@ use Rattle.wasmprinter_spec.specs.Layout.DataSegments.{named_memory, data_mode_p
 use Rattle.wasmprinter_spec.specs.Text.Items.{identified}
 use Rattle.wasmprinter_spec.specs.Text.DataSegments.{strings, with_bytes, active_in, segment, read_data}
 use Rattle.wasmprinter_lexical.proofs.Pieces.{Free, Bound}
-use Rattle.wasmprinter_lexical.proofs.Writes.{Writes, both_write, nothing_writes, gap_writes, mark_writes, break_writes, word_writes, number_writes, quoted_bytes_writes, group_gap_writes, line_group_gap_writes}
+use Rattle.wasmprinter_lexical.proofs.Writes.{Writes, both_write, nothing_writes, gap_writes, mark_writes, break_writes, word_writes, number_writes, quoted_bytes_writes, line_group_gap_writes}
 use Rattle.wasmprinter_reading.specs.Listed.{AreSignaturesInRange}
 use Rattle.wasmprinter_reading.specs.OperatorLaws.{HaveSameTypes}
 use Rattle.wasmprinter_reading.proofs.Items.{index-decimal}
@@ -91,7 +91,7 @@ module _ (ts : List SubType) (s : AreSignaturesInRange (signature_at ts)) where
       let mode : DataMode Operator = data_mode_without_places d.value.mode in
       let bytes : Forest = bytes_items skeleton d.value.bytes in
       let written : Writes Bound (data_pieces skeleton ts i d) Bound (Group (Word (codes "data") (onto (data_mode_items ts mode End) bytes)) End) =
-      break_writes (group_gap_writes 1 (codes "data") _ refl refl
+      break_writes (line_group_gap_writes (codes "data") _ refl refl
       (mark_writes refl small (gap_writes refl (both_write (data_mode_writes d.value.mode h.mode) (bytes_write skeleton d.value.bytes h.bytes))))) in
       rw (data_mode_onto mode bytes) at written
 

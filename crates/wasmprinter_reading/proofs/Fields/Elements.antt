@@ -18,7 +18,7 @@ use Rattle.wasmprinter_spec.specs.Text.Items.{identified}
 use Rattle.wasmprinter_spec.specs.Text.Types.{ref_named, ref_group}
 use Rattle.wasmprinter_spec.specs.Text.Elements.{function_indices, expressions, typed_items, items, with_mode, active_in, segment, read_element}
 use Rattle.wasmprinter_lexical.proofs.Pieces.{Free, Bound}
-use Rattle.wasmprinter_lexical.proofs.Writes.{Writes, both_write, nothing_writes, gap_writes, mark_writes, break_writes, word_writes, number_writes, group_gap_writes, line_group_gap_writes}
+use Rattle.wasmprinter_lexical.proofs.Writes.{Writes, both_write, nothing_writes, gap_writes, mark_writes, break_writes, word_writes, number_writes, line_group_gap_writes}
 use Rattle.wasmprinter_reading.specs.Listed.{AreSignaturesInRange}
 use Rattle.wasmprinter_reading.specs.OperatorLaws.{HaveSameTypes}
 use Rattle.wasmprinter_reading.proofs.Items.{index-decimal, leading_item-reads}
@@ -111,7 +111,7 @@ module _ (ts : List SubType) (s : AreSignaturesInRange (signature_at ts)) where
       Writes Bound (element_pieces skeleton ts i e) Bound (Group (Word (codes "elem") (element_items ts skeleton e.value)) End)
   unfolding element_pieces class
   element_writes skeleton i e small h =
-      break_writes (group_gap_writes 1 (codes "elem") _ refl refl
+      break_writes (line_group_gap_writes (codes "elem") _ refl refl
       (mark_writes refl small (mode_writes e.value.names_table e.value.element.mode h.mode (shown_items_write skeleton e.value.element.items h.items))))
 
 -- ---- they read back

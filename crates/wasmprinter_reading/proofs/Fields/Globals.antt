@@ -16,7 +16,7 @@ use Rattle.wasmprinter_spec.specs.Text.Items.{identified}
 use Rattle.wasmprinter_spec.specs.Text.Types.{val_named, val_group, val_type}
 use Rattle.wasmprinter_spec.specs.Text.Globals.{global_named, global_group, global_type, read_global}
 use Rattle.wasmprinter_lexical.proofs.Pieces.{Free, Bound}
-use Rattle.wasmprinter_lexical.proofs.Writes.{Writes, both_write, nothing_writes, gap_writes, mark_writes, break_writes, group_gap_writes, type_group_then}
+use Rattle.wasmprinter_lexical.proofs.Writes.{Writes, both_write, nothing_writes, gap_writes, mark_writes, break_writes, line_group_gap_writes, type_group_then}
 use Rattle.wasmprinter_reading.specs.Listed.{AreSignaturesInRange}
 use Rattle.wasmprinter_reading.specs.OperatorLaws.{HaveSameTypes}
 use Rattle.wasmprinter_reading.proofs.Items.{ReadsItem, one_item-reads, leading_item-reads}
@@ -55,7 +55,7 @@ pub global_writes : (ts : List SubType) → AreSignaturesInRange (signature_at t
     Writes Bound (global_pieces ts i g) Bound (Group (Word (codes "global") (global_items ts (global_without_places g.value))) End)
 unfolding global_pieces class
 global_writes ts s i g small h =
-    break_writes (group_gap_writes 1 (codes "global") _ refl refl
+    break_writes (line_group_gap_writes (codes "global") _ refl refl
     (mark_writes refl small (gap_writes refl (both_write (global_type_writes g.value.type h.type)
     (gap_writes refl (in_line_writes ts s g.value.init h.init))))))
 

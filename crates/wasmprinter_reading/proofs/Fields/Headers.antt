@@ -5,13 +5,13 @@ use Rattle.wasmprinter_spec.specs.Character.{class}
 use Rattle.wasmprinter_spec.specs.Forest.{Forest, End, Word, Group, onto}
 use Rattle.wasmprinter_spec.specs.Types.{FuncType}
 use Rattle.wasmprinter_spec.specs.Piece.{Piece, Gap, Mark, Number}
-use Rattle.wasmprinter_spec.specs.Layout.Groups.{group_gap}
+use Rattle.wasmprinter_spec.specs.Layout.Groups.{line_group_gap}
 use Rattle.wasmprinter_spec.specs.Layout.Functions.{signature_if, header_pieces}
 use Rattle.wasmprinter_spec.specs.IndexSpaces.{Context}
 use Rattle.wasmprinter_spec.specs.Text.Types.{signature}
 use Rattle.wasmprinter_spec.specs.Text.TypeIndices.{type_index}
 use Rattle.wasmprinter_lexical.proofs.Pieces.{Edge, Free, Bound}
-use Rattle.wasmprinter_lexical.proofs.Writes.{Writes, writing, both_write, nothing_writes, mark_writes, gap_writes, group_gap_then}
+use Rattle.wasmprinter_lexical.proofs.Writes.{Writes, writing, both_write, nothing_writes, mark_writes, gap_writes, line_group_gap_then}
 use Rattle.wasmprinter_reading.specs.Listed.{IsSignatureInRange}
 use Rattle.wasmprinter_reading.proofs.Items.{index-decimal, unnamed_space}
 use Rattle.wasmprinter_reading.proofs.Types.Ranged.{IsRangedFunc}
@@ -33,10 +33,10 @@ unfolding header_pieces class
 header_writes {b = b} t i type_index qs rest h s r w =
     let small : type_index < 2 ^ 64 = omega (arith, r) in
     let signature : Writes Bound (signature_if t ++ qs) b (onto (signature_if_items t) rest) = both_write (signature_if_writes t s) w in
-    let type : List Piece = group_gap 2 (codes "type") (Number type_index ∷ []) in
+    let type : List Piece = line_group_gap (codes "type") (Number type_index ∷ []) in
     let joined : Writes Free (Mark i ∷ (Gap ∷ (type ++ (signature_if t ++ qs)))) b (header_items t type_index rest) =
     mark_writes refl h (gap_writes refl
-    (group_gap_then 2 (codes "type") (Number type_index ∷ []) (signature_if t ++ qs) refl refl (search writing) signature)) in
+    (line_group_gap_then (codes "type") (Number type_index ∷ []) (signature_if t ++ qs) refl refl (search writing) signature)) in
     rw (append_assoc type (signature_if t) qs) joined
 
 -- where nothing stands behind it

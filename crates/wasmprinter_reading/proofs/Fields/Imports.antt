@@ -18,7 +18,7 @@ use Rattle.wasmprinter_spec.specs.Text.Globals.{global_type}
 use Rattle.wasmprinter_spec.specs.Text.Imports.{ImportField, field_of, import_field, extern_type, read_import}
 use Rattle.wasmprinter_lexical.proofs.Grown.{onto-End}
 use Rattle.wasmprinter_lexical.proofs.Pieces.{Edge, Bound}
-use Rattle.wasmprinter_lexical.proofs.Writes.{Writes, is_open, both_write, nothing_writes, gap_writes, mark_writes, break_writes, quoted_writes, group_gap_writes}
+use Rattle.wasmprinter_lexical.proofs.Writes.{Writes, is_open, both_write, nothing_writes, gap_writes, mark_writes, break_writes, quoted_writes, line_group_gap_writes}
 use Rattle.wasmprinter_reading.specs.Listed.{IsSignatureInRange, AreSignaturesInRange}
 use Rattle.wasmprinter_reading.proofs.Numbered.{rows}
 use Rattle.wasmprinter_reading.proofs.Ranged.{IsRangedExtern, IsRangedImport}
@@ -96,11 +96,11 @@ module _ (ts : List SubType) (s : AreSignaturesInRange (signature_at ts)) where
   extern_writes : {a : Edge} (n : ℕ) (t : ExternType) → is_open a ≡ true → n < 2 ^ 64 → IsRangedExtern t →
       Writes a (extern_pieces ts n t) Bound (Group (Word (extern_word t) (extern_items ts t)) End)
   unfolding extern_pieces class
-  extern_writes n (FuncExtern i) e small h = group_gap_writes 2 (codes "func") _ e refl (header_alone_writes (signature_at ts i) n i small (s i) h)
-  extern_writes n (TableExtern t) e small h = group_gap_writes 2 (codes "table") _ e refl (mark_writes refl small (gap_writes refl (table_type_writes t h)))
-  extern_writes n (MemoryExtern t) e small h = group_gap_writes 2 (codes "memory") _ e refl (mark_writes refl small (gap_writes refl (memory_type_writes t h)))
-  extern_writes n (GlobalExtern t) e small h = group_gap_writes 2 (codes "global") _ e refl (mark_writes refl small (gap_writes refl (global_type_writes t h)))
-  extern_writes n (TagExtern i) e small h = group_gap_writes 2 (codes "tag") _ e refl (header_alone_writes (signature_at ts i) n i small (s i) h)
+  extern_writes n (FuncExtern i) e small h = line_group_gap_writes (codes "func") _ e refl (header_alone_writes (signature_at ts i) n i small (s i) h)
+  extern_writes n (TableExtern t) e small h = line_group_gap_writes (codes "table") _ e refl (mark_writes refl small (gap_writes refl (table_type_writes t h)))
+  extern_writes n (MemoryExtern t) e small h = line_group_gap_writes (codes "memory") _ e refl (mark_writes refl small (gap_writes refl (memory_type_writes t h)))
+  extern_writes n (GlobalExtern t) e small h = line_group_gap_writes (codes "global") _ e refl (mark_writes refl small (gap_writes refl (global_type_writes t h)))
+  extern_writes n (TagExtern i) e small h = line_group_gap_writes (codes "tag") _ e refl (header_alone_writes (signature_at ts i) n i small (s i) h)
 
   import_writes : (n : ℕ) (i : Placed Import) → n < 2 ^ 64 → IsRangedImport i.value →
       Writes Bound (import_pieces ts n i) Bound (Group (Word (codes "import") (import_items ts i.value)) End)
@@ -111,7 +111,7 @@ module _ (ts : List SubType) (s : AreSignaturesInRange (signature_at ts)) where
       let name : scalars (chars i.value.name) ≡ true = scalars-chars i.value.name h.name in
       let written : Writes Bound (import_pieces ts n i) Bound
       (Group (Word (codes "import") (String (encode_utf8_all (chars i.value.source)) (String (encode_utf8_all (chars i.value.name)) inner))) End) =
-      break_writes (group_gap_writes 1 (codes "import") _ refl refl
+      break_writes (line_group_gap_writes (codes "import") _ refl refl
       (quoted_writes source (gap_writes refl (quoted_writes name (gap_writes refl (extern_writes n i.value.type refl small h.type)))))) in
       rw (encodes-chars i.value.source h.source, encodes-chars i.value.name h.name) at written
 

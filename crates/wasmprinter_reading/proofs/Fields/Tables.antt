@@ -19,7 +19,7 @@ use Rattle.wasmprinter_spec.specs.Text.Types.{ref_named, ref_group}
 use Rattle.wasmprinter_spec.specs.Text.Tables.{table_type, init, read_table}
 use Rattle.wasmprinter_lexical.proofs.Grown.{onto_assoc}
 use Rattle.wasmprinter_lexical.proofs.Pieces.{Edge, Free, Bound}
-use Rattle.wasmprinter_lexical.proofs.Writes.{Writes, is_open, both_write, nothing_writes, gap_writes, mark_writes, break_writes, group_gap_writes}
+use Rattle.wasmprinter_lexical.proofs.Writes.{Writes, is_open, both_write, nothing_writes, gap_writes, mark_writes, break_writes, line_group_gap_writes}
 use Rattle.wasmprinter_reading.specs.Listed.{AreSignaturesInRange}
 use Rattle.wasmprinter_reading.specs.OperatorLaws.{HaveSameTypes}
 use Rattle.wasmprinter_reading.proofs.Items.{leading_item-reads}
@@ -65,7 +65,7 @@ module _ (ts : List SubType) (s : AreSignaturesInRange (signature_at ts)) where
       Writes Bound (table_pieces ts i t) Bound (Group (Word (codes "table") (table_items ts (table_without_places t.value))) End)
   unfolding table_pieces class
   table_writes i t small h =
-      break_writes (group_gap_writes 1 (codes "table") _ refl refl (numbered_table_writes i t.value.type refl small h.type (init_writes t.value.init h.init)))
+      break_writes (line_group_gap_writes (codes "table") _ refl refl (numbered_table_writes i t.value.type refl small h.type (init_writes t.value.init h.init)))
 
 -- ---- they read back
 

@@ -5,7 +5,7 @@ use Rattle.wasmprinter_spec.specs.Types.{SubType}
 use Rattle.wasmprinter_spec.specs.Operator.{Operator}
 use Rattle.wasmprinter_spec.specs.Placed.{DataMode, PassiveData, ActiveData, Data}
 use Rattle.wasmprinter_spec.specs.Piece.{Piece, Break, Gap, Word, Number, Mark, QuotedBytes}
-use Rattle.wasmprinter_spec.specs.Layout.Groups.{group_gap, line_group_gap}
+use Rattle.wasmprinter_spec.specs.Layout.Groups.{line_group_gap}
 use Rattle.wasmprinter_spec.specs.Layout.Expressions.{constant_group}
 
 -- memory 0 is left out
@@ -22,4 +22,4 @@ shown_bytes false bs = QuotedBytes bs ∷ []
 
 unfoldable pub data_pieces : Bool → List SubType → ℕ → Placed (Data (Placed Operator)) → List Piece
 data_pieces skeleton ts i d =
-    Break (Some d.place) 1 ∷ group_gap 1 (codes "data") (Mark i ∷ (Gap ∷ (data_mode_pieces ts d.value.mode ++ shown_bytes skeleton d.value.bytes)))
+    Break (Some d.place) 1 ∷ line_group_gap (codes "data") (Mark i ∷ (Gap ∷ (data_mode_pieces ts d.value.mode ++ shown_bytes skeleton d.value.bytes)))

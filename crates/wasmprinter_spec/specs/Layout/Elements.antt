@@ -5,7 +5,7 @@ use Rattle.wasmprinter_spec.specs.Types.{SubType}
 use Rattle.wasmprinter_spec.specs.Operator.{Operator}
 use Rattle.wasmprinter_spec.specs.Placed.{Mode, Passive, Declared, Active, Items, Functions, Expressions, ElementEntry}
 use Rattle.wasmprinter_spec.specs.Piece.{Piece, Break, Gap, Word, Number, Mark}
-use Rattle.wasmprinter_spec.specs.Layout.Groups.{group_gap, line_group_gap}
+use Rattle.wasmprinter_spec.specs.Layout.Groups.{line_group_gap}
 use Rattle.wasmprinter_spec.specs.Layout.Types.{ref_pieces}
 use Rattle.wasmprinter_spec.specs.Layout.Expressions.{constant_group}
 
@@ -38,4 +38,4 @@ shown_items false ts items = items_pieces ts items
 unfoldable pub element_pieces : Bool → List SubType → ℕ → Placed ElementEntry → List Piece
 element_pieces skeleton ts i e =
     Break (Some e.place) 1
-    ∷ group_gap 1 (codes "elem") (Mark i ∷ (mode_pieces ts e.value.names_table e.value.element.mode ++ (Gap ∷ shown_items skeleton ts e.value.element.items)))
+    ∷ line_group_gap (codes "elem") (Mark i ∷ (mode_pieces ts e.value.names_table e.value.element.mode ++ (Gap ∷ shown_items skeleton ts e.value.element.items)))

@@ -4,7 +4,7 @@ use Rattle.wasmprinter_spec.specs.Grammar.{Placed}
 use Rattle.wasmprinter_spec.specs.Types.{ExternKind, FuncKind, TableKind, MemoryKind, GlobalKind, TagKind}
 use Rattle.wasmprinter_spec.specs.Placed.{Export}
 use Rattle.wasmprinter_spec.specs.Piece.{Piece, Break, Gap, Word, Number, Quoted}
-use Rattle.wasmprinter_spec.specs.Layout.Groups.{group_gap}
+use Rattle.wasmprinter_spec.specs.Layout.Groups.{line_group_gap}
 
 unfoldable pub kind_word : ExternKind → List ℕ
 kind_word FuncKind = codes "func"
@@ -20,4 +20,4 @@ extern_index_pieces kind n = Number n ∷ []
 unfoldable pub export_pieces : Placed Export → List Piece
 export_pieces e =
     Break (Some e.place) 1
-    ∷ group_gap 1 (codes "export") (Quoted (chars e.value.name) ∷ (Gap ∷ group_gap 2 (kind_word e.value.kind) (extern_index_pieces e.value.kind e.value.index)))
+    ∷ line_group_gap (codes "export") (Quoted (chars e.value.name) ∷ (Gap ∷ line_group_gap (kind_word e.value.kind) (extern_index_pieces e.value.kind e.value.index)))

@@ -8,7 +8,7 @@ use Rattle.wasmprinter_spec.specs.Placed.{LocalEntry, PlacedFunction}
 use Rattle.wasmprinter_spec.specs.Module.{locals_of}
 use Rattle.wasmprinter_spec.specs.Options.{Options}
 use Rattle.wasmprinter_spec.specs.Piece.{Piece, Break, Gap, Word, Number, Mark}
-use Rattle.wasmprinter_spec.specs.Layout.Groups.{group_gap, group_gap_at, line_group}
+use Rattle.wasmprinter_spec.specs.Layout.Groups.{line_group_gap, group_gap_at, line_group}
 use Rattle.wasmprinter_spec.specs.Layout.Types.{type_list, signature_pieces}
 use Rattle.wasmprinter_spec.specs.Layout.Operators.{OverLines, Setting, expression_pieces}
 
@@ -32,7 +32,7 @@ signature_if (Some t) = signature_pieces t
 
 -- a function's number, the index of its type, and its signature
 unfoldable pub header_pieces : ℕ → ℕ → Option FuncType → List Piece
-header_pieces i type_index t = Mark i ∷ (Gap ∷ (group_gap 2 (codes "type") (Number type_index ∷ []) ++ signature_if t))
+header_pieces i type_index t = Mark i ∷ (Gap ∷ (line_group_gap (codes "type") (Number type_index ∷ []) ++ signature_if t))
 
 -- the operators of a body, each on a line
 unfoldable pub body_pieces : List SubType → List (Placed Operator) → List Piece
@@ -40,7 +40,7 @@ body_pieces ts os = expression_pieces (record { form = OverLines; signature = si
 
 -- a function, whole or without its locals and operators
 unfoldable pub function_group : Bool → Bool → List SubType → Option FuncType → ℕ → PlacedFunction → List Piece
-function_group true offsets ts t i f = group_gap 1 (codes "func") (header_pieces i f.type_index t ++ (Gap ∷ (Word (codes "...") ∷ [])))
+function_group true offsets ts t i f = line_group_gap (codes "func") (header_pieces i f.type_index t ++ (Gap ∷ (Word (codes "...") ∷ [])))
 function_group false offsets ts t i f =
     group_gap_at offsets f.body.value.end 1 (codes "func")
     (header_pieces i f.type_index t ++ (local_pieces f.body.value.locals ++ body_pieces ts f.body.value.operators))

@@ -5,7 +5,7 @@ use Rattle.wasmprinter_spec.specs.Types.{SubType, ValType, GlobalType}
 use Rattle.wasmprinter_spec.specs.Operator.{Operator}
 use Rattle.wasmprinter_spec.specs.Placed.{Global}
 use Rattle.wasmprinter_spec.specs.Piece.{Piece, Break, Gap, OpenTypeGap, Shut, Mark}
-use Rattle.wasmprinter_spec.specs.Layout.Groups.{group_gap}
+use Rattle.wasmprinter_spec.specs.Layout.Groups.{line_group_gap}
 use Rattle.wasmprinter_spec.specs.Layout.Types.{val_pieces}
 use Rattle.wasmprinter_spec.specs.Layout.Expressions.{constant_pieces}
 
@@ -18,4 +18,4 @@ global_type_pieces t = mutable_pieces t.mutable t.type
 
 unfoldable pub global_pieces : List SubType → ℕ → Placed (Global (Placed Operator)) → List Piece
 global_pieces ts i g =
-    Break (Some g.place) 1 ∷ group_gap 1 (codes "global") (Mark i ∷ (Gap ∷ (global_type_pieces g.value.type ++ (Gap ∷ constant_pieces ts g.value.init))))
+    Break (Some g.place) 1 ∷ line_group_gap (codes "global") (Mark i ∷ (Gap ∷ (global_type_pieces g.value.type ++ (Gap ∷ constant_pieces ts g.value.init))))

@@ -4,7 +4,7 @@ use Rattle.wasmprinter_spec.specs.Grammar.{Placed}
 use Rattle.wasmprinter_spec.specs.Types.{SubType, signature_at, ExternType, FuncExtern, TableExtern, MemoryExtern, GlobalExtern, TagExtern}
 use Rattle.wasmprinter_spec.specs.Placed.{Import}
 use Rattle.wasmprinter_spec.specs.Piece.{Piece, Break, Gap, Quoted, Mark}
-use Rattle.wasmprinter_spec.specs.Layout.Groups.{group_gap}
+use Rattle.wasmprinter_spec.specs.Layout.Groups.{line_group_gap}
 use Rattle.wasmprinter_spec.specs.Layout.Functions.{header_pieces}
 use Rattle.wasmprinter_spec.specs.Layout.Tables.{table_type_pieces}
 use Rattle.wasmprinter_spec.specs.Layout.Memories.{memory_type_pieces}
@@ -36,16 +36,16 @@ numbers_behind (GlobalExtern t) n = record n { globals = n.globals + 1 }
 numbers_behind (TagExtern i) n = record n { tags = n.tags + 1 }
 
 unfoldable pub extern_pieces : List SubType → ℕ → ExternType → List Piece
-extern_pieces ts n (FuncExtern i) = group_gap 2 (codes "func") (header_pieces n i (signature_at ts i))
-extern_pieces ts n (TableExtern t) = group_gap 2 (codes "table") (Mark n ∷ (Gap ∷ table_type_pieces t))
-extern_pieces ts n (MemoryExtern t) = group_gap 2 (codes "memory") (Mark n ∷ (Gap ∷ memory_type_pieces t))
-extern_pieces ts n (GlobalExtern t) = group_gap 2 (codes "global") (Mark n ∷ (Gap ∷ global_type_pieces t))
-extern_pieces ts n (TagExtern i) = group_gap 2 (codes "tag") (header_pieces n i (signature_at ts i))
+extern_pieces ts n (FuncExtern i) = line_group_gap (codes "func") (header_pieces n i (signature_at ts i))
+extern_pieces ts n (TableExtern t) = line_group_gap (codes "table") (Mark n ∷ (Gap ∷ table_type_pieces t))
+extern_pieces ts n (MemoryExtern t) = line_group_gap (codes "memory") (Mark n ∷ (Gap ∷ memory_type_pieces t))
+extern_pieces ts n (GlobalExtern t) = line_group_gap (codes "global") (Mark n ∷ (Gap ∷ global_type_pieces t))
+extern_pieces ts n (TagExtern i) = line_group_gap (codes "tag") (header_pieces n i (signature_at ts i))
 
 unfoldable pub import_pieces : List SubType → ℕ → Placed Import → List Piece
 import_pieces ts n i =
     Break (Some i.place) 1
-    ∷ group_gap 1 (codes "import") (Quoted (chars i.value.source) ∷ (Gap ∷ (Quoted (chars i.value.name) ∷ (Gap ∷ extern_pieces ts n i.value.type))))
+    ∷ line_group_gap (codes "import") (Quoted (chars i.value.source) ∷ (Gap ∷ (Quoted (chars i.value.name) ∷ (Gap ∷ extern_pieces ts n i.value.type))))
 
 unfoldable pub imports_pieces : List SubType → Numbers → List (Placed Import) → List Piece
 imports_pieces ts n [] = []

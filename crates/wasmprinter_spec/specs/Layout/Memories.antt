@@ -4,7 +4,7 @@ use Rattle.std.specs.Fmt.{digits}
 use Rattle.wasmprinter_spec.specs.Grammar.{Placed}
 use Rattle.wasmprinter_spec.specs.Types.{MemoryType}
 use Rattle.wasmprinter_spec.specs.Piece.{Piece, Break, Gap, Word, GapTypeWord, Mark}
-use Rattle.wasmprinter_spec.specs.Layout.Groups.{group_gap, line_group_gap}
+use Rattle.wasmprinter_spec.specs.Layout.Groups.{line_group_gap}
 use Rattle.wasmprinter_spec.specs.Layout.Limits.{wide_pieces, limits_pieces}
 
 abbrev pub shared_pieces : Bool → List Piece
@@ -20,4 +20,4 @@ unfoldable pub memory_type_pieces : MemoryType → List Piece
 memory_type_pieces m = wide_pieces m.wide ++ (limits_pieces m.limits ++ (shared_pieces m.shared ++ page_pieces m.page))
 
 unfoldable pub memory_pieces : ℕ → Placed MemoryType → List Piece
-memory_pieces i m = Break (Some m.place) 1 ∷ group_gap 1 (codes "memory") (Mark i ∷ (Gap ∷ memory_type_pieces m.value))
+memory_pieces i m = Break (Some m.place) 1 ∷ line_group_gap (codes "memory") (Mark i ∷ (Gap ∷ memory_type_pieces m.value))

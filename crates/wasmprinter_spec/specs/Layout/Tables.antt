@@ -5,7 +5,7 @@ use Rattle.wasmprinter_spec.specs.Types.{SubType, TableType}
 use Rattle.wasmprinter_spec.specs.Operator.{Operator}
 use Rattle.wasmprinter_spec.specs.Placed.{Table}
 use Rattle.wasmprinter_spec.specs.Piece.{Piece, Break, Gap, Mark}
-use Rattle.wasmprinter_spec.specs.Layout.Groups.{group_gap}
+use Rattle.wasmprinter_spec.specs.Layout.Groups.{line_group_gap}
 use Rattle.wasmprinter_spec.specs.Layout.Limits.{wide_pieces, limits_pieces}
 use Rattle.wasmprinter_spec.specs.Layout.Types.{ref_pieces}
 use Rattle.wasmprinter_spec.specs.Layout.Expressions.{constant_pieces}
@@ -19,4 +19,4 @@ init_pieces ts (Some os) = Gap ∷ constant_pieces ts os
 
 unfoldable pub table_pieces : List SubType → ℕ → Placed (Table (Placed Operator)) → List Piece
 table_pieces ts i t =
-    Break (Some t.place) 1 ∷ group_gap 1 (codes "table") (Mark i ∷ (Gap ∷ (table_type_pieces t.value.type ++ init_pieces ts t.value.init)))
+    Break (Some t.place) 1 ∷ line_group_gap (codes "table") (Mark i ∷ (Gap ∷ (table_type_pieces t.value.type ++ init_pieces ts t.value.init)))
