@@ -19,37 +19,6 @@ use Rattle.wasmprinter_lines.proofs.Groups.{has_break-append, line-append, group
 use Rattle.wasmprinter_text.proofs.Signatures.{signature-line}
 use Rattle.wasmprinter_fields.specs.Parts.{types_of, memory_parts, header_parts, export_parts, outline_parts, definition_parts}
 
--- a group whose lines don't change
-in_line : (nesting : ℕ) (w : List ℕ) (ps : List Piece) → has_break ps ≡ false → group_gap nesting w ps ≡ line_group_gap w ps
-unfolding line_group_gap
-in_line nesting w ps e = group_gap-line nesting w ps e
-
--- ---- memories
-
-wide-line : (wide : Bool) → has_break (wide_pieces wide) ≡ false
-wide-line true = refl
-wide-line false = refl
-
-shared-line : (shared : Bool) → has_break (shared_pieces shared) ≡ false
-shared-line true = refl
-shared-line false = refl
-
-page-line : (page : Option ℕ) → has_break (page_pieces page) ≡ false
-unfolding line_group_gap
-page-line None = refl
-page-line (Some e) = refl
-
-memory_type-line : (m : MemoryType) → has_break (memory_type_pieces m) ≡ false
-unfolding memory_type_pieces limits_pieces
-memory_type-line m =
-    line-append (wide_pieces m.wide) (limits_pieces m.limits ++ (shared_pieces m.shared ++ page_pieces m.page)) (wide-line m.wide)
-    (line-append (shared_pieces m.shared) (page_pieces m.page) (shared-line m.shared) (page-line m.page))
-
--- a memory stands on one line
-pub memory-out : (i : ℕ) (m : Placed MemoryType) → memory_pieces i m ≡ Break (Some m.place) 1 ∷ line_group_gap (codes "memory") (memory_parts i m.value)
-unfolding memory_pieces
-memory-out i m = ap (λ ps. Break (Some m.place) 1 ∷ ps) (in_line 1 (codes "memory") (memory_parts i m.value) (memory_type-line m.value))
-
 -- ---- heads of tags and functions
 
 -- the two names of a signature
@@ -69,31 +38,6 @@ header-line ts i n =
     line-append (group_gap 2 (codes "type") (Number n ∷ [])) (signature_if (signature_at ts n)) (line-group_gap 2 (codes "type") (Number n ∷ []) refl)
     (signature_if-line (signature_at ts n))
 
--- a tag stands on one line
-pub tag-out : (ts : List SubType) (i : ℕ) (t : Placed ℕ) → tag_pieces ts i t ≡ Break (Some t.place) 1 ∷ line_group_gap (codes "tag") (header_parts ts i t.value)
-unfolding tag_pieces
-tag-out ts i t = ap (λ ps. Break (Some t.place) 1 ∷ ps) (in_line 1 (codes "tag") (header_parts ts i t.value) (header-line ts i t.value))
-
--- ---- exports
-
-extern-line : (k : ExternKind) (n : ℕ) → has_break (extern_index_pieces k n) ≡ false
-unfolding extern_index_pieces
-extern-line TagKind n = refl
-extern-line _ n = refl
-
--- an export stands on one line
-pub export-out : (e : Placed Export) → export_pieces e ≡ Break (Some e.place) 1 ∷ line_group_gap (codes "export") (export_parts e.value)
-unfolding export_pieces
-export-out e =
-    let k : ExternKind = e.value.kind in
-    let n : ℕ = e.value.index in
-    let given : List Piece = group_gap 2 (kind_word k) (extern_index_pieces k n) in
-    let short : has_break given ≡ false = line-group_gap 2 (kind_word k) (extern_index_pieces k n) (extern-line k n) in
-    let named : List Piece → List Piece = λ ps. Quoted (chars e.value.name) ∷ (Gap ∷ ps) in
-    ap (λ ps. Break (Some e.place) 1 ∷ ps)
-    (in_line 1 (codes "export") (named given) short
-    ∙ ap (λ ps. line_group_gap (codes "export") (named ps)) (in_line 2 (kind_word k) (extern_index_pieces k n) (extern-line k n)))
-
 -- ---- functions
 
 -- a function without its body stands on one line
@@ -101,8 +45,7 @@ outline-out : (offsets : Bool) (ts : List SubType) (i : ℕ) (f : PlacedFunction
     function_group true offsets ts (signature_at ts f.type_index) i f ≡ line_group_gap (codes "func") (outline_parts ts i f)
 unfolding function_group
 outline-out offsets ts i f =
-    in_line 1 (codes "func") (outline_parts ts i f)
-    (line-append (header_parts ts i f.type_index) (Gap ∷ (Word (codes "...") ∷ [])) (header-line ts i f.type_index) refl)
+    refl
 
 definition-out : (offsets : Bool) (ts : List SubType) (i : ℕ) (f : PlacedFunction) →
     function_group false offsets ts (signature_at ts f.type_index) i f ≡ group_gap_at offsets f.body.value.end 1 (codes "func") (definition_parts ts i f)

@@ -68,7 +68,7 @@ fn write_export_group<P: Print>(p: &mut P, export: &Export<'_>) -> io::Result<()
 }
 
 impl<'a> Field for Export<'a> {
-    ghost pieces = { λ ts i e. export_pieces e };
+    ghost pieces = { λ o ts i e. export_pieces e };
 
     fn write<P: Print>(
         &self,

@@ -3,31 +3,21 @@
 ghost use Rattle.std.specs.Prelude.{◌<◌, codes};
 ghost use Rattle.wasmprinter_spec.specs.Options.{Options};
 ghost use Rattle.wasmprinter_spec.specs.Layout.Groups.{line_group_gap};
-ghost use Rattle.wasmprinter_spec.specs.Layout.Memories.{wide_pieces, shared_pieces, page_pieces, memory_type_pieces, memory_pieces};
+ghost use Rattle.wasmprinter_spec.specs.Layout.Memories.{shared_pieces, page_pieces, memory_type_pieces, memory_pieces};
 ghost use Rattle.wasmprinter_print.specs.Prints.{Prints};
 ghost use Rattle.wasmprinter_wasm.specs.Externs.{memory_type_view, IsPage};
 ghost use Rattle.wasmprinter_fields.specs.Parts.{page_parts, memory_parts};
 
 use crate::fields::{FIELD_NESTING, Field};
+use crate::limits::write_sizes;
 use std::io;
 use wasmprinter_lines::lines::break_line;
 use wasmprinter_lines::options::PrintOptions;
 use wasmprinter_print::Print;
 use wasmprinter_wasm::{Memory, MemoryType, Module};
-use wasmprinter_words::limits::{page_size, write_limits};
+use wasmprinter_words::limits::page_size;
 use wasmprinter_words::numbers::mark;
-use wasmprinter_words::words::{gap, gap_type_word, open_gap, shut, type_word_gap};
-
-/// Writes that addresses have 64 bits, if they have.
-fn write_wide<P: Print>(p: &mut P, wide: bool) -> io::Result<()>
-    ensures { (o : Options) → Prints P.meaning o p.old p.new result (wide_pieces wide) }
-{
-    if wide {
-        type_word_gap(p, "i64")
-    } else {
-        Ok(())
-    }
-}
+use wasmprinter_words::words::{gap, gap_type_word, open_gap, shut};
 
 /// Writes that threads may share a memory, if they may.
 fn write_shared<P: Print>(p: &mut P, shared: bool) -> io::Result<()>
@@ -73,15 +63,14 @@ fn write_memory_type<P: Print>(p: &mut P, memory_type: MemoryType) -> io::Result
     ensures { (o : Options) → Prints P.meaning o p.old p.new result
         (memory_type_pieces (memory_type_view memory_type)) }
 {
-    write_wide(p, memory_type.wide)?;
-    write_limits(p, memory_type.limits.min, memory_type.limits.max)?;
+    write_sizes(p, memory_type.wide, memory_type.limits)?;
     write_shared(p, memory_type.shared)?;
     write_page(p, memory_type.page)
 }
 
 /// Writes a memory with its number, as a group.
 #[tactic(auto, unfolding(wasmprinter_spec::specs::Layout::Groups::line_group_gap))]
-fn write_memory_group<P: Print>(p: &mut P, number: u64, memory_type: MemoryType) -> io::Result<()>
+pub(crate) fn write_memory_group<P: Print>(p: &mut P, number: u64, memory_type: MemoryType) -> io::Result<()>
     requires { IsPage memory_type.page }
     ensures { (o : Options) → Prints P.meaning o p.old p.new result
         (line_group_gap (codes "memory") (memory_parts number (memory_type_view memory_type))) }
@@ -94,7 +83,7 @@ fn write_memory_group<P: Print>(p: &mut P, number: u64, memory_type: MemoryType)
 }
 
 impl Field for Memory {
-    ghost pieces = { λ ts i m. memory_pieces i m };
+    ghost pieces = { λ o ts i m. memory_pieces i m };
 
     fn write<P: Print>(
         &self,
