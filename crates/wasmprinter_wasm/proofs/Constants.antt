@@ -1,6 +1,5 @@
 -- Expressions without the places of their ends.
-use Rattle.std.proofs.Common.{◌≡◌, ℕ, zero, suc, List, [], ◌∷◌, Option, Some, None, refl, ap, ◌∙◌}
-use Rattle.std.specs.Prelude.{map}
+use Rattle.std.proofs.Common.{◌≡◌, ℕ, zero, suc, List, ◌∷◌, Option, Some, None, refl, ap, ◌∙◌}
 use Rattle.wasmprinter_spec.specs.Grammar.{Input, Placed, ◌>>=◌}
 use Rattle.wasmprinter_spec.specs.Name.{u32, vec}
 use Rattle.wasmprinter_spec.specs.Repeated.{items_at}

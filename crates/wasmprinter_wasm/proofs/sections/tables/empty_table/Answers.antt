@@ -1,4 +1,4 @@
-use Rattle.std.proofs.Common.{◌≡◌, ℕ, refl, sym, subst}
+use Rattle.std.proofs.Common.{ℕ, refl, sym, subst}
 use Rattle.wasmprinter_wasm.specs.Refusals.{AnyIsEmpty}
 use Rattle.wasmprinter_wasm.proofs.Emptied.{found_more, found_here, found_none}
 use Rattle.wasmprinter_wasm.proofs.sections.tables.empty_table.Goals as goal
