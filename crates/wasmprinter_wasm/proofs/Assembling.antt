@@ -26,12 +26,13 @@ use Rattle.wasmprinter_error.proofs.Reasons.{reason_implied, memory_alone}
 use Rattle.wasmprinter_wasm.specs.Refusals.{AnyIsOver, PlacedTable, AnyIsEmpty}
 use Rattle.wasmprinter_wasm.specs.Contents.{HasFew, HasNoEmpty}
 use Rattle.wasmprinter_wasm.specs.Gathering.{Gathered, IsWhole, sections_at, item_count_in, HoldsSections, sections_reasons}
-use Rattle.wasmprinter_wasm.specs.Modules.{functions_of, bodies_of, IsPaired}
+use Rattle.wasmprinter_wasm.specs.Modules.{functions_of, bodies_of, IsPaired, HasFewItems}
 use Rattle.wasmprinter_wasm.specs.Decoding.{HoldsSome, HoldsNothing, module_reasons, IsFaultOf, TakesModule}
 use Rattle.wasmprinter_wasm.proofs.Later.{Later, later_none, later_more, many_later, empty_later, section_later, items_later}
 use Rattle.wasmprinter_wasm.proofs.Emptied.{not_empty}
 use Rattle.wasmprinter_wasm.proofs.Pairing.{Paired, Pairs, paired_of, paired_length, pairs_of}
 use Rattle.wasmprinter_wasm.proofs.Held.{HoldsFew, few_held}
+use Rattle.wasmprinter_wasm.proofs.Listed.{bytes_apart, sections_listed, items_held}
 
 -- what the bytes of a module are: a preamble, and sections in order with as many type indices as bodies, and as many data segments as are counted
 record Spelled (at : Input) (m : PlacedModule) (size : ℕ) : Type 0 where
@@ -171,9 +172,12 @@ module _ (bytes pre : List ℕ) (at : Input) (first : preamble.parse (input 0 by
 
     -- and the numbers of type indices and bodies are the same, and the data count is right
     module _ (whole : IsWhole g) where
-      -- so they can be paired
-      pub paired_few : IsPaired g.type_indices g.bodies
-      paired_few = record { same = whole.paired; few = few.functions }
+      -- so they can be paired, and of bytes are read no more items than their counts can say
+      pub module_kept : AreBytes bytes → IsPaired g.type_indices g.bodies × HasFewItems g.imports g.tables g.memories g.tags g.globals
+      module_kept all =
+          let s = preamble.sound (input 0 bytes) (pre, at) first in
+          let rest : AreBytes at.bytes = (bytes_apart s.text at.bytes (subst AreBytes s.parts all)).1 in
+          (record { same = whole.paired; few = few.functions }, items_held g h.sections (sections_listed at h.sections h.read rest) h.held)
 
       -- the module that is put together
       abbrev seen : PlacedModule

@@ -1,6 +1,5 @@
 -- Expressions without the places of their ends.
-use Rattle.std.proofs.Common.{◌≡◌, ℕ, zero, suc, List, [], ◌∷◌, Option, Some, None, refl, ap, ◌∙◌}
-use Rattle.std.specs.Prelude.{map}
+use Rattle.std.proofs.Common.{◌≡◌, ℕ, zero, suc, List, ◌∷◌, Option, Some, None, refl, ap, ◌∙◌}
 use Rattle.wasmprinter_spec.specs.Grammar.{Input, Placed, ◌>>=◌}
 use Rattle.wasmprinter_spec.specs.Name.{u32, vec}
 use Rattle.wasmprinter_spec.specs.Repeated.{items_at}
@@ -24,9 +23,13 @@ front : (e : Code) (r : Option (List Code × Input)) → (constants_read r >>= �
 front e None = refl
 front e (Some b) = refl
 
+-- the constant that was read
+abbrev constant_read : Option (Code × Input) → Option (Constant × Input)
+constant_read r = r >>= λ a. Some (constant_of a.0, a.1)
+
 -- the first, and those behind it
 next : (n : ℕ) (r : Option (Code × Input)) → ((at : Input) → items_at constant.parse n at ≡ constants_read (items_at expression.parse n at))
-    → ((r >>= λ a. Some (constant_of a.0, a.1)) >>= λ a. items_at constant.parse n a.1 >>= λ b. Some (a.0 ∷ b.0, b.1))
+    → (constant_read r >>= λ a. items_at constant.parse n a.1 >>= λ b. Some (a.0 ∷ b.0, b.1))
     ≡ constants_read (r >>= λ a. items_at expression.parse n a.1 >>= λ b. Some (a.0 ∷ b.0, b.1))
 next n None h = refl
 next n (Some x) h = rw (h x.1) (front x.0 (items_at expression.parse n x.1))
@@ -36,15 +39,22 @@ items_read : (n : ℕ) (at : Input) → items_at constant.parse n at ≡ constan
 items_read zero at = refl
 items_read (suc n) at = next n (expression.parse at) (items_read n)
 
+-- a count in front of items
+abbrev with_count : {A : Type 0} → ℕ → Option (List A × Input) → Option ((ℕ × List A) × Input)
+with_count n r = r >>= λ xs. Some ((n, xs.0), xs.1)
+
+-- the items alone
+abbrev uncounted : {A : Type 0} → Option ((ℕ × List A) × Input) → Option (List A × Input)
+uncounted r = r >>= λ x. Some (x.0.1, x.1)
+
 -- behind a count
-counted : (n : ℕ) (r : Option (List Code × Input)) → ((constants_read r >>= λ xs. Some ((n, xs.0), xs.1)) >>= λ x. Some (x.0.1, x.1))
-    ≡ constants_read ((r >>= λ xs. Some ((n, xs.0), xs.1)) >>= λ x. Some (x.0.1, x.1))
+counted : (n : ℕ) (r : Option (List Code × Input)) → uncounted (with_count n (constants_read r)) ≡ constants_read (uncounted (with_count n r))
 counted n None = refl
 counted n (Some x) = refl
 
 -- from the count on
-from_count : (r : Option (ℕ × Input)) → ((r >>= λ n. items_at constant.parse n.0 n.1 >>= λ xs. Some ((n.0, xs.0), xs.1)) >>= λ x. Some (x.0.1, x.1))
-    ≡ constants_read ((r >>= λ n. items_at expression.parse n.0 n.1 >>= λ xs. Some ((n.0, xs.0), xs.1)) >>= λ x. Some (x.0.1, x.1))
+from_count : (r : Option (ℕ × Input)) → uncounted {A = Constant} (r >>= λ n. with_count n.0 (items_at constant.parse n.0 n.1))
+    ≡ constants_read (uncounted {A = Code} (r >>= λ n. with_count n.0 (items_at expression.parse n.0 n.1)))
 from_count None = refl
 from_count (Some n) = rw (items_read n.0 n.1) (counted n.0 (items_at expression.parse n.0 n.1))
 

@@ -1,5 +1,5 @@
 -- Element segments behind their flags.
-use Rattle.std.proofs.Common.{◌≡◌, ℕ, zero, suc, ◌<◌, ◌≤◌, Option, Some, None, refl, ◌∙◌, arith}
+use Rattle.std.proofs.Common.{◌≡◌, ℕ, zero, suc, ◌<◌, ◌≤◌, Some, None, refl, ◌∙◌, arith}
 use Rattle.std.proofs.lemmas.Bool.{ne_eqb}
 use Rattle.wasmprinter_spec.specs.Grammar.{Input, Placed, placed}
 use Rattle.wasmprinter_spec.specs.Name.{u32}

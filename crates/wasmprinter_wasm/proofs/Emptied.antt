@@ -1,11 +1,9 @@
 -- Tables with an initialiser without operators.
-use Rattle.std.proofs.Common.{◌≡◌, ℕ, ◌+◌, ◌<◌, ◌≤◌, get_or, drop, List, [], ◌∷◌, ◌++◌, length, Option, Some, None, refl, sym, ap, subst, ◌∙◌, ◌⊎◌, inl, inr, arith, append_assoc, length-append}
+use Rattle.std.proofs.Common.{◌≡◌, ℕ, ◌+◌, ◌<◌, ◌≤◌, get_or, drop, List, [], ◌∷◌, ◌++◌, length, Option, Some, None, refl, sym, ap, subst, ◌∙◌, inl, inr, arith, append_assoc, length-append}
 use Rattle.std.proofs.Math.ListN.{drop_of_length-le}
 use Rattle.std.proofs.lemmas.List.{at_drop_more}
-use Rattle.std.specs.List.{AllByRecursion}
-use Rattle.wasmprinter_spec.specs.Grammar.{Input, Grammar, some_is, Placed, placed}
+use Rattle.wasmprinter_spec.specs.Grammar.{Input, some_is, Placed, placed}
 use Rattle.wasmprinter_spec.specs.Repeated.{Items}
-use Rattle.wasmprinter_spec.specs.Sized.{alone}
 use Rattle.wasmprinter_spec.specs.Name.{vec}
 use Rattle.wasmprinter_spec.specs.Sections.{TableSection}
 use Rattle.wasmprinter_spec.specs.Operator.{Operator}
@@ -13,7 +11,7 @@ use Rattle.wasmprinter_spec.specs.Placed.{Table, table_of}
 use Rattle.wasmprinter_spec.specs.Binary.Tables.{table}
 use Rattle.wasmprinter_spec.specs.Limits.{HasNoEmptyInit}
 use Rattle.wasmprinter_wasm.specs.Refusals.{HasEmptyInit, PlacedTable, IsEmptyInit, IsEmpty, AnyIsEmpty}
-use Rattle.wasmprinter_wasm.specs.Contents.{HasNoEmpty, FindsEmpty, content_reasons}
+use Rattle.wasmprinter_wasm.specs.Contents.{FindsEmpty, content_reasons}
 use Rattle.wasmprinter_wasm.proofs.Parts.{alone_some}
 
 -- what is among some of the bytes is among all of them

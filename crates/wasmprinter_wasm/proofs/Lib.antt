@@ -12,6 +12,7 @@ pub mod GroupPlaces
 pub mod Flattening
 pub mod Until
 pub mod Held
+pub mod Listed
 pub mod Gathering
 pub mod Assembling
 pub mod Constants

@@ -1,6 +1,6 @@
 -- Why a module that is not malformed may be refused: a function has more locals than are allowed, there are more functions, a table has an
 -- initialiser without operators, or a growth was refused, which comes only where something is to be kept.
-use Rattle.std.specs.Prelude.{◌≡◌, ℕ, ◌+◌, ◌<◌, ◌⊎◌, List, [], ◌∷◌, ◌++◌, length, Option, Some, None}
+use Rattle.std.specs.Prelude.{◌≡◌, ℕ, ◌+◌, ◌<◌, ◌⊎◌, List, [], ◌∷◌, ◌++◌, length, Option, Some}
 use Rattle.wasmprinter_spec.specs.Grammar.{Input, Placed, placed}
 use Rattle.wasmprinter_spec.specs.Name.{u32, vec}
 use Rattle.wasmprinter_spec.specs.Types.{TableType}

@@ -1,5 +1,5 @@
 -- What holds expressions in the program, and in the definitions; and how element segments are spelled behind their flags, mode and items apart.
-use Rattle.std.specs.Prelude.{ℕ, List, map, Bool, ◌==◌, ◌||◌, Option, Some, None}
+use Rattle.std.specs.Prelude.{ℕ, List, map, Bool, true, ◌==◌, ◌||◌, Option, Some, None}
 use Rattle.std.specs.Borrow.{Bor}
 use Rattle.wasmprinter_spec.specs.Grammar.{Grammar, Placed, succeed, choose}
 use Rattle.wasmprinter_spec.specs.Types.{ref_type, Func}

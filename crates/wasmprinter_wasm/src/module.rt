@@ -35,7 +35,7 @@ pub struct Module<'a> {
 
 impl<'a> Model for Module<'a> {
     ghost use Rattle.wasmprinter_spec.specs.Placed.{PlacedModule};
-    ghost use Rattle.wasmprinter_wasm.specs.Modules.{functions_of, IsPaired};
+    ghost use Rattle.wasmprinter_wasm.specs.Modules.{functions_of, IsPaired, HasFewItems};
 
     ghost Value = { PlacedModule };
 
@@ -54,7 +54,7 @@ impl<'a> Model for Module<'a> {
       size = m.size;
     } };
 
-    ghost invariant = { λ m. IsPaired m.type_indices.items m.bodies.items };
+    ghost invariant = { λ m. IsPaired m.type_indices.items m.bodies.items × HasFewItems m.imports.items m.tables.items m.memories.items m.tags.items m.globals.items };
 }
 
 impl<'a> Module<'a> {

@@ -1,5 +1,5 @@
 //! What a decoded module holds, for those that print it.
-ghost use Rattle.std.specs.Prelude.{◌≡◌, ◌<◌, ◌^◌, length, Some, slice_get};
+ghost use Rattle.std.specs.Prelude.{◌≡◌, ◌<◌, ◌≤◌, ◌^◌, length, Some, slice_get};
 ghost use Rattle.wasmprinter_spec.specs.Types.{all_types, signature_at};
 ghost use Rattle.wasmprinter_spec.specs.Module.{groups_of};
 ghost use Rattle.wasmprinter_wasm.specs.Externs.{kind_view, imported_count};
@@ -70,14 +70,16 @@ impl<'a> Module<'a> {
 
     /// The imports.
     pub fn imports(&self) -> &[Import<'a>]
-        ensures { result.now ≡ self.now.imports }
+        ensures all { result.now ≡ self.now.imports }
+        ensures few { length self.now.imports < 2 ^ 32 }
     {
         &self.imports
     }
 
     /// How many imports are of the kind. It takes time in proportion to the number of imports.
-    pub fn imported_count(&self, kind: ExternKind) -> usize
-        ensures { result ≡ imported_count (kind_view kind) self.now.imports }
+    pub fn imported_count(&self, kind: ExternKind) -> u64
+        ensures is { result ≡ imported_count (kind_view kind) self.now.imports }
+        ensures few { result ≤ length self.now.imports }
     {
         let mut count = 0;
         for import in self.imports() {
@@ -90,28 +92,32 @@ impl<'a> Module<'a> {
 
     /// The tables that the module defines.
     pub fn tables(&self) -> &[Table<'a>]
-        ensures { result.now ≡ self.now.tables }
+        ensures all { result.now ≡ self.now.tables }
+        ensures few { length self.now.tables < 2 ^ 32 }
     {
         &self.tables
     }
 
     /// The memories that the module defines.
     pub fn memories(&self) -> &[Memory]
-        ensures { result.now ≡ self.now.memories }
+        ensures all { result.now ≡ self.now.memories }
+        ensures few { length self.now.memories < 2 ^ 32 }
     {
         &self.memories
     }
 
     /// The tags that the module defines.
     pub fn tags(&self) -> &[Tag]
-        ensures { result.now ≡ self.now.tags }
+        ensures all { result.now ≡ self.now.tags }
+        ensures few { length self.now.tags < 2 ^ 32 }
     {
         &self.tags
     }
 
     /// The global variables that the module defines.
     pub fn globals(&self) -> &[Global<'a>]
-        ensures { result.now ≡ self.now.globals }
+        ensures all { result.now ≡ self.now.globals }
+        ensures few { length self.now.globals < 2 ^ 32 }
     {
         &self.globals
     }

@@ -153,7 +153,7 @@ fn empty_table(tables: &[Table]) -> Option<u64>
 {
     for table in tables {
         if table.is_empty() {
-            return Some(table.place);
+            return Some(table.place());
         }
     }
     None

@@ -1,4 +1,4 @@
-use Rattle.std.proofs.Common.{◌≡◌, ◌<◌, ℕ, List, Option, length, get_or, Fits, w8, arith, sym, ap, subst, ◌∙◌}
+use Rattle.std.proofs.Common.{◌<◌, ℕ, List, Option, get_or, Fits, w8, arith, sym, ap, subst, ◌∙◌}
 use Rattle.std.proofs.lemmas.List.Elements.{All-from_get_or, recursion_from_All}
 use Rattle.std.proofs.lemmas.Result.{err_from_is_err_and}
 use Rattle.wasmprinter_spec.specs.Grammar.{Placed}
@@ -9,7 +9,7 @@ use Rattle.wasmprinter_spec.specs.Binary.{AreBytes, preamble, preamble_bytes}
 use Rattle.wasmprinter_bytes.specs.Reads.{end_of}
 use Rattle.wasmprinter_wasm.specs.Gathering.{Gathered, IsWhole, HoldsSections}
 use Rattle.wasmprinter_wasm.specs.Refusals.{PlacedTable}
-use Rattle.wasmprinter_wasm.proofs.Assembling.{module_fault, module_unpaired, paired_few, module_spelled, module_within}
+use Rattle.wasmprinter_wasm.proofs.Assembling.{module_fault, module_unpaired, module_kept, module_spelled, module_within}
 use Rattle.wasmprinter_wasm.proofs.decoder.read_module.Goals as goal
 
 are_bytes : (bytes : List ℕ) → ((i : ℕ) → Fits w8 (get_or bytes i 0)) → AreBytes bytes
@@ -66,7 +66,8 @@ invariant_of-result c =
     c.gathered.inside.exports.items c.gathered.inside.start c.gathered.inside.elements.items c.gathered.inside.data_count c.gathered.inside.bodies.items
     c.gathered.inside.datas.items in
     let h : HoldsSections c.read_preamble.new.cursor g = subst (HoldsSections c.read_preamble.new.cursor) (sym c.gathered.view_is) c.in_ok-gathered.ensures in
-    paired_few c.args.wasm.now preamble_bytes c.read_preamble.new.cursor first g h (subst IsWhole (sym c.gathered.view_is) (c.is_whole.ensures.0 c.if-not-is_whole.false))
+    let whole : IsWhole g = subst IsWhole (sym c.gathered.view_is) (c.is_whole.ensures.0 c.if-not-is_whole.false) in
+    module_kept c.args.wasm.now preamble_bytes c.read_preamble.new.cursor first g h whole (are_bytes c.args.wasm.now c.type_inv.wasm)
 
 pub returns : goal.returns
 returns c =

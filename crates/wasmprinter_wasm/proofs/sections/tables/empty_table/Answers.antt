@@ -1,4 +1,5 @@
-use Rattle.std.proofs.Common.{◌≡◌, refl}
+use Rattle.std.proofs.Common.{ℕ, refl, sym, subst}
+use Rattle.wasmprinter_wasm.specs.Refusals.{AnyIsEmpty}
 use Rattle.wasmprinter_wasm.proofs.Emptied.{found_more, found_here, found_none}
 use Rattle.wasmprinter_wasm.proofs.sections.tables.empty_table.Goals as goal
 
@@ -12,8 +13,9 @@ loop-table-preserved c =
 
 pub returns-then-is_empty : goal.returns-then-is_empty
 returns-then-is_empty c =
-    found_here c.args.tables.now c.loop-table.table-index c.table-item.result c.table-item.result c.loop-table-test.true c.table-item.is
-    (c.if-is_empty.ensures.0 refl) c.loop-table.invariant
+    subst (λ (place : ℕ). AnyIsEmpty place c.args.tables.now) (sym c.place.ensures)
+    (found_here c.args.tables.now c.loop-table.table-index c.table-item.result c.table-item.result c.loop-table-test.true c.table-item.is
+    (c.if-is_empty.ensures.0 refl) c.loop-table.invariant)
 
 pub returns : goal.returns
 returns c = found_none c.args.tables.now c.loop-table.table-index c.loop-table-test.false c.loop-table.invariant

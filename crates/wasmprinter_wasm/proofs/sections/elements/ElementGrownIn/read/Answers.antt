@@ -1,4 +1,4 @@
-use Rattle.std.proofs.Common.{◌≡◌, None, arith, ◌∙◌}
+use Rattle.std.proofs.Common.{◌≡◌, None, refl, arith, ◌∙◌}
 use Rattle.std.proofs.lemmas.Result.{err_from_is_err_and}
 use Rattle.wasmprinter_spec.specs.Grammar.{placed}
 use Rattle.wasmprinter_spec.specs.Binary.Elements.{element}
@@ -26,3 +26,9 @@ returns-in_err-items-clause-reads c =
     (part_fault ((items_by c.in_ok-flags.flags).parse c.read.new.cursor ≡ None) (Unit {0}) ((placed element).parse c.args.cursor.now ≡ None) (Unit {0}) c.read.new.cursor c.args.cursor.now
     (element_no_items c.args.cursor.now c.u32.new.self c.in_ok-flags.flags c.in_ok-flags.ensures.reads (omega arith) c.read.new.cursor (mode_view c.in_ok-mode.mode) c.in_ok-mode.ensures.reads)
     (λ more. more) (c.in_ok-mode.ensures.end ∙ c.in_ok-flags.ensures.end) c.in_err-items.field-0.0 c.in_err-items.ensures.reads)
+
+pub returns-clause-reads : goal.returns-clause-reads
+returns-clause-reads c =
+    element_read c.args.cursor.now c.u32.new.self c.in_ok-flags.flags c.in_ok-flags.ensures.reads (omega arith) c.read.new.cursor (mode_view c.in_ok-mode.mode) c.in_ok-mode.ensures.reads
+    c.read-2.new.cursor (items_view c.in_ok-items.items) c.in_ok-items.ensures.reads
+    ∙ rw (c.place-place.ensures, c.announce_table.ensures) refl

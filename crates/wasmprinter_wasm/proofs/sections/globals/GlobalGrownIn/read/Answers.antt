@@ -1,4 +1,4 @@
-use Rattle.std.proofs.Common.{◌≡◌, Some, None, refl, arith}
+use Rattle.std.proofs.Common.{◌≡◌, None, refl}
 use Rattle.std.proofs.lemmas.Result.{err_from_is_err_and}
 use Rattle.wasmprinter_spec.specs.Grammar.{placed}
 use Rattle.wasmprinter_spec.specs.Instructions.{expression}
