@@ -74,7 +74,7 @@ pub fn write_heap_type<P: Print>(p: &mut P, heap: HeapType) -> io::Result<()>
 }
 
 /// Writes the type of references to a type by its index that may be null.
-#[tactic(auto, unfolding(wasmprinter_spec::specs::Layout::Types::null_ref_pieces, wasmprinter_spec::specs::Layout::Types::heap_pieces, wasmprinter_spec::specs::Layout::Groups::line_group))]
+#[tactic(auto, unfolding(wasmprinter_spec::specs::Layout::Types::null_ref_pieces, wasmprinter_spec::specs::Layout::Groups::line_group))]
 fn write_null_index<P: Print>(p: &mut P, index: u32) -> io::Result<()>
     ensures { (o : Options) → Prints P.meaning o p.old p.new result (null_ref_pieces (Index index)) }
 {
@@ -82,7 +82,7 @@ fn write_null_index<P: Print>(p: &mut P, index: u32) -> io::Result<()>
     gap(p)?;
     word(p, "null")?;
     gap(p)?;
-    number(p, u64::from(index))?;
+    write_heap_type(p, HeapType::Index(index))?;
     shut(p)
 }
 
