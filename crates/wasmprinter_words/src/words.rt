@@ -1,7 +1,8 @@
 //! Parentheses, blanks and words.
 ghost use Rattle.std.specs.Prelude.{[], ◌∷◌, ◌++◌};
 ghost use Rattle.wasmprinter_spec.specs.Options.{Options};
-ghost use Rattle.wasmprinter_spec.specs.Piece.{Gap, Open, OpenBare, OpenGap, OpenPlain, OpenTypeGap, Shut, Word, TypeWord, TypeWordGap, GapTypeWord, styled as in_style};
+ghost use Rattle.wasmprinter_spec.specs.Piece.{Gap, Open, OpenBare, OpenGap, OpenPlain, OpenTypeGap, Shut};
+ghost use Rattle.wasmprinter_spec.specs.Piece.{Word, TypeWord, TypeWordGap, GapTypeWord, styled as in_style};
 ghost use Rattle.wasmprinter_print.specs.Emits.{Emits};
 ghost use Rattle.wasmprinter_print.specs.Prints.{Prints};
 ghost use Rattle.wasmprinter_print.specs.Styles.{style_of};
