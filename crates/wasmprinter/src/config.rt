@@ -44,7 +44,8 @@ impl Config {
     ///
     /// # Errors
     ///
-    /// `Component`, `Malformed`, `TooManyLocals` and `TooManyFunctions` as `decode` answers them, `Component` before all others;
+    /// `Component`, `Malformed`, `TooManyLocals`, `TooManyFunctions` and `EmptyTableInit` as `decode` answers them, `Component`
+    /// before all others;
     /// `Printer` where a call on the printer failed, with that call's error; `Memory` where a growth was refused to the decoder. The
     /// printer took no call before an error other than `Printer`.
     pub fn print<P: Print>(&self, alloc: Global, wasm: &[u8], printer: &mut P) -> Result<(), Error>
