@@ -25,7 +25,7 @@ fn with_operators(alloc: Global, types: &[u8], operators: &[u8]) -> Result<Vec<u
 }
 
 /// The text of such a module with functions that have no parameters.
-pub fn text_of(alloc: Global, operators: &[u8]) -> Result<String, Error> {
+fn text_of(alloc: Global, operators: &[u8]) -> Result<String, Error> {
     let wasm = with_operators(alloc, &NO_PARAMS, operators)?;
     print_bytes(alloc, &wasm)
 }

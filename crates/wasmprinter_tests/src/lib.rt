@@ -17,13 +17,11 @@ mod example;
 #[cfg(test)]
 mod floats;
 #[cfg(test)]
+mod imports;
+#[cfg(test)]
 mod limits;
 #[cfg(test)]
 mod modules;
-#[cfg(test)]
-mod opcode_words;
-#[cfg(test)]
-mod opcodes;
 #[cfg(test)]
 mod passing;
 #[cfg(test)]
@@ -35,7 +33,11 @@ mod scripted;
 #[cfg(test)]
 mod sections;
 #[cfg(test)]
+mod segments;
+#[cfg(test)]
 mod strings;
+#[cfg(test)]
+mod tables;
 #[cfg(test)]
 mod texts;
 #[cfg(test)]

@@ -6,7 +6,7 @@ use std::test::Fail;
 use wasmprinter::{Error, print_bytes};
 
 /// The number of the type section.
-const TYPE: u8 = 1;
+pub const TYPE: u8 = 1;
 
 /// The number of the memory section.
 const MEMORY: u8 = 5;
@@ -18,13 +18,13 @@ const START: u8 = 8;
 const TAG: u8 = 13;
 
 /// Adds a section with this number and content, of which there are fewer than 100 bytes.
-fn add_section(wasm: &mut Vec<u8>, id: u8, content: &[u8]) -> Result<(), AllocError> {
+pub fn add_section(wasm: &mut Vec<u8>, id: u8, content: &[u8]) -> Result<(), AllocError> {
     wasm.extend_from_slice(&[id, content.len().min(100) as u8])?;
     wasm.extend_from_slice(content)
 }
 
 /// The text of a module with one section.
-fn text_of(alloc: Global, id: u8, content: &[u8]) -> Result<String, Error> {
+pub fn text_of(alloc: Global, id: u8, content: &[u8]) -> Result<String, Error> {
     let mut wasm = Vec::from_slice(alloc, &PREAMBLE)?;
     add_section(&mut wasm, id, content)?;
     print_bytes(alloc, &wasm)
