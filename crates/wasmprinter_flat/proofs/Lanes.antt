@@ -2,9 +2,9 @@
 use Rattle.std.specs.Prelude.{◌≡◌, ℕ, ◌/◌, ◌%◌, ◌<◌, List, [], ◌∷◌, ◌++◌, length, reverse, false, refl}
 use Rattle.std.specs.List.{push}
 use Rattle.std.specs.Fmt.{digit_glyph}
-use Rattle.std.proofs.Common.{sym, ap, ◌∙◌, arith}
+use Rattle.std.proofs.Common.{ap, ◌∙◌, arith}
 use Rattle.std.proofs.lemmas.List.{reverse-append}
-use Rattle.wasmprinter_spec.specs.Piece.{Piece, behind_blanks}
+use Rattle.wasmprinter_spec.specs.Piece.{behind_blanks}
 use Rattle.wasmprinter_spec.specs.Layout.Operators.{lane_pieces, lanes_pieces, hex_digits, hex_word, hex_words}
 
 -- the next lane, and the others

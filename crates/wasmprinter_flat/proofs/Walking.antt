@@ -10,7 +10,7 @@ use Rattle.wasmprinter_spec.specs.Labels.{Label, labels_after, count_after, outs
 use Rattle.wasmprinter_spec.specs.Options.{Options}
 use Rattle.wasmprinter_spec.specs.Piece.{Word}
 use Rattle.wasmprinter_spec.specs.Meaning.{Meaning}
-use Rattle.wasmprinter_spec.specs.Layout.{no_names}
+use Rattle.wasmprinter_spec.specs.LabelNames.{no_names}
 use Rattle.wasmprinter_spec.specs.Layout.Groups.{has_break}
 use Rattle.wasmprinter_spec.specs.Layout.Operators.{Setting, level, before_word, pieces_by, operator_pieces, operators_pieces, expression_pieces}
 use Rattle.wasmprinter_print.specs.Emits.{Through}

@@ -4,7 +4,7 @@ use Rattle.wasmprinter_spec.specs.Grammar.{Placed}
 use Rattle.wasmprinter_spec.specs.Types.{FuncType}
 use Rattle.wasmprinter_spec.specs.Operator.{Operator}
 use Rattle.wasmprinter_spec.specs.Piece.{Piece}
-use Rattle.wasmprinter_spec.specs.Layout.{no_names}
+use Rattle.wasmprinter_spec.specs.LabelNames.{no_names}
 use Rattle.wasmprinter_spec.specs.Layout.Operators as layout
 use Rattle.wasmprinter_flat.specs.declared.operators.Form.{Form}
 use Rattle.wasmprinter_flat.specs.declared.operators.Form.TheVariants as forms

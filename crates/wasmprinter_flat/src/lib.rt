@@ -9,4 +9,6 @@ mod labels;
 mod memory;
 pub mod operators;
 mod references;
+#[cfg(test)]
+mod tests;
 mod vectors;

@@ -6,7 +6,7 @@ ghost use Rattle.wasmprinter_spec.specs.Options.{Options};
 ghost use Rattle.wasmprinter_spec.specs.Piece.{Break};
 ghost use Rattle.wasmprinter_spec.specs.Table.{shape_of};
 ghost use Rattle.wasmprinter_spec.specs.Types.{FuncType};
-ghost use Rattle.wasmprinter_spec.specs.Layout.{no_names};
+ghost use Rattle.wasmprinter_spec.specs.LabelNames.{no_names};
 ghost use Rattle.wasmprinter_spec.specs.Layout.Groups.{has_break};
 ghost use Rattle.wasmprinter_spec.specs.Layout.Operators.{pieces_by, level as level_of, before_word, operator_pieces, expression_pieces};
 ghost use Rattle.wasmprinter_print.specs.Prints.{Prints};

@@ -1,6 +1,5 @@
 use Rattle.std.proofs.Common.{rules}
 use Rattle.wasmprinter_print.specs.PrintsLaws.{no_piece}
-use Rattle.wasmprinter_ops.specs.Blocks.{block_type_view, catches_view}
 use Rattle.wasmprinter_flat.specs.Settings.{setting_view}
 use Rattle.wasmprinter_flat.proofs.Openings.{block-out, try_table-out}
 use Rattle.wasmprinter_flat.proofs.Fitting.{none-out, branch-out, select-out, cast-out, lane-out, i32-out, i64-out, f32-out, f64-out}

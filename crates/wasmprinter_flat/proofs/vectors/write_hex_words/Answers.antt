@@ -1,5 +1,4 @@
 use Rattle.std.proofs.Common.{◌∙◌}
-use Rattle.std.specs.Prelude.{◌<◌}
 use Rattle.wasmprinter_words.proofs.Texts.{text_done, text_fails, text_whole}
 use Rattle.wasmprinter_flat.proofs.Lanes.{words-next, words-none}
 use Rattle.wasmprinter_flat.proofs.vectors.write_hex_words.Goals as goal
