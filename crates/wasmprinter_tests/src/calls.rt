@@ -1,13 +1,13 @@
 //! The calls on a printer, in their order, and which error comes where one of them fails.
 
-use crate::modules::{
-    CONTROL, CONTROL_CALLS, EMPTY_CALLS, EVERYTHING, EVERYTHING_CALLS, IDENTITY, IDENTITY_CALLS,
-    KINDS, KINDS_CALLS, PREAMBLE,
-};
 use crate::recorder::{REFUSED, Recorder};
 use std::io::ErrorKind;
 use std::test::Fail;
 use wasmprinter::{Config, Error};
+use wasmprinter_samples::{
+    CONTROL, CONTROL_CALLS, EMPTY_CALLS, EVERYTHING, EVERYTHING_CALLS, IDENTITY, IDENTITY_CALLS,
+    KINDS, KINDS_CALLS, PREAMBLE,
+};
 
 #[test]
 fn makes_each_call_in_order(rt: HostRuntime) -> Result<(), Fail> {

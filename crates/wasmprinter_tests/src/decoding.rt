@@ -1,11 +1,11 @@
 //! What a decoded module gives out, through the crate's own paths.
 
-use crate::modules::{CONTROL, EVERYTHING, PREAMBLE};
 use std::test::Fail;
 use wasmprinter::wasm::{
     BlockType, Body, Catch, ExternKind, Immediates, Module, Opcode, Operator, OperatorsReader,
     ValType, decode,
 };
+use wasmprinter_samples::{CONTROL, EVERYTHING, PREAMBLE};
 
 /// What stands behind an opcode, with lists as slices.
 #[derive(Clone, Copy)]

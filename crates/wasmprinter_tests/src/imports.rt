@@ -1,10 +1,10 @@
 //! Imports of each kind, and the numbers of what is defined behind them.
 
-use crate::modules::PREAMBLE;
 use crate::sections::text_of;
 use std::test::Fail;
 use wasmprinter::wasm::decode;
 use wasmprinter::{Error, print_bytes};
+use wasmprinter_samples::PREAMBLE;
 
 /// The number of the import section.
 const IMPORT: u8 = 2;

@@ -1,9 +1,9 @@
 //! Memories, tags and the start function: texts of modules with one section, or with types and one section.
 
-use crate::modules::PREAMBLE;
 use std::alloc::{AllocError, Global};
 use std::test::Fail;
 use wasmprinter::{Error, print_bytes};
+use wasmprinter_samples::PREAMBLE;
 
 /// The number of the type section.
 pub const TYPE: u8 = 1;

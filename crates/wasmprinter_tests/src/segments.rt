@@ -1,10 +1,10 @@
 //! Element and data segments: texts of modules with one section, and what is refused.
 
-use crate::modules::PREAMBLE;
 use crate::sections::{add_section, text_of};
 use std::alloc::Global;
 use std::test::Fail;
 use wasmprinter::{Error, print_bytes};
+use wasmprinter_samples::PREAMBLE;
 
 /// The number of the element section.
 const ELEMENT: u8 = 9;

@@ -104,7 +104,7 @@ fn prints_blocks_of_an_initialiser_in_its_line(rt: HostRuntime) -> Result<(), Fa
     let text = text_of(rt.alloc(), GLOBAL, &content)?;
     assert_eq!(rt;
         text.as_str(),
-        "(module\n  (global (;0;) i32 block (result i32) i32.const 1 br 0 end)\n)\n"
+        "(module\n  (global (;0;) i32 block (result i32)  (; label = @1 ;) i32.const 1 br 0 (;@1;) end)\n)\n"
     );
     Ok(())
 }

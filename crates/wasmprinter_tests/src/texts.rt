@@ -1,11 +1,11 @@
 //! Whole texts.
 
-use crate::modules::{
+use std::test::Fail;
+use wasmprinter::print_bytes;
+use wasmprinter_samples::{
     CONTROL, CONTROL_TEXT, EMPTY_TEXT, EVERYTHING, EVERYTHING_TEXT, IDENTITY, IDENTITY_TEXT, KINDS,
     KINDS_TEXT, MINUS_ONE, MINUS_ONE_TEXT, PREAMBLE,
 };
-use std::test::Fail;
-use wasmprinter::print_bytes;
 
 #[test]
 fn prints_each_module(rt: HostRuntime) -> Result<(), Fail> {

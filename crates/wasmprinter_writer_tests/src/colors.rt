@@ -2,7 +2,6 @@
 ghost use Rattle.std.specs.Prelude.{◌≡◌, true, Ok};
 
 use crate::byte_writers::print_bytes_to;
-use crate::modules::{EMPTY_TEXT, EVERYTHING, EVERYTHING_TEXT, IDENTITY, IDENTITY_TEXT, PREAMBLE};
 use crate::scripted::Scripted;
 use std::alloc::Global;
 use std::io;
@@ -10,6 +9,9 @@ use std::io::Write;
 use std::test::Fail;
 use wasmprinter::print::{Ansi, Color, ColorSpec, NoColor, WriteColor};
 use wasmprinter::{Config, Error, Print, PrintIoWrite, PrintTermcolor};
+use wasmprinter_samples::{
+    EMPTY_TEXT, EVERYTHING, EVERYTHING_TEXT, IDENTITY, IDENTITY_TEXT, PREAMBLE,
+};
 
 /// The module without fields in colours.
 pub const EMPTY_COLORED: &str = "(\x1b[0m\x1b[1m\x1b[38;5;11mmodule\x1b[0m)\n";

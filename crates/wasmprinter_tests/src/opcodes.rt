@@ -1,6 +1,6 @@
 //! All opcodes: the line of each operator, and the numbers that no operator has, which are malformed.
 
-use crate::bodies::text_of;
+use crate::control::text_of;
 use crate::opcode_words::{Group, INDICES, LANES, MEMORIES, OTHERS, PLAIN};
 use std::alloc::{AllocError, Global};
 use std::num::ParseIntError;

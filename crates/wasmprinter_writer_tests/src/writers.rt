@@ -1,10 +1,10 @@
 //! `PrintFmtWrite` over a string, and over a writer that refuses a piece.
 
-use crate::modules::{EMPTY_TEXT, IDENTITY, IDENTITY_TEXT, PREAMBLE};
 use std::fmt;
 use std::io::ErrorKind;
 use std::test::Fail;
 use wasmprinter::{Config, Error, Print, PrintFmtWrite, print};
+use wasmprinter_samples::{EMPTY_TEXT, IDENTITY, IDENTITY_TEXT, PREAMBLE};
 
 /// A writer that refuses one piece, and takes all others.
 #[derive(Drop)]

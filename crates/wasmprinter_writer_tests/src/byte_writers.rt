@@ -1,13 +1,13 @@
 //! Printers over writers of bytes that take few bytes at once, write down the calls on them, or fail at one.
 
 use crate::colors::{EMPTY_COLORED, print_colors_to};
-use crate::modules::{EMPTY_TEXT, IDENTITY, IDENTITY_TEXT, PREAMBLE};
 use crate::scripted::Scripted;
 use std::alloc::Global;
 use std::io::{ErrorKind, Write};
 use std::test::Fail;
 use wasmprinter::print::{Ansi, Color, ColorSpec, NoColor, WriteColor};
 use wasmprinter::{Config, Error, Print, PrintIoWrite, PrintTermcolor};
+use wasmprinter_samples::{EMPTY_TEXT, IDENTITY, IDENTITY_TEXT, PREAMBLE};
 
 /// Prints to any writer of bytes.
 pub fn print_bytes_to<W: Write + Drop>(alloc: Global, wasm: &[u8], writer: W) -> Result<W, Error> {

@@ -1,5 +1,6 @@
 //! Modules that the tests print, with the texts and the calls that they give. All is typed by hand: the bytes from the binary format, the
 //! texts from the text format and the layout.
+#![tactic(auto)]
 
 /// Magic and version, a whole module by themselves.
 pub const PREAMBLE: [u8; 8] = [0x00, 0x61, 0x73, 0x6d, 0x01, 0x00, 0x00, 0x00];
