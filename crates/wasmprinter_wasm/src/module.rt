@@ -54,7 +54,9 @@ impl<'a> Model for Module<'a> {
       size = m.size;
     } };
 
-    ghost invariant = { λ m. IsPaired m.type_indices.items m.bodies.items × HasFewItems m.imports.items m.tables.items m.memories.items m.tags.items m.globals.items };
+    ghost invariant = { λ m.
+        IsPaired m.type_indices.items m.bodies.items
+        × HasFewItems m.imports.items m.tables.items m.memories.items m.tags.items m.globals.items };
 }
 
 impl<'a> Module<'a> {

@@ -61,16 +61,14 @@ fn tables_have_initialisers(rt: HostRuntime) -> Result<(), Fail> {
     ];
     let bytes = module(rt.alloc(), &[&section])?;
     let decoded = decode(rt.alloc(), &bytes)?;
-    let mut found = 0;
-    for table in decoded.tables() {
-        if let Some(init) = table.init() {
-            found += 1;
-            assert_eq!(rt; table.place(), 0x0e);
-            assert_eq!(rt; init.end(), 0x15);
-            assert_eq!(rt; init.operators().count(), 1);
-        }
-    }
-    assert_eq!(rt; found, 1);
+    let [plain, initialised] = decoded.tables() else {
+        panic!(rt; "two tables are defined");
+    };
+    assert!(rt; plain.init().is_none());
+    assert_eq!(rt; initialised.place(), 0x0e);
+    let init = initialised.init().expect(&rt, "an initialiser");
+    assert_eq!(rt; init.end(), 0x15);
+    assert_eq!(rt; init.operators().count(), 1);
     Ok(())
 }
 
