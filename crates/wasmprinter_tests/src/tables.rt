@@ -82,7 +82,7 @@ fn prints_each_global(rt: HostRuntime) -> Result<(), Fail> {
   (global (;0;) i32 i32.const -1)
   (global (;1;) (mut i64) i64.const 1 i64.const 2 i64.add)
   (global (;2;) (mut (ref func)) ref.func 3)
-  (global (;3;) f32 f32.const 0x1.8p+0 (;=1.5;))
+  (global (;3;) f32 f32.const 0x1.8p+0)
 )
 "#
     );
