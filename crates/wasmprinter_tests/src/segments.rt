@@ -49,6 +49,17 @@ fn prints_each_element_segment(rt: HostRuntime) -> Result<(), Fail> {
 }
 
 #[test]
+fn prints_a_segment_of_no_functions_with_its_table(rt: HostRuntime) -> Result<(), Fail> {
+    let content = [0x01, 0x02, 0x00, 0x41, 0x00, 0x0b, 0x00, 0x00];
+    let text = text_of(rt.alloc(), ELEMENT, &content)?;
+    assert_eq!(rt;
+        text.as_str(),
+        "(module\n  (elem (;0;) (table 0) (i32.const 0) func)\n)\n"
+    );
+    Ok(())
+}
+
+#[test]
 fn refuses_other_element_segments(rt: HostRuntime) -> Result<(), Fail> {
     let contents: [&[u8]; 3] = [
         // flags above 7

@@ -39,9 +39,15 @@ fn prints_each_table(rt: HostRuntime) -> Result<(), Fail> {
 
 #[test]
 fn refuses_an_initialiser_without_operators(rt: HostRuntime) -> Result<(), Fail> {
+    let first = text_of(
+        rt.alloc(),
+        TABLE,
+        &[0x01, 0x40, 0x00, 0x70, 0x00, 0x01, 0x0b],
+    );
+    assert!(rt; matches!(first, Err(Error::EmptyTableInit { place: 11 })));
     let content = [0x02, 0x70, 0x00, 0x01, 0x40, 0x00, 0x70, 0x00, 0x03, 0x0b];
-    let refused = text_of(rt.alloc(), TABLE, &content);
-    assert!(rt; matches!(refused, Err(Error::EmptyTableInit { place: 14 })));
+    let second = text_of(rt.alloc(), TABLE, &content);
+    assert!(rt; matches!(second, Err(Error::EmptyTableInit { place: 14 })));
     Ok(())
 }
 
