@@ -7,7 +7,7 @@ use Rattle.wasmprinter_spec.specs.Types.{ValType}
 use Rattle.wasmprinter_spec.specs.Placed.{LocalEntry}
 use Rattle.wasmprinter_spec.specs.Module.{locals_of}
 use Rattle.wasmprinter_spec.specs.Piece.{Break}
-use Rattle.wasmprinter_spec.specs.Layout.{locals_place, local_group, local_pieces}
+use Rattle.wasmprinter_spec.specs.Layout.Functions.{locals_place, local_group, local_pieces}
 use Rattle.wasmprinter_spec.specs.Layout.Groups.{has_break, line_group}
 use Rattle.wasmprinter_spec.specs.Layout.Types.{type_list}
 use Rattle.wasmprinter_text.proofs.TypeLists.{type_list-append}

@@ -61,29 +61,44 @@ fn write_shown_bytes<P: Print>(p: &mut P, options: &PrintOptions, bytes: &[u8]) 
     }
 }
 
-/// Writes a data segment with its number, as a group.
-#[tactic(auto, unfolding(wasmprinter_spec::specs::Layout::Groups::line_group_gap))]
+/// Writes a data segment with its number.
+fn write_data_parts<P: Print>(
+    p: &mut P,
+    options: &PrintOptions,
+    module: &Module<'_>,
+    number: u64,
+    segment: &Data<'_>,
+) -> io::Result<()>
+    ensures { Prints P.meaning options.now p.old p.new result
+        (data_parts options.now.skeleton (types_of module.now) number segment.now.value) }
+{
+    mark(p, number)?;
+    gap(p)?;
+    write_mode(p, options, module, segment.mode())?;
+    write_shown_bytes(p, options, segment.bytes())
+}
+
+/// Writes the same as a group.
+#[tactic(auto, using(crate::proofs::LineGroups::groups))]
 fn write_data_group<P: Print>(
     p: &mut P,
     options: &PrintOptions,
     module: &Module<'_>,
     number: u64,
-    data: &Data<'_>,
+    segment: &Data<'_>,
 ) -> io::Result<()>
     ensures { Prints P.meaning options.now p.old p.new result
-        (line_group_gap (codes "data") (data_parts options.now.skeleton (types_of module.now) number data.now.value)) }
+        (line_group_gap (codes "data") (data_parts options.now.skeleton (types_of module.now) number segment.now.value)) }
 {
     open_gap(p, "data")?;
-    mark(p, number)?;
-    gap(p)?;
-    write_mode(p, options, module, data.mode())?;
-    write_shown_bytes(p, options, data.bytes())?;
+    write_data_parts(p, options, module, number, segment)?;
     shut(p)
 }
 
 impl<'a> Field for Data<'a> {
     ghost pieces = { λ o. data_pieces o.skeleton };
 
+    #[tactic(auto, unfolding(wasmprinter_spec::specs::Layout::DataSegments::data_pieces))]
     fn write<P: Print>(
         &self,
         p: &mut P,

@@ -1,7 +1,9 @@
 //! Element segments (section 6.6 of the WebAssembly Core Specification, "Element Segments").
-ghost use Rattle.std.specs.Prelude.{Bool, codes};
+ghost use Rattle.std.specs.Prelude.{Bool, [], ◌∷◌, codes};
 ghost use Rattle.wasmprinter_spec.specs.Options.{Options};
+ghost use Rattle.wasmprinter_spec.specs.Piece.{Gap, Number};
 ghost use Rattle.wasmprinter_spec.specs.Layout.Groups.{line_group_gap};
+ghost use Rattle.wasmprinter_spec.specs.Layout.Expressions.{constant_group};
 ghost use Rattle.wasmprinter_spec.specs.Layout.Elements.{named_table, mode_pieces, function_items, expression_items, items_pieces, shown_items, element_pieces};
 ghost use Rattle.wasmprinter_print.specs.Prints.{Prints};
 ghost use Rattle.wasmprinter_wasm.specs.Segments.{mode_view, items_view, constants_of};
@@ -57,15 +59,36 @@ fn write_mode<P: Print>(
     }
 }
 
+/// Writes a blank and the index of a function.
+fn write_function_item<P: Print>(p: &mut P, index: u32) -> io::Result<()>
+    ensures { (o : Options) → Prints P.meaning o p.old p.new result (Gap ∷ (Number index ∷ [])) }
+{
+    gap(p)?;
+    number(p, u64::from(index))
+}
+
 /// Writes the indices of functions, a blank before each.
 fn write_function_items<P: Print>(p: &mut P, functions: &Items<'_, u32>) -> io::Result<()>
     ensures { (o : Options) → Prints P.meaning o p.old p.new result (function_items functions.now) }
 {
     for index in functions.iter() {
-        gap(p)?;
-        number(p, u64::from(index))?;
+        write_function_item(p, index)?;
     }
     Ok(())
+}
+
+/// Writes a blank and an expression as a group.
+fn write_expression_item<P: Print>(
+    p: &mut P,
+    options: &PrintOptions,
+    module: &Module<'_>,
+    expression: &Expression<'_>,
+) -> io::Result<()>
+    ensures { Prints P.meaning options.now p.old p.new result
+        (Gap ∷ constant_group (types_of module.now) (codes "item") expression.now.items) }
+{
+    gap(p)?;
+    write_constant_group(p, options, module, "item", expression)
 }
 
 /// Writes expressions as groups, a blank before each.
@@ -79,8 +102,7 @@ fn write_expression_items<P: Print>(
         (expression_items (types_of module.now) (constants_of expressions.now)) }
 {
     for expression in expressions {
-        gap(p)?;
-        write_constant_group(p, options, module, "item", expression)?;
+        write_expression_item(p, options, module, expression)?;
     }
     Ok(())
 }
@@ -125,8 +147,25 @@ fn write_shown_items<P: Print>(
     }
 }
 
-/// Writes an element segment with its number, as a group.
-#[tactic(auto, unfolding(wasmprinter_spec::specs::Layout::Groups::line_group_gap))]
+/// Writes an element segment with its number.
+fn write_element_parts<P: Print>(
+    p: &mut P,
+    options: &PrintOptions,
+    module: &Module<'_>,
+    number: u64,
+    element: &Element<'_>,
+) -> io::Result<()>
+    ensures { Prints P.meaning options.now p.old p.new result
+        (element_parts options.now.skeleton (types_of module.now) number element.now.value) }
+{
+    mark(p, number)?;
+    write_mode(p, options, module, element.names_table(), element.mode())?;
+    gap(p)?;
+    write_shown_items(p, options, module, element.items())
+}
+
+/// Writes the same as a group.
+#[tactic(auto, using(crate::proofs::LineGroups::groups))]
 fn write_element_group<P: Print>(
     p: &mut P,
     options: &PrintOptions,
@@ -138,16 +177,14 @@ fn write_element_group<P: Print>(
         (line_group_gap (codes "elem") (element_parts options.now.skeleton (types_of module.now) number element.now.value)) }
 {
     open_gap(p, "elem")?;
-    mark(p, number)?;
-    write_mode(p, options, module, element.names_table(), element.mode())?;
-    gap(p)?;
-    write_shown_items(p, options, module, element.items())?;
+    write_element_parts(p, options, module, number, element)?;
     shut(p)
 }
 
 impl<'a> Field for Element<'a> {
     ghost pieces = { λ o. element_pieces o.skeleton };
 
+    #[tactic(auto, unfolding(wasmprinter_spec::specs::Layout::Elements::element_pieces))]
     fn write<P: Print>(
         &self,
         p: &mut P,

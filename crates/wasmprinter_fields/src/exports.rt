@@ -44,7 +44,7 @@ fn write_extern_index<P: Print>(p: &mut P, kind: ExternKind, index: u32) -> io::
 }
 
 /// Writes what is given out, as a group.
-#[tactic(auto, unfolding(wasmprinter_spec::specs::Layout::Groups::line_group_gap))]
+#[tactic(auto, using(crate::proofs::LineGroups::groups))]
 fn write_extern<P: Print>(p: &mut P, kind: ExternKind, index: u32) -> io::Result<()>
     ensures { (o : Options) → Prints P.meaning o p.old p.new result
         (line_group_gap (kind_word (kind_view kind)) (extern_index_pieces (kind_view kind) index)) }
@@ -54,22 +54,30 @@ fn write_extern<P: Print>(p: &mut P, kind: ExternKind, index: u32) -> io::Result
     shut(p)
 }
 
-/// Writes an export as a group.
-#[tactic(auto, unfolding(wasmprinter_spec::specs::Layout::Groups::line_group_gap))]
+/// Writes an export's name, and what is given out.
+fn write_export_parts<P: Print>(p: &mut P, export: &Export<'_>) -> io::Result<()>
+    ensures { (o : Options) → Prints P.meaning o p.old p.new result (export_parts export.now.value) }
+{
+    write_string(p, export.name())?;
+    gap(p)?;
+    write_extern(p, export.kind(), export.index())
+}
+
+/// Writes the same as a group.
+#[tactic(auto, using(crate::proofs::LineGroups::groups))]
 fn write_export_group<P: Print>(p: &mut P, export: &Export<'_>) -> io::Result<()>
     ensures { (o : Options) → Prints P.meaning o p.old p.new result
         (line_group_gap (codes "export") (export_parts export.now.value)) }
 {
     open_gap(p, "export")?;
-    write_string(p, export.name())?;
-    gap(p)?;
-    write_extern(p, export.kind(), export.index())?;
+    write_export_parts(p, export)?;
     shut(p)
 }
 
 impl<'a> Field for Export<'a> {
     ghost pieces = { λ o ts i e. export_pieces e };
 
+    #[tactic(auto, unfolding(wasmprinter_spec::specs::Layout::Exports::export_pieces))]
     fn write<P: Print>(
         &self,
         p: &mut P,

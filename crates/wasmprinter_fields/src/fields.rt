@@ -1,5 +1,5 @@
 //! Fields of one kind (section 6.6 of the WebAssembly Core Specification), each on a line of its own.
-ghost use Rattle.std.specs.Prelude.{◌+◌, ◌<◌, ◌^◌, length};
+ghost use Rattle.std.specs.Prelude.{◌≡◌, ◌+◌, ◌<◌, ◌^◌, length};
 ghost use Rattle.wasmprinter_spec.specs.Layout.Groups.{numbered};
 ghost use Rattle.wasmprinter_print.specs.Prints.{Prints};
 ghost use Rattle.wasmprinter_wasm.specs.Externs.{kind_view, imported_count};
@@ -53,6 +53,15 @@ pub(crate) fn write_each<P: Print, F: Field>(
     Ok(())
 }
 
+/// The number of the first field of the kind that the module defines: those that are imported come before.
+pub(crate) fn first_number(module: &Module<'_>, kind: ExternKind) -> u64
+    ensures is { result ≡ imported_count (kind_view kind) module.now.imports }
+    ensures few { result < 2 ^ 32 }
+{
+    prove!(module.imports().len() <= u32::MAX as usize);
+    module.imported_count(kind)
+}
+
 /// Writes the fields of a kind that may be imported too: their numbers begin behind the imports of the kind.
 pub(crate) fn write_behind_imports<P: Print, F: Field>(
     p: &mut P,
@@ -65,6 +74,5 @@ pub(crate) fn write_behind_imports<P: Print, F: Field>(
     ensures { Prints P.meaning options.now p.old p.new result
         (numbered (F.pieces options.now (types_of module.now)) (imported_count (kind_view kind) module.now.imports) fields.now) }
 {
-    let first = module.imported_count(kind);
-    write_each(p, options, module, first, fields)
+    write_each(p, options, module, first_number(module, kind), fields)
 }

@@ -2,7 +2,7 @@
 ghost use Rattle.std.specs.Prelude.{◌≡◌, ℕ, List, codes};
 ghost use Rattle.wasmprinter_spec.specs.Types.{SubType, signature_at};
 ghost use Rattle.wasmprinter_spec.specs.Options.{Options};
-ghost use Rattle.wasmprinter_spec.specs.Layout.{body_pieces, function_group, function_pieces};
+ghost use Rattle.wasmprinter_spec.specs.Layout.Functions.{body_pieces, function_group, function_pieces};
 ghost use Rattle.wasmprinter_spec.specs.Layout.Groups.{has_break, line_group_gap, group_gap_at};
 ghost use Rattle.wasmprinter_print.specs.Prints.{Prints};
 ghost use Rattle.wasmprinter_fields.specs.Parts.{types_of, outline_parts, definition_parts};
@@ -62,7 +62,7 @@ fn has_lines(function: &Function<'_>) -> bool
 }
 
 /// Writes the operators of a body, each on a line of its own.
-#[tactic(auto, unfolding(wasmprinter_spec::specs::Layout::body_pieces))]
+#[tactic(auto, unfolding(wasmprinter_spec::specs::Layout::Functions::body_pieces))]
 fn write_body<P: Print>(
     p: &mut P,
     options: &PrintOptions,
@@ -137,7 +137,7 @@ fn write_function_group<P: Print>(
 }
 
 /// Writes the function with the number.
-#[tactic(auto, unfolding(wasmprinter_spec::specs::Layout::function_pieces))]
+#[tactic(auto, unfolding(wasmprinter_spec::specs::Layout::Functions::function_pieces))]
 pub(crate) fn write_function<P: Print>(
     p: &mut P,
     options: &PrintOptions,

@@ -43,7 +43,7 @@ fn write_numbered_type<P: Print>(p: &mut P, number: u64, global_type: GlobalType
 }
 
 /// Writes a number and the type of a global as a group.
-#[tactic(auto, unfolding(wasmprinter_spec::specs::Layout::Groups::line_group_gap))]
+#[tactic(auto, using(crate::proofs::LineGroups::groups))]
 pub(crate) fn write_global_type_group<P: Print>(
     p: &mut P,
     number: u64,
@@ -57,8 +57,25 @@ pub(crate) fn write_global_type_group<P: Print>(
     shut(p)
 }
 
-/// Writes a global with its number, as a group.
-#[tactic(auto, unfolding(wasmprinter_spec::specs::Layout::Groups::line_group_gap))]
+/// Writes a global with its number.
+fn write_global_parts<P: Print>(
+    p: &mut P,
+    options: &PrintOptions,
+    module: &Module<'_>,
+    number: u64,
+    global: &Global<'_>,
+) -> io::Result<()>
+    ensures { Prints P.meaning options.now p.old p.new result (global_parts (types_of module.now) number global.now.value) }
+{
+    mark(p, number)?;
+    gap(p)?;
+    write_global_type(p, global.ty())?;
+    gap(p)?;
+    write_constant(p, options, module, global.init())
+}
+
+/// Writes the same as a group.
+#[tactic(auto, using(crate::proofs::LineGroups::groups))]
 fn write_global_group<P: Print>(
     p: &mut P,
     options: &PrintOptions,
@@ -70,15 +87,14 @@ fn write_global_group<P: Print>(
         (line_group_gap (codes "global") (global_parts (types_of module.now) number global.now.value)) }
 {
     open_gap(p, "global")?;
-    write_numbered_type(p, number, global.ty())?;
-    gap(p)?;
-    write_constant(p, options, module, global.init())?;
+    write_global_parts(p, options, module, number, global)?;
     shut(p)
 }
 
 impl<'a> Field for Global<'a> {
     ghost pieces = { λ o. global_pieces };
 
+    #[tactic(auto, unfolding(wasmprinter_spec::specs::Layout::Globals::global_pieces))]
     fn write<P: Print>(
         &self,
         p: &mut P,

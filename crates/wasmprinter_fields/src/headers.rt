@@ -15,7 +15,7 @@ use wasmprinter_words::words::{gap, open_gap, shut};
 
 /// Writes a number, the index of a type of the module, and its signature, which is nothing where
 /// the index is no function type's.
-#[tactic(auto, unfolding(wasmprinter_spec::specs::Layout::header_pieces))]
+#[tactic(auto, unfolding(wasmprinter_spec::specs::Layout::Functions::header_pieces))]
 pub(crate) fn write_header<P: Print>(
     p: &mut P,
     module: &Module<'_>,

@@ -22,7 +22,7 @@ use wasmprinter_words::strings::write_string;
 use wasmprinter_words::words::{gap, open_gap, shut};
 
 /// How many imports of each kind stand in front.
-#[derive(Clone, Copy, Debug, PartialEq, Eq)]
+#[derive(Drop)]
 struct Numbers {
     functions: u64,
     tables: u64,
@@ -41,7 +41,7 @@ impl Model for Numbers {
       tables = n.tables;
       memories = n.memories;
       globals = n.globals;
-      tags = n.tags
+      tags = n.tags;
     } };
 }
 
@@ -108,8 +108,25 @@ fn write_extern_type<P: Print>(
     }
 }
 
-/// Writes an import as a group.
-#[tactic(auto, unfolding(wasmprinter_spec::specs::Layout::Groups::line_group_gap))]
+/// Writes an import's names, and what is imported with its number.
+fn write_import_parts<P: Print>(
+    p: &mut P,
+    module: &Module<'_>,
+    number: u64,
+    import: &Import<'_>,
+) -> io::Result<()>
+    ensures { (o : Options) → Prints P.meaning o p.old p.new result
+        (import_parts (types_of module.now) number import.now.value) }
+{
+    write_string(p, import.module())?;
+    gap(p)?;
+    write_string(p, import.name())?;
+    gap(p)?;
+    write_extern_type(p, module, number, import.ty())
+}
+
+/// Writes the same as a group.
+#[tactic(auto, using(crate::proofs::LineGroups::groups))]
 fn write_import_group<P: Print>(
     p: &mut P,
     module: &Module<'_>,
@@ -120,11 +137,7 @@ fn write_import_group<P: Print>(
         (line_group_gap (codes "import") (import_parts (types_of module.now) number import.now.value)) }
 {
     open_gap(p, "import")?;
-    write_string(p, import.module())?;
-    gap(p)?;
-    write_string(p, import.name())?;
-    gap(p)?;
-    write_extern_type(p, module, number, import.ty())?;
+    write_import_parts(p, module, number, import)?;
     shut(p)
 }
 

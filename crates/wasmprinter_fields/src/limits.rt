@@ -1,5 +1,4 @@
 //! Sizes of tables and memories (section 6.4 of the WebAssembly Core Specification, "Limits").
-ghost use Rattle.std.specs.Prelude.{◌++◌};
 ghost use Rattle.wasmprinter_spec.specs.Options.{Options};
 ghost use Rattle.wasmprinter_spec.specs.Layout.Limits.{wide_pieces, limits_pieces};
 ghost use Rattle.wasmprinter_print.specs.Prints.{Prints};
@@ -12,7 +11,7 @@ use wasmprinter_words::limits::write_limits;
 use wasmprinter_words::words::type_word_gap;
 
 /// Writes that addresses have 64 bits, if they have.
-fn write_wide<P: Print>(p: &mut P, wide: bool) -> io::Result<()>
+pub(crate) fn write_wide<P: Print>(p: &mut P, wide: bool) -> io::Result<()>
     ensures { (o : Options) → Prints P.meaning o p.old p.new result (wide_pieces wide) }
 {
     if wide {
@@ -22,11 +21,9 @@ fn write_wide<P: Print>(p: &mut P, wide: bool) -> io::Result<()>
     }
 }
 
-/// Writes how wide addresses are, and the limits.
-pub(crate) fn write_sizes<P: Print>(p: &mut P, wide: bool, limits: Limits) -> io::Result<()>
-    ensures { (o : Options) → Prints P.meaning o p.old p.new result
-        (wide_pieces wide ++ limits_pieces (limits_view limits)) }
+/// Writes the least and, if there is one, the greatest size.
+pub(crate) fn write_sizes<P: Print>(p: &mut P, limits: Limits) -> io::Result<()>
+    ensures { (o : Options) → Prints P.meaning o p.old p.new result (limits_pieces (limits_view limits)) }
 {
-    write_wide(p, wide)?;
     write_limits(p, limits.min, limits.max)
 }

@@ -3,7 +3,7 @@ ghost use Rattle.std.specs.Prelude.{◌≡◌, ◌∷◌, Some, codes, replicate
 ghost use Rattle.wasmprinter_spec.specs.Options.{Options};
 ghost use Rattle.wasmprinter_spec.specs.Module.{locals_of};
 ghost use Rattle.wasmprinter_spec.specs.Piece.{Break};
-ghost use Rattle.wasmprinter_spec.specs.Layout.{locals_place, local_pieces};
+ghost use Rattle.wasmprinter_spec.specs.Layout.Functions.{locals_place, local_pieces};
 ghost use Rattle.wasmprinter_spec.specs.Layout.Groups.{has_break, line_group};
 ghost use Rattle.wasmprinter_spec.specs.Layout.Types.{type_list as list_of_types};
 ghost use Rattle.wasmprinter_print.specs.Prints.{Prints};

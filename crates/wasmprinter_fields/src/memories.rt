@@ -9,7 +9,7 @@ ghost use Rattle.wasmprinter_wasm.specs.Externs.{memory_type_view, IsPage};
 ghost use Rattle.wasmprinter_fields.specs.Parts.{page_parts, memory_parts};
 
 use crate::fields::{FIELD_NESTING, Field};
-use crate::limits::write_sizes;
+use crate::limits::{write_sizes, write_wide};
 use std::io;
 use wasmprinter_lines::lines::break_line;
 use wasmprinter_lines::options::PrintOptions;
@@ -31,7 +31,7 @@ fn write_shared<P: Print>(p: &mut P, shared: bool) -> io::Result<()>
 }
 
 /// Writes the size of a page as a group, by its exponent.
-#[tactic(auto, unfolding(wasmprinter_spec::specs::Layout::Groups::line_group_gap))]
+#[tactic(auto, using(crate::proofs::LineGroups::groups))]
 fn write_page_group<P: Print>(p: &mut P, exponent: u32) -> io::Result<()>
     requires { exponent < 64 }
     ensures { (o : Options) → Prints P.meaning o p.old p.new result
@@ -63,28 +63,43 @@ fn write_memory_type<P: Print>(p: &mut P, memory_type: MemoryType) -> io::Result
     ensures { (o : Options) → Prints P.meaning o p.old p.new result
         (memory_type_pieces (memory_type_view memory_type)) }
 {
-    write_sizes(p, memory_type.wide, memory_type.limits)?;
+    write_wide(p, memory_type.wide)?;
+    write_sizes(p, memory_type.limits)?;
     write_shared(p, memory_type.shared)?;
     write_page(p, memory_type.page)
 }
 
-/// Writes a memory with its number, as a group.
-#[tactic(auto, unfolding(wasmprinter_spec::specs::Layout::Groups::line_group_gap))]
-pub(crate) fn write_memory_group<P: Print>(p: &mut P, number: u64, memory_type: MemoryType) -> io::Result<()>
+/// Writes a number and the type of a memory.
+fn write_numbered_type<P: Print>(p: &mut P, number: u64, memory_type: MemoryType) -> io::Result<()>
+    requires { IsPage memory_type.page }
+    ensures { (o : Options) → Prints P.meaning o p.old p.new result
+        (memory_parts number (memory_type_view memory_type)) }
+{
+    mark(p, number)?;
+    gap(p)?;
+    write_memory_type(p, memory_type)
+}
+
+/// Writes the same as a group.
+#[tactic(auto, using(crate::proofs::LineGroups::groups))]
+pub(crate) fn write_memory_group<P: Print>(
+    p: &mut P,
+    number: u64,
+    memory_type: MemoryType,
+) -> io::Result<()>
     requires { IsPage memory_type.page }
     ensures { (o : Options) → Prints P.meaning o p.old p.new result
         (line_group_gap (codes "memory") (memory_parts number (memory_type_view memory_type))) }
 {
     open_gap(p, "memory")?;
-    mark(p, number)?;
-    gap(p)?;
-    write_memory_type(p, memory_type)?;
+    write_numbered_type(p, number, memory_type)?;
     shut(p)
 }
 
 impl Field for Memory {
     ghost pieces = { λ o ts i m. memory_pieces i m };
 
+    #[tactic(auto, unfolding(wasmprinter_spec::specs::Layout::Memories::memory_pieces))]
     fn write<P: Print>(
         &self,
         p: &mut P,

@@ -9,7 +9,7 @@ ghost use Rattle.wasmprinter_print.specs.Prints.{Prints};
 ghost use Rattle.wasmprinter_wasm.specs.Externs.{imported_count};
 ghost use Rattle.wasmprinter_fields.specs.Parts.{types_of};
 
-use crate::fields::{write_behind_imports, write_each};
+use crate::fields::{first_number, write_behind_imports, write_each};
 use crate::functions::write_function;
 use crate::imports::write_imports;
 use crate::start::write_start;
@@ -30,7 +30,7 @@ fn write_functions<P: Print>(
     ensures { Prints P.meaning options.now p.old p.new result
         (numbered (function_pieces options.now (types_of module.now)) (imported_count FuncKind module.now.imports) module.now.functions) }
 {
-    let first = module.imported_count(ExternKind::Func);
+    let first = first_number(module, ExternKind::Func);
     for number in 0..module.function_count() {
         let function = module.function(number);
         write_function(p, options, module, first + u64::from(number), &function)?;

@@ -6,16 +6,14 @@ ghost use Rattle.wasmprinter_spec.specs.Layout.Groups.{line_group_gap};
 ghost use Rattle.wasmprinter_spec.specs.Layout.Tables.{table_type_pieces, init_pieces, table_pieces};
 ghost use Rattle.wasmprinter_print.specs.Prints.{Prints};
 ghost use Rattle.wasmprinter_wasm.specs.Externs.{table_type_view};
-ghost use Rattle.wasmprinter_wasm.specs.Segments.{init_view};
 ghost use Rattle.wasmprinter_fields.specs.Parts.{types_of, table_parts};
 
 use crate::expressions::write_constant;
 use crate::fields::{FIELD_NESTING, Field};
-use crate::limits::write_sizes;
+use crate::limits::{write_sizes, write_wide};
 use std::io;
 use wasmprinter_lines::lines::break_line;
 use wasmprinter_lines::options::PrintOptions;
-use wasmprinter_ops::expression::Expression;
 use wasmprinter_print::Print;
 use wasmprinter_text::types::write_ref_type;
 use wasmprinter_wasm::{Module, Table, TableType};
@@ -27,7 +25,8 @@ use wasmprinter_words::words::{gap, open_gap, shut};
 fn write_table_type<P: Print>(p: &mut P, table_type: TableType) -> io::Result<()>
     ensures { (o : Options) → Prints P.meaning o p.old p.new result (table_type_pieces (table_type_view table_type)) }
 {
-    write_sizes(p, table_type.wide, table_type.limits)?;
+    write_wide(p, table_type.wide)?;
+    write_sizes(p, table_type.limits)?;
     gap(p)?;
     write_ref_type(p, table_type.element)
 }
@@ -43,7 +42,7 @@ fn write_numbered_type<P: Print>(p: &mut P, number: u64, table_type: TableType) 
 }
 
 /// Writes a number and the type of a table as a group.
-#[tactic(auto, unfolding(wasmprinter_spec::specs::Layout::Groups::line_group_gap))]
+#[tactic(auto, using(crate::proofs::LineGroups::groups))]
 pub(crate) fn write_table_type_group<P: Print>(
     p: &mut P,
     number: u64,
@@ -63,11 +62,11 @@ fn write_init<P: Print>(
     p: &mut P,
     options: &PrintOptions,
     module: &Module<'_>,
-    init: Option<&Expression<'_>>,
+    table: &Table<'_>,
 ) -> io::Result<()>
-    ensures { Prints P.meaning options.now p.old p.new result (init_pieces (types_of module.now) (init_view init)) }
+    ensures { Prints P.meaning options.now p.old p.new result (init_pieces (types_of module.now) table.now.value.init) }
 {
-    match init {
+    match table.init() {
         Some(init) => {
             gap(p)?;
             write_constant(p, options, module, init)
@@ -76,8 +75,24 @@ fn write_init<P: Print>(
     }
 }
 
-/// Writes a table with its number, as a group.
-#[tactic(auto, unfolding(wasmprinter_spec::specs::Layout::Groups::line_group_gap))]
+/// Writes a table with its number.
+fn write_table_parts<P: Print>(
+    p: &mut P,
+    options: &PrintOptions,
+    module: &Module<'_>,
+    number: u64,
+    table: &Table<'_>,
+) -> io::Result<()>
+    ensures { Prints P.meaning options.now p.old p.new result (table_parts (types_of module.now) number table.now.value) }
+{
+    mark(p, number)?;
+    gap(p)?;
+    write_table_type(p, table.ty())?;
+    write_init(p, options, module, table)
+}
+
+/// Writes the same as a group.
+#[tactic(auto, using(crate::proofs::LineGroups::groups))]
 fn write_table_group<P: Print>(
     p: &mut P,
     options: &PrintOptions,
@@ -89,14 +104,14 @@ fn write_table_group<P: Print>(
         (line_group_gap (codes "table") (table_parts (types_of module.now) number table.now.value)) }
 {
     open_gap(p, "table")?;
-    write_numbered_type(p, number, table.ty())?;
-    write_init(p, options, module, table.init())?;
+    write_table_parts(p, options, module, number, table)?;
     shut(p)
 }
 
 impl<'a> Field for Table<'a> {
     ghost pieces = { λ o. table_pieces };
 
+    #[tactic(auto, unfolding(wasmprinter_spec::specs::Layout::Tables::table_pieces))]
     fn write<P: Print>(
         &self,
         p: &mut P,

@@ -12,6 +12,7 @@ use wasmprinter_wasm::{Module, Tag};
 impl Field for Tag {
     ghost pieces = { λ o. tag_pieces };
 
+    #[tactic(auto, unfolding(wasmprinter_spec::specs::Layout::tag_pieces))]
     fn write<P: Print>(
         &self,
         p: &mut P,

@@ -1,7 +1,7 @@
 use Rattle.std.proofs.Common.{◌≡◌, ap, ◌∙◌, refl}
 use Rattle.wasmprinter_spec.specs.Types.{signature_at}
-use Rattle.wasmprinter_spec.specs.Layout.{body_pieces}
-use Rattle.wasmprinter_fields.proofs.Fields.{definition-break}
+use Rattle.wasmprinter_spec.specs.Layout.Functions.{body_pieces}
+use Rattle.wasmprinter_fields.proofs.Outlines.{definition-break}
 use Rattle.wasmprinter_fields.proofs.functions.has_lines.Goals as goal
 
 pub returns-then-has_locals : goal.returns-then-has_locals

@@ -1,5 +1,5 @@
 use Rattle.std.proofs.Common.{◌≡◌, ap, ◌∙◌}
-use Rattle.wasmprinter_spec.specs.Layout.{function_pieces}
+use Rattle.wasmprinter_spec.specs.Layout.Functions.{function_pieces}
 use Rattle.wasmprinter_print.specs.PrintsLaws.{both_pieces, pieces_end}
 use Rattle.wasmprinter_fields.proofs.functions.write_function.Goals as goal
 

@@ -1,6 +1,6 @@
 use Rattle.std.proofs.Common.{◌≡◌, true, false, rules}
 use Rattle.wasmprinter_fields.specs.Parts.{types_of}
-use Rattle.wasmprinter_fields.proofs.Fields.{skeleton-group, whole-group}
+use Rattle.wasmprinter_fields.proofs.Outlines.{skeleton-group, whole-group}
 use Rattle.wasmprinter_fields.proofs.functions.write_function_group.Goals as goal
 
 pub returns-then-options : goal.returns-then-options

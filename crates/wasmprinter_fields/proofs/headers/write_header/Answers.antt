@@ -1,6 +1,6 @@
-use Rattle.wasmprinter_spec.specs.Layout.{header_pieces}
+use Rattle.wasmprinter_spec.specs.Layout.Functions.{header_pieces}
 use Rattle.wasmprinter_print.specs.PrintsLaws.{both_pieces, pieces_end}
-use Rattle.wasmprinter_fields.proofs.Fields.{signature-behind}
+use Rattle.wasmprinter_fields.proofs.Outlines.{signature-behind}
 use Rattle.wasmprinter_fields.proofs.headers.write_header.Goals as goal
 
 pub returns-in_err-write_index_group : goal.returns-in_err-write_index_group

@@ -1,5 +1,5 @@
 use Rattle.std.proofs.Common.{◌≡◌}
-use Rattle.wasmprinter_spec.specs.Layout.{locals_place}
+use Rattle.wasmprinter_spec.specs.Layout.Functions.{locals_place}
 use Rattle.wasmprinter_fields.proofs.locals.locals_place.Given as goal
 
 abbrev pub invariant-loop-entry : goal.invariant-loop-entry
