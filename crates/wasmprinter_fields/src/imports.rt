@@ -2,7 +2,8 @@
 ghost use Rattle.std.specs.Prelude.{◌≡◌, ◌+◌, ◌<◌, ◌^◌, codes};
 ghost use Rattle.wasmprinter_spec.specs.Options.{Options};
 ghost use Rattle.wasmprinter_spec.specs.Layout.Groups.{line_group_gap};
-ghost use Rattle.wasmprinter_spec.specs.Layout.Imports.{number_of, numbers_behind, no_numbers, extern_pieces, import_pieces, imports_pieces};
+ghost use Rattle.wasmprinter_spec.specs.Layout.Imports.{number_of, numbers_behind, no_numbers};
+ghost use Rattle.wasmprinter_spec.specs.Layout.Imports.{extern_pieces, import_pieces, imports_pieces};
 ghost use Rattle.wasmprinter_print.specs.Prints.{Prints};
 ghost use Rattle.wasmprinter_wasm.specs.Externs.{extern_view, HasPage};
 ghost use Rattle.wasmprinter_fields.specs.Parts.{types_of, import_parts};
