@@ -1,5 +1,6 @@
 //! Types (section 6.6 of the WebAssembly Core Specification, "Types"), in their groups.
-ghost use Rattle.std.specs.Prelude.{◌≡◌, ◌+◌, ◌<◌, ◌^◌, ◌==◌, [], ◌∷◌, ◌++◌, None, Some, not, true, codes, length};
+ghost use Rattle.std.specs.Prelude.{◌≡◌, ◌+◌, ◌<◌, ◌^◌, ◌==◌, [], ◌∷◌, ◌++◌};
+ghost use Rattle.std.specs.Prelude.{None, Some, not, true, codes, length};
 ghost use Rattle.wasmprinter_spec.specs.Types.{all_types};
 ghost use Rattle.wasmprinter_spec.specs.Module.{groups_of};
 ghost use Rattle.wasmprinter_spec.specs.Piece.{Open};
