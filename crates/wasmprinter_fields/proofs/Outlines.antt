@@ -3,7 +3,7 @@ use Rattle.std.specs.Prelude.{◌≡◌, ℕ, List, [], ◌∷◌, ◌++◌, Boo
 use Rattle.std.proofs.Common.{ap, ◌∙◌}
 use Rattle.wasmprinter_spec.specs.Types.{FuncType, SubType, signature_at}
 use Rattle.wasmprinter_spec.specs.Placed.{PlacedFunction}
-use Rattle.wasmprinter_spec.specs.Piece.{Piece, Gap, Word, Number}
+use Rattle.wasmprinter_spec.specs.Piece.{Piece, Number}
 use Rattle.wasmprinter_spec.specs.Layout.Functions.{signature_if, header_pieces, local_pieces, body_pieces, function_group}
 use Rattle.wasmprinter_spec.specs.Layout.Groups.{has_break, group_gap_at, line_group_gap}
 use Rattle.wasmprinter_spec.specs.Layout.Operators.{signature_behind}

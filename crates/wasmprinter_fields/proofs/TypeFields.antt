@@ -1,6 +1,6 @@
 -- The lines of groups of types, type by type and group by group.
-use Rattle.std.specs.Prelude.{◌≡◌, ℕ, ◌+◌, ◌<◌, ◌≤◌, ◌==◌, not, drop, List, [], ◌∷◌, ◌++◌, Bool, true, false, ◌||◌, length, codes, None, Some, refl}
-use Rattle.std.proofs.Common.{sym, ap, ◌∙◌, get_or, length-append, arith}
+use Rattle.std.specs.Prelude.{◌≡◌, ℕ, ◌+◌, ◌<◌, ◌≤◌, ◌==◌, not, drop, List, [], ◌∷◌, ◌++◌, Bool, true, false, length, codes, None, refl}
+use Rattle.std.proofs.Common.{sym, ap, ◌∙◌, get_or, length-append}
 use Rattle.std.proofs.Math.Dec.{eqb-suc-zero}
 use Rattle.std.proofs.Math.ListN.{drop_of_length-le}
 use Rattle.std.proofs.lemmas.List.{at_drop_more}
@@ -11,7 +11,6 @@ use Rattle.wasmprinter_spec.specs.Module.{groups_of}
 use Rattle.wasmprinter_spec.specs.Piece.{Piece, Open}
 use Rattle.wasmprinter_spec.specs.Layout.Groups.{has_break, close, group, numbered}
 use Rattle.wasmprinter_spec.specs.Layout.Types.{member_pieces, group_pieces_by, type_group_pieces, type_section_pieces}
-use Rattle.wasmprinter_lines.proofs.Groups.{has_break-append}
 use Rattle.wasmprinter_fields.specs.TypeLines.{listed_pieces}
 
 -- ---- the types of a group

@@ -1,4 +1,4 @@
-use Rattle.std.specs.Prelude.{◌≡◌, ◌+◌, length}
+use Rattle.std.specs.Prelude.{◌≡◌, length}
 use Rattle.std.proofs.Common.{ap, arith, ◌∙◌}
 use Rattle.wasmprinter_print.specs.PrintsLaws.{lacks_none, next_written, next_fails}
 use Rattle.wasmprinter_fields.proofs.TypeFields.{groups-next, groups-none, behind-next}

@@ -1,6 +1,5 @@
-use Rattle.std.specs.Prelude.{◌≡◌, length}
+use Rattle.std.specs.Prelude.{length}
 use Rattle.std.proofs.Common.{ap, arith}
-use Rattle.wasmprinter_spec.specs.Types.{SubType}
 use Rattle.wasmprinter_print.specs.PrintsLaws.{lacks_none, next_written, next_fails}
 use Rattle.wasmprinter_fields.specs.TypeLines.{listed_pieces}
 use Rattle.wasmprinter_fields.proofs.TypeFields.{types-none, types-next}
