@@ -506,7 +506,6 @@ line_group_gap_writes {a = a} v ps o h w = closed_writes (OpenGap v) (v ∷ []) 
 pub group_then : {a c : Edge} (nesting : ℕ) (v : List ℕ) (ps qs : List Piece) {f g : Forest} → is_open a ≡ true → is_word v ≡ true → Writes Bound ps Bound f → Writes Bound qs c g → Writes a (group nesting v ps ++ qs) c (Group (Word v f) g)
 group_then nesting v ps qs o h v' w = both_write (group_writes nesting v ps o h v') w
 
-
 pub group_at_then : {a c : Edge} (offsets : Bool) (place nesting : ℕ) (v : List ℕ) (ps qs : List Piece) {f g : Forest} → is_open a ≡ true → is_word v ≡ true → Writes Bound ps Bound f → Writes Bound qs c g → Writes a (group_at offsets place nesting v ps ++ qs) c (Group (Word v f) g)
 group_at_then offsets place nesting v ps qs o h v' w = both_write (group_at_writes offsets place nesting v ps o h v') w
 
@@ -539,4 +538,4 @@ bare_group_then {a = a} {c = c} {ps = ps} {qs = qs} {f = f} {g = g} o v' w =
 pub then : {a c : Edge} {ps qs : List Piece} {f g : Forest} → Writes a ps Bound f → Writes Bound qs c g → Writes a (ps ++ qs) c (onto f g)
 then v w = both_write v w
 
-pub ruleset writing = (nothing_writes, free_writes, begin_writes, feed_writes, gap_writes, break_writes, mark_writes, word_writes, type_word_writes, type_word_gap_writes, gap_type_word_writes, number_writes, constant_writes, literals_writes, gap_literals_writes, float_writes, quoted_writes, quoted_bytes_writes, identifier_writes, name_note_writes, remark_writes, ending_writes, group_writes,  group_at_writes, group_gap_at_writes, line_group_writes, line_group_gap_writes, group_then,  group_at_then, line_group_then, line_group_gap_then, plain_group_then, type_group_then, bare_group_then, opened_writes, then)
+pub ruleset writing = (nothing_writes, free_writes, begin_writes, feed_writes, gap_writes, break_writes, mark_writes, word_writes, type_word_writes, type_word_gap_writes, gap_type_word_writes, number_writes, constant_writes, literals_writes, gap_literals_writes, float_writes, quoted_writes, quoted_bytes_writes, identifier_writes, name_note_writes, remark_writes, ending_writes, group_writes, group_at_writes, group_gap_at_writes, line_group_writes, line_group_gap_writes, group_then, group_at_then, line_group_then, line_group_gap_then, plain_group_then, type_group_then, bare_group_then, opened_writes, then)

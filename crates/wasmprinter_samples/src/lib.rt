@@ -55,8 +55,7 @@ pub const MINUS_ONE_TEXT: &str = r#"(module
 )
 "#;
 
-/// Two types, two exports and two functions: the first without operators, the second with locals and operators. `CONTROL` has all other
-/// operators.
+/// Two types, two exports and two functions: the first without operators, the second with locals and operators.
 pub const EVERYTHING: [u8; 70] = [
     0x00, 0x61, 0x73, 0x6d, 0x01, 0x00, 0x00, 0x00, // preamble
     0x01, 0x09, 0x02, 0x60, 0x00, 0x00, 0x60, 0x01, 0x7f, 0x01, 0x7e, // types from 0x08
@@ -108,7 +107,7 @@ pub const EVERYTHING_CALLS: &str = r#"[0x0]({K}module{R}
 [0x46])
 "#;
 
-/// A field of each kind: types, memories, a tag, an export of each kind, the start function and a function.
+/// Types, memories, a tag, an export of each kind, the start function and a function.
 pub const KINDS: [u8; 69] = [
     0x00, 0x61, 0x73, 0x6d, 0x01, 0x00, 0x00, 0x00, // preamble
     0x01, 0x09, 0x02, 0x60, 0x00, 0x00, 0x60, 0x02, 0x7f, 0x7c, 0x00, // types from 0x08
@@ -157,7 +156,7 @@ pub const KINDS_CALLS: &str = r#"[0x0]({K}module{R}
 [0x45])
 "#;
 
-/// A function of blocks in each form, with branches, exceptions and what else `EVERYTHING` lacks.
+/// A function of blocks in each form, with branches and exceptions.
 pub const CONTROL: [u8; 85] = [
     0x00, 0x61, 0x73, 0x6d, 0x01, 0x00, 0x00, 0x00, // preamble
     0x01, 0x09, 0x02, 0x60, 0x00, 0x00, 0x60, 0x01, 0x7f, 0x01, 0x7e, // types from 0x08
@@ -240,4 +239,64 @@ pub const CONTROL_CALLS: &str = r#"[0x0]({K}module{R}
 [0x53]    end
 [0x54]  )
 [0x55])
+"#;
+
+/// Imports, tables, memories, a tag, a global with a block, an export, the start function, element and data segments.
+pub const FIELDS: [u8; 105] = [
+    0x00, 0x61, 0x73, 0x6d, 0x01, 0x00, 0x00, 0x00, // preamble
+    0x01, 0x04, 0x01, 0x60, 0x00, 0x00, // types from 0x08
+    0x02, 0x0e, 0x02, // imports from 0x0e
+    0x01, 0x61, 0x01, 0x66, 0x00, 0x00, // a function, at 0x11
+    0x01, 0x61, 0x01, 0x67, 0x03, 0x7f, 0x01, // a global, at 0x17
+    0x04, 0x0c, 0x02, // tables from 0x1e
+    0x70, 0x00, 0x01, // at 0x21
+    0x40, 0x00, 0x70, 0x00, 0x01, 0xd2, 0x00, 0x0b, // with an initialiser, at 0x24
+    0x05, 0x03, 0x01, 0x00, 0x01, // memories from 0x2c, the first at 0x2f
+    0x0d, 0x03, 0x01, 0x00, 0x00, // tags from 0x31, the first at 0x34
+    0x06, 0x09, 0x01, // globals from 0x36
+    0x7f, 0x00, 0x02, 0x7f, 0x41, 0x07, 0x0b, 0x0b, // with a block, at 0x39
+    0x07, 0x05, 0x01, 0x01, 0x6d, 0x02, 0x00, // exports from 0x41, the first at 0x44
+    0x08, 0x01, 0x00, // start from 0x48
+    0x09, 0x10, 0x02, // element segments from 0x4b
+    0x00, 0x41, 0x00, 0x0b, 0x01, 0x00, // of functions, at 0x4e
+    0x05, 0x70, 0x02, 0xd2, 0x00, 0x0b, 0xd0, 0x70, 0x0b, // of expressions, at 0x54
+    0x0b, 0x0a, 0x02, // data segments from 0x5d
+    0x00, 0x41, 0x00, 0x0b, 0x02, 0x68, 0x69, // active, at 0x60
+    0x01, 0x00, // passive, at 0x67
+];
+
+pub const FIELDS_TEXT: &str = r#"(module
+  (type (;0;) (func))
+  (import "a" "f" (func (;0;) (type 0)))
+  (import "a" "g" (global (;0;) (mut i32)))
+  (table (;0;) 1 funcref)
+  (table (;1;) 1 funcref ref.func 0)
+  (memory (;0;) 1)
+  (tag (;0;) (type 0))
+  (global (;1;) i32 block (result i32)  (; label = @1 ;) i32.const 7 end)
+  (export "m" (memory 0))
+  (start 0)
+  (elem (;0;) (i32.const 0) func 0)
+  (elem (;1;) funcref (ref.func 0) (ref.null func))
+  (data (;0;) (i32.const 0) "hi")
+  (data (;1;) "")
+)
+"#;
+
+pub const FIELDS_CALLS: &str = r#"[0x0]({K}module{R}
+[0xb]  ({K}type {R}{N}(;0;){R} ({K}func{R}))
+[0x11]  ({K}import {R}{L}"a"{R} {L}"f"{R} ({K}func {R}{N}(;0;){R} ({K}type {R}{N}0{R})))
+[0x17]  ({K}import {R}{L}"a"{R} {L}"g"{R} ({K}global {R}{N}(;0;){R} ({T}mut {R}{T}i32{R})))
+[0x21]  ({K}table {R}{N}(;0;){R} {L}1{R} {T}funcref{R})
+[0x24]  ({K}table {R}{N}(;1;){R} {L}1{R} {T}funcref{R} ref.func {N}0{R})
+[0x2f]  ({K}memory {R}{N}(;0;){R} {L}1{R})
+[0x34]  ({K}tag {R}{N}(;0;){R} ({K}type {R}{N}0{R}))
+[0x39]  ({K}global {R}{N}(;1;){R} {T}i32{R} block ({K}result {R}{T}i32{R}) {C} (; label = @1 ;){R} i32.const{L} 7{R} end)
+[0x44]  ({K}export {R}{L}"m"{R} ({K}memory {R}{N}0{R}))
+[0x4a]  ({K}start {R}{N}0{R})
+[0x4e]  ({K}elem {R}{N}(;0;){R} ({K}{R}i32.const{L} 0{R}) func {N}0{R})
+[0x54]  ({K}elem {R}{N}(;1;){R} {T}funcref{R} ({K}{R}ref.func {N}0{R}) ({K}{R}ref.null {T}func{R}))
+[0x60]  ({K}data {R}{N}(;0;){R} ({K}{R}i32.const{L} 0{R}) {L}"hi"{R})
+[0x67]  ({K}data {R}{N}(;1;){R} {L}""{R})
+[0x69])
 "#;

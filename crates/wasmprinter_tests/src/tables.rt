@@ -70,7 +70,7 @@ fn refuses_other_tables(rt: HostRuntime) -> Result<(), Fail> {
     Ok(())
 }
 
-/// Globals that may change or not, with no, one and several operators.
+/// Globals that may change or not, with one and several operators.
 const GLOBALS: [u8; 28] = [
     0x04, // globals
     0x7f, 0x00, 0x41, 0x7f, 0x0b, // one operator

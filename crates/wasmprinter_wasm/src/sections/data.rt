@@ -50,7 +50,7 @@ impl<'a> Model for Data<'a> {
 }
 
 impl<'a> DataMode<'a> {
-    /// Reads the memory and the offset that the flags announce; the flags lie at the place.
+    /// Reads the memory and the offset that the flags announce.
     fn read(alloc: Global, flags: u32, cursor: &mut Cursor<'a>) -> Result<Self, Error>
         ensures reads { Takes data_mode_view (data_mode flags).parse Anywhere cursor.old result cursor.new }
         ensures end { end_of cursor.new ≡ end_of cursor.old }
