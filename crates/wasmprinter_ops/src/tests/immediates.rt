@@ -1,4 +1,6 @@
 //! Immediates of each shape. What is expected is typed by hand.
+ghost use Rattle.std.specs.Prelude.{◌<◌};
+
 use super::{Wanted, are_wanted, assert_walk};
 use crate::operands::{MemArg, cast_source, cast_target};
 use crate::operator::Operator;
@@ -32,7 +34,9 @@ fn refused_at(bytes: &[u8]) -> Option<u64> {
 }
 
 /// A memory operand.
-fn operand(exponent: u32, memory: u32, offset: u64) -> MemArg {
+fn operand(exponent: u32, memory: u32, offset: u64) -> MemArg
+    requires { exponent < 64 }
+{
     MemArg {
         exponent,
         memory,
