@@ -121,7 +121,14 @@ mod tests {
         let text = printed(rt.alloc(), &config, &EXPORTED)?;
         assert_eq!(rt;
             text.as_str(),
-            "(module\n(;@b     ;)  (type (;0;) (func (param i32) (result i32)))\n(;@17    ;)  (export \"f\" (func 0))\n(;@1f    ;)  (func (;0;) (type 0) (param i32) (result i32)\n(;@20    ;)    local.get 0\n(;@22    ;)  )\n(;@23    ;))\n"
+            r#"(module
+(;@b     ;)  (type (;0;) (func (param i32) (result i32)))
+(;@17    ;)  (export "f" (func 0))
+(;@1f    ;)  (func (;0;) (type 0) (param i32) (result i32)
+(;@20    ;)    local.get 0
+(;@22    ;)  )
+(;@23    ;))
+"#
         );
         Ok(())
     }
@@ -133,7 +140,12 @@ mod tests {
         let text = printed(rt.alloc(), &config, &EXPORTED)?;
         assert_eq!(rt;
             text.as_str(),
-            "(module\n  (type (;0;) (func (param i32) (result i32)))\n  (export \"f\" (func 0))\n  (func (;0;) (type 0) (param i32) (result i32) ...)\n)\n"
+            r#"(module
+  (type (;0;) (func (param i32) (result i32)))
+  (export "f" (func 0))
+  (func (;0;) (type 0) (param i32) (result i32) ...)
+)
+"#
         );
         Ok(())
     }

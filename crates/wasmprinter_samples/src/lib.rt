@@ -207,7 +207,7 @@ pub const CONTROL_TEXT: &str = r#"(module
 )
 "#;
 
-pub const CONTROL_CALLS: &str = r#"[0x0]({K}module{R}
+pub const CONTROL_CALLS: &str = "[0x0]({K}module{R}
 [0xb]  ({K}type {R}{N}(;0;){R} ({K}func{R}))
 [0xe]  ({K}type {R}{N}(;1;){R} ({K}func{R} ({K}param{R} {T}i32{R}) ({K}result{R} {T}i64{R})))
 [0x1b]  ({K}func {R}{N}(;0;){R} ({K}type {R}{N}0{R})
@@ -234,12 +234,13 @@ pub const CONTROL_CALLS: &str = r#"[0x0]({K}module{R}
 [0x41]    catch_all
 [0x42]      br_if {N}0{R}{C} (;@1;){R}
 [0x44]    end
-[0x45]    try_table ({K}catch{R} {N}2{R} {N}0{R}) ({K}catch_ref{R} {N}3{R} 1 (; INVALID ;)) ({K}catch_all{R} {N}0{R}) ({K}catch_all_ref{R} {N}0{R}) {C};; label = @1{R}
+[0x45]    try_table ({K}catch{R} {N}2{R} {N}0{R}) ({K}catch_ref{R} {N}3{R} 1 (; INVALID ;)) \
+    ({K}catch_all{R} {N}0{R}) ({K}catch_all_ref{R} {N}0{R}) {C};; label = @1{R}
 [0x52]      throw_ref
 [0x53]    end
 [0x54]  )
 [0x55])
-"#;
+";
 
 /// Imports, tables, memories, a tag, a global with a block, an export, the start function, element and data segments.
 pub const FIELDS: [u8; 105] = [

@@ -263,8 +263,8 @@ fn refuses_what_is_not_nested(rt: HostRuntime) -> Result<(), Fail> {
 const INNERMOST: &str =
     "\n                                                                                                    block ;; label = @100000\n";
 
-/// A module whose function opens so many blocks in one another by these two bytes each, and closes each by these. Given are the sizes of the
-/// code section and of the body, as the binary format spells them.
+/// A module whose function opens so many blocks in one another by these two bytes each, and closes each by these.
+/// Given are the sizes of the code section and of the body, as the binary format spells them.
 fn with_blocks(
     alloc: Global,
     depth: u32,

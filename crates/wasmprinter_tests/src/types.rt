@@ -90,7 +90,8 @@ fn prints_references_to_abstract_types(rt: HostRuntime) -> Result<(), Fail> {
     );
     assert!(rt;
         text.as_str().contains(
-            "(result (ref exn) (ref array) (ref struct) (ref i31) (ref eq) (ref any) (ref extern) (ref func) (ref none) (ref noextern) (ref nofunc) (ref noexn))))\n"
+            "(result (ref exn) (ref array) (ref struct) (ref i31) (ref eq) (ref any) (ref extern) (ref func) \
+             (ref none) (ref noextern) (ref nofunc) (ref noexn))))\n"
         )
     );
     Ok(())
