@@ -32,6 +32,6 @@ printed m o bytes placed spelled within made =
       reads = λ indexed whole blank asked.
           ap (λ t. read (uncolour t)) same
           ∙ ap read (uncolour-plain _ (prints_plain_text bytes placed o unclaimed spelled blank))
-          ∙ reads_back bytes placed o unclaimed spelled indexed whole blank (λ n. refl);
+          ∙ reads_back bytes placed o unclaimed spelled indexed within.tables whole blank (λ n. refl);
       plain = λ blank. subst IsPlainText (sym same) (prints_plain_text bytes placed o unclaimed spelled blank);
     }

@@ -13,7 +13,7 @@ use Rattle.wasmprinter_print.specs.Emits.{Made, Ending, Through, AtCall}
 use Rattle.wasmprinter_print.specs.Prints.{Written}
 use Rattle.wasmprinter_print.specs.PrintsLaws.{written}
 use Rattle.wasmprinter_error.specs.declared.error.Error.{Error}
-use Rattle.wasmprinter_error.specs.declared.error.Error.TheVariants.{Malformed, Component, TooManyLocals, TooManyFunctions, Printer, Memory}
+use Rattle.wasmprinter_error.specs.declared.error.Error.TheVariants.{Malformed, Component, TooManyLocals, TooManyFunctions, EmptyTableInit, Printer, Memory}
 use Rattle.std.specs.declared.io.Error.{Error as IoError}
 use Rattle.wasmprinter_wasm.specs.Decoding.{IsRefusal}
 use Rattle.wasmprinter.specs.Printed.{Printed, unclaimed}
@@ -37,6 +37,7 @@ refusal_cause m bytes old (Malformed place) h = λ placed s. h.0 placed s
 refusal_cause m bytes old Component h = λ placed s. not_component bytes placed s h
 refusal_cause m bytes old (TooManyLocals place) h = λ placed s. h.1 placed s
 refusal_cause m bytes old (TooManyFunctions count) h = λ placed s. (h.2 placed s, h.1)
+refusal_cause m bytes old (EmptyTableInit place) h = λ placed s. h.1 placed s
 refusal_cause m bytes old Memory h = λ placed s. h.1 placed s
 refusal_cause m bytes old _ h = absurd h
 
@@ -51,6 +52,7 @@ refusal_left m o bytes old (Malformed place) h = refl
 refusal_left m o bytes old Component h = refl
 refusal_left m o bytes old (TooManyLocals place) h = refl
 refusal_left m o bytes old (TooManyFunctions count) h = refl
+refusal_left m o bytes old (EmptyTableInit place) h = refl
 refusal_left m o bytes old Memory h = refl
 refusal_left m o bytes old _ h = absurd h
 

@@ -50,5 +50,5 @@ printed_text m view grows bytes old new empty v =
       within = v.within;
       is = is;
       plain = subst IsPlainText (sym is) (prints_plain_text bytes v.placed defaults unclaimed v.spelled two_blanks);
-      reads = λ indexed. ap read is ∙ reads_back bytes v.placed defaults unclaimed v.spelled indexed refl two_blanks (λ n. refl);
+      reads = λ indexed. ap read is ∙ reads_back bytes v.placed defaults unclaimed v.spelled indexed v.within.tables refl two_blanks (λ n. refl);
     }

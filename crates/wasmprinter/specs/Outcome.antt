@@ -13,7 +13,7 @@ use Rattle.wasmprinter_error.specs.Reasons.{Reasons, HasReason}
 use Rattle.wasmprinter_error.specs.declared.error.Error.{Error}
 use Rattle.wasmprinter_error.specs.declared.error.Error.TheVariants.{Malformed, Component, TooManyLocals, TooManyFunctions, EmptyTableInit, FoldLegacy, FoldHint, DylinkSubsection, Unreadable, Printer, Memory}
 use Rattle.wasmprinter_wasm.specs.Modules.{bodies_of}
-use Rattle.wasmprinter_wasm.specs.Refusals.{AnyIsOver}
+use Rattle.wasmprinter_wasm.specs.Refusals.{AnyIsOver, AnyIsEmpty}
 use Rattle.wasmprinter_wasm.specs.Decoding.{HoldsSome, module_reasons}
 
 -- The reason for an error of printing: a call on the printer failed, and this is so of the printer's error; or one for which decoding may be
@@ -23,7 +23,7 @@ HasPrintReason failed reasons (Malformed place) = reasons.malformed place
 HasPrintReason failed reasons Component = reasons.component
 HasPrintReason failed reasons (TooManyLocals place) = reasons.locals place
 HasPrintReason failed reasons (TooManyFunctions count) = reasons.functions count
-HasPrintReason failed reasons (EmptyTableInit place) = ⊥
+HasPrintReason failed reasons (EmptyTableInit place) = reasons.tables place
 HasPrintReason failed reasons (FoldLegacy place) = ⊥
 HasPrintReason failed reasons (FoldHint place) = ⊥
 HasPrintReason failed reasons (DylinkSubsection id) = ⊥
@@ -41,13 +41,14 @@ pub record PrinterFailed {P : Type 0} (m : Meaning P) (old new : P) (error : IoE
   pub failed : Failed m before call error new
 
 -- The causes of a refusal, where bytes spell this module: a function with its body at the place has too many locals; there are so many
--- functions, and that is too many; or a growth was refused, for which this is so.
+-- functions, and that is too many; the table at the place has an empty initialiser; or a growth was refused, for which this is so.
 abbrev pub causes : Type 0 → PlacedModule → Reasons
 causes growth placed = record {
   malformed = λ place. ⊥;
   component = ⊥;
   locals = λ place. AnyIsOver place (bodies_of placed.functions);
   functions = λ count. (length placed.functions ≡ count) × (most_functions < count);
+  tables = λ place. AnyIsEmpty place placed.tables;
   memory = growth;
 }
 
@@ -98,6 +99,7 @@ each_reason so = record {
   component = so;
   locals = λ place. so;
   functions = λ count. so;
+  tables = λ place. so;
   memory = so;
 }
 

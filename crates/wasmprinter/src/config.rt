@@ -4,10 +4,10 @@ ghost use Rattle.wasmprinter_spec.specs.Binary.{IsComponent};
 ghost use Rattle.wasmprinter.specs.Printed.{Printed};
 ghost use Rattle.wasmprinter.specs.Outcome.{HasCause, IsTrueOf, Leaves};
 
-use crate::sections::write_module;
 use std::alloc::Global;
 use std::marker::Model;
 use wasmprinter_error::Error;
+use wasmprinter_fields::modules::write_module;
 use wasmprinter_lines::options::PrintOptions;
 use wasmprinter_print::Print;
 use wasmprinter_wasm::decode;
@@ -44,7 +44,8 @@ impl Config {
     ///
     /// # Errors
     ///
-    /// `Component`, `Malformed`, `TooManyLocals` and `TooManyFunctions` as `decode` answers them, `Component` before all others;
+    /// `Component`, `Malformed`, `TooManyLocals`, `TooManyFunctions` and `EmptyTableInit` as `decode` answers them, `Component`
+    /// before all others;
     /// `Printer` where a call on the printer failed, with that call's error; `Memory` where a growth was refused to the decoder. The
     /// printer took no call before an error other than `Printer`.
     pub fn print<P: Print>(&self, alloc: Global, wasm: &[u8], printer: &mut P) -> Result<(), Error>
@@ -84,6 +85,27 @@ mod tests {
         0x04, 0x00, 0x20, 0x00, 0x0b,
     ];
 
+    /// Imports, a table, a memory, a tag, a global, an export, a start function, element and data segments, and a function.
+    const FIELDS: [u8; 94] = [
+        0x00, 0x61, 0x73, 0x6d, 0x01, 0x00, 0x00, 0x00, // preamble
+        0x01, 0x04, 0x01, 0x60, 0x00, 0x00, // types from 0x08
+        0x02, 0x07, 0x01, 0x01, 0x61, 0x01, 0x66, 0x00, 0x00, // imports from 0x0e
+        0x03, 0x02, 0x01, 0x00, // functions from 0x17
+        0x04, 0x04, 0x01, 0x70, 0x00, 0x01, // tables from 0x1b
+        0x05, 0x03, 0x01, 0x00, 0x01, // memories from 0x21
+        0x0d, 0x03, 0x01, 0x00, 0x00, // tags from 0x26
+        0x06, 0x06, 0x01, 0x7f, 0x00, 0x41, 0x07, 0x0b, // globals from 0x2b
+        0x07, 0x05, 0x01, 0x01, 0x74, 0x04, 0x00, // exports from 0x33
+        0x08, 0x01, 0x01, // start from 0x3a
+        0x09, 0x0d, 0x02, // element segments from 0x3d
+        0x00, 0x41, 0x00, 0x0b, 0x01, 0x00, // active, at 0x40
+        0x05, 0x70, 0x01, 0xd2, 0x00, 0x0b, // passive, at 0x46
+        0x0a, 0x04, 0x01, 0x02, 0x00, 0x0b, // code from 0x4c, with the body at 0x50
+        0x0b, 0x0a, 0x02, // data segments from 0x52
+        0x00, 0x41, 0x00, 0x0b, 0x02, 0x68, 0x69, // active, at 0x55
+        0x01, 0x00, // passive, at 0x5c
+    ];
+
     fn printed(alloc: Global, config: &Config, wasm: &[u8]) -> Result<String, Error> {
         let mut printer = PrintFmtWrite(String::new(alloc));
         config.print(alloc, wasm, &mut printer)?;
@@ -99,7 +121,14 @@ mod tests {
         let text = printed(rt.alloc(), &config, &EXPORTED)?;
         assert_eq!(rt;
             text.as_str(),
-            "(module\n(;@b     ;)  (type (;0;) (func (param i32) (result i32)))\n(;@17    ;)  (export \"f\" (func 0))\n(;@1f    ;)  (func (;0;) (type 0) (param i32) (result i32)\n(;@20    ;)    local.get 0\n(;@22    ;)  )\n(;@23    ;))\n"
+            r#"(module
+(;@b     ;)  (type (;0;) (func (param i32) (result i32)))
+(;@17    ;)  (export "f" (func 0))
+(;@1f    ;)  (func (;0;) (type 0) (param i32) (result i32)
+(;@20    ;)    local.get 0
+(;@22    ;)  )
+(;@23    ;))
+"#
         );
         Ok(())
     }
@@ -111,7 +140,67 @@ mod tests {
         let text = printed(rt.alloc(), &config, &EXPORTED)?;
         assert_eq!(rt;
             text.as_str(),
-            "(module\n  (type (;0;) (func (param i32) (result i32)))\n  (export \"f\" (func 0))\n  (func (;0;) (type 0) (param i32) (result i32) ...)\n)\n"
+            r#"(module
+  (type (;0;) (func (param i32) (result i32)))
+  (export "f" (func 0))
+  (func (;0;) (type 0) (param i32) (result i32) ...)
+)
+"#
+        );
+        Ok(())
+    }
+
+    #[test]
+    fn prints_places_of_fields(rt: HostRuntime) -> Result<(), Fail> {
+        let mut config = Config::new();
+        config.options.offsets = true;
+        let text = printed(rt.alloc(), &config, &FIELDS)?;
+        assert_eq!(rt;
+            text.as_str(),
+            r#"(module
+(;@b     ;)  (type (;0;) (func))
+(;@11    ;)  (import "a" "f" (func (;0;) (type 0)))
+(;@1e    ;)  (table (;0;) 1 funcref)
+(;@24    ;)  (memory (;0;) 1)
+(;@29    ;)  (tag (;0;) (type 0))
+(;@2e    ;)  (global (;0;) i32 i32.const 7)
+(;@36    ;)  (export "t" (tag 0))
+(;@3c    ;)  (start 1)
+(;@40    ;)  (elem (;0;) (i32.const 0) func 0)
+(;@46    ;)  (elem (;1;) funcref (ref.func 0))
+(;@50    ;)  (func (;1;) (type 0)
+(;@51    ;)  )
+(;@55    ;)  (data (;0;) (i32.const 0) "hi")
+(;@5c    ;)  (data (;1;) "")
+(;@5e    ;))
+"#
+        );
+        Ok(())
+    }
+
+    #[test]
+    fn prints_fields_of_a_skeleton(rt: HostRuntime) -> Result<(), Fail> {
+        let mut config = Config::new();
+        config.options.skeleton = true;
+        let text = printed(rt.alloc(), &config, &FIELDS)?;
+        assert_eq!(rt;
+            text.as_str(),
+            r#"(module
+  (type (;0;) (func))
+  (import "a" "f" (func (;0;) (type 0)))
+  (table (;0;) 1 funcref)
+  (memory (;0;) 1)
+  (tag (;0;) (type 0))
+  (global (;0;) i32 i32.const 7)
+  (export "t" (tag 0))
+  (start 1)
+  (elem (;0;) (i32.const 0) ...)
+  (elem (;1;) ...)
+  (func (;1;) (type 0) ...)
+  (data (;0;) (i32.const 0) ...)
+  (data (;1;) ...)
+)
+"#
         );
         Ok(())
     }

@@ -7,7 +7,6 @@
 mod config;
 mod in_memory;
 pub mod print;
-mod sections;
 pub mod text;
 pub mod wasm;
 

@@ -1,7 +1,12 @@
 //! Modules in the binary format: decoding, and walking over what was decoded.
 pub use wasmprinter_ops::blocks::{BlockType, Catch, Catches, Targets};
-pub use wasmprinter_ops::expression::OperatorsReader;
+pub use wasmprinter_ops::expression::{Expression, OperatorsReader};
 pub use wasmprinter_ops::opcode::Opcode;
+pub use wasmprinter_ops::operands::MemArg;
 pub use wasmprinter_ops::operator::{Immediates, Operator};
 pub use wasmprinter_ops::types::{HeapType, RefType, ValType, ValTypes};
-pub use wasmprinter_wasm::{Body, Module, decode};
+pub use wasmprinter_wasm::{
+    Body, Data, DataMode, Element, ElementItems, ElementMode, Export, ExternKind, ExternType,
+    Function, Global, GlobalType, Import, Limits, LocalEntry, Locals, Memory, MemoryType, Module,
+    Start, Table, TableType, Tag, TypeGroup, decode,
+};

@@ -1,3 +1,4 @@
 pub mod Powers
 pub mod Fronts
 pub mod Items
+pub mod Grown

@@ -34,8 +34,13 @@ reader_reasons nothing grows at = record {
   component = ⊥;
   locals = λ place. ⊥;
   functions = λ count. ⊥;
+  tables = λ place. ⊥;
   memory = grows;
 }
+
+-- a growth may be refused wherever reading stands
+abbrev pub Anywhere : Input → Type 0
+Anywhere at = Unit {0}
 
 -- The value stands there, and reading goes on behind it; or nothing of the kind stands there; or a growth was refused, and then `Grows` holds
 -- of where reading stood.

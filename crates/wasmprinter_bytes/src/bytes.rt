@@ -1,6 +1,7 @@
 //! A cursor over a module's bytes: whole numbers in LEB128 and names (section 5.2 of the WebAssembly Core
 //! Specification, "Integers" and "Names").
-ghost use Rattle.std.specs.Prelude.{◌≡◌, ◌<◌, ◌≤◌, ◌^◌, ◌+◌, ◌-◌, ◌*◌, ◌↔◌, [], length, take, slice_get, nat_lt, IfOk, IsTrue, pos, neg_ℤ, negsuc, ◌+ℤ◌, ◌*ℤ◌, ◌≤ℤ◌, ◌<ℤ◌};
+ghost use Rattle.std.specs.Prelude.{◌≡◌, ◌<◌, ◌≤◌, ◌^◌, ◌+◌, ◌-◌, ◌*◌, ◌↔◌, [], length, take, slice_get, nat_lt, IfOk, IsTrue};
+ghost use Rattle.std.specs.Prelude.{pos, neg_ℤ, negsuc, ◌+ℤ◌, ◌*ℤ◌, ◌≤ℤ◌, ◌<ℤ◌};
 ghost use Rattle.wasmprinter_spec.specs.Grammar.{byte};
 ghost use Rattle.wasmprinter_spec.specs.Sized.{take_bytes};
 ghost use Rattle.wasmprinter_spec.specs.Leb.{unsigned, signed};

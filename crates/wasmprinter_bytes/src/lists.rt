@@ -1,7 +1,7 @@
 //! Vectors (section 5.1 of the WebAssembly Core Specification, "Lists"): a count, and so many items one after the other.
 ghost use Rattle.std.specs.Prelude.{◌≡◌, [], length};
 ghost use Rattle.wasmprinter_bytes.specs.Reads.{Reads, IsWithin, end_of};
-ghost use Rattle.wasmprinter_bytes.specs.Lists.{Takes, BeginsList, vec_at};
+ghost use Rattle.wasmprinter_bytes.specs.Lists.{Takes, Anywhere, CountsItems, BeginsList, vec_at};
 
 use crate::bytes::Cursor;
 use std::alloc::Global;
@@ -62,6 +62,36 @@ pub fn read_list<'a, T: SpelledIn<'a>>(
         values.push(T::read(cursor)?)?;
     }
     Ok(values)
+}
+
+/// A value that bytes spell; reading it may want memory. It may borrow the bytes.
+pub trait GrownIn<'a>: Drop {
+    ghost use Rattle.std.specs.Prelude.{Option};
+    ghost use Rattle.wasmprinter_spec.specs.Grammar.{Input};
+
+    /// How it is read.
+    ghost parse: { Input → Option (Self × Input) };
+
+    /// Reads the value at the cursor.
+    fn read(alloc: Global, cursor: &mut Cursor<'a>) -> Result<Self, Error>
+        ensures reads { Takes (λ x. x) parse Anywhere cursor.old result cursor.new }
+        ensures end { end_of cursor.new ≡ end_of cursor.old };
+}
+
+/// Reads a count and so many values that may want memory, and keeps them.
+pub fn read_grown_list<'a, T: GrownIn<'a>>(
+    alloc: Global,
+    cursor: &mut Cursor<'a>,
+) -> Result<Vec<T>, Error>
+    ensures reads { Takes (λ v. v.items) (vec_at T.parse) CountsItems cursor.old result cursor.new }
+    ensures end { end_of cursor.new ≡ end_of cursor.old }
+{
+    let count = cursor.u32()?;
+    let mut grown = Vec::new(alloc);
+    for _ in 0..count {
+        grown.push(T::read(alloc, cursor)?)?;
+    }
+    Ok(grown)
 }
 
 /// So many values that are known to stand one after the other; they are read again as they are asked for.

@@ -9,6 +9,7 @@ pub record Reasons : Type 1 where
   pub component : Type 0
   pub locals : ℕ → Type 0
   pub functions : ℕ → Type 0
+  pub tables : ℕ → Type 0
   pub memory : Type 0
 
 -- the error has its reason; those of printing are never answered
@@ -17,7 +18,7 @@ HasReason r (Malformed place) = r.malformed place
 HasReason r Component = r.component
 HasReason r (TooManyLocals place) = r.locals place
 HasReason r (TooManyFunctions count) = r.functions count
-HasReason r (EmptyTableInit place) = ⊥
+HasReason r (EmptyTableInit place) = r.tables place
 HasReason r (FoldLegacy place) = ⊥
 HasReason r (FoldHint place) = ⊥
 HasReason r (DylinkSubsection id) = ⊥

@@ -5,19 +5,20 @@ use Rattle.std.proofs.Common.{refl, sym, ap, ◌∙◌, arith}
 use Rattle.wasmprinter_spec.specs.Grammar.{Placed}
 use Rattle.wasmprinter_spec.specs.Types.{FuncType}
 use Rattle.wasmprinter_spec.specs.Operator.{Operator}
-use Rattle.wasmprinter_spec.specs.Table.{word_of, role_of, takes_label}
+use Rattle.wasmprinter_spec.specs.Table.{word_of, role_of, shape_of}
 use Rattle.wasmprinter_spec.specs.Labels.{Label, labels_after, count_after, outside, inside}
 use Rattle.wasmprinter_spec.specs.Options.{Options}
 use Rattle.wasmprinter_spec.specs.Piece.{Word}
 use Rattle.wasmprinter_spec.specs.Meaning.{Meaning}
-use Rattle.wasmprinter_spec.specs.Layout.{no_names}
+use Rattle.wasmprinter_spec.specs.LabelNames.{no_names}
 use Rattle.wasmprinter_spec.specs.Layout.Groups.{has_break}
-use Rattle.wasmprinter_spec.specs.Layout.Operators.{Setting, OverLines, level, before_word, immediate_pieces, operator_pieces, operators_pieces, expression_pieces}
+use Rattle.wasmprinter_spec.specs.Layout.Operators.{Setting, level, before_word, pieces_by, operator_pieces, operators_pieces, expression_pieces}
 use Rattle.wasmprinter_print.specs.Emits.{Through}
 use Rattle.wasmprinter_print.specs.Prints.{Written, Lacks}
 use Rattle.wasmprinter_print.specs.PrintsLaws.{no_piece, next_written, lacks_none}
 use Rattle.wasmprinter_ops.specs.Operators.{placed_view, pairs}
 use Rattle.wasmprinter_flat.specs.Open.{unnamed}
+use Rattle.wasmprinter_flat.specs.Settings.{over_lines}
 use Rattle.wasmprinter_flat.proofs.Depths.{unnamed-length, after-depth}
 
 -- pairs of places and operators are operators with their places
@@ -37,7 +38,7 @@ pub operator-out : (s : Setting) (first : Bool) (d place : ℕ) (o : Operator) (
     unnamed around ≡ outside (role_of o.opcode) (unnamed d) →
     operator_pieces s first None (unnamed d) (record { place = place; value = o })
     ≡ before_word s.form first place (s.nesting + depth)
-    ++ (Word (word_of o.opcode) ∷ immediate_pieces s (takes_label o.opcode) (inside (role_of o.opcode) (unnamed d)) (unnamed around) None o.immediates)
+    ++ (Word (word_of o.opcode) ∷ pieces_by s (inside (role_of o.opcode) (unnamed d)) (unnamed around) None (shape_of o.opcode) o.immediates)
 unfolding operator_pieces
 operator-out s first d place o depth around e f = rw (unnamed-length d, e, f) refl
 
@@ -46,7 +47,7 @@ pub operator-before : (s : Setting) (first : Bool) (d place : ℕ) (o : Operator
     operator_pieces s first None (unnamed d) (record { place = place; value = o })
     ≡ before_word s.form first place (s.nesting + depth)
     ++ (Word (word_of o.opcode)
-    ∷ immediate_pieces s (takes_label o.opcode) (inside (role_of o.opcode) (unnamed d)) (outside (role_of o.opcode) (unnamed d)) None o.immediates)
+    ∷ pieces_by s (inside (role_of o.opcode) (unnamed d)) (outside (role_of o.opcode) (unnamed d)) None (shape_of o.opcode) o.immediates)
 unfolding operator_pieces
 operator-before s first d place o depth e = rw (unnamed-length d, e) refl
 
@@ -105,19 +106,19 @@ module _ {P : Type 0} (m : Meaning P) {o : Options} {a t : P} {s : Setting} {all
 -- ---- whether there is an operator
 
 breaks-of : (signature : ℕ → Option FuncType) (nesting : ℕ) (os rest : List (Placed Operator)) (o : Placed Operator) → os ≡ o ∷ rest →
-    has_break (expression_pieces (record { form = OverLines; signature = signature; nesting = nesting }) no_names os) ≡ true
+    has_break (over_lines signature nesting os) ≡ true
 unfolding expression_pieces operators_pieces operator_pieces
 breaks-of signature nesting os rest o e =
-    ap (λ ps. has_break (expression_pieces (record { form = OverLines; signature = signature; nesting = nesting }) no_names ps)) e
+    ap (λ ps. has_break (over_lines signature nesting ps)) e
 
 breaks-nil : (signature : ℕ → Option FuncType) (nesting : ℕ) (os : List (Placed Operator)) → os ≡ [] →
-    has_break (expression_pieces (record { form = OverLines; signature = signature; nesting = nesting }) no_names os) ≡ false
+    has_break (over_lines signature nesting os) ≡ false
 unfolding expression_pieces operators_pieces
 breaks-nil signature nesting os e =
-    ap (λ ps. has_break (expression_pieces (record { form = OverLines; signature = signature; nesting = nesting }) no_names ps)) e
+    ap (λ ps. has_break (over_lines signature nesting ps)) e
 
 -- over lines, whether lines change for operators is whether a first one is given
 pub operators-break : (signature : ℕ → Option FuncType) (nesting : ℕ) (os rest : List (Placed Operator)) (r : Option (ℕ × Operator)) → YieldsFirst pairs os r rest →
-    has_break (expression_pieces (record { form = OverLines; signature = signature; nesting = nesting }) no_names os) ≡ is_some r
+    has_break (over_lines signature nesting os) ≡ is_some r
 operators-break signature nesting os rest None y = breaks-nil signature nesting os (no-pair os y.0)
 operators-break signature nesting os rest (Some x) y = breaks-of signature nesting os rest (placed_view x) (first-pair os rest x y)

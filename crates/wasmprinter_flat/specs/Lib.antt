@@ -1,2 +1,3 @@
+pub mod Only
 pub mod Open
 pub mod Settings

@@ -2,33 +2,33 @@
 //! comment of its label.
 ghost use Rattle.std.specs.Prelude.{[], ◌∷◌, ◌++◌, List, None, codes};
 ghost use Rattle.wasmprinter_spec.specs.Labels.{Label};
-ghost use Rattle.wasmprinter_spec.specs.Operator.{Value};
 ghost use Rattle.wasmprinter_spec.specs.Options.{Options};
 ghost use Rattle.wasmprinter_spec.specs.Piece.{Gap, Number};
 ghost use Rattle.wasmprinter_spec.specs.Layout.Groups.{line_group, line_group_gap};
-ghost use Rattle.wasmprinter_spec.specs.Layout.Operators.{label_pieces, ending_pieces, signature_behind, block_pieces, catch_pieces, catches_pieces};
+ghost use Rattle.wasmprinter_spec.specs.Layout.Operators.{label_pieces, ending_pieces, signature_behind, block_pieces};
+ghost use Rattle.wasmprinter_spec.specs.Layout.Operators.{catch_pieces, catches_pieces};
 ghost use Rattle.wasmprinter_print.specs.Prints.{Prints};
 ghost use Rattle.wasmprinter_ops.specs.Blocks.{block_type_view, catch_view, catches_view};
-ghost use Rattle.wasmprinter_ops.specs.ValTypes.{type_view};
 ghost use Rattle.wasmprinter_flat.specs.Open.{unnamed};
 ghost use Rattle.wasmprinter_flat.specs.Settings.{form_view};
 
 use crate::labels::write_label;
 use crate::operators::Form;
+use crate::references::write_result;
 use std::io;
 use wasmprinter_ops::blocks::{BlockType, Catch, Catches};
-use wasmprinter_ops::types::ValType;
 use wasmprinter_print::Print;
 use wasmprinter_text::signature::Signatures;
-use wasmprinter_text::types::{signature, write_val_type};
+use wasmprinter_text::types::signature;
 use wasmprinter_words::comments::{label_ending, label_remark};
 use wasmprinter_words::numbers::{number, write_index_group};
-use wasmprinter_words::words::{gap, open, open_gap, shut};
+use wasmprinter_words::words::{gap, open, shut};
 
 /// Writes a comment that names the label of a block, which is counted from 1.
 #[tactic(auto, unfolding(wasmprinter_spec::specs::Layout::Operators::ending_pieces))]
 pub(crate) fn write_ending<P: Print>(p: &mut P, form: Form, block: u64) -> io::Result<()>
-    ensures { (o : Options) → Prints P.meaning o p.old p.new result (ending_pieces (form_view form) None block) }
+    ensures { (o : Options) → Prints P.meaning o p.old p.new result
+        (ending_pieces (form_view form) None block) }
 {
     match form {
         Form::OverLines => {
@@ -44,23 +44,13 @@ pub(crate) fn write_ending<P: Print>(p: &mut P, form: Form, block: u64) -> io::R
 
 /// Writes the signature of a function type, and nothing where the index is no function type's.
 fn write_signature<P: Print, S: Signatures>(p: &mut P, types: &S, index: u32) -> io::Result<()>
-    ensures { (o : Options) → Prints P.meaning o p.old p.new result (signature_behind (S.signature_at types.now index)) }
+    ensures { (o : Options) → Prints P.meaning o p.old p.new result
+        (signature_behind (S.signature_at types.now index)) }
 {
     match types.signature(index) {
         Some(found) => signature(p, &found),
         None => Ok(()),
     }
-}
-
-/// Writes one result.
-#[tactic(auto, unfolding(wasmprinter_spec::specs::Layout::Operators::block_pieces, wasmprinter_spec::specs::Layout::Groups::line_group_gap))]
-fn write_value<P: Print, S: Signatures>(p: &mut P, types: &S, value_type: ValType) -> io::Result<()>
-    ensures { (o : Options) → Prints P.meaning o p.old p.new result (block_pieces (S.signature_at types.now) (Value (type_view value_type))) }
-{
-    gap(p)?;
-    open_gap(p, "result")?;
-    write_val_type(p, value_type)?;
-    shut(p)
 }
 
 /// Writes the index of a type, and its signature.
@@ -80,11 +70,12 @@ pub(crate) fn write_block_type<P: Print, S: Signatures>(
     types: &S,
     block_type: BlockType,
 ) -> io::Result<()>
-    ensures { (o : Options) → Prints P.meaning o p.old p.new result (block_pieces (S.signature_at types.now) (block_type_view block_type)) }
+    ensures { (o : Options) → Prints P.meaning o p.old p.new result
+        (block_pieces (S.signature_at types.now) (block_type_view block_type)) }
 {
     match block_type {
         BlockType::Empty => Ok(()),
-        BlockType::Value(value_type) => write_value(p, types, value_type),
+        BlockType::Value(value_type) => write_result(p, value_type),
         BlockType::Func(index) => write_type_use(p, types, index),
     }
 }
@@ -122,7 +113,8 @@ fn write_untagged<P: Print>(p: &mut P, keyword: &str, depth: u64, label: u32) ->
 /// Writes a catch clause, with so many blocks open around the `try_table`.
 #[tactic(auto, unfolding(wasmprinter_spec::specs::Layout::Operators::catch_pieces))]
 fn write_catch<P: Print>(p: &mut P, depth: u64, clause: Catch) -> io::Result<()>
-    ensures { (o : Options) (inner : List Label) → Prints P.meaning o p.old p.new result (catch_pieces inner (unnamed depth) (catch_view clause)) }
+    ensures { (o : Options) (inner : List Label) → Prints P.meaning o p.old p.new result
+        (catch_pieces inner (unnamed depth) (catch_view clause)) }
 {
     match clause {
         Catch::One(tag, label) => write_tagged(p, "catch", depth, tag, label),
@@ -134,7 +126,8 @@ fn write_catch<P: Print>(p: &mut P, depth: u64, clause: Catch) -> io::Result<()>
 
 /// Writes a blank and a catch clause.
 fn write_clause<P: Print>(p: &mut P, depth: u64, clause: Catch) -> io::Result<()>
-    ensures { (o : Options) (inner : List Label) → Prints P.meaning o p.old p.new result (Gap ∷ catch_pieces inner (unnamed depth) (catch_view clause)) }
+    ensures { (o : Options) (inner : List Label) → Prints P.meaning o p.old p.new result
+        (Gap ∷ catch_pieces inner (unnamed depth) (catch_view clause)) }
 {
     gap(p)?;
     write_catch(p, depth, clause)
@@ -146,7 +139,8 @@ pub(crate) fn write_catches<P: Print>(
     depth: u64,
     clauses: &Catches<'_>,
 ) -> io::Result<()>
-    ensures { (o : Options) (inner : List Label) → Prints P.meaning o p.old p.new result (catches_pieces inner (unnamed depth) (catches_view clauses.now)) }
+    ensures { (o : Options) (inner : List Label) → Prints P.meaning o p.old p.new result
+        (catches_pieces inner (unnamed depth) (catches_view clauses.now)) }
 {
     for clause in clauses.iter() {
         write_clause(p, depth, clause)?;

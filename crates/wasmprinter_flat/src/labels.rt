@@ -41,7 +41,8 @@ pub(crate) fn depth_outside(role: Role, depth: u64) -> u64
 /// Writes the label of a block around an operator, with the number of the block.
 fn write_around<P: Print>(p: &mut P, depth: u64, label: u64) -> io::Result<()>
     requires { label < depth }
-    ensures { (o : Options) → Prints P.meaning o p.old p.new result (Gap ∷ (Number label ∷ (Remark true (64 ∷ decimal (depth - label)) ∷ []))) }
+    ensures { (o : Options) → Prints P.meaning o p.old p.new result
+        (Gap ∷ (Number label ∷ (Remark true (64 ∷ decimal (depth - label)) ∷ []))) }
 {
     gap(p)?;
     number(p, label)?;
@@ -58,7 +59,8 @@ fn write_own<P: Print>(p: &mut P, label: u64) -> io::Result<()>
 
 /// Writes a number that is no label.
 fn write_invalid<P: Print>(p: &mut P, label: u64) -> io::Result<()>
-    ensures { (o : Options) → Prints P.meaning o p.old p.new result (Gap ∷ (Word (decimal label) ∷ (Remark false (codes " INVALID ") ∷ []))) }
+    ensures { (o : Options) → Prints P.meaning o p.old p.new result
+        (Gap ∷ (Word (decimal label) ∷ (Remark false (codes " INVALID ") ∷ []))) }
 {
     gap(p)?;
     number_word(p, label)?;
@@ -67,7 +69,8 @@ fn write_invalid<P: Print>(p: &mut P, label: u64) -> io::Result<()>
 
 /// Writes a label, with so many blocks open.
 pub(crate) fn write_label<P: Print>(p: &mut P, depth: u64, label: u32) -> io::Result<()>
-    ensures { (o : Options) (inner : List Label) → Prints P.meaning o p.old p.new result (label_pieces inner (unnamed depth) label) }
+    ensures { (o : Options) (inner : List Label) → Prints P.meaning o p.old p.new result
+        (label_pieces inner (unnamed depth) label) }
 {
     let label = u64::from(label);
     if label < depth {
@@ -86,7 +89,8 @@ pub(crate) fn write_labels<P: Print>(
     targets: &Targets<'_>,
     default: u32,
 ) -> io::Result<()>
-    ensures { (o : Options) (inner : List Label) → Prints P.meaning o p.old p.new result (labels_pieces inner (unnamed depth) targets.now default) }
+    ensures { (o : Options) (inner : List Label) → Prints P.meaning o p.old p.new result
+        (labels_pieces inner (unnamed depth) targets.now default) }
 {
     for target in targets.iter() {
         write_label(p, depth, target)?;

@@ -2,5 +2,13 @@
 #![tactic(auto)]
 
 mod blocks;
+mod constants;
+mod immediates;
+mod indices;
 mod labels;
+mod memory;
 pub mod operators;
+mod references;
+#[cfg(test)]
+mod tests;
+mod vectors;

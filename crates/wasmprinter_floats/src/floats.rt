@@ -4,14 +4,17 @@ ghost use Rattle.wasmprinter_spec.specs.Call.{Text};
 ghost use Rattle.wasmprinter_spec.specs.Float.{single, double};
 ghost use Rattle.wasmprinter_spec.specs.FloatText.{digits_behind, fraction_digits, behind_point, exponent_text, normal_text};
 ghost use Rattle.wasmprinter_spec.specs.FloatText.{subnormal_text, finite_text, special_text, remark, unsigned_calls, float_calls};
+ghost use Rattle.wasmprinter_spec.specs.Options.{Options};
+ghost use Rattle.wasmprinter_spec.specs.Piece.{Float};
 ghost use Rattle.wasmprinter_print.specs.Emits.{Emits, EmitsOrFails};
+ghost use Rattle.wasmprinter_print.specs.Prints.{Prints};
 ghost use Rattle.wasmprinter_floats.specs.Formats.{width_of};
 
-use crate::format::{Format, power};
+use crate::format::Format;
 use std::io;
 use wasmprinter_error::Error;
 use wasmprinter_print::{Print, Style, reset, start, text};
-use wasmprinter_words::numbers::{DECIMAL, HEXADECIMAL, write_digit, write_digits};
+use wasmprinter_words::numbers::{DECIMAL, HEXADECIMAL, power, write_digit, write_digits};
 
 /// Writes the hexadecimal digits of `n / 16 ^ count`, a number below 1, up to the last that is not 0.
 fn write_digits_behind<P: Print>(p: &mut P, count: u32, n: u64) -> io::Result<()>
@@ -168,6 +171,22 @@ fn write_float<P: Print>(p: &mut P, format: Format, bits: u64) -> io::Result<()>
     write_unsigned(p, format, true, rest / one, rest % one)
 }
 
+/// Writes a float of 32 bits from its bits, as a part of a layout.
+pub fn write_single<P: Print>(p: &mut P, bits: u32) -> io::Result<()>
+    ensures calls { Emits P.meaning p.old p.new result (float_calls single bits) }
+    ensures pieces { (o : Options) → Prints P.meaning o p.old p.new result (Float single bits ∷ []) }
+{
+    write_float(p, Format::Single, u64::from(bits))
+}
+
+/// Writes a float of 64 bits from its bits, as a part of a layout.
+pub fn write_double<P: Print>(p: &mut P, bits: u64) -> io::Result<()>
+    ensures calls { Emits P.meaning p.old p.new result (float_calls double bits) }
+    ensures pieces { (o : Options) → Prints P.meaning o p.old p.new result (Float double bits ∷ []) }
+{
+    write_float(p, Format::Double, bits)
+}
+
 /// Writes a float of 32 bits from its bits, as the text of a module writes it: in hexadecimal, so that it has just their value,
 /// and NaN with its payload where that isn't the canonical one (section 6.3 of the standard, "Floating-Point"). Behind infinity
 /// and NaN stands a comment.
@@ -178,7 +197,7 @@ fn write_float<P: Print>(p: &mut P, format: Format, bits: u64) -> io::Result<()>
 pub fn write_f32<P: Print>(p: &mut P, bits: u32) -> Result<(), Error>
     ensures { EmitsOrFails P.meaning p.old p.new result (float_calls single bits) }
 {
-    write_float(p, Format::Single, u64::from(bits))?;
+    write_single(p, bits)?;
     Ok(())
 }
 
@@ -190,6 +209,6 @@ pub fn write_f32<P: Print>(p: &mut P, bits: u32) -> Result<(), Error>
 pub fn write_f64<P: Print>(p: &mut P, bits: u64) -> Result<(), Error>
     ensures { EmitsOrFails P.meaning p.old p.new result (float_calls double bits) }
 {
-    write_float(p, Format::Double, bits)?;
+    write_double(p, bits)?;
     Ok(())
 }

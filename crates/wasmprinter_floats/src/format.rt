@@ -4,6 +4,8 @@ ghost use Rattle.wasmprinter_spec.specs.Float.{bias, greatest_exponent, sign_bit
 ghost use Rattle.wasmprinter_spec.specs.FloatText.{digit_count, filled_fraction, shift, shifted_fraction};
 ghost use Rattle.wasmprinter_floats.specs.Formats.{width_of};
 
+use wasmprinter_words::numbers::power;
+
 /// A format of floats.
 #[derive(Clone, Copy)]
 pub enum Format {
@@ -11,14 +13,6 @@ pub enum Format {
     Single,
     /// 64 bits: a sign, 11 bits of exponent and 52 of fraction.
     Double,
-}
-
-/// A power of two.
-pub fn power(k: u32) -> u64
-    requires { k < 64 }
-    ensures { result ≡ 2 ^ k }
-{
-    1 << k
 }
 
 impl Format {

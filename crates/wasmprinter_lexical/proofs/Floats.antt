@@ -1,7 +1,7 @@
 -- The texts of floats read back.
-use Rattle.std.proofs.Common.{◌≡◌, ℕ, zero, suc, ◌+◌, ◌*◌, ◌/◌, ◌%◌, ◌^◌, ◌-◌, ◌<◌, ◌≤◌, Bool, true, false, cond, ◌||◌, not, eqb, ltb, List, [], ◌∷◌, ◌++◌, length, Some, option_map, refl, sym, ap, ◌∙◌, subst, arith, decimal, codes, lit<, lit≤, pow_pos, pow-add, pow-suc, mod-lt, div-add-mod', mul_assoc, mul_right_comm, mul-div_cancel, add-mul, le-mul_of_pos_right, lt-ltb, le-ltb, ltb-false, ltb-true, eqb-true, ⊎_elim}
+use Rattle.std.proofs.Common.{◌≡◌, ℕ, zero, suc, ◌+◌, ◌*◌, ◌/◌, ◌%◌, ◌^◌, ◌-◌, ◌<◌, ◌≤◌, Bool, true, false, cond, eqb, ltb, List, [], ◌∷◌, ◌++◌, length, Some, option_map, refl, sym, ap, ◌∙◌, subst, arith, decimal, codes, lit<, lit≤, pow_pos, pow-add, pow-suc, mod-lt, div-add-mod', mul_assoc, mul_right_comm, mul-div_cancel, add-mul, le-mul_of_pos_right, lt-ltb, le-ltb, ltb-false, ltb-true, eqb-true, ⊎_elim}
 use Rattle.std.proofs.Math.Nat.{one-le-pow, mul-mod_left, eq_of_mul-eq-mul_right, pow-zero, pow-le-pow_right}
-use Rattle.std.proofs.lemmas.Bool.{and_from, and_parts, agree_below, agree_below_at, cases_lt, false_from_ne_true, eqb-false}
+use Rattle.std.proofs.lemmas.Bool.{and_from, and_parts, cases_lt, false_from_ne_true, eqb-false}
 use Rattle.std.proofs.lemmas.Nat.{div_below, shr_below}
 use Rattle.std.proofs.lemmas.Str.{digit_value-digit_char}
 use Rattle.std.specs.Char.{digit_value}
@@ -15,7 +15,7 @@ use Rattle.wasmprinter_spec.specs.FloatText.{digits_behind, digit_count, fractio
 use Rattle.wasmprinter_spec.proofs.Fractions.{power_16, digits_hold, filled_fraction-below, IsShift, shift-IsShift, shifted_fraction-below}
 use Rattle.wasmprinter_spec.specs.Quoted.{runs, all_run}
 use Rattle.wasmprinter_lexical.proofs.Runs.{is_word}
-use Rattle.wasmprinter_lexical.proofs.Numbers.{all_run_digits, is_numeral_digits, without_underscores_digits, numeral-decimal, numeral-digits}
+use Rattle.wasmprinter_lexical.proofs.Numbers.{all_run_digits, run_hexadecimal, is_numeral_digits, without_underscores_digits, numeral-decimal, numeral-digits}
 
 -- ---- the digits behind a point
 
@@ -73,28 +73,6 @@ digits_lack_power [] h = tt
 digits_lack_power (d ∷ ds) h = (rw (not_digit d 112 h.0 (lit≤ tt), not_digit d 80 h.0 (lit≤ tt)), digits_lack_power ds h.1)
 
 -- ---- bytes of words
-
-beyond_letters : (c : ℕ) → 123 ≤ c → digit_value c ≡ 36
-beyond_letters c h =
-    rw (le-ltb c 48 (omega arith), le-ltb c 58 (omega arith), le-ltb c 65 (omega arith), le-ltb c 91 (omega arith), le-ltb c 97 (omega arith), le-ltb c 123 h)
-
-letter_runs : ℕ → Bool
-letter_runs c = not (ltb (digit_value c) 16) || runs (class c)
-
-letters_run : agree_below letter_runs (λ c. true) 123 ≡ true
-unfolding letter_runs class
-letters_run = refl
-
-digit_runs : (c : ℕ) → digit_value c < 16 → runs (class c) ≡ true
-unfolding letter_runs
-digit_runs c h =
-    let below : c < 123 = ⊎_elim (λ (l : c < 123). l) (λ (l : 123 ≤ c). absurd (omega (arith, beyond_letters c l))) (cases_lt c 123) in
-    let e : (not (ltb (digit_value c) 16) || runs (class c)) ≡ true = agree_below_at letter_runs (λ x. true) 123 c letters_run below in
-    rw (lt-ltb (digit_value c) 16 h) at e
-
-run_hexadecimal : (ds : List ℕ) → AllDigits 16 ds → all_run ds ≡ true
-run_hexadecimal [] h = refl
-run_hexadecimal (c ∷ cs) h = and_from (runs (class c)) (all_run cs) (digit_runs c h.0) (run_hexadecimal cs h.1)
 
 run_both : (a b : List ℕ) → all_run a ≡ true → all_run b ≡ true → all_run (a ++ b) ≡ true
 run_both [] b h k = k

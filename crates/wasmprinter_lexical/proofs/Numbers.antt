@@ -1,6 +1,6 @@
 -- Numbers as text: what their bytes are, and that they read back.
-use Rattle.std.proofs.Common.{◌≡◌, ℕ, suc, ◌<◌, ◌≤◌, ◌^◌, ◌-◌, Bool, true, false, ◌&&◌, ◌||◌, not, leb, eqb, List, [], ◌∷◌, Some, refl, sym, ap, ◌∙◌, arith, true≢false, decimal, ℤ, pos, negsuc, lit<, lit≤}
-use Rattle.std.proofs.lemmas.Bool.{and_from, lt-ltb, le-leb, agree_below, agree_below_at, false_from_ne_true, eqb-true}
+use Rattle.std.proofs.Common.{◌≡◌, ⊎_elim, ℕ, suc, ◌<◌, ◌≤◌, ◌^◌, ◌-◌, Bool, true, false, ◌&&◌, ◌||◌, not, leb, ltb, eqb, List, [], ◌∷◌, ◌++◌, Some, refl, sym, ap, ◌∙◌, arith, true≢false, codes, decimal, ℤ, pos, negsuc, lit<, lit≤}
+use Rattle.std.proofs.lemmas.Bool.{and_from, cases_lt, lt-ltb, le-ltb, le-leb, agree_below, agree_below_at, false_from_ne_true, eqb-true}
 use Rattle.std.proofs.lemmas.Fmt.{decimal_is_IsNumeral, digits_is_IsNumeral}
 use Rattle.std.proofs.lemmas.Str.Parse.{digit_at}
 use Rattle.std.specs.Char.{digit_value}
@@ -159,3 +159,34 @@ pub numeral-digits : (n : ℕ) → n < 16 ^ 64 → numeral 16 (digits 16 false n
 numeral-digits n h =
     let facts : IsNumeral 16 (digits 16 false n) × (digits_value 16 (digits 16 false n) ≡ n) = digits_is_IsNumeral 16 false (lit≤ tt) (lit≤ tt) n h in
     numeral_from 16 n (digits 16 false n) (lit≤ tt) facts.0 facts.1
+
+beyond_letters : (c : ℕ) → 123 ≤ c → digit_value c ≡ 36
+beyond_letters c h =
+    rw (le-ltb c 48 (omega arith), le-ltb c 58 (omega arith), le-ltb c 65 (omega arith), le-ltb c 91 (omega arith), le-ltb c 97 (omega arith), le-ltb c 123 h)
+
+letter_runs : ℕ → Bool
+letter_runs c = not (ltb (digit_value c) 16) || runs (class c)
+
+letters_run : agree_below letter_runs (λ c. true) 123 ≡ true
+unfolding letter_runs class
+letters_run = refl
+
+digit_runs : (c : ℕ) → digit_value c < 16 → runs (class c) ≡ true
+unfolding letter_runs
+digit_runs c h =
+    let below : c < 123 = ⊎_elim (λ (l : c < 123). l) (λ (l : 123 ≤ c). absurd (omega (arith, beyond_letters c l))) (cases_lt c 123) in
+    let e : (not (ltb (digit_value c) 16) || runs (class c)) ≡ true = agree_below_at letter_runs (λ x. true) 123 c letters_run below in
+    rw (lt-ltb (digit_value c) 16 h) at e
+
+pub run_hexadecimal : (ds : List ℕ) → AllDigits 16 ds → all_run ds ≡ true
+run_hexadecimal [] h = refl
+run_hexadecimal (c ∷ cs) h = and_from (runs (class c)) (all_run cs) (digit_runs c h.0) (run_hexadecimal cs h.1)
+
+-- a number in hexadecimal
+pub natural-hexadecimal : (n : ℕ) → n < 16 ^ 64 → natural (codes "0x" ++ digits 16 false n) ≡ Some n
+unfolding natural
+natural-hexadecimal n h = numeral-digits n h
+
+pub is_word-hexadecimal : (n : ℕ) → n < 16 ^ 64 → is_word (codes "0x" ++ digits 16 false n) ≡ true
+unfolding class
+is_word-hexadecimal n h = run_hexadecimal (digits 16 false n) (digits_is_IsNumeral 16 false (lit≤ tt) (lit≤ tt) n h).0.1

@@ -1,27 +1,32 @@
 -- One piece, and pieces behind one another: their text lexes to their tokens, and all its bytes are printed ones.
-use Rattle.std.proofs.Common.{◌≡◌, ℕ, zero, suc, ◌<◌, ◌-◌, ◌^◌, Bool, true, false, ◌&&◌, min, List, [], ◌∷◌, ◌++◌, Option, Some, None, refl, sym, ap, ◌∙◌, append_assoc, append-nil, true≢false, codes, decimal, replicate, length, flat_map, encode_utf8_all, ◌⊎◌, inl, inr}
+use Rattle.std.proofs.Common.{◌≡◌, ℕ, zero, suc, ◌<◌, ◌-◌, ◌*◌, ◌^◌, Bool, true, false, ◌&&◌, min, List, [], ◌∷◌, ◌++◌, Option, Some, None, refl, sym, ap, ◌∙◌, append_assoc, append-nil, true≢false, codes, decimal, replicate, length, flat_map, encode_utf8_all, ◌⊎◌, inl, inr}
 use Rattle.std.proofs.lemmas.Bool.{and_parts, and_from}
 use Rattle.std.specs.Fmt.{signed_decimal, digits}
 use Rattle.std.specs.Int.Signed.{mag}
+use Rattle.std.specs.List.{AllByRecursion}
 use Rattle.std.proofs.Math.Utf8.{scalars}
 use Rattle.wasmprinter_spec.specs.Character.{class}
 use Rattle.wasmprinter_spec.specs.Call.{Call, Text, call_text, text_of}
 use Rattle.wasmprinter_spec.specs.Options.{Options, IsBlank}
-use Rattle.wasmprinter_spec.specs.Quoted.{char_text, quoted_text, identifier_text}
-use Rattle.wasmprinter_spec.specs.Token.{Clear, is_name, lex}
-use Rattle.wasmprinter_spec.specs.Piece.{Piece, Begin, Feed, Break, Gap, Open, OpenGap, OpenPlain, Shut, Word, TypeWord, Number, Constant, Mark, Quoted, Identifier, NameNote, Remark, Ending, repeated, left_in, place_text, place_calls, most_indents, calls, text, piece_tokens, all_calls, all_tokens}
-use Rattle.wasmprinter_lexical.proofs.Runs.{is_quiet, ends_line, ending_lexes, is_word, all_quiet, all_blank, is_blank_class, delimited, word_lexes, open_lexes, blanks_lex, comment_lexes}
+use Rattle.wasmprinter_spec.specs.Float.{IsWidth, sign_bit}
+use Rattle.wasmprinter_spec.specs.Quoted.{char_text, quoted_text, quoted_bytes, identifier_text}
+use Rattle.wasmprinter_spec.specs.Token.{Clear, word, is_name, lex}
+use Rattle.wasmprinter_spec.specs.Piece.{Piece, Begin, Feed, Break, Gap, Open, OpenGap, OpenPlain, OpenBare, OpenTypeGap, Shut, Word, TypeWord, TypeWordGap, GapTypeWord, Number, Constant, Literals, GapLiterals, Float, Mark, Quoted, QuotedBytes, Identifier, NameNote, Remark, Ending, repeated, left_in, place_text, place_calls, most_indents, behind_blanks, word_tokens, calls, text, piece_tokens, all_calls, all_tokens}
+use Rattle.wasmprinter_lexical.proofs.Runs.{is_quiet, ends_line, ending_lexes, is_word, are_words, all_quiet, all_blank, is_blank_class, delimited, begins_item, begins_item-word, left_lexes, word_lexes, open_lexes, blanks_lex, comment_lexes}
 use Rattle.wasmprinter_lexical.proofs.Numbers.{is_word-decimal, is_word-signed_decimal, all_quiet-decimal}
-use Rattle.wasmprinter_lexical.proofs.Quotes.{text_lexes}
+use Rattle.wasmprinter_lexical.proofs.FloatPieces.{float_lexes}
+use Rattle.wasmprinter_lexical.proofs.Quotes.{text_lexes, quoted_bytes_lex}
 use Rattle.wasmprinter_lexical.proofs.Printed.{hex_digits_are_good, is_remark, remark}
 use Rattle.wasmprinter_lexical.proofs.Identifiers.{identifier_lexes, name_note_lexes}
 
 -- ---- which piece may stand behind which
 
--- what a piece leaves: anything may follow, or only what a token may end before, or only the end of the line
+-- what a piece leaves: anything may follow, or only what a token may end before, or only what may stand behind a bare parenthesis, or only
+-- the end of the line
 pub data Edge : Type 0 where
   Free : Edge
   Bound : Edge
+  Opened : Edge  -- no comment to the end of the line, and no beginning of an annotation
   Ended : Edge  -- only the end of the line
 
 -- begins with what a token may end before
@@ -29,10 +34,22 @@ abbrev pub begins : Piece → Bool
 begins (Begin place) = false
 begins (Word w) = false
 begins (TypeWord w) = false
+begins (TypeWordGap w) = false
 begins (Number n) = false
+begins (Literals w ws) = false
+begins (Float w bits) = false
 begins (Quoted cs) = false
+begins (QuotedBytes bs) = false
 begins (Identifier cs) = false
 begins _ = true
+
+-- begins with what may stand behind a bare parenthesis
+abbrev pub starts : Piece → Bool
+starts (Begin place) = false
+starts (GapLiterals ws) = false
+starts (Float w bits) = false
+starts (Ending s) = false
+starts _ = true
 
 -- begins with the end of a line
 abbrev pub feeds : Piece → Bool
@@ -43,11 +60,17 @@ feeds _ = false
 abbrev pub leaves : Piece → Edge
 leaves (Open w) = Bound
 leaves (OpenPlain w) = Bound
+leaves OpenBare = Opened
 leaves (Word w) = Bound
 leaves (TypeWord w) = Bound
+leaves (GapTypeWord w) = Bound
 leaves (Number n) = Bound
 leaves (Constant z) = Bound
+leaves (Literals w ws) = Bound
+leaves (GapLiterals ws) = Bound
+leaves (Float w bits) = Bound
 leaves (Quoted cs) = Bound
+leaves (QuotedBytes bs) = Bound
 leaves (Identifier cs) = Bound
 leaves (Ending s) = Ended
 leaves _ = Free
@@ -55,6 +78,7 @@ leaves _ = Free
 abbrev pub may_follow : Edge → Piece → Bool
 may_follow Free p = true
 may_follow Bound p = begins p
+may_follow Opened p = starts p
 may_follow Ended p = feeds p
 
 abbrev pub joined : Edge → List Piece → Bool
@@ -66,12 +90,19 @@ abbrev pub IsPiece : Piece → Type 0
 IsPiece (Open w) = is_word w ≡ true
 IsPiece (OpenGap w) = is_word w ≡ true
 IsPiece (OpenPlain w) = is_word w ≡ true
+IsPiece (OpenTypeGap w) = is_word w ≡ true
 IsPiece (Word w) = is_word w ≡ true
 IsPiece (TypeWord w) = is_word w ≡ true
+IsPiece (TypeWordGap w) = is_word w ≡ true
+IsPiece (GapTypeWord w) = is_word w ≡ true
 IsPiece (Number n) = n < 2 ^ 64
 IsPiece (Constant z) = mag z < 2 ^ 63
+IsPiece (Literals w ws) = are_words (w ∷ ws) ≡ true
+IsPiece (GapLiterals ws) = are_words ws ≡ true
+IsPiece (Float w bits) = IsWidth w × (bits < 2 * sign_bit w)
 IsPiece (Mark n) = n < 2 ^ 64
 IsPiece (Quoted cs) = scalars cs ≡ true
+IsPiece (QuotedBytes bs) = AllByRecursion (λ b. b < 256) bs
 IsPiece (Identifier cs) = (scalars cs ≡ true) × (is_name (encode_utf8_all cs) ≡ true)
 IsPiece (NameNote cs) = scalars cs ≡ true
 IsPiece (Remark t s) = is_remark s ≡ true
@@ -85,6 +116,7 @@ ArePieces (p ∷ ps) = IsPiece p × ArePieces ps
 abbrev pub follows : Edge → List ℕ → Bool
 follows Free rest = true
 follows Bound rest = delimited rest
+follows Opened rest = begins_item rest
 follows Ended rest = ends_line rest
 
 -- ---- a new line
@@ -158,6 +190,31 @@ indent_lexes offsets place indent rest h =
     ∙ ap (λ t. lex Clear (t ++ rest)) (append-nil indent)
     ∙ blanks_lex indent rest h
 
+-- ---- words with blanks before them
+
+behind_blanks_delimited : (ws : List (List ℕ)) (rest : List ℕ) → delimited rest ≡ true → delimited (behind_blanks ws ++ rest) ≡ true
+unfolding class
+behind_blanks_delimited [] rest d = d
+behind_blanks_delimited (w ∷ ws) rest d = refl
+
+behind_blanks_lex : (ws : List (List ℕ)) (rest : List ℕ) → are_words ws ≡ true → delimited rest ≡ true →
+    lex Clear (behind_blanks ws ++ rest) ≡ word_tokens ws ++ lex Clear rest
+unfolding lex class
+behind_blanks_lex [] rest h d = refl
+behind_blanks_lex (w ∷ ws) rest h d =
+    let parts : (is_word w ≡ true) × (are_words ws ≡ true) = and_parts (is_word w) (are_words ws) h in
+    ap (lex Clear) (append_assoc w (behind_blanks ws) rest)
+    ∙ word_lexes w (behind_blanks ws ++ rest) parts.0 (behind_blanks_delimited ws rest d)
+    ∙ ap (λ t. word w ∷ t) (behind_blanks_lex ws rest parts.1 d)
+
+words_lex : (w : List ℕ) (ws : List (List ℕ)) (rest : List ℕ) → are_words (w ∷ ws) ≡ true → delimited rest ≡ true →
+    lex Clear ((w ++ behind_blanks ws) ++ rest) ≡ word_tokens (w ∷ ws) ++ lex Clear rest
+words_lex w ws rest h d =
+    let parts : (is_word w ≡ true) × (are_words ws ≡ true) = and_parts (is_word w) (are_words ws) h in
+    ap (lex Clear) (append_assoc w (behind_blanks ws) rest)
+    ∙ word_lexes w (behind_blanks ws ++ rest) parts.0 (behind_blanks_delimited ws rest d)
+    ∙ ap (λ t. word w ∷ t) (behind_blanks_lex ws rest parts.1 d)
+
 -- ---- one piece
 
 module _ (o : Options) (blank : all_blank o.indent ≡ true) where
@@ -176,17 +233,32 @@ module _ (o : Options) (blank : all_blank o.indent ≡ true) where
       ∙ open_lexes w (32 ∷ rest) h refl
   piece_lexes (OpenPlain w) rest h d =
       ap (λ t. lex Clear (40 ∷ (t ++ rest))) (append-nil w) ∙ open_lexes w rest h d
+  piece_lexes OpenBare rest h d = left_lexes rest d
+  piece_lexes (OpenTypeGap w) rest h d =
+      ap (λ t. lex Clear (40 ∷ (t ++ rest))) (append-nil (w ++ (32 ∷ [])))
+      ∙ ap (λ t. lex Clear (40 ∷ t)) (append_assoc w (32 ∷ []) rest)
+      ∙ open_lexes w (32 ∷ rest) h refl
   piece_lexes Shut rest h d = refl
   piece_lexes (Word w) rest h d = ap (λ t. lex Clear (t ++ rest)) (append-nil w) ∙ word_lexes w rest h d
   piece_lexes (TypeWord w) rest h d = ap (λ t. lex Clear (t ++ rest)) (append-nil w) ∙ word_lexes w rest h d
+  piece_lexes (TypeWordGap w) rest h d =
+      ap (λ t. lex Clear (t ++ rest)) (append-nil (w ++ (32 ∷ [])))
+      ∙ ap (lex Clear) (append_assoc w (32 ∷ []) rest)
+      ∙ word_lexes w (32 ∷ rest) h refl
+  piece_lexes (GapTypeWord w) rest h d = ap (λ t. lex Clear (t ++ rest)) (append-nil w) ∙ word_lexes w rest h d
   piece_lexes (Number n) rest h d = ap (λ t. lex Clear (t ++ rest)) (append-nil (decimal n)) ∙ word_lexes (decimal n) rest (is_word-decimal n h) d
   piece_lexes (Constant z) rest h d = ap (λ t. lex Clear (t ++ rest)) (append-nil (signed_decimal z)) ∙ word_lexes (signed_decimal z) rest (is_word-signed_decimal z h) d
+  piece_lexes (Literals w ws) rest h d = ap (λ t. lex Clear (t ++ rest)) (append-nil (w ++ behind_blanks ws)) ∙ words_lex w ws rest h d
+  piece_lexes (GapLiterals ws) rest h d = ap (λ t. lex Clear (t ++ rest)) (append-nil (behind_blanks ws)) ∙ behind_blanks_lex ws rest h d
+  piece_lexes (Float w bits) rest h d = float_lexes w h.0 bits rest h.1 d
   piece_lexes (Mark n) rest h d =
       ap (λ t. lex Clear (40 ∷ (59 ∷ (t ++ rest)))) (append-nil (decimal n ++ codes ";)"))
       ∙ ap (λ t. lex Clear (40 ∷ (59 ∷ t))) (append_assoc (decimal n) (codes ";)") rest)
       ∙ comment_lexes (decimal n) rest (all_quiet-decimal n h)
   piece_lexes (Quoted cs) rest h d =
       ap (λ t. lex Clear (t ++ rest)) (append-nil (quoted_text cs)) ∙ text_lexes cs rest h d
+  piece_lexes (QuotedBytes bs) rest h d =
+      ap (λ t. lex Clear (t ++ rest)) (append-nil (quoted_bytes bs)) ∙ quoted_bytes_lex bs rest h d
   piece_lexes (Identifier cs) rest h d =
       ap (λ t. lex Clear (t ++ rest)) (append-nil (identifier_text cs)) ∙ identifier_lexes cs rest h.0 h.1 d
   piece_lexes (NameNote cs) rest h d =
@@ -204,27 +276,69 @@ module _ (o : Options) (blank : all_blank o.indent ≡ true) where
       ap (λ t. lex Clear (codes ";; " ++ (t ++ rest))) (append-nil s)
       ∙ ending_lexes s rest (remark s h).inline d
 
-begins_delimited : (o : Options) (p : Piece) (rest : List ℕ) → begins p ≡ true → delimited (text o p ++ rest) ≡ true
+begins_delimited : (o : Options) (p : Piece) (rest : List ℕ) → begins p ≡ true → follows (leaves p) rest ≡ true → delimited (text o p ++ rest) ≡ true
 unfolding class
-begins_delimited o (Begin place) rest h = absurd (true≢false (sym h))
-begins_delimited o Feed rest h = refl
-begins_delimited o (Break place nesting) rest h = refl
-begins_delimited o Gap rest h = refl
-begins_delimited o (Open w) rest h = refl
-begins_delimited o (OpenGap w) rest h = refl
-begins_delimited o (OpenPlain w) rest h = refl
-begins_delimited o Shut rest h = refl
-begins_delimited o (Word w) rest h = absurd (true≢false (sym h))
-begins_delimited o (TypeWord w) rest h = absurd (true≢false (sym h))
-begins_delimited o (Number n) rest h = absurd (true≢false (sym h))
-begins_delimited o (Constant z) rest h = refl
-begins_delimited o (Mark n) rest h = refl
-begins_delimited o (Quoted cs) rest h = absurd (true≢false (sym h))
-begins_delimited o (Identifier cs) rest h = absurd (true≢false (sym h))
-begins_delimited o (NameNote cs) rest h = refl
-begins_delimited o (Remark true s) rest h = refl
-begins_delimited o (Remark false s) rest h = refl
-begins_delimited o (Ending s) rest h = refl
+begins_delimited o (Begin place) rest h d = absurd (true≢false (sym h))
+begins_delimited o Feed rest h d = refl
+begins_delimited o (Break place nesting) rest h d = refl
+begins_delimited o Gap rest h d = refl
+begins_delimited o (Open w) rest h d = refl
+begins_delimited o (OpenGap w) rest h d = refl
+begins_delimited o (OpenPlain w) rest h d = refl
+begins_delimited o OpenBare rest h d = refl
+begins_delimited o (OpenTypeGap w) rest h d = refl
+begins_delimited o Shut rest h d = refl
+begins_delimited o (Word w) rest h d = absurd (true≢false (sym h))
+begins_delimited o (TypeWord w) rest h d = absurd (true≢false (sym h))
+begins_delimited o (TypeWordGap w) rest h d = absurd (true≢false (sym h))
+begins_delimited o (GapTypeWord w) rest h d = refl
+begins_delimited o (Number n) rest h d = absurd (true≢false (sym h))
+begins_delimited o (Constant z) rest h d = refl
+begins_delimited o (Literals w ws) rest h d = absurd (true≢false (sym h))
+begins_delimited o (GapLiterals ws) rest h d =
+    ap (λ t. delimited (t ++ rest)) (append-nil (behind_blanks ws)) ∙ behind_blanks_delimited ws rest d
+begins_delimited o (Float w bits) rest h d = absurd (true≢false (sym h))
+begins_delimited o (Mark n) rest h d = refl
+begins_delimited o (Quoted cs) rest h d = absurd (true≢false (sym h))
+begins_delimited o (QuotedBytes bs) rest h d = absurd (true≢false (sym h))
+begins_delimited o (Identifier cs) rest h d = absurd (true≢false (sym h))
+begins_delimited o (NameNote cs) rest h d = refl
+begins_delimited o (Remark true s) rest h d = refl
+begins_delimited o (Remark false s) rest h d = refl
+begins_delimited o (Ending s) rest h d = refl
+
+starts_item : (o : Options) (p : Piece) (rest : List ℕ) → starts p ≡ true → IsPiece p → begins_item (text o p ++ rest) ≡ true
+unfolding class quoted_text quoted_bytes identifier_text
+starts_item o (Begin place) rest h i = absurd (true≢false (sym h))
+starts_item o Feed rest h i = refl
+starts_item o (Break place nesting) rest h i = refl
+starts_item o Gap rest h i = refl
+starts_item o (Open w) rest h i = refl
+starts_item o (OpenGap w) rest h i = refl
+starts_item o (OpenPlain w) rest h i = refl
+starts_item o OpenBare rest h i = refl
+starts_item o (OpenTypeGap w) rest h i = refl
+starts_item o Shut rest h i = refl
+starts_item o (Word w) rest h i = begins_item-word w [] rest i
+starts_item o (TypeWord w) rest h i = begins_item-word w [] rest i
+starts_item o (TypeWordGap w) rest h i =
+    ap (λ t. begins_item (t ++ rest)) (append-nil (w ++ (32 ∷ []))) ∙ begins_item-word w (32 ∷ []) rest i
+starts_item o (GapTypeWord w) rest h i = refl
+starts_item o (Number n) rest h i = begins_item-word (decimal n) [] rest (is_word-decimal n i)
+starts_item o (Constant z) rest h i = refl
+starts_item o (Literals w ws) rest h i =
+    ap (λ t. begins_item (t ++ rest)) (append-nil (w ++ behind_blanks ws))
+    ∙ begins_item-word w (behind_blanks ws) rest (and_parts (is_word w) (are_words ws) i).0
+starts_item o (GapLiterals ws) rest h i = absurd (true≢false (sym h))
+starts_item o (Float w bits) rest h i = absurd (true≢false (sym h))
+starts_item o (Mark n) rest h i = refl
+starts_item o (Quoted cs) rest h i = refl
+starts_item o (QuotedBytes bs) rest h i = refl
+starts_item o (Identifier cs) rest h i = refl
+starts_item o (NameNote cs) rest h i = refl
+starts_item o (Remark true s) rest h i = refl
+starts_item o (Remark false s) rest h i = refl
+starts_item o (Ending s) rest h i = absurd (true≢false (sym h))
 
 feeds_ends_line : (o : Options) (p : Piece) (rest : List ℕ) → feeds p ≡ true → ends_line (text o p ++ rest) ≡ true
 unfolding class
@@ -242,17 +356,21 @@ pub text_of-all_calls : (o : Options) (ps : List Piece) → text_of (all_calls o
 text_of-all_calls o [] = refl
 text_of-all_calls o (p ∷ ps) = text_of-append (calls o p) (all_calls o ps) ∙ ap (λ t. text o p ++ t) (text_of-all_calls o ps)
 
-follows_first : (o : Options) (e : Edge) (ps : List Piece) → joined e ps ≡ true → follows e (all_text o ps) ≡ true
-follows_first o Free ps h = refl
-follows_first o Bound [] h = refl
-follows_first o Bound (p ∷ ps) h = begins_delimited o p (all_text o ps) (and_parts (begins p) (joined (leaves p) ps) h).0
-follows_first o Ended [] h = refl
-follows_first o Ended (p ∷ ps) h = feeds_ends_line o p (all_text o ps) (and_parts (feeds p) (joined (leaves p) ps) h).0
+follows_first : (o : Options) (e : Edge) (ps : List Piece) → joined e ps ≡ true → ArePieces ps → follows e (all_text o ps) ≡ true
+follows_first o Free ps h a = refl
+follows_first o Bound [] h a = refl
+follows_first o Bound (p ∷ ps) h a =
+    let parts : (begins p ≡ true) × (joined (leaves p) ps ≡ true) = and_parts (begins p) (joined (leaves p) ps) h in
+    begins_delimited o p (all_text o ps) parts.0 (follows_first o (leaves p) ps parts.1 a.1)
+follows_first o Opened [] h a = refl
+follows_first o Opened (p ∷ ps) h a = starts_item o p (all_text o ps) (and_parts (starts p) (joined (leaves p) ps) h).0 a.0
+follows_first o Ended [] h a = refl
+follows_first o Ended (p ∷ ps) h a = feeds_ends_line o p (all_text o ps) (and_parts (feeds p) (joined (leaves p) ps) h).0
 
 pub pieces_lex : (o : Options) → IsBlank o.indent → (e : Edge) (ps : List Piece) → joined e ps ≡ true → ArePieces ps → lex Clear (all_text o ps) ≡ all_tokens ps
 unfolding lex
 pieces_lex o blank e [] h a = refl
 pieces_lex o blank e (p ∷ ps) h a =
     let parts : (may_follow e p ≡ true) × (joined (leaves p) ps ≡ true) = and_parts (may_follow e p) (joined (leaves p) ps) h in
-    piece_lexes o (all_blank-IsBlank o.indent blank) p (all_text o ps) a.0 (follows_first o (leaves p) ps parts.1)
+    piece_lexes o (all_blank-IsBlank o.indent blank) p (all_text o ps) a.0 (follows_first o (leaves p) ps parts.1 a.1)
     ∙ ap (λ t. piece_tokens p ++ t) (pieces_lex o blank (leaves p) ps parts.1 a.1)

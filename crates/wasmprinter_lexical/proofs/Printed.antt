@@ -4,7 +4,8 @@ use Rattle.std.proofs.lemmas.Bool.{and_parts, and_from, agree_below, agree_below
 use Rattle.std.specs.Fmt.{digits, digits_onto, digit_glyph}
 use Rattle.wasmprinter_spec.specs.Character.{Class, Foreign, class}
 use Rattle.wasmprinter_spec.specs.Quoted.{runs, all_run}
-use Rattle.wasmprinter_lexical.proofs.Runs.{is_quiet, is_inline, is_blank_class, all_quiet, all_inline, all_blank}
+use Rattle.wasmprinter_lexical.proofs.Runs.{is_word, is_plain_class, is_quiet, is_inline, is_blank_class, all_quiet, all_inline, all_blank}
+use Rattle.wasmprinter_lexical.proofs.Numbers.{plain_runs}
 
 abbrev pub is_printed : ℕ → Bool
 is_printed b = eqb b 10 || eqb b 9 || (leb 32 b && leb b 126)
@@ -68,6 +69,12 @@ all_printed-run (b ∷ bs) h =
     let parts : (runs (class b) ≡ true) × (all_run bs ≡ true) = and_parts (runs (class b)) (all_run bs) h in
     and_from (is_printed b) (all_printed bs) (printed_by_class runs refl runs_low b parts.0) (all_printed-run bs parts.1)
 
+pub printed_word : (w : List ℕ) → is_word w ≡ true → all_printed w ≡ true
+printed_word [] h = absurd (true≢false (sym h))
+printed_word (b ∷ bs) h =
+    let parts : (is_plain_class (class b) ≡ true) × (all_run bs ≡ true) = and_parts (is_plain_class (class b)) (all_run bs) h in
+    all_printed-run (b ∷ bs) (and_from (runs (class b)) (all_run bs) (plain_runs (class b) parts.0) parts.1)
+
 blank_low : agree_below (λ b. not (is_blank_class (class b)) || is_printed b) (λ b. true) 128 ≡ true
 unfolding class
 blank_low = refl
@@ -87,7 +94,8 @@ glyphs_low : agree_below good_glyph (λ d. true) 16 ≡ true
 unfolding good_glyph class
 glyphs_low = refl
 
-glyph_is_good : (d : ℕ) → d < 16 → (is_printed (digit_glyph false d) ≡ true) × (is_quiet (class (digit_glyph false d)) ≡ true)
+-- the glyph of a digit is printed, and neither begins nor ends a comment
+pub glyph_is_good : (d : ℕ) → d < 16 → (is_printed (digit_glyph false d) ≡ true) × (is_quiet (class (digit_glyph false d)) ≡ true)
 unfolding good_glyph
 glyph_is_good d h = and_parts _ _ (agree_below_at good_glyph (λ x. true) 16 d glyphs_low h)
 

@@ -1,30 +1,22 @@
 -- The text of pieces is plain.
-use Rattle.std.proofs.Common.{◌≡◌, ℕ, zero, suc, ◌-◌, Bool, true, false, ◌&&◌, ◌||◌, not, min, cond, leb, eqb, List, [], ◌∷◌, ◌++◌, Option, Some, None, refl, sym, ap, ◌∙◌, true≢false, append_assoc, codes, decimal, flat_map, replicate, length}
+use Rattle.std.proofs.Common.{◌≡◌, ℕ, zero, suc, ◌<◌, ◌-◌, ◌/◌, ◌%◌, Bool, true, false, ◌&&◌, ◌||◌, not, min, cond, leb, eqb, List, [], ◌∷◌, ◌++◌, Option, Some, None, refl, ap, ◌∙◌, arith, append_assoc, codes, decimal, flat_map, replicate, length}
 use Rattle.std.proofs.lemmas.Bool.{and_parts, and_from, or_right}
-use Rattle.std.specs.Fmt.{signed_decimal, digits}
+use Rattle.std.specs.Fmt.{signed_decimal, digits, digit_glyph}
+use Rattle.std.specs.List.{AllByRecursion}
 use Rattle.wasmprinter_spec.specs.Call.{Text, text_of}
 use Rattle.wasmprinter_spec.specs.Options.{Options, IsBlank}
 use Rattle.wasmprinter_spec.specs.Plain.{IsPlainText}
-use Rattle.wasmprinter_spec.specs.Quoted.{char_text, is_plain, quoted_text, is_run, identifier_text, runs, all_run}
-use Rattle.wasmprinter_spec.specs.Piece.{Piece, Begin, Feed, Break, Gap, Open, OpenGap, OpenPlain, Shut, Word, TypeWord, Number, Constant, Mark, Quoted, Identifier, NameNote, Remark, Ending, repeated, left_in, place_text, place_calls, most_indents, text, all_calls}
-use Rattle.wasmprinter_lexical.proofs.Runs.{is_word, is_plain_class}
-use Rattle.wasmprinter_spec.specs.Character.{class}
-use Rattle.wasmprinter_lexical.proofs.Numbers.{plain_runs, is_word-decimal, is_word-signed_decimal}
-use Rattle.wasmprinter_lexical.proofs.Printed.{is_printed, all_printed, all_printed-append, all_printed-run, all_printed-blank, hex_digits_are_good, remark}
+use Rattle.wasmprinter_spec.specs.Quoted.{char_text, byte_text, is_plain, quoted_text, quoted_bytes, is_run, identifier_text}
+use Rattle.wasmprinter_spec.specs.Piece.{Piece, Begin, Feed, Break, Gap, Open, OpenGap, OpenPlain, OpenBare, OpenTypeGap, Shut, Word, TypeWord, TypeWordGap, GapTypeWord, Number, Constant, Literals, GapLiterals, Float, Mark, Quoted, QuotedBytes, Identifier, NameNote, Remark, Ending, behind_blanks, repeated, left_in, place_text, place_calls, most_indents, text, all_calls}
+use Rattle.wasmprinter_lexical.proofs.Runs.{is_word, are_words}
+use Rattle.wasmprinter_lexical.proofs.Numbers.{is_word-decimal, is_word-signed_decimal}
+use Rattle.wasmprinter_lexical.proofs.FloatPieces.{printed_float}
+use Rattle.wasmprinter_lexical.proofs.Printed.{is_printed, all_printed, all_printed-append, all_printed-blank, printed_word, glyph_is_good, hex_digits_are_good, remark}
 use Rattle.wasmprinter_lexical.proofs.Identifiers.{run_is_printed}
 use Rattle.wasmprinter_lexical.proofs.Plain.{plain_text}
 use Rattle.wasmprinter_lexical.proofs.Pieces.{IsPiece, ArePieces, all_text, text_of-all_calls, text_of-append, all_blank-IsBlank, all_blank-repeated}
 
 -- ---- parts of texts
-
-plain_class_runs : (b : ℕ) → is_plain_class (class b) ≡ true → runs (class b) ≡ true
-plain_class_runs b h = plain_runs (class b) h
-
-printed_word : (w : List ℕ) → is_word w ≡ true → all_printed w ≡ true
-printed_word [] h = absurd (true≢false (sym h))
-printed_word (b ∷ bs) h =
-    let parts : (is_plain_class (class b) ≡ true) × (all_run bs ≡ true) = and_parts (is_plain_class (class b)) (all_run bs) h in
-    all_printed-run (b ∷ bs) (and_from (runs (class b)) (all_run bs) (plain_class_runs b parts.0) parts.1)
 
 printed_plain : (c : ℕ) → is_plain c ≡ true → is_printed c ≡ true
 printed_plain c h =
@@ -49,6 +41,32 @@ printed_chars (c ∷ cs) rest h =
 printed_quoted : (cs : List ℕ) → all_printed (quoted_text cs) ≡ true
 unfolding quoted_text
 printed_quoted cs = printed_chars cs (34 ∷ []) refl
+
+printed_byte : (b : ℕ) → b < 256 → all_printed (byte_text b) ≡ true
+unfolding byte_text
+printed_byte b h = by (is_plain b) refl
+  where
+    by : (t : Bool) → is_plain b ≡ t → all_printed (cond t (b ∷ []) (92 ∷ (digit_glyph false (b / 16) ∷ (digit_glyph false (b % 16) ∷ [])))) ≡ true
+    by true e = and_from (is_printed b) true (printed_plain b e) refl
+    by false e =
+        and_from (is_printed (digit_glyph false (b / 16))) (is_printed (digit_glyph false (b % 16)) && true) (glyph_is_good (b / 16) (omega arith)).0
+        (and_from (is_printed (digit_glyph false (b % 16))) true (glyph_is_good (b % 16) (omega arith)).0 refl)
+
+printed_bytes : (bs rest : List ℕ) → AllByRecursion (λ b. b < 256) bs → all_printed rest ≡ true → all_printed (flat_map byte_text bs ++ rest) ≡ true
+printed_bytes [] rest h k = k
+printed_bytes (b ∷ bs) rest h k =
+    ap all_printed (append_assoc (byte_text b) (flat_map byte_text bs) rest)
+    ∙ all_printed-append (byte_text b) (flat_map byte_text bs ++ rest) (printed_byte b h.0) (printed_bytes bs rest h.1 k)
+
+printed_quoted_bytes : (bs : List ℕ) → AllByRecursion (λ b. b < 256) bs → all_printed (quoted_bytes bs) ≡ true
+unfolding quoted_bytes
+printed_quoted_bytes bs h = printed_bytes bs (34 ∷ []) h refl
+
+printed_words : (ws : List (List ℕ)) → are_words ws ≡ true → all_printed (behind_blanks ws) ≡ true
+printed_words [] h = refl
+printed_words (w ∷ ws) h =
+    let parts : (is_word w ≡ true) × (are_words ws ≡ true) = and_parts (is_word w) (are_words ws) h in
+    all_printed-append w (behind_blanks ws) (printed_word w parts.0) (printed_words ws parts.1)
 
 printed_identifier : (cs : List ℕ) → all_printed (identifier_text cs) ≡ true
 unfolding identifier_text
@@ -93,14 +111,24 @@ module _ (o : Options) (blank : IsBlank o.indent) where
   printed_piece (Open w) h = printed_styled w (printed_word w h)
   printed_piece (OpenGap w) h = printed_styled (w ++ (32 ∷ [])) (all_printed-append w (32 ∷ []) (printed_word w h) refl)
   printed_piece (OpenPlain w) h = printed_styled w (printed_word w h)
+  printed_piece OpenBare h = refl
+  printed_piece (OpenTypeGap w) h = printed_styled (w ++ (32 ∷ [])) (all_printed-append w (32 ∷ []) (printed_word w h) refl)
   printed_piece Shut h = refl
   printed_piece (Word w) h = printed_styled w (printed_word w h)
   printed_piece (TypeWord w) h = printed_styled w (printed_word w h)
+  printed_piece (TypeWordGap w) h = printed_styled (w ++ (32 ∷ [])) (all_printed-append w (32 ∷ []) (printed_word w h) refl)
+  printed_piece (GapTypeWord w) h = printed_styled w (printed_word w h)
   printed_piece (Number n) h = printed_styled (decimal n) (printed_word (decimal n) (is_word-decimal n h))
   printed_piece (Constant z) h = printed_styled (signed_decimal z) (printed_word (signed_decimal z) (is_word-signed_decimal z h))
+  printed_piece (Literals w ws) h =
+      let parts : (is_word w ≡ true) × (are_words ws ≡ true) = and_parts (is_word w) (are_words ws) h in
+      printed_styled (w ++ behind_blanks ws) (all_printed-append w (behind_blanks ws) (printed_word w parts.0) (printed_words ws parts.1))
+  printed_piece (GapLiterals ws) h = printed_styled (behind_blanks ws) (printed_words ws h)
+  printed_piece (Float w bits) h = printed_float w h.0 bits h.1
   printed_piece (Mark n) h =
       printed_styled (decimal n ++ codes ";)") (all_printed-append (decimal n) (codes ";)") (printed_word (decimal n) (is_word-decimal n h)) refl)
   printed_piece (Quoted cs) h = printed_styled (quoted_text cs) (printed_quoted cs)
+  printed_piece (QuotedBytes bs) h = printed_styled (quoted_bytes bs) (printed_quoted_bytes bs h)
   printed_piece (Identifier cs) h = printed_styled (identifier_text cs) (printed_identifier cs)
   printed_piece (NameNote cs) h = printed_chars cs (codes "\")") refl
   printed_piece (Remark true s) h = printed_styled (s ++ codes ";)") (all_printed-append s (codes ";)") (remark s h).printed refl)

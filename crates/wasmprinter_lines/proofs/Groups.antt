@@ -1,8 +1,8 @@
 -- Groups whose lines don't change.
 use Rattle.std.specs.Prelude.{◌≡◌, ℕ, List, [], ◌∷◌, ◌++◌, Bool, true, false, ◌||◌, cond, None, refl}
 use Rattle.std.proofs.Common.{sym, ap, ap₂, ◌∙◌}
-use Rattle.wasmprinter_spec.specs.Piece.{Piece, Open, OpenGap, Shut}
-use Rattle.wasmprinter_spec.specs.Layout.Groups.{breaks, has_break, close, group, group_gap}
+use Rattle.wasmprinter_spec.specs.Piece.{Piece, Open, Shut}
+use Rattle.wasmprinter_spec.specs.Layout.Groups.{breaks, has_break, close, group}
 
 -- a test on the first, and then on the others
 or-cond : (b c : Bool) → cond b true c ≡ (b || c)
@@ -30,15 +30,6 @@ pub group-line : (nesting : ℕ) (w : List ℕ) (ps : List Piece) → has_break 
 unfolding group
 group-line nesting w ps e = ap (λ b. Open w ∷ (ps ++ close None nesting b)) e
 
--- the same with a blank behind its keyword
-pub group_gap-line : (nesting : ℕ) (w : List ℕ) (ps : List Piece) → has_break ps ≡ false → group_gap nesting w ps ≡ OpenGap w ∷ (ps ++ (Shut ∷ []))
-unfolding group_gap
-group_gap-line nesting w ps e = ap (λ b. OpenGap w ∷ (ps ++ close None nesting b)) e
-
 -- it stands on one line
 pub line-group : (nesting : ℕ) (w : List ℕ) (ps : List Piece) → has_break ps ≡ false → has_break (group nesting w ps) ≡ false
 line-group nesting w ps e = ap has_break (group-line nesting w ps e) ∙ line-append ps (Shut ∷ []) e refl
-
--- the same with a blank behind its keyword
-pub line-group_gap : (nesting : ℕ) (w : List ℕ) (ps : List Piece) → has_break ps ≡ false → has_break (group_gap nesting w ps) ≡ false
-line-group_gap nesting w ps e = ap has_break (group_gap-line nesting w ps e) ∙ line-append ps (Shut ∷ []) e refl

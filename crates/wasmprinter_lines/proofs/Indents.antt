@@ -1,6 +1,6 @@
 -- Lines that are nested deeper than indents show.
-use Rattle.std.specs.Prelude.{◌≡◌, ℕ, ◌≤◌, ◌⊎◌, List, [], ◌∷◌, ◌++◌, min, Option}
-use Rattle.std.proofs.Common.{refl, sym, ap, subst}
+use Rattle.std.specs.Prelude.{◌≡◌, ℕ, List, [], ◌∷◌, ◌++◌, min, Option}
+use Rattle.std.proofs.Common.{ap, subst}
 use Rattle.wasmprinter_spec.specs.Call.{Call, Newline, Line, Text}
 use Rattle.wasmprinter_spec.specs.Meaning.{Meaning}
 use Rattle.wasmprinter_spec.specs.Options.{Options}

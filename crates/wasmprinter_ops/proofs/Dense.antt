@@ -1,11 +1,11 @@
 -- A table by position has what the rows say.
-use Rattle.std.proofs.Common.{◌≡◌, ℕ, zero, suc, ◌+◌, ◌<◌, ◌≤◌, ◌≢◌, Bool, true, false, cond, eqb, ltb, ◌&&◌, List, [], ◌∷◌, length, get_or, map, refl, ap, ◌∙◌, Option, Some, None, arith}
+use Rattle.std.proofs.Common.{◌≡◌, ℕ, zero, suc, ◌+◌, ◌<◌, ◌≤◌, ◌≢◌, Bool, true, false, cond, eqb, ltb, ◌&&◌, ◌||◌, List, [], ◌∷◌, length, get_or, map, refl, ap, ◌∙◌, Option, Some, None, arith}
 use Rattle.std.proofs.lemmas.Bool.{and_parts, ltb-true, eqb-true, ne_eqb}
 use Rattle.std.proofs.lemmas.List.{length-map}
 use Rattle.wasmprinter_spec.specs.Operator.{Opcode, opcode}
-use Rattle.wasmprinter_spec.specs.Row.{Row, Shape, Role, Plain}
-use Rattle.wasmprinter_spec.specs.Table.{table, control_rows, variable_rows, number_rows, first, has_opcode, by_opcode, word_of, role_of}
-use Rattle.wasmprinter_ops.specs.ByNumber.{each_from, size_of, each_word, each_shape, each_role, shape_of}
+use Rattle.wasmprinter_spec.specs.Row.{Row, Shape, Role, Plain, Opens, OpensIf, OpensTry, Turns, Catches, CatchesAll, Delegates, Ends}
+use Rattle.wasmprinter_spec.specs.Table.{table, first, has_opcode, by_opcode, role_of_row, role_of}
+use Rattle.wasmprinter_ops.specs.ByNumber.{each_from, size_of, entry_of, each_entry, roles_size_of, each_role}
 
 module _ {A : Type 0} (f : ℕ → A) (d : A) where
   -- at a position within, f of it
@@ -36,16 +36,16 @@ fits (r ∷ rs) = ltb r.number (size_of r.prefix) && fits rs
 
 -- the table is so
 table_fits : fits table ≡ true
-unfolding table control_rows variable_rows number_rows
+unfolding table
 table_fits = refl
 
 -- the row has another opcode than one past the size
-past_row : (r : Row) (o : Opcode) → r.number < size_of r.prefix → size_of o.prefix ≤ o.number → has_opcode o r ≡ true → ⊥
-past_row r o lt le e =
+past_row : (size : ℕ → ℕ) (r : Row) (o : Opcode) → r.number < size r.prefix → size o.prefix ≤ o.number → has_opcode o r ≡ true → ⊥
+past_row size r o lt le e =
     let parts = and_parts (eqb r.prefix o.prefix) (eqb r.number o.number) e in
     let p : r.prefix ≡ o.prefix = eqb-true _ _ parts.0 in
     let n : r.number ≡ o.number = eqb-true _ _ parts.1 in
-    let s : size_of r.prefix ≡ size_of o.prefix = ap size_of p in
+    let s : size r.prefix ≡ size o.prefix = ap size p in
     omega arith
 
 -- a row that does not pass is passed by
@@ -58,64 +58,93 @@ past_rows : (rs : List Row) (o : Opcode) → fits rs ≡ true → size_of o.pref
 past_rows [] o f le = refl
 past_rows (r ∷ rs) o f le =
     let parts = and_parts (ltb r.number (size_of r.prefix)) (fits rs) f in
-    no_first (has_opcode o r) r (first (has_opcode o) rs) (past_row r o (ltb-true _ _ parts.0) le) (past_rows rs o parts.1 le)
+    no_first (has_opcode o r) r (first (has_opcode o) rs) (past_row size_of r o (ltb-true _ _ parts.0) le) (past_rows rs o parts.1 le)
 
 -- no row lists an opcode past the size
 pub not_listed : (o : Opcode) → size_of o.prefix ≤ o.number → by_opcode o ≡ None
 not_listed o le = past_rows table o table_fits le
 
--- a prefix without a table has no words and no shapes
-pub no_words : (prefix : ℕ) → prefix ≢ 0 → [] ≡ each_word prefix
-unfolding each_word
-no_words prefix ne = rw (ne_eqb prefix 0 ne) refl
+-- the role is plain, or the row's number is below the size of the program's table of roles
+abbrev is_plain : Role → Bool
+is_plain Plain = true
+is_plain _ = false
 
--- nor shapes of immediates
-pub no_shapes : (prefix : ℕ) → prefix ≢ 0 → [] ≡ each_shape prefix
-unfolding each_shape
-no_shapes prefix ne = rw (ne_eqb prefix 0 ne) refl
+abbrev has_role : Row → Bool
+has_role r = is_plain r.role || ltb r.number (roles_size_of r.prefix)
+
+abbrev have_roles : List Row → Bool
+have_roles [] = true
+have_roles (r ∷ rs) = has_role r && have_roles rs
+
+table_roles : have_roles table ≡ true
+unfolding table
+table_roles = refl
+
+plain_is : (r : Role) → is_plain r ≡ true → Plain ≡ r
+plain_is Plain e = refl
+plain_is Opens e = absurd cc
+plain_is OpensIf e = absurd cc
+plain_is OpensTry e = absurd cc
+plain_is Turns e = absurd cc
+plain_is Catches e = absurd cc
+plain_is CatchesAll e = absurd cc
+plain_is Delegates e = absurd cc
+plain_is Ends e = absurd cc
+
+-- past the size the first row is plain
+plain_first : (b : Bool) (r : Row) (x : Option Row) → (b ≡ true → Plain ≡ r.role) → Plain ≡ role_of_row x → Plain ≡ role_of_row (cond b (Some r) x)
+plain_first true r x h e = h refl
+plain_first false r x h e = e
+
+plain_row : (c : Bool) (r : Row) (o : Opcode) → is_plain r.role ≡ c → (c || ltb r.number (roles_size_of r.prefix)) ≡ true → roles_size_of o.prefix ≤ o.number
+    → has_opcode o r ≡ true → Plain ≡ r.role
+plain_row true r o c f le e = plain_is r.role c
+plain_row false r o c f le e = absurd (past_row roles_size_of r o (ltb-true _ _ f) le e)
+
+plain_rows : (rs : List Row) (o : Opcode) → have_roles rs ≡ true → roles_size_of o.prefix ≤ o.number → Plain ≡ role_of_row (first (has_opcode o) rs)
+plain_rows [] o f le = refl
+plain_rows (r ∷ rs) o f le =
+    let parts = and_parts (has_role r) (have_roles rs) f in
+    plain_first (has_opcode o r) r (first (has_opcode o) rs) (plain_row (is_plain r.role) r o refl parts.0 le) (plain_rows rs o parts.1 le)
+
+-- a prefix without a table has no entries
+pub no_entries : (p : ℕ) → p ≢ 0 → p ≢ 0xfb → p ≢ 0xfc → p ≢ 0xfd → p ≢ 0xfe → [] ≡ each_entry p
+unfolding each_entry
+no_entries p none gc bulk vectors atomics =
+    rw (ne_eqb p 0 none, ne_eqb p 0xfb gc, ne_eqb p 0xfc bulk, ne_eqb p 0xfd vectors, ne_eqb p 0xfe atomics) refl
 
 -- nor roles
-pub no_roles : (prefix : ℕ) → prefix ≢ 0 → [] ≡ each_role prefix
+pub no_roles : (p : ℕ) → p ≢ 0 → [] ≡ each_role p
 unfolding each_role
-no_roles prefix ne = rw (ne_eqb prefix 0 ne) refl
+no_roles p ne = rw (ne_eqb p 0 ne) refl
 
-module _ {A : Type 0} (f : ℕ → A) (d : A) (prefix n : ℕ) (xs : List A) (is : xs ≡ each_from f 0 (size_of prefix)) where
+module _ {A : Type 0} (f : ℕ → A) (d : A) (size n : ℕ) (xs : List A) (is : xs ≡ each_from f 0 size) where
   within_is : n < length xs → get_or xs n d ≡ f n
   within_is lt =
-      let l : length xs ≡ size_of prefix = ap length is ∙ length-each_from f d 0 (size_of prefix) in
+      let l : length xs ≡ size = ap length is ∙ length-each_from f d 0 size in
       let z : 0 + n ≡ n = omega arith in
-      ap (λ (ys : List A). get_or ys n d) is ∙ get_or-each_from f d 0 (size_of prefix) n (omega arith) ∙ ap f z
+      ap (λ (ys : List A). get_or ys n d) is ∙ get_or-each_from f d 0 size n (omega arith) ∙ ap f z
 
-  past_is : length xs ≤ n → size_of prefix ≤ n
-  past_is le = omega (arith, ap length is, length-each_from f d 0 (size_of prefix))
+  past_is : length xs ≤ n → size ≤ n
+  past_is le = omega (arith, ap length is, length-each_from f d 0 size)
 
 module _ (o : Opcode) where
-  -- the word at a position of the table
-  pub word_within : (xs : List (List ℕ)) → xs ≡ each_word o.prefix → o.number < length xs → get_or xs o.number [] ≡ word_of o
-  unfolding each_word
-  word_within xs is lt = within_is (λ n. word_of (opcode o.prefix n)) [] o.prefix o.number xs is lt
+  -- the entry at a position of the table
+  pub entry_within : (xs : List (Option (List ℕ × Shape))) → xs ≡ each_entry o.prefix → o.number < length xs → get_or xs o.number None ≡ entry_of o
+  unfolding each_entry
+  entry_within xs is lt = within_is (λ n. entry_of (opcode o.prefix n)) None (size_of o.prefix) o.number xs is lt
 
-  -- past the table there is no word
-  pub word_past : (xs : List (List ℕ)) → xs ≡ each_word o.prefix → length xs ≤ o.number → [] ≡ word_of o
-  unfolding each_word
-  word_past xs is le = rw (not_listed o (past_is (λ n. word_of (opcode o.prefix n)) [] o.prefix o.number xs is le)) refl
-
-  -- the shape at a position of the table
-  pub shape_within : (xs : List (Option Shape)) → xs ≡ each_shape o.prefix → o.number < length xs → get_or xs o.number None ≡ shape_of o
-  unfolding each_shape
-  shape_within xs is lt = within_is (λ n. shape_of (opcode o.prefix n)) None o.prefix o.number xs is lt
-
-  -- past the table there is no shape
-  pub shape_past : (xs : List (Option Shape)) → xs ≡ each_shape o.prefix → length xs ≤ o.number → None ≡ shape_of o
-  unfolding each_shape
-  shape_past xs is le = rw (not_listed o (past_is (λ n. shape_of (opcode o.prefix n)) None o.prefix o.number xs is le)) refl
+  -- past the table there is none
+  pub entry_past : (xs : List (Option (List ℕ × Shape))) → xs ≡ each_entry o.prefix → length xs ≤ o.number → None ≡ entry_of o
+  unfolding each_entry
+  entry_past xs is le = rw (not_listed o (past_is (λ n. entry_of (opcode o.prefix n)) None (size_of o.prefix) o.number xs is le)) refl
 
   -- the role at a position of the table
   pub role_within : (xs : List Role) → xs ≡ each_role o.prefix → o.number < length xs → get_or xs o.number Plain ≡ role_of o
   unfolding each_role
-  role_within xs is lt = within_is (λ n. role_of (opcode o.prefix n)) Plain o.prefix o.number xs is lt
+  role_within xs is lt = within_is (λ n. role_of (opcode o.prefix n)) Plain (roles_size_of o.prefix) o.number xs is lt
 
   -- past the table all are plain
   pub role_past : (xs : List Role) → xs ≡ each_role o.prefix → length xs ≤ o.number → Plain ≡ role_of o
   unfolding each_role
-  role_past xs is le = rw (not_listed o (past_is (λ n. role_of (opcode o.prefix n)) Plain o.prefix o.number xs is le)) refl
+  role_past xs is le = plain_rows table o table_roles (past_is (λ n. role_of (opcode o.prefix n)) Plain (roles_size_of o.prefix) o.number xs is le)

@@ -1,4 +1,5 @@
 pub mod Dense
+pub mod Prefixed
 pub mod Entries
 pub mod Stepping
 pub mod Skipping

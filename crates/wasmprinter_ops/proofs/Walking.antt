@@ -1,9 +1,10 @@
 -- A walk over operators that are known to stand there.
-use Rattle.std.proofs.Common.{◌≡◌, ℕ, ◌<◌, ◌≤◌, length, arith, List, [], ◌∷◌, Option, Some, None, refl, sym, ap, ◌∙◌, false}
+use Rattle.std.proofs.Common.{◌≡◌, ℕ, ◌<◌, ◌≤◌, length, arith, List, [], ◌∷◌, Option, Some, None, refl, sym, ap, subst, ◌∙◌, false}
+use Rattle.std.proofs.lemmas.List.{nil_from_length}
 use Rattle.std.specs.Prelude.{MatchOption}
 use Rattle.std.specs.Bool.{IsTrue}
 use Rattle.wasmprinter_spec.specs.Grammar.{Input, Placed, placed, some_is}
-use Rattle.wasmprinter_spec.specs.Repeated.{some_or}
+use Rattle.wasmprinter_spec.specs.Repeated.{some_or, Entries}
 use Rattle.wasmprinter_spec.specs.Operator.{Operator}
 use Rattle.wasmprinter_spec.specs.Instructions.{operator}
 use Rattle.wasmprinter_ops.specs.Operators.{operators, operators_in, HasOperators, pairs, placed_view}
@@ -29,6 +30,13 @@ operators_are at ops e = rw e refl
 -- there are no more of them than bytes
 pub few_operators : (at : Input) → HasOperators at → length (operators_in at) ≤ length at.bytes
 few_operators at h = entries-few (placed operator) at.place at.bytes (operators_in at) (operators.sound at (operators_in at) (stand_there at h))
+
+-- there are none where no bytes are left
+pub none_left : (at : Input) → HasOperators at → (at.bytes ≡ [] → operators_in at ≡ []) × (operators_in at ≡ [] → at.bytes ≡ [])
+none_left at h = (
+  λ e. let few = few_operators at h in nil_from_length (operators_in at) (omega (arith, ap length e)),
+  λ e. subst (λ (ops : List (Placed Operator)). Entries (placed operator) at.place at.bytes ops) e (operators.sound at (operators_in at) (stand_there at h)),
+)
 
 -- one operator was read, and the others stand behind it
 pub record NextOperator (at after : Input) (o : ℕ × Operator) : Type 0 where

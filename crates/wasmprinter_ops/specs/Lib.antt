@@ -2,6 +2,7 @@ pub mod Shapes
 pub mod ByNumber
 pub mod ValTypes
 pub mod Blocks
+pub mod Operands
 pub mod Immediates
 pub mod Nesting
 pub mod Operators

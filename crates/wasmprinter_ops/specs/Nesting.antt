@@ -1,7 +1,7 @@
 -- Open blocks of the program, and those of the definitions.
-use Rattle.std.specs.Prelude.{◌≡◌, List, map, reverse, Result, Ok, Err}
+use Rattle.std.specs.Prelude.{◌≡◌, List, [], ◌∷◌, map, reverse, Option, Some, None, Result, Ok, Err}
 use Rattle.wasmprinter_spec.specs.Row.{Role, Opens, OpensIf, OpensTry}
-use Rattle.wasmprinter_spec.specs.Stepped.{Move, On, Stop, Never}
+use Rattle.wasmprinter_spec.specs.Stepped.{Move, On, Stop, Never, by_move}
 use Rattle.wasmprinter_spec.specs.Nesting.{Frame, InBlock, InIf, InTry, InCatch, Open, advance}
 use Rattle.wasmprinter_ops.specs.declared.nesting.Frame.{Frame as ProgramFrame}
 use Rattle.wasmprinter_ops.specs.declared.nesting.Frame.TheVariants as frames
@@ -25,6 +25,12 @@ Steps (On s) steps.On new = s ≡ new
 Steps Stop steps.Stop new = Unit {0}
 Steps Never steps.Refused new = Unit {0}
 Steps _ _ _ = ⊥
+
+-- The blocks that are open behind operators of these roles, by those that are open in front of them. None where one of the operators closes
+-- the last block or can't stand there.
+abbrev pub open_behind : Open → List Role → Option Open
+open_behind s [] = Some s
+open_behind s (r ∷ rs) = by_move (advance s r) (λ t. open_behind t rs) None None
 
 -- an operator of the role opens a block
 abbrev pub OpensBlock : Role → Type 0

@@ -4,12 +4,12 @@ use Rattle.wasmprinter_spec.specs.Grammar.{Input, Spans, Remainder, Placed, plac
 use Rattle.wasmprinter_spec.specs.Repeated.{some_or, until_end, Entries}
 use Rattle.wasmprinter_spec.specs.Operator.{Operator}
 use Rattle.wasmprinter_spec.specs.Instructions.{operator, expression, roles}
-use Rattle.wasmprinter_spec.specs.Nesting.{Nests, Sequence}
+use Rattle.wasmprinter_spec.specs.Nesting.{Nests, Sequence, Open, at_start}
 use Rattle.wasmprinter_spec.specs.Table.{role_of}
 use Rattle.wasmprinter_bytes.specs.Lists.{reader_reasons}
 use Rattle.wasmprinter_error.specs.declared.error.Error.{Error}
 use Rattle.wasmprinter_error.specs.Reasons.{HasReason}
-use Rattle.wasmprinter_ops.specs.Nesting.{OpensBlock}
+use Rattle.wasmprinter_ops.specs.Nesting.{OpensBlock, open_behind}
 
 -- a place and an operator, as the definitions see them
 abbrev pub placed_view : ℕ × Operator → Placed Operator
@@ -43,11 +43,13 @@ pub record OperatorsAndEnd (old : Input) (end : ℕ) (new : Input) : Type 0 wher
   pub skipped : Spans (Entries (placed operator)) old (items, before)
   pub is : expression.parse old ≡ Some (record { items = items; end = end }, new)
 
--- operators stand there, and behind them one that opens a block
+-- operators of an expression stand there, none of which closes it, and behind them one that opens a block
 pub record HasBlock (at : Input) : Type 0 where
   pub items : List (Placed Operator)
   pub before : Input
   pub skipped : Spans (Entries (placed operator)) at (items, before)
+  pub blocks : Open
+  pub goes_on : open_behind at_start (roles items) ≡ Some blocks
   pub opener : Operator
   pub after : Input
   pub read : operator.parse before ≡ Some (opener, after)

@@ -1,6 +1,7 @@
 -- The program's shapes of immediates and roles, and those of the table of operators.
-use Rattle.std.specs.Prelude.{Option, Some, None}
-use Rattle.wasmprinter_spec.specs.Row.{Space, Shape, NoneShape, BlockShape, TryTableShape, IndexShape, BranchTableShape, I32Shape, I64Shape, Role}
+use Rattle.std.specs.Prelude.{ℕ, List, Option, Some, None}
+use Rattle.std.specs.Borrow.{Bor}
+use Rattle.wasmprinter_spec.specs.Row.{Space, Shape, NoneShape, FenceShape, BlockShape, TryTableShape, IndexShape, DefaultIndexShape, PairShape, FieldShape, CountShape, CallShape, SegmentShape, CopyShape, BranchTableShape, SelectShape, HeapShape, RefShape, CastShape, MemoryShape, MemoryLaneShape, LaneShape, I32Shape, I64Shape, F32Shape, F64Shape, VectorShape, LanesShape, Role}
 use Rattle.wasmprinter_spec.specs.Row as row
 use Rattle.wasmprinter_ops.specs.declared.opcode.Space.{Space as ProgramSpace}
 use Rattle.wasmprinter_ops.specs.declared.opcode.Space.TheVariants as spaces
@@ -11,25 +12,55 @@ use Rattle.wasmprinter_ops.specs.declared.opcode.Role.TheVariants as program_rol
 
 -- the index space of the definitions
 abbrev pub space_view : ProgramSpace → Space
+space_view spaces.Types = row.Types
 space_view spaces.Func = row.Func
+space_view spaces.Table = row.Table
+space_view spaces.Memory = row.Memory
+space_view spaces.Tag = row.Tag
+space_view spaces.Global = row.Global
+space_view spaces.Elem = row.Elem
+space_view spaces.Data = row.Data
 space_view spaces.Local = row.Local
 space_view spaces.Label = row.Label
-space_view spaces.Tag = row.Tag
 
 -- the shape of the definitions
 abbrev pub shape_view : ProgramShape → Shape
 shape_view shapes.None = NoneShape
+shape_view shapes.Fence = FenceShape
 shape_view shapes.Block = BlockShape
 shape_view shapes.TryTable = TryTableShape
 shape_view (shapes.Index space) = IndexShape (space_view space)
+shape_view (shapes.DefaultIndex space) = DefaultIndexShape (space_view space)
+shape_view (shapes.Pair first second) = PairShape (space_view first) (space_view second)
+shape_view shapes.Field = FieldShape
+shape_view shapes.Count = CountShape
+shape_view shapes.Call = CallShape
+shape_view (shapes.Segment segments space) = SegmentShape (space_view segments) (space_view space)
+shape_view (shapes.Copy space) = CopyShape (space_view space)
 shape_view shapes.BranchTable = BranchTableShape
+shape_view shapes.Select = SelectShape
+shape_view shapes.Heap = HeapShape
+shape_view (shapes.Ref null) = RefShape null
+shape_view shapes.Cast = CastShape
+shape_view (shapes.Memory natural) = MemoryShape natural
+shape_view (shapes.MemoryLane natural) = MemoryLaneShape natural
+shape_view shapes.Lane = LaneShape
 shape_view shapes.I32 = I32Shape
 shape_view shapes.I64 = I64Shape
+shape_view shapes.F32 = F32Shape
+shape_view shapes.F64 = F64Shape
+shape_view shapes.Vector = VectorShape
+shape_view shapes.Lanes = LanesShape
 
 -- the same of a shape that may be missing
 abbrev pub optional_shape_view : Option ProgramShape → Option Shape
 optional_shape_view None = None
 optional_shape_view (Some s) = Some (shape_view s)
+
+-- the word and the shape of an opcode that may be missing
+abbrev pub entry_view : Option (Bor (List ℕ) × ProgramShape) → Option (List ℕ × Shape)
+entry_view None = None
+entry_view (Some e) = Some (e.0.now, shape_view e.1)
 
 -- the role of the definitions
 abbrev pub role_view : ProgramRole → Role

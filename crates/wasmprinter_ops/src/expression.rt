@@ -1,6 +1,6 @@
 //! Expressions (section 5.4, "Expressions"): operators up to the `end` that closes them. The operators aren't kept: they are read
 //! again from the bytes as they are asked for.
-ghost use Rattle.std.specs.Prelude.{◌≡◌, ◌<◌, ◌^◌, length};
+ghost use Rattle.std.specs.Prelude.{◌≡◌, ◌↔◌, ◌<◌, ◌^◌, [], length, IsTrue};
 ghost use Rattle.wasmprinter_spec.specs.Instructions.{expression, roles};
 ghost use Rattle.wasmprinter_spec.specs.Nesting.{Nests, Sequence};
 ghost use Rattle.wasmprinter_bytes.specs.Reads.{end_of};
@@ -12,6 +12,7 @@ use crate::operator::{Operator, read_placed};
 use std::alloc::Global;
 use std::marker::Model;
 use wasmprinter_bytes::bytes::Cursor;
+use wasmprinter_bytes::lists::GrownIn;
 use wasmprinter_error::Error;
 
 /// The operators that are left, each with its place.
@@ -127,10 +128,25 @@ impl<'a> Expression<'a> {
         }
     }
 
+    /// Whether there is no operator in front of the last `end`.
+    pub fn is_empty(&self) -> bool
+        ensures { IsTrue result ↔ (self.now.items ≡ []) }
+    {
+        self.operators.is_empty()
+    }
+
     /// The place of the last `end`.
     pub fn end(&self) -> u64
         ensures { result ≡ self.now.end }
     {
         self.operators.end()
+    }
+}
+
+impl<'a> GrownIn<'a> for Expression<'a> {
+    ghost parse = { expression.parse };
+
+    fn read(alloc: Global, cursor: &mut Cursor<'a>) -> Result<Expression<'a>, Error> {
+        Expression::read(alloc, cursor)
     }
 }

@@ -6,6 +6,7 @@ pub mod blocks;
 pub mod expression;
 mod nesting;
 pub mod opcode;
+pub mod operands;
 pub mod operator;
 mod tables;
 #[cfg(test)]

@@ -1,46 +1,109 @@
 //! Opcodes, and what the table of operators says of them.
 ghost use Rattle.std.specs.Prelude.{◌≡◌, map};
-ghost use Rattle.wasmprinter_spec.specs.Table.{word_of, role_of};
+ghost use Rattle.wasmprinter_spec.specs.Table.{word_of, role_of, shape_of};
 ghost use Rattle.wasmprinter_spec.specs.Instructions.{is_prefix as is_prefix_byte, opcode_grammar};
 ghost use Rattle.wasmprinter_bytes.specs.Reads.{Reads, IsWithin, end_of};
-ghost use Rattle.wasmprinter_ops.specs.ByNumber.{each_word, each_shape, each_role, shape_of};
-ghost use Rattle.wasmprinter_ops.specs.Shapes.{optional_shape_view, role_view};
+ghost use Rattle.wasmprinter_ops.specs.ByNumber.{entry_of, each_entry, each_role};
+ghost use Rattle.wasmprinter_ops.specs.Shapes.{optional_shape_view, entry_view, role_view};
 
 use crate::tables;
+use crate::tables::Entry;
 use std::marker::Model;
 use wasmprinter_bytes::bytes::Cursor;
 use wasmprinter_error::Malformed;
 
-/// The index spaces that immediates name (section 2.5, "Indices").
+/// The prefix of operators on structures, arrays and references.
+const GC: u8 = 0xfb;
+
+/// The prefix of saturating truncation, of operators on whole ranges of memories and tables, and of wide arithmetic.
+const BULK: u8 = 0xfc;
+
+/// The prefix of operators on vectors.
+const VECTORS: u8 = 0xfd;
+
+/// The prefix of atomic memory accesses.
+const ATOMICS: u8 = 0xfe;
+
+/// The index spaces that immediates name (section 2.5, "Indices"). In the spaces that imports may extend, the imported ones come first.
 #[derive(Clone, Copy, Debug, PartialEq, Eq)]
 pub enum Space {
-    /// Functions, imported ones first.
+    /// Types, of all recursion groups.
+    Types,
+    /// Functions.
     Func,
+    /// Tables.
+    Table,
+    /// Memories.
+    Memory,
+    /// Tags of exceptions.
+    Tag,
+    /// Global variables.
+    Global,
+    /// Element segments.
+    Elem,
+    /// Data segments.
+    Data,
     /// The parameters and locals of a function.
     Local,
     /// The blocks around an operator, the innermost first.
     Label,
-    /// Tags of exceptions, imported ones first.
-    Tag,
 }
 
-/// What stands behind an opcode (section 5.4).
+/// What stands behind an opcode, and how the text writes it (sections 5.4 and 6.5).
 #[derive(Clone, Copy, Debug, PartialEq, Eq)]
 pub enum Shape {
     /// Nothing.
     None,
+    /// A byte 00, which the text doesn't write.
+    Fence,
     /// The type of a block.
     Block,
     /// The type of a block, and catch clauses.
     TryTable,
     /// An index of the space.
     Index(Space),
+    /// An index of the space, which the text leaves out where it is 0.
+    DefaultIndex(Space),
+    /// Two indices, of these spaces.
+    Pair(Space, Space),
+    /// A structure type, and one of its fields.
+    Field,
+    /// A type and a number.
+    Count,
+    /// A function type and a table. The text writes the table first, and leaves it out where it is 0.
+    Call,
+    /// A segment of the first space and an index of the second. The text writes the latter first, and leaves it out where it is 0.
+    Segment(Space, Space),
+    /// Two indices of the space, which the text leaves out where both are 0.
+    Copy(Space),
     /// Labels, and one more for all other numbers.
     BranchTable,
+    /// Value types.
+    Select,
+    /// A heap type.
+    Heap,
+    /// A heap type, which the text writes as the type of references that may be null, or may not.
+    Ref(bool),
+    /// A label and two reference types.
+    Cast,
+    /// A memory operand; with the exponent of the operator's natural alignment in bytes, a power of two.
+    Memory(u32),
+    /// The same, and a lane.
+    MemoryLane(u32),
+    /// A lane.
+    Lane,
     /// A signed number of 32 bits.
     I32,
     /// A signed number of 64 bits.
     I64,
+    /// A floating-point number of 32 bits.
+    F32,
+    /// A floating-point number of 64 bits.
+    F64,
+    /// A vector of 128 bits.
+    Vector,
+    /// Sixteen lanes.
+    Lanes,
 }
 
 /// How an operator stands to the blocks around it (section 5.4, "Control Instructions", and the older exception operators).
@@ -85,40 +148,52 @@ impl Model for Opcode {
     ghost inverse = { λ o. record { prefix = o.prefix; number = o.number } };
 }
 
-fn one_byte_words() -> &'static [&'static str]
-    ensures { map (λ w. w.now) result.now ≡ each_word 0 }
+fn one_byte() -> &'static [Option<Entry>]
+    ensures { map entry_view result.now ≡ each_entry 0 }
 {
-    &tables::ONE_BYTE_WORDS
+    &tables::ONE_BYTE
 }
 
-fn one_byte_shapes() -> &'static [Option<Shape>]
-    ensures { map optional_shape_view result.now ≡ each_shape 0 }
+fn gc() -> &'static [Option<Entry>]
+    ensures { map entry_view result.now ≡ each_entry 0xfb }
 {
-    &tables::ONE_BYTE_SHAPES
+    &tables::GC
+}
+
+fn bulk() -> &'static [Option<Entry>]
+    ensures { map entry_view result.now ≡ each_entry 0xfc }
+{
+    &tables::BULK
+}
+
+fn vectors() -> &'static [Option<Entry>]
+    ensures { map entry_view result.now ≡ each_entry 0xfd }
+{
+    &tables::VECTORS
+}
+
+fn atomics() -> &'static [Option<Entry>]
+    ensures { map entry_view result.now ≡ each_entry 0xfe }
+{
+    &tables::ATOMICS
 }
 
 fn one_byte_roles() -> &'static [Role]
     ensures { map role_view result.now ≡ each_role 0 }
 {
-    &tables::ONE_BYTE_ROLES
+    &tables::ROLES
 }
 
-/// The words of the opcodes with the prefix, by their numbers.
-fn words_of(prefix: u8) -> &'static [&'static str]
-    ensures { map (λ w. w.now) result.now ≡ each_word prefix }
+/// The words of the opcodes with the prefix and the shapes of their immediates, by their numbers.
+fn entries_of(prefix: u8) -> &'static [Option<Entry>]
+    ensures { map entry_view result.now ≡ each_entry prefix }
 {
     match prefix {
-        0 => one_byte_words(),
-        _ => &[],
-    }
-}
-
-/// The shapes of the immediates of the opcodes with the prefix, by their numbers.
-fn shapes_of(prefix: u8) -> &'static [Option<Shape>]
-    ensures { map optional_shape_view result.now ≡ each_shape prefix }
-{
-    match prefix {
-        0 => one_byte_shapes(),
+        0 => one_byte(),
+        GC => gc(),
+        BULK => bulk(),
+        VECTORS => vectors(),
+        ATOMICS => atomics(),
         _ => &[],
     }
 }
@@ -137,7 +212,7 @@ fn roles_of(prefix: u8) -> &'static [Role]
 fn is_prefix(byte: u8) -> bool
     ensures { result ≡ is_prefix_byte byte }
 {
-    matches!(byte, 0xfb | 0xfc | 0xfd | 0xfe)
+    matches!(byte, GC | BULK | VECTORS | ATOMICS)
 }
 
 impl Opcode {
@@ -162,12 +237,22 @@ impl Opcode {
         }
     }
 
+    /// The word and the shape, `None` for an opcode that isn't listed.
+    fn entry(&self) -> Option<Entry>
+        ensures { entry_view result ≡ entry_of self.now }
+    {
+        match entries_of(self.prefix).get(self.number as usize) {
+            Some(entry) => *entry,
+            None => None,
+        }
+    }
+
     /// The word in the text, empty for an opcode that isn't listed.
     pub fn word(&self) -> &'static str
         ensures { result.now ≡ word_of self.now }
     {
-        match words_of(self.prefix).get(self.number as usize) {
-            Some(word) => *word,
+        match self.entry() {
+            Some((word, _)) => word,
             None => "",
         }
     }
@@ -176,8 +261,8 @@ impl Opcode {
     pub fn shape(&self) -> Option<Shape>
         ensures { optional_shape_view result ≡ shape_of self.now }
     {
-        match shapes_of(self.prefix).get(self.number as usize) {
-            Some(shape) => *shape,
+        match self.entry() {
+            Some((_, shape)) => Some(shape),
             None => None,
         }
     }

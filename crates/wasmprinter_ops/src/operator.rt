@@ -1,7 +1,8 @@
 //! Operators: opcodes with their immediates.
 ghost use Rattle.std.specs.Prelude.{◌≡◌, IfOk};
 ghost use Rattle.wasmprinter_spec.specs.Grammar.{placed};
-ghost use Rattle.wasmprinter_spec.specs.Instructions.{operator, immediates as immediates_grammar};
+ghost use Rattle.wasmprinter_spec.specs.Row.{FenceShape, TryTableShape, FieldShape, BranchTableShape, CastShape, MemoryLaneShape};
+ghost use Rattle.wasmprinter_spec.specs.Instructions.{operator, immediates as immediates_grammar, indices, cast};
 ghost use Rattle.wasmprinter_bytes.specs.Reads.{Reads, IsWithin, end_of};
 ghost use Rattle.wasmprinter_ops.specs.Immediates.{immediates_view, HasShape};
 ghost use Rattle.wasmprinter_ops.specs.Operators.{placed_view};
@@ -9,6 +10,8 @@ ghost use Rattle.wasmprinter_ops.specs.Shapes.{shape_view};
 
 use crate::blocks::{BlockType, Catches, Targets, read_block_type, read_catches};
 use crate::opcode::{Opcode, Shape};
+use crate::operands::{MOST_FLAGS, MemArg, read_bytes, read_f32_bits, read_f64_bits};
+use crate::types::{HeapType, ValTypes, read_types};
 use std::marker::Model;
 use wasmprinter_bytes::bytes::Cursor;
 use wasmprinter_error::Malformed;
@@ -16,7 +19,7 @@ use wasmprinter_error::Malformed;
 /// What stands behind an opcode, in the order of the bytes (section 5.4).
 #[derive(Drop)]
 pub enum Immediates<'a> {
-    /// Nothing.
+    /// Nothing, or a byte 00 that says nothing.
     None,
     /// The type of a block.
     Block(BlockType),
@@ -24,12 +27,33 @@ pub enum Immediates<'a> {
     TryTable(BlockType, Catches<'a>),
     /// An index.
     Index(u32),
+    /// Two indices, or an index and a number.
+    Indices(u32, u32),
     /// Labels for the numbers from 0 on, and one for all other numbers.
     BrTable(Targets<'a>, u32),
+    /// Value types.
+    Types(ValTypes<'a>),
+    /// A heap type.
+    Heap(HeapType),
+    /// Flags 0 to 3, a label, and the heap types of two reference types. Bit 0 of the flags says that the first may be null, bit 1 the same
+    /// of the second.
+    Cast(u8, u32, HeapType, HeapType),
+    /// A memory operand.
+    Memory(MemArg),
+    /// A memory operand and a lane.
+    MemoryLane(MemArg, u8),
+    /// A lane.
+    Lane(u8),
     /// A number of 32 bits.
     I32(i32),
     /// A number of 64 bits.
     I64(i64),
+    /// The bits of a floating-point number.
+    F32(u32),
+    /// The bits of a floating-point number.
+    F64(u64),
+    /// A vector or sixteen lanes, the lowest byte first.
+    Bytes([u8; 16]),
 }
 
 /// An opcode of the table with immediates of the shape that the table gives it.
@@ -62,20 +86,102 @@ impl<'a> Immediates<'a> {
     {
         match shape {
             Shape::None => Ok(Immediates::None),
+            Shape::Fence => read_fence(cursor),
             Shape::Block => Ok(Immediates::Block(read_block_type(cursor)?)),
-            Shape::TryTable => {
-                let block_type = read_block_type(cursor)?;
-                Ok(Immediates::TryTable(block_type, read_catches(cursor)?))
-            }
-            Shape::Index(_) => Ok(Immediates::Index(cursor.u32()?)),
-            Shape::BranchTable => {
-                let targets = Targets::read(cursor)?;
-                Ok(Immediates::BrTable(targets, cursor.u32()?))
-            }
+            Shape::TryTable => read_try_table(cursor),
+            Shape::Index(_) | Shape::DefaultIndex(_) => Ok(Immediates::Index(cursor.u32()?)),
+            Shape::Pair(_, _) | Shape::Segment(_, _) | Shape::Copy(_) => read_indices(cursor),
+            Shape::Field | Shape::Count | Shape::Call => read_indices(cursor),
+            Shape::BranchTable => read_branch_table(cursor),
+            Shape::Select => Ok(Immediates::Types(read_types(cursor)?)),
+            Shape::Heap | Shape::Ref(_) => Ok(Immediates::Heap(HeapType::read(cursor)?)),
+            Shape::Cast => read_cast(cursor),
+            Shape::Memory(_) => Ok(Immediates::Memory(MemArg::read(cursor)?)),
+            Shape::MemoryLane(_) => read_memory_lane(cursor),
+            Shape::Lane => Ok(Immediates::Lane(cursor.u8()?)),
             Shape::I32 => Ok(Immediates::I32(cursor.s32()?)),
             Shape::I64 => Ok(Immediates::I64(cursor.s64()?)),
+            Shape::F32 => Ok(Immediates::F32(read_f32_bits(cursor)?)),
+            Shape::F64 => Ok(Immediates::F64(read_f64_bits(cursor)?)),
+            Shape::Vector | Shape::Lanes => Ok(Immediates::Bytes(read_bytes(cursor)?)),
         }
     }
+}
+
+/// Reads the byte 00 behind a fence.
+fn read_fence<'a>(cursor: &mut Cursor<'a>) -> Result<Immediates<'a>, Malformed>
+    ensures reads { Reads immediates_view (immediates_grammar FenceShape).parse cursor.old result cursor.new }
+    ensures within { IsWithin cursor.old result }
+    ensures end { end_of cursor.new ≡ end_of cursor.old }
+    ensures shape { IfOk result (λ i. HasShape FenceShape (immediates_view i)) }
+{
+    let place = cursor.place();
+    match cursor.u8()? {
+        0x00 => Ok(Immediates::None),
+        _ => Err(Malformed { place }),
+    }
+}
+
+/// Reads a block type and catch clauses.
+fn read_try_table<'a>(cursor: &mut Cursor<'a>) -> Result<Immediates<'a>, Malformed>
+    ensures reads { Reads immediates_view (immediates_grammar TryTableShape).parse cursor.old result cursor.new }
+    ensures within { IsWithin cursor.old result }
+    ensures end { end_of cursor.new ≡ end_of cursor.old }
+    ensures shape { IfOk result (λ i. HasShape TryTableShape (immediates_view i)) }
+{
+    let block_type = read_block_type(cursor)?;
+    Ok(Immediates::TryTable(block_type, read_catches(cursor)?))
+}
+
+/// Reads two indices, or an index and a number.
+fn read_indices<'a>(cursor: &mut Cursor<'a>) -> Result<Immediates<'a>, Malformed>
+    ensures reads { Reads immediates_view indices.parse cursor.old result cursor.new }
+    ensures within { IsWithin cursor.old result }
+    ensures end { end_of cursor.new ≡ end_of cursor.old }
+    ensures shape { IfOk result (λ i. HasShape FieldShape (immediates_view i)) }
+{
+    let first = cursor.u32()?;
+    Ok(Immediates::Indices(first, cursor.u32()?))
+}
+
+/// Reads labels, and one more.
+fn read_branch_table<'a>(cursor: &mut Cursor<'a>) -> Result<Immediates<'a>, Malformed>
+    ensures reads { Reads immediates_view (immediates_grammar BranchTableShape).parse cursor.old result cursor.new }
+    ensures within { IsWithin cursor.old result }
+    ensures end { end_of cursor.new ≡ end_of cursor.old }
+    ensures shape { IfOk result (λ i. HasShape BranchTableShape (immediates_view i)) }
+{
+    let targets = Targets::read(cursor)?;
+    Ok(Immediates::BrTable(targets, cursor.u32()?))
+}
+
+/// Reads flags, a label and two heap types.
+fn read_cast<'a>(cursor: &mut Cursor<'a>) -> Result<Immediates<'a>, Malformed>
+    ensures reads { Reads immediates_view cast.parse cursor.old result cursor.new }
+    ensures within { IsWithin cursor.old result }
+    ensures end { end_of cursor.new ≡ end_of cursor.old }
+    ensures shape { IfOk result (λ i. HasShape CastShape (immediates_view i)) }
+{
+    let place = cursor.place();
+    let flags = cursor.u8()?;
+    if flags > MOST_FLAGS {
+        return Err(Malformed { place });
+    }
+    let label = cursor.u32()?;
+    let source = HeapType::read(cursor)?;
+    let target = HeapType::read(cursor)?;
+    Ok(Immediates::Cast(flags, label, source, target))
+}
+
+/// Reads a memory operand and a lane.
+fn read_memory_lane<'a>(cursor: &mut Cursor<'a>) -> Result<Immediates<'a>, Malformed>
+    ensures reads { Reads immediates_view (immediates_grammar (MemoryLaneShape 0)).parse cursor.old result cursor.new }
+    ensures within { IsWithin cursor.old result }
+    ensures end { end_of cursor.new ≡ end_of cursor.old }
+    ensures shape { IfOk result (λ i. HasShape (MemoryLaneShape 0) (immediates_view i)) }
+{
+    let operand = MemArg::read(cursor)?;
+    Ok(Immediates::MemoryLane(operand, cursor.u8()?))
 }
 
 impl<'a> Operator<'a> {

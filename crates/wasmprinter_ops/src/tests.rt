@@ -1,8 +1,11 @@
-//! Opcodes, their words, shapes and roles, and walks over operators. What is expected is typed by hand.
+//! Walks over operators, and types. What is expected is typed by hand.
+
+mod immediates;
+mod opcodes;
 
 use crate::blocks::{BlockType, Catch};
 use crate::expression::Expression;
-use crate::opcode::{Opcode, Role, Shape, Space};
+use crate::operands::MemArg;
 use crate::operator::{Immediates, Operator};
 use crate::types::composite::{CompositeType, FieldType, StorageType, SubTypes};
 use crate::types::{HeapType, RefType, ValType, ValTypes, read_type};
@@ -12,67 +15,6 @@ use std::test::Fail;
 use wasmprinter_bytes::bytes::Cursor;
 use wasmprinter_error::{Error, Malformed};
 
-#[test]
-fn opcodes_have_words_and_shapes(rt: HostRuntime) {
-    let rows = [
-        (0x00, "unreachable", Some(Shape::None)),
-        (0x02, "block", Some(Shape::Block)),
-        (0x07, "catch", Some(Shape::Index(Space::Tag))),
-        (0x09, "rethrow", Some(Shape::Index(Space::Label))),
-        (0x0a, "throw_ref", Some(Shape::None)),
-        (0x0d, "br_if", Some(Shape::Index(Space::Label))),
-        (0x0e, "br_table", Some(Shape::BranchTable)),
-        (0x0f, "return", Some(Shape::None)),
-        (0x10, "call", Some(Shape::Index(Space::Func))),
-        (0x18, "delegate", Some(Shape::Index(Space::Label))),
-        (0x1a, "drop", Some(Shape::None)),
-        (0x1f, "try_table", Some(Shape::TryTable)),
-        (0x20, "local.get", Some(Shape::Index(Space::Local))),
-        (0x21, "local.set", Some(Shape::Index(Space::Local))),
-        (0x41, "i32.const", Some(Shape::I32)),
-        (0x42, "i64.const", Some(Shape::I64)),
-        (0xff, "", None),
-        (0x100, "", None),
-    ];
-    for (number, word, shape) in rows {
-        let opcode = Opcode { prefix: 0, number };
-        assert_eq!(rt; opcode.word(), word);
-        assert_eq!(rt; opcode.shape(), shape);
-    }
-    let other = Opcode {
-        prefix: 0xfc,
-        number: 0x10,
-    };
-    assert_eq!(rt; other.word(), "");
-}
-
-#[test]
-fn opcodes_have_roles(rt: HostRuntime) {
-    let rows = [
-        (0x01, Role::Plain),
-        (0x02, Role::Opens),
-        (0x03, Role::Opens),
-        (0x04, Role::OpensIf),
-        (0x05, Role::Turns),
-        (0x06, Role::OpensTry),
-        (0x07, Role::Catches),
-        (0x0b, Role::Ends),
-        (0x18, Role::Delegates),
-        (0x19, Role::CatchesAll),
-        (0x1f, Role::Opens),
-        (0xff, Role::Plain),
-        (0x100, Role::Plain),
-    ];
-    for (number, role) in rows {
-        assert_eq!(rt; Opcode { prefix: 0, number }.role(), role);
-    }
-    let other = Opcode {
-        prefix: 0xfc,
-        number: 0x02,
-    };
-    assert_eq!(rt; other.role(), Role::Plain);
-}
-
 /// Immediates that are expected.
 #[derive(Clone, Copy)]
 enum Wanted {
@@ -80,35 +22,64 @@ enum Wanted {
     Block(BlockType),
     TryTable(BlockType, &'static [Catch]),
     Index(u32),
+    Indices(u32, u32),
     BrTable(&'static [u32], u32),
+    Types(&'static [ValType]),
+    Heap(HeapType),
+    Cast(u8, u32, HeapType, HeapType),
+    Memory(MemArg),
+    MemoryLane(MemArg, u8),
+    Lane(u8),
     I32(i32),
     I64(i64),
+    F32(u32),
+    F64(u64),
+    Bytes([u8; 16]),
 }
 
 /// Whether immediates are those that are expected.
-fn are_wanted(immediates: &Immediates, wanted: Wanted) -> bool {
+fn are_wanted(immediates: &Immediates, wanted: &Wanted) -> bool {
     match (immediates, wanted) {
         (Immediates::None, Wanted::None) => true,
-        (Immediates::Block(found), Wanted::Block(block_type)) => *found == block_type,
+        (Immediates::Block(found), Wanted::Block(block_type)) => found == block_type,
         (Immediates::TryTable(found, clauses), Wanted::TryTable(block_type, catches)) => {
-            *found == block_type
+            found == block_type
                 && clauses.len() as usize == catches.len()
                 && clauses
                     .iter()
                     .zip(catches.iter().copied())
                     .all(|(a, b)| a == b)
         }
-        (Immediates::Index(found), Wanted::Index(index)) => *found == index,
+        (Immediates::Index(found), Wanted::Index(index)) => found == index,
+        (Immediates::Indices(first, second), Wanted::Indices(one, other)) => {
+            first == one && second == other
+        }
         (Immediates::BrTable(targets, other), Wanted::BrTable(labels, label)) => {
-            *other == label
+            other == label
                 && targets.len() as usize == labels.len()
                 && targets
                     .iter()
                     .zip(labels.iter().copied())
                     .all(|(a, b)| a == b)
         }
-        (Immediates::I32(found), Wanted::I32(number)) => *found == number,
-        (Immediates::I64(found), Wanted::I64(number)) => *found == number,
+        (Immediates::Types(found), Wanted::Types(types)) => {
+            found.len() as usize == types.len()
+                && found.iter().zip(types.iter().copied()).all(|(a, b)| a == b)
+        }
+        (Immediates::Heap(found), Wanted::Heap(heap)) => found == heap,
+        (Immediates::Cast(flags, label, from, to), Wanted::Cast(bits, target, source, other)) => {
+            flags == bits && label == target && from == source && to == other
+        }
+        (Immediates::Memory(found), Wanted::Memory(operand)) => found == operand,
+        (Immediates::MemoryLane(found, at), Wanted::MemoryLane(operand, lane)) => {
+            found == operand && at == lane
+        }
+        (Immediates::Lane(found), Wanted::Lane(lane)) => found == lane,
+        (Immediates::I32(found), Wanted::I32(number)) => found == number,
+        (Immediates::I64(found), Wanted::I64(number)) => found == number,
+        (Immediates::F32(found), Wanted::F32(bits)) => found == bits,
+        (Immediates::F64(found), Wanted::F64(bits)) => found == bits,
+        (Immediates::Bytes(found), Wanted::Bytes(bytes)) => found == bytes,
         _ => false,
     }
 }
@@ -125,10 +96,10 @@ fn assert_walk(
     assert!(rt; cursor.is_empty());
     assert_eq!(rt; expression.end(), 0x19 + bytes.len() as u64);
     let mut reader = expression.operators();
-    for (wanted_place, word, immediates) in wanted.iter().copied() {
+    for (wanted_place, word, immediates) in wanted {
         let (place, operator) = reader.next().ok_or("an operator is missing")?;
-        assert_eq!(rt; place, wanted_place);
-        assert_eq!(rt; operator.opcode.word(), word);
+        assert_eq!(rt; place, *wanted_place);
+        assert_eq!(rt; operator.opcode.word(), *word);
         assert!(rt; are_wanted(&operator.immediates, immediates), "at {place}");
     }
     assert!(rt; reader.next().is_none());
@@ -271,7 +242,7 @@ fn branch_tables_are_walked(rt: HostRuntime) -> Result<(), Fail> {
 #[test]
 fn other_operators_are_refused(rt: HostRuntime) {
     assert!(rt; Operator::read(&mut Cursor::new(0, &[0xff])).is_err());
-    assert!(rt; Operator::read(&mut Cursor::new(0, &[0xfc, 0x08, 0x00])).is_err());
+    assert!(rt; Operator::read(&mut Cursor::new(0, &[0xfc, 0x12])).is_err());
     // a block type that is negative, or that wants 34 bits
     assert!(rt; Operator::read(&mut Cursor::new(0, &[0x02, 0x41])).is_err());
     assert!(rt;

@@ -92,7 +92,7 @@ impl First {
         ensures reads { Reads (λ f. f.byte) byte_grammar.parse cursor.old result cursor.new }
         ensures within { IsWithin cursor.old result }
         ensures end { end_of cursor.new ≡ end_of cursor.old }
-        ensures place { IfOk result (λ f. f.place ≤ end_of cursor.new) }
+        ensures place { IfOk result (λ f. f.place ≡ cursor.old.place) }
     {
         let place = cursor.place();
         let byte = cursor.u8()?;

@@ -1,11 +1,11 @@
 -- What holds of all values that bytes spell: a predicate goes through each combinator of grammars from the parts to the whole.
-use Rattle.std.proofs.Common.{◌≡◌, ℕ, ◌+◌, ◌≤◌, List, [], ◌∷◌, ◌++◌, length, Bool, true, false, Option, Some, None, refl, subst, sym}
+use Rattle.std.proofs.Common.{◌≡◌, ℕ, ◌+◌, ◌<◌, ◌≤◌, List, [], ◌∷◌, ◌++◌, length, Bool, true, false, Option, Some, None, refl, subst, sym}
 use Rattle.std.specs.List.{AllByRecursion}
 use Rattle.wasmprinter_spec.specs.Grammar.{Grammar, some_is, byte, seq, try_map, map_value, succeed, fail, choose, placed}
 use Rattle.wasmprinter_spec.specs.FirstByte.{announced, Peeked, peeked}
 use Rattle.wasmprinter_spec.specs.Binary.ValTypes.{given}
 use Rattle.wasmprinter_spec.specs.Repeated.{Items, times, Entries}
-use Rattle.wasmprinter_spec.specs.Sized.{alone, exactly}
+use Rattle.wasmprinter_spec.specs.Sized.{take_bytes, alone, exactly}
 use Rattle.wasmprinter_spec.specs.Binary.{AreBytes}
 
 -- Each value that bytes spell has P.
@@ -53,6 +53,20 @@ pub AllSpelled-choose : {A : Type 0} {g h : Grammar A} {P : A → Type 0} → (b
 AllSpelled-choose true first second = first
 AllSpelled-choose false first second = second
 
+-- One grammar or another, as a test says.
+pub AllSpelled-choose_by : {A : Type 0} {g h : Grammar A} {P : A → Type 0} → (b : Bool) → (b ≡ true → AllSpelled g P) → (b ≡ false → AllSpelled h P) →
+    AllSpelled (choose b g h) P
+AllSpelled-choose_by true first second = first refl
+AllSpelled-choose_by false first second = second refl
+
+-- A byte.
+pub AllSpelled-byte : AllSpelled byte (λ b. b < 256)
+AllSpelled-byte = record { has = λ p text b bytes s. (subst AreBytes s bytes).0 }
+
+-- So many bytes.
+pub AllSpelled-take_bytes : (n : ℕ) → AllSpelled (take_bytes n) (λ bs. (length bs ≡ n) × AreBytes bs)
+AllSpelled-take_bytes n = record { has = λ p text bs bytes s. subst (λ t. (length t ≡ n) × AreBytes t) (sym s.1) (s.0, bytes) }
+
 -- A value if there is one.
 pub AllSpelled-given : {A : Type 0} {P : A → Type 0} (o : Option A) → ((a : A) → o ≡ Some a → P a) → AllSpelled (given o) P
 AllSpelled-given None holds = AllSpelled-fail
@@ -80,7 +94,8 @@ pub AllSpelled-exactly : {A : Type 0} {g : Grammar A} {P : A → Type 0} → All
 AllSpelled-exactly all n = record { has = λ p text a bytes s. all.has p text a bytes s.1 }
 
 -- A value that takes exactly n bytes measures at most n by what takes at least so many bytes.
-pub AllSpelled-within : {A : Type 0} {g : Grammar A} {P : A → Type 0} {size : A → ℕ} → ((p : ℕ) (text : List ℕ) (a : A) → g.spells p text a → size a ≤ length text) →
+pub AllSpelled-within : {A : Type 0} {g : Grammar A} {P : A → Type 0} {size : A → ℕ} →
+    ((p : ℕ) (text : List ℕ) (a : A) → g.spells p text a → size a ≤ length text) →
     AllSpelled g P → (n : ℕ) → AllSpelled (exactly (alone g) n) (λ a. P a × (size a ≤ n))
 AllSpelled-within {size = size} takes all n = record {
   has = λ p text a bytes s. (all.has p text a bytes s.1, subst (λ k. size a ≤ k) s.0 (takes p text a s.1));

@@ -3,7 +3,7 @@ use Rattle.std.proofs.Common.{◌≡◌, ◌⊎◌, inl, inr, ℕ, ◌<◌, ◌^
 use Rattle.std.proofs.lemmas.Bool.{lt-ltb}
 use Rattle.wasmprinter_spec.specs.Forest.{Forest, End, Word, Group, onto}
 use Rattle.wasmprinter_spec.specs.IndexSpaces.{Identifiers, are_distinct, index_space, index}
-use Rattle.wasmprinter_spec.specs.Text.Items.{one_item, all_items, groups, Declaration, declaration, declarations, ids_of, types_of}
+use Rattle.wasmprinter_spec.specs.Text.Items.{one_item, all_items, leading_item, groups, Declaration, declaration, declarations, ids_of, types_of}
 use Rattle.wasmprinter_lexical.proofs.Numbers.{natural-decimal}
 
 -- ---- one item
@@ -32,6 +32,12 @@ pub all_items-reads : {A : Type 0} (word : List ℕ → Option A) (group : Fores
     all_items word group g ≡ Some xs → all_items word group (onto f g) ≡ Some (x ∷ xs)
 all_items-reads word group f x g xs (inl r) e = rw (r.is, r.reads, e)
 all_items-reads word group f x g xs (inr r) e = rw (r.is, r.reads, e)
+
+-- the first item, and what stands behind it
+pub leading_item-reads : {A : Type 0} (word : List ℕ → Option A) (group : Forest → Option A) (f : Forest) (x : A) (g : Forest) → ReadsItem word group f x →
+    leading_item word group (onto f g) ≡ Some (x, g)
+leading_item-reads word group f x g (inl r) = rw (r.is, r.reads)
+leading_item-reads word group f x g (inr r) = rw (r.is, r.reads)
 
 -- an index in decimal, whatever is declared
 pub index-decimal : (ids : Identifiers) (n : ℕ) → n < 2 ^ 32 → index ids (Word (decimal n) End) ≡ Some n

@@ -2,12 +2,14 @@ pub mod Bytes
 pub mod AllSpelled
 pub mod LebRange
 pub mod Vectors
+pub mod Few
 pub mod Numbered
 pub mod Items
 pub mod Types
 pub mod Tabled
 pub mod Operators
 pub mod Ranged
+pub mod PartRanges
 pub mod Ranges
 pub mod Fields
 pub mod Back

@@ -6,6 +6,11 @@ pub mod Forms
 pub mod Labels
 pub mod Blocks
 pub mod Catches
+pub mod Indices
+pub mod References
+pub mod Memory
+pub mod Vectors
+pub mod Floats
 pub mod Immediates
 pub mod Rows
 pub mod Open

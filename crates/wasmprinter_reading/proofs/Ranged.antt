@@ -1,18 +1,101 @@
 -- What a module that some bytes spell keeps to: counts and indices are numbers of 32 bits, names are UTF-8, and the table lists each
 -- operator with such immediates.
-use Rattle.std.proofs.Common.{◌<◌, ◌≤◌, ◌^◌, length}
+use Rattle.std.proofs.Common.{◌≡◌, ℕ, ◌<◌, ◌≤◌, ◌^◌, Bool, true, false, length, List, Option, Some, None}
 use Rattle.std.specs.Prelude.{IsUtf8}
 use Rattle.std.specs.List.{AllByRecursion}
+use Rattle.wasmprinter_spec.specs.Grammar.{Placed}
+use Rattle.wasmprinter_spec.specs.Types.{MemoryType, TableType, ExternType, FuncExtern, TableExtern, MemoryExtern, GlobalExtern, TagExtern}
+use Rattle.wasmprinter_spec.specs.Operator.{Operator}
 use Rattle.wasmprinter_spec.specs.Nesting.{Nests, Sequence}
 use Rattle.wasmprinter_spec.specs.Instructions.{roles}
 use Rattle.wasmprinter_spec.specs.Module.{without_places}
-use Rattle.wasmprinter_spec.specs.Placed.{Body, Export, PlacedFunction, PlacedModule}
+use Rattle.wasmprinter_spec.specs.Placed.{Body, Export, Import, Table, Global, Mode, Passive, Declared, Active, Items, Functions, Expressions, ElementEntry, DataMode, PassiveData, ActiveData, Data, PlacedFunction, PlacedModule}
 use Rattle.wasmprinter_reading.specs.Listed.{IsListed}
-use Rattle.wasmprinter_reading.proofs.Types.Ranged.{IsRangedVal, IsRangedGroup}
+use Rattle.wasmprinter_spec.specs.Binary.{AreBytes}
+use Rattle.wasmprinter_reading.proofs.Types.Ranged.{IsRangedHeap, IsRangedVal, IsRangedGroup}
+
+abbrev pub IsRangedMax : Option ℕ → Type 0
+IsRangedMax None = Unit {0}
+IsRangedMax (Some n) = n < 2 ^ 64
+
+-- the exponent of the size of a page
+abbrev pub IsRangedPage : Option ℕ → Type 0
+IsRangedPage None = Unit {0}
+IsRangedPage (Some e) = e < 64
+
+pub record IsRangedMemory (m : MemoryType) : Type 0 where
+  pub min : m.limits.min < 2 ^ 64
+  pub max : IsRangedMax m.limits.max
+  pub page : IsRangedPage m.page
+
+-- operators that the table lists, well nested, as many as a size can count
+pub record IsRangedExpression (os : List (Placed Operator)) : Type 0 where
+  pub listed : AllByRecursion IsListed (without_places os)
+  pub nested : Nests Sequence (roles os)
+  pub count : length (without_places os) ≤ 2 ^ 64
+
+pub record IsRangedTableType (t : TableType) : Type 0 where
+  pub min : t.limits.min < 2 ^ 64
+  pub max : IsRangedMax t.limits.max
+  pub element : IsRangedHeap t.element.heap
+
+abbrev pub IsRangedInit : Option (List (Placed Operator)) → Type 0
+IsRangedInit None = Unit {0}
+IsRangedInit (Some os) = IsRangedExpression os
+
+pub record IsRangedTable (t : Table (Placed Operator)) : Type 0 where
+  pub type : IsRangedTableType t.type
+  pub init : IsRangedInit t.init
+
+pub record IsRangedGlobal (g : Global (Placed Operator)) : Type 0 where
+  pub type : IsRangedVal g.type.type
+  pub init : IsRangedExpression g.init
+
+abbrev pub IsRangedExtern : ExternType → Type 0
+IsRangedExtern (FuncExtern i) = i < 2 ^ 32
+IsRangedExtern (TableExtern t) = IsRangedTableType t
+IsRangedExtern (MemoryExtern t) = IsRangedMemory t
+IsRangedExtern (GlobalExtern t) = IsRangedVal t.type
+IsRangedExtern (TagExtern i) = i < 2 ^ 32
+
+pub record IsRangedImport (i : Import) : Type 0 where
+  pub source : IsUtf8 i.source
+  pub name : IsUtf8 i.name
+  pub type : IsRangedExtern i.type
+
+-- a table that is not named is table 0
+abbrev pub IsNamedTable : Bool → ℕ → Type 0
+IsNamedTable true t = t < 2 ^ 32
+IsNamedTable false t = t ≡ 0
+
+abbrev pub IsRangedMode : Bool → Mode (Placed Operator) → Type 0
+IsRangedMode names Passive = Unit {0}
+IsRangedMode names Declared = Unit {0}
+IsRangedMode names (Active t offset) = IsNamedTable names t × IsRangedExpression offset
+
+abbrev pub AreRangedItems : Items (Placed Operator) → Type 0
+AreRangedItems (Functions is) = AllByRecursion (λ i. i < 2 ^ 32) is
+AreRangedItems (Expressions t es) = IsRangedHeap t.heap × AllByRecursion IsRangedExpression es
+
+pub record IsRangedElement (e : ElementEntry) : Type 0 where
+  pub mode : IsRangedMode e.names_table e.element.mode
+  pub items : AreRangedItems e.element.items
+
+abbrev pub IsRangedDataMode : DataMode (Placed Operator) → Type 0
+IsRangedDataMode PassiveData = Unit {0}
+IsRangedDataMode (ActiveData m offset) = (m < 2 ^ 32) × IsRangedExpression offset
+
+pub record IsRangedData (d : Data (Placed Operator)) : Type 0 where
+  pub mode : IsRangedDataMode d.mode
+  pub bytes : AreBytes d.bytes
 
 pub record IsRangedExport (e : Export) : Type 0 where
   pub name : IsUtf8 e.name
-  pub function : e.function < 2 ^ 32
+  pub index : e.index < 2 ^ 32
+
+abbrev pub IsRangedStart : Option (Placed ℕ) → Type 0
+IsRangedStart None = Unit {0}
+IsRangedStart (Some i) = i.value < 2 ^ 32
 
 -- locals of types in range; operators that the table lists, well nested, as many as a size can count
 pub record IsRangedBody (b : Body) : Type 0 where
@@ -27,8 +110,23 @@ pub record IsRangedFunction (f : PlacedFunction) : Type 0 where
 
 pub record IsRanged (m : PlacedModule) : Type 0 where
   pub types : length m.types < 2 ^ 32
-  pub functions : length m.functions < 2 ^ 32
+  pub imports : length m.imports < 2 ^ 32
+  pub tables : length m.tables < 2 ^ 32
+  pub memories : length m.memories < 2 ^ 32
+  pub tags : length m.tags < 2 ^ 32
+  pub globals : length m.globals < 2 ^ 32
   pub exports : length m.exports < 2 ^ 32
+  pub elements : length m.elements < 2 ^ 32
+  pub functions : length m.functions < 2 ^ 32
+  pub datas : length m.datas < 2 ^ 32
   pub each_group : AllByRecursion (λ g. IsRangedGroup g.value) m.types
-  pub each_function : AllByRecursion IsRangedFunction m.functions
+  pub each_import : AllByRecursion (λ i. IsRangedImport i.value) m.imports
+  pub each_table : AllByRecursion (λ t. IsRangedTable t.value) m.tables
+  pub each_memory : AllByRecursion (λ x. IsRangedMemory x.value) m.memories
+  pub each_tag : AllByRecursion (λ i. i.value < 2 ^ 32) m.tags
+  pub each_global : AllByRecursion (λ g. IsRangedGlobal g.value) m.globals
   pub each_export : AllByRecursion (λ e. IsRangedExport e.value) m.exports
+  pub start : IsRangedStart m.start
+  pub each_element : AllByRecursion (λ e. IsRangedElement e.value) m.elements
+  pub each_function : AllByRecursion IsRangedFunction m.functions
+  pub each_data : AllByRecursion (λ d. IsRangedData d.value) m.datas

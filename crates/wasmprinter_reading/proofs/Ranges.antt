@@ -1,38 +1,30 @@
 -- A module that bytes spell keeps to its ranges.
-use Rattle.std.proofs.Common.{◌≡◌, ℕ, suc, ◌<◌, ◌≤◌, ◌+◌, ◌^◌, List, [], ◌∷◌, length, Some, refl, ap, subst, arith}
-use Rattle.std.specs.Prelude.{IsUtf8}
+use Rattle.std.proofs.Common.{◌≡◌, ℕ, suc, ◌<◌, ◌≤◌, ◌+◌, ◌^◌, ◌&&◌, List, [], ◌∷◌, length, Some, None, refl, ap, subst, arith}
 use Rattle.std.specs.List.{AllByRecursion}
-use Rattle.std.specs.Str.{is_utf8}
 use Rattle.std.proofs.lemmas.List.{length-append, length-map}
-use Rattle.std.proofs.lemmas.Str.{IsUtf8-from_is_utf8}
 use Rattle.wasmprinter_spec.specs.Choices.{tested}
 use Rattle.wasmprinter_spec.specs.Grammar.{Grammar, Placed, ◌>>=◌, bind_some, some_is, seq, map_value, placed}
-use Rattle.wasmprinter_spec.specs.Name.{u32, name}
-use Rattle.wasmprinter_spec.specs.FirstByte.{only}
+use Rattle.wasmprinter_spec.specs.Name.{u32}
 use Rattle.wasmprinter_spec.specs.Operator.{Operator}
 use Rattle.wasmprinter_spec.specs.Nesting.{Nests, Sequence}
 use Rattle.wasmprinter_spec.specs.Instructions.{roles}
 use Rattle.wasmprinter_spec.specs.Module.{without_places}
 use Rattle.wasmprinter_spec.specs.Placed.{Body, PlacedFunction, PlacedModule}
 use Rattle.wasmprinter_spec.specs.Sized.{exactly, alone}
-use Rattle.wasmprinter_spec.specs.Binary.Exports.{export}
+use Rattle.wasmprinter_spec.specs.Binary.Exports.{extern_kind, export}
 use Rattle.wasmprinter_spec.specs.Binary.Code.{local_entry, body_from, body, code_entry}
-use Rattle.wasmprinter_spec.specs.Sections.{Kind, TypeSection, FunctionSection, ExportSection, CodeSection, Section, holds, content, section_id, section, are_above}
+use Rattle.wasmprinter_spec.specs.Sections.{Kind, TypeSection, ImportSection, FunctionSection, TableSection, MemorySection, TagSection, GlobalSection, ExportSection, StartSection, ElementSection, DataCountSection, CodeSection, DataSection, Section, holds, content, section_id, section, are_above}
 use Rattle.wasmprinter_spec.proofs.Ordered.{held_each}
-use Rattle.wasmprinter_spec.specs.Binary.{type_indices_in, bodies_in, function_pairs, module_from, module_of_sections, AreBytes, Spells}
+use Rattle.wasmprinter_spec.specs.Binary.{type_indices_in, bodies_in, data_count_in, datas_in, counts_data, function_pairs, module_from, module_of_sections, AreBytes, Spells}
 use Rattle.wasmprinter_reading.specs.Listed.{IsListed}
-use Rattle.wasmprinter_reading.proofs.Ranged.{IsRangedExport, IsRangedBody, IsRangedFunction, IsRanged}
-use Rattle.wasmprinter_reading.proofs.AllSpelled.{AllSpelled, split_bytes, entries_have, AllSpelled-any, AllSpelled-seq, AllSpelled-try_map, AllSpelled-map_value, AllSpelled-placed, AllSpelled-exactly, AllSpelled-within}
+use Rattle.wasmprinter_reading.proofs.Ranged.{IsRangedImport, IsRangedTable, IsRangedMemory, IsRangedGlobal, IsRangedExport, IsRangedStart, IsRangedElement, IsRangedData, IsRangedBody, IsRangedFunction, IsRanged}
+use Rattle.wasmprinter_reading.proofs.AllSpelled.{AllSpelled, split_bytes, entries_have, AllSpelled-any, AllSpelled-seq, AllSpelled-map_value, AllSpelled-placed, AllSpelled-exactly, AllSpelled-within}
+use Rattle.wasmprinter_reading.proofs.Few.{FewSpelled, FewSpelled-placed, FewSpelled-vec, AllSpelled-few}
+use Rattle.wasmprinter_reading.proofs.PartRanges.{AllSpelled-name, AllSpelled-memory_type, AllSpelled-tag, FewSpelled-table, FewSpelled-global, AllSpelled-import, FewSpelled-element, FewSpelled-data}
 use Rattle.wasmprinter_reading.proofs.Vectors.{IsVector, AllSpelled-u32, AllSpelled-vec}
 use Rattle.wasmprinter_reading.proofs.Types.Ranged.{IsRangedVal, IsRangedGroup}
 use Rattle.wasmprinter_reading.proofs.Types.Ranges.{AllSpelled-val_type, AllSpelled-group}
 use Rattle.wasmprinter_reading.proofs.Operators.Spelled.{AllSpelled-expression, expression_takes}
-
--- A name is UTF-8.
-AllSpelled-name : AllSpelled name IsUtf8
-AllSpelled-name = AllSpelled-try_map (AllSpelled-any _) (λ text checked e h.
-    let t = tested (is_utf8 text) (Some text) checked e in
-    subst IsUtf8 (some_is text checked t.1) (IsUtf8-from_is_utf8 text t.0))
 
 -- ---- sections
 
@@ -42,18 +34,27 @@ record IsNestedBody (b : Body) : Type 0 where
   listed : AllByRecursion IsListed (without_places b.operators)
   nested : Nests Sequence (roles b.operators)
 
--- what a section of each kind holds: a vector
+-- what a section of each kind holds: a vector, or the start function
 abbrev IsRangedSection : Section → Type 0
 IsRangedSection (holds TypeSection gs) = IsVector (λ g. IsRangedGroup g.value) gs
+IsRangedSection (holds ImportSection is) = IsVector (λ i. IsRangedImport i.value) is
 IsRangedSection (holds FunctionSection is) = IsVector (λ i. i < 2 ^ 32) is
+IsRangedSection (holds TableSection ts) = IsVector (λ t. IsRangedTable t.value) ts
+IsRangedSection (holds MemorySection xs) = IsVector (λ x. IsRangedMemory x.value) xs
+IsRangedSection (holds TagSection is) = IsVector (λ i. i.value < 2 ^ 32) is
+IsRangedSection (holds GlobalSection gs) = IsVector (λ g. IsRangedGlobal g.value) gs
 IsRangedSection (holds ExportSection es) = IsVector (λ e. IsRangedExport e.value) es
+IsRangedSection (holds StartSection start) = IsRangedStart start
+IsRangedSection (holds ElementSection es) = IsVector (λ e. IsRangedElement e.value) es
+IsRangedSection (holds DataCountSection count) = Unit {0}
 IsRangedSection (holds CodeSection bs) = IsVector (λ b. IsRangedBody b.value) bs
+IsRangedSection (holds DataSection ds) = IsVector (λ d. IsRangedData d.value) ds
 
--- An export: a name and an index.
+-- An export: a name, a kind and an index.
 AllSpelled-export : AllSpelled export IsRangedExport
 AllSpelled-export =
-    AllSpelled-map_value (AllSpelled-seq AllSpelled-name (λ _. AllSpelled-seq (AllSpelled-any (only 0x00)) (λ _. AllSpelled-u32)))
-    (λ x h. record { name = h.0; function = h.1.1 })
+    AllSpelled-map_value (AllSpelled-seq AllSpelled-name (λ _. AllSpelled-seq (AllSpelled-any extern_kind) (λ _. AllSpelled-u32)))
+    (λ x h. record { name = h.0; index = h.1.1 })
 
 -- So many locals of a type.
 AllSpelled-local_entry : AllSpelled local_entry (λ e. IsRangedVal e.type)
@@ -90,12 +91,26 @@ AllSpelled-sized : {A : Type 0} {g : Grammar A} {P : A → Type 0} (made : A →
     → AllSpelled (map_value (λ x. made x.1) (seq u32 (λ size. exactly (alone g) size))) IsRangedSection
 AllSpelled-sized made all keeps = AllSpelled-map_value (AllSpelled-seq AllSpelled-u32 (λ size. AllSpelled-exactly all size)) (λ x h. keeps x.1 h.1)
 
+-- The same of what few bytes spell.
+AllSpelled-few_sized : {A : Type 0} {g : Grammar A} {P : A → Type 0} (made : A → Section) → FewSpelled g P → ((a : A) → P a → IsRangedSection (made a))
+    → AllSpelled (map_value (λ x. made x.1) (seq u32 (λ size. exactly (alone g) size))) IsRangedSection
+AllSpelled-few_sized made all keeps = AllSpelled-map_value (AllSpelled-seq AllSpelled-u32 (λ size. AllSpelled-few all size)) (λ x h. keeps x.1 (h.1 h.0))
+
 -- The content of a section of each kind.
 AllSpelled-content : (kind : Kind) → AllSpelled (map_value (λ x. holds kind x.1) (seq u32 (λ size. exactly (content kind) size))) IsRangedSection
 AllSpelled-content TypeSection = AllSpelled-sized (holds TypeSection) (AllSpelled-vec (AllSpelled-placed AllSpelled-group)) (λ gs h. h)
+AllSpelled-content ImportSection = AllSpelled-sized (holds ImportSection) (AllSpelled-vec (AllSpelled-placed AllSpelled-import)) (λ is h. h)
 AllSpelled-content FunctionSection = AllSpelled-sized (holds FunctionSection) (AllSpelled-vec AllSpelled-u32) (λ is h. h)
+AllSpelled-content TableSection = AllSpelled-few_sized (holds TableSection) (FewSpelled-vec (FewSpelled-placed FewSpelled-table)) (λ ts h. h)
+AllSpelled-content MemorySection = AllSpelled-sized (holds MemorySection) (AllSpelled-vec (AllSpelled-placed AllSpelled-memory_type)) (λ xs h. h)
+AllSpelled-content TagSection = AllSpelled-sized (holds TagSection) (AllSpelled-vec (AllSpelled-placed AllSpelled-tag)) (λ is h. h)
+AllSpelled-content GlobalSection = AllSpelled-few_sized (holds GlobalSection) (FewSpelled-vec (FewSpelled-placed FewSpelled-global)) (λ gs h. h)
 AllSpelled-content ExportSection = AllSpelled-sized (holds ExportSection) (AllSpelled-vec (AllSpelled-placed AllSpelled-export)) (λ es h. h)
+AllSpelled-content StartSection = AllSpelled-sized (holds StartSection) (AllSpelled-map_value (AllSpelled-placed AllSpelled-u32) (λ i h. h)) (λ start h. h)
+AllSpelled-content ElementSection = AllSpelled-few_sized (holds ElementSection) (FewSpelled-vec (FewSpelled-placed FewSpelled-element)) (λ es h. h)
+AllSpelled-content DataCountSection = AllSpelled-sized (holds DataCountSection) (AllSpelled-map_value AllSpelled-u32 (λ n h. tt)) (λ count h. h)
 AllSpelled-content CodeSection = AllSpelled-sized (holds CodeSection) (AllSpelled-vec AllSpelled-code_entry) (λ bs h. h)
+AllSpelled-content DataSection = AllSpelled-few_sized (holds DataSection) (FewSpelled-vec (FewSpelled-placed FewSpelled-data)) (λ ds h. h)
 
 -- A section: its content.
 AllSpelled-section : AllSpelled section IsRangedSection
@@ -129,21 +144,44 @@ pairs_ranged (i ∷ is) [] fs e indices bodies = absurd cc
 -- A module of ranged sections keeps to its ranges.
 module_ranged : (size : ℕ) (ss : List Section) (m : PlacedModule) → module_of_sections size ss ≡ Some m → AllByRecursion IsRangedSection ss → IsRanged m
 module_ranged size ss m e ranged =
-    let ordered = tested (are_above 0 ss) (function_pairs (type_indices_in ss) (bodies_in ss) >>= λ fs. Some (module_from size ss fs)) m e in
+    let ordered = tested (are_above 0 ss && counts_data (data_count_in ss) (length (datas_in ss))) (function_pairs (type_indices_in ss) (bodies_in ss) >>= λ fs. Some (module_from size ss fs)) m e in
     let functions = bind_some (function_pairs (type_indices_in ss) (bodies_in ss)) (λ fs. Some (module_from size ss fs)) m ordered.1 in
     let types = held_each TypeSection IsRangedSection [] ss ranged (no_items (λ g. IsRangedGroup g.value)) in
+    let imports = held_each ImportSection IsRangedSection [] ss ranged (no_items (λ i. IsRangedImport i.value)) in
     let type_indices = held_each FunctionSection IsRangedSection [] ss ranged (no_items (λ i. i < 2 ^ 32)) in
+    let tables = held_each TableSection IsRangedSection [] ss ranged (no_items (λ t. IsRangedTable t.value)) in
+    let memories = held_each MemorySection IsRangedSection [] ss ranged (no_items (λ x. IsRangedMemory x.value)) in
+    let tags = held_each TagSection IsRangedSection [] ss ranged (no_items (λ i. i.value < 2 ^ 32)) in
+    let globals = held_each GlobalSection IsRangedSection [] ss ranged (no_items (λ g. IsRangedGlobal g.value)) in
     let exports = held_each ExportSection IsRangedSection [] ss ranged (no_items (λ e. IsRangedExport e.value)) in
+    let start = held_each StartSection IsRangedSection None ss ranged tt in
+    let elements = held_each ElementSection IsRangedSection [] ss ranged (no_items (λ e. IsRangedElement e.value)) in
     let bodies = held_each CodeSection IsRangedSection [] ss ranged (no_items (λ b. IsRangedBody b.value)) in
+    let datas = held_each DataSection IsRangedSection [] ss ranged (no_items (λ d. IsRangedData d.value)) in
     let pairs = pairs_ranged (type_indices_in ss) (bodies_in ss) functions.0 functions.1 type_indices.each bodies.each in
     subst IsRanged (some_is (module_from size ss functions.0) m functions.2)
     (record {
       types = types.count;
-      functions = omega (arith, pairs.0, type_indices.count);
+      imports = imports.count;
+      tables = tables.count;
+      memories = memories.count;
+      tags = tags.count;
+      globals = globals.count;
       exports = exports.count;
+      elements = elements.count;
+      functions = omega (arith, pairs.0, type_indices.count);
+      datas = datas.count;
       each_group = types.each;
-      each_function = pairs.1;
+      each_import = imports.each;
+      each_table = tables.each;
+      each_memory = memories.each;
+      each_tag = tags.each;
+      each_global = globals.each;
       each_export = exports.each;
+      start = start;
+      each_element = elements.each;
+      each_function = pairs.1;
+      each_data = datas.each;
     })
 
 -- A module that bytes spell keeps to its ranges.

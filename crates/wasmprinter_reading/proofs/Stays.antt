@@ -1,14 +1,22 @@
 -- The tokens of a layout do not depend on whether lines begin with their places.
-use Rattle.std.proofs.Common.{◌≡◌, ℕ, ◌+◌, Bool, true, false, ◌||◌, List, [], ◌∷◌, ◌++◌, Option, Some, refl, sym, ap, ◌∙◌, codes}
+use Rattle.std.proofs.Common.{◌≡◌, ℕ, ◌+◌, Bool, true, false, ◌||◌, List, [], ◌∷◌, ◌++◌, Option, Some, length, refl, sym, ap, ap₂, ◌∙◌, codes}
 use Rattle.wasmprinter_spec.specs.Types.{FuncType, SubType, all_types, signature_at}
 use Rattle.wasmprinter_spec.specs.Token.{Token, left, right, word}
 use Rattle.wasmprinter_spec.specs.Options.{Options}
 use Rattle.wasmprinter_spec.specs.Piece.{Piece, Feed, all_tokens}
-use Rattle.wasmprinter_spec.specs.Placed.{PlacedFunction, PlacedModule}
-use Rattle.wasmprinter_spec.specs.Module.{groups_of}
+use Rattle.wasmprinter_spec.specs.Placed.{Import, PlacedFunction, PlacedModule}
+use Rattle.wasmprinter_spec.specs.Module.{without_places, groups_of, imported, func_import, table_import, memory_import, global_import, tag_import}
 use Rattle.wasmprinter_spec.specs.Layout.Groups.{group_at, group_gap_at, close, has_break, numbered}
 use Rattle.wasmprinter_spec.specs.Layout.Types.{type_section_pieces}
-use Rattle.wasmprinter_spec.specs.Layout.{header_pieces, local_pieces, body_pieces, export_pieces, function_pieces, function_group, module_field_pieces, module_pieces}
+use Rattle.wasmprinter_spec.specs.Layout.Memories.{memory_pieces}
+use Rattle.wasmprinter_spec.specs.Layout.Exports.{export_pieces}
+use Rattle.wasmprinter_spec.specs.Layout.Functions.{header_pieces, local_pieces, body_pieces, function_pieces, function_group}
+use Rattle.wasmprinter_spec.specs.Layout.Tables.{table_pieces}
+use Rattle.wasmprinter_spec.specs.Layout.Globals.{global_pieces}
+use Rattle.wasmprinter_spec.specs.Layout.Imports.{no_numbers, imports_pieces}
+use Rattle.wasmprinter_spec.specs.Layout.Elements.{element_pieces}
+use Rattle.wasmprinter_spec.specs.Layout.DataSegments.{data_pieces}
+use Rattle.wasmprinter_spec.specs.Layout.{tag_pieces, start_pieces, module_field_pieces, module_pieces}
 use Rattle.wasmprinter_lexical.proofs.Writes.{all_tokens-append, close_tokens}
 
 -- the tokens of a keyword, of what a group holds and of its end
@@ -45,6 +53,14 @@ numbered_stays f g law i (x ∷ xs) =
     ∙ ap (λ ts. all_tokens (g i x) ++ ts) (numbered_stays f g law (i + 1) xs)
     ∙ sym (all_tokens-append (g i x) (numbered g (i + 1) xs))
 
+-- the same pieces before others
+behind_stays : (ps qs rs : List Piece) → all_tokens qs ≡ all_tokens rs → all_tokens (ps ++ qs) ≡ all_tokens (ps ++ rs)
+behind_stays ps qs rs e = all_tokens-append ps qs ∙ ap (λ ts. all_tokens ps ++ ts) e ∙ sym (all_tokens-append ps rs)
+
+-- two parts without regard to what they depend on
+both_stay : (ps ps2 qs qs2 : List Piece) → all_tokens ps ≡ all_tokens ps2 → all_tokens qs ≡ all_tokens qs2 → all_tokens (ps ++ qs) ≡ all_tokens (ps2 ++ qs2)
+both_stay ps ps2 qs qs2 e f = all_tokens-append ps qs ∙ ap₂ (λ ts us. ts ++ us) e f ∙ sym (all_tokens-append ps2 qs2)
+
 module _ (o p : Options) (same : o.skeleton ≡ p.skeleton) where
   function_pieces_stay : (ts : List SubType) (i : ℕ) (f : PlacedFunction) → all_tokens (function_pieces o ts i f) ≡ all_tokens (function_pieces p ts i f)
   unfolding function_pieces
@@ -56,15 +72,23 @@ module _ (o p : Options) (same : o.skeleton ≡ p.skeleton) where
   unfolding module_field_pieces
   module_field_pieces_stay m =
       let ts : List SubType = all_types (groups_of m.types) in
-      let functions = numbered_stays (function_pieces o ts) (function_pieces p ts) (function_pieces_stay ts) 0 m.functions in
-      let exports : List Piece = numbered (λ i e. export_pieces e) 0 m.exports in
-      let types : List Piece = type_section_pieces 0 m.types in
-      all_tokens-append types (exports ++ numbered (function_pieces o ts) 0 m.functions)
-      ∙ ap (λ ts. all_tokens types ++ ts)
-      (all_tokens-append exports (numbered (function_pieces o ts) 0 m.functions)
-      ∙ ap (λ ts. all_tokens exports ++ ts) functions
-      ∙ sym (all_tokens-append exports (numbered (function_pieces p ts) 0 m.functions)))
-      ∙ sym (all_tokens-append types (exports ++ numbered (function_pieces p ts) 0 m.functions))
+      let is : List Import = without_places m.imports in
+      let elements : Bool → List Piece = λ s. numbered (element_pieces s ts) 0 m.elements in
+      let functions : Options → List Piece = λ x. numbered (function_pieces x ts) (length (imported func_import is)) m.functions in
+      let datas : Bool → List Piece = λ s. numbered (data_pieces s ts) 0 m.datas in
+      behind_stays (type_section_pieces 0 m.types) _ _
+      (behind_stays (imports_pieces ts no_numbers m.imports) _ _
+      (behind_stays (numbered (table_pieces ts) (length (imported table_import is)) m.tables) _ _
+      (behind_stays (numbered memory_pieces (length (imported memory_import is)) m.memories) _ _
+      (behind_stays (numbered (tag_pieces ts) (length (imported tag_import is)) m.tags) _ _
+      (behind_stays (numbered (global_pieces ts) (length (imported global_import is)) m.globals) _ _
+      (behind_stays (numbered (λ i e. export_pieces e) 0 m.exports) _ _
+      (behind_stays (start_pieces m.start) _ _
+      (both_stay (elements o.skeleton) (elements p.skeleton) (functions o ++ datas o.skeleton) (functions p ++ datas p.skeleton)
+      (ap (λ s. all_tokens (elements s)) same)
+      (both_stay (functions o) (functions p) (datas o.skeleton) (datas p.skeleton)
+      (numbered_stays (function_pieces o ts) (function_pieces p ts) (function_pieces_stay ts) (length (imported func_import is)) m.functions)
+      (ap (λ s. all_tokens (datas s)) same))))))))))
 
   pub module_pieces_stay : (m : PlacedModule) → all_tokens (module_pieces o m) ≡ all_tokens (module_pieces p m)
   unfolding module_pieces

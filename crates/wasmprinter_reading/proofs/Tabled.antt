@@ -1,37 +1,52 @@
 -- What the table keeps, by tests over its rows: each is computed once, however many rows there are.
-use Rattle.std.proofs.Common.{◌≡◌, ℕ, ◌<◌, ◌≤◌, ◌^◌, Bool, true, false, ◌&&◌, ◌||◌, not, cond, eqb, leb, List, [], ◌∷◌, Option, Some, None, refl, sym, ap, ◌∙◌, subst, decimal, ℤ, pos, negsuc, ◌*◌, ◌+◌, arith, suc}
+use Rattle.std.proofs.Common.{◌≡◌, ℕ, ◌<◌, ◌≤◌, ◌^◌, Bool, true, false, ◌&&◌, ◌||◌, not, cond, eqb, leb, is_some, List, [], ◌∷◌, Option, Some, None, refl, sym, ap, ◌∙◌, subst, codes, bytes_eq, decimal, map, ℤ, pos, negsuc, ◌*◌, ◌+◌, arith, suc}
 use Rattle.std.proofs.lemmas.Bool.{and_parts, eqb-true, not-true, eq-eqb, both_ways, false_from_ne_true, le-leb}
 use Rattle.std.specs.Fmt.{signed_decimal}
 use Rattle.std.specs.Int.Signed.{mag}
 use Rattle.std.proofs.lemmas.Fmt.{decimal_is_IsNumeral}
 use Rattle.std.proofs.lemmas.Str.Parse.{digit_at}
 use Rattle.std.specs.Str.Parse.{IsNumeral}
-use Rattle.std.specs.List.{filter}
+use Rattle.std.specs.List.{AllByRecursion, filter, list_any}
 use Rattle.wasmprinter_spec.specs.Character.{class}
 use Rattle.wasmprinter_spec.specs.Operator.{Operator}
-use Rattle.wasmprinter_spec.specs.Row.{Row, Role, Opens, OpensIf, OpensTry, Shape, NoneShape, BlockShape, TryTableShape, IndexShape, BranchTableShape, I32Shape, I64Shape}
-use Rattle.wasmprinter_spec.specs.Table.{control_rows, variable_rows, number_rows, table, first, has_word, has_opcode, rows_of, by_opcode}
+use Rattle.wasmprinter_spec.specs.Row.{Row, Role, Plain, Opens, OpensIf, OpensTry, Shape, NoneShape, BlockShape, TryTableShape, SelectShape, RefShape}
+use Rattle.wasmprinter_spec.specs.Table.{table, first, has_word, has_opcode, rows_of, by_opcode}
+use Rattle.wasmprinter_spec.specs.Code.{part_words}
+use Rattle.wasmprinter_spec.specs.Text.TypeUses.{same_flag}
+use Rattle.wasmprinter_spec.specs.Text.Operators.{behind_prefix, is_option}
 use Rattle.wasmprinter_lexical.proofs.Runs.{is_word}
 use Rattle.wasmprinter_reading.specs.Listed.{has_shape, has_row_shape, IsListed}
 use Rattle.wasmprinter_reading.proofs.Bytes.{bytes_same}
 
--- ---- a word as one number, which is compared at once
-
-abbrev pub key_after : ℕ → List ℕ → ℕ
-key_after k [] = k
-key_after k (b ∷ bs) = key_after (k * 256 + b) bs
-
-abbrev pub key : Row → ℕ
-key r = key_after 0 r.word
-
-abbrev pub all : (Row → Bool) → List Row → Bool
+abbrev pub all : {A : Type 0} → (A → Bool) → List A → Bool
 all p [] = true
-all p (r ∷ rs) = p r && all p rs
+all p (x ∷ xs) = p x && all p xs
+
+-- ---- words that are no operator's
 
 -- begins as a number does
 abbrev pub is_number : List ℕ → Bool
 is_number [] = false
 is_number (b ∷ bs) = eqb b 45 || (leb 48 b && leb b 57)
+
+abbrev begins_with : List ℕ → List ℕ → Bool
+begins_with p w = is_some (behind_prefix p w)
+
+-- those of heap types and of references to them, and of the lanes of a vector
+abbrev argument_words : List (List ℕ)
+argument_words =
+    codes "exn" ∷ codes "array" ∷ codes "struct" ∷ codes "i31" ∷ codes "eq" ∷ codes "any"
+    ∷ codes "extern" ∷ codes "func" ∷ codes "none" ∷ codes "noextern" ∷ codes "nofunc" ∷ codes "noexn"
+    ∷ codes "exnref" ∷ codes "arrayref" ∷ codes "structref" ∷ codes "i31ref" ∷ codes "eqref" ∷ codes "anyref"
+    ∷ codes "externref" ∷ codes "funcref" ∷ codes "nullref" ∷ codes "nullexternref" ∷ codes "nullfuncref" ∷ codes "nullexnref"
+    ∷ codes "ref" ∷ codes "i32x4" ∷ []
+
+-- a word that immediates are written with: a number, a float, an offset or an alignment, or one of these
+abbrev pub is_argument : List ℕ → Bool
+is_argument w =
+    is_number w || (is_option w || (begins_with (codes "inf") w || (begins_with (codes "nan") w || list_any (λ v. bytes_eq v w) argument_words)))
+
+-- ---- blocks
 
 -- an operator that opens a block has a block type
 abbrev pub is_opening : Role → Bool
@@ -48,41 +63,82 @@ has_block _ = false
 abbrev pub fits : Role → Shape → Bool
 fits r s = not (is_opening r) || has_block s
 
--- whether something stands behind the word of each operator of this shape
-abbrev pub is_written : Shape → Bool
-is_written (IndexShape space) = true
-is_written BranchTableShape = true
-is_written I32Shape = true
-is_written I64Shape = true
-is_written _ = false
+-- ---- operators that share a word
+
+-- a word as one number, which is compared at once
+abbrev pub key_after : ℕ → List ℕ → ℕ
+key_after k [] = k
+key_after k (b ∷ bs) = key_after (k * 256 + b) bs
+
+abbrev pub key : Row → ℕ
+key r = key_after 0 r.word
 
 -- whether no operator of one shape reads what one of another is written as
 abbrev pub refuses : Shape → Shape → Bool
-refuses NoneShape t = is_written t
-refuses _ t = false
+refuses NoneShape SelectShape = true
+refuses SelectShape NoneShape = true
+refuses (RefShape a) (RefShape b) = not (same_flag b a)
+refuses _ _ = false
+
+abbrev pub keyed : Row → ℕ × Shape
+keyed r = (key r, r.shape)
 
 -- of two rows that share a word the one in front refuses what the other is written as
-abbrev pub are_told_apart : List Row → Bool
+abbrev pub are_told_apart : List (ℕ × Shape) → Bool
 are_told_apart [] = true
-are_told_apart (r ∷ rs) = all (λ s. not (eqb (key s) (key r)) || refuses r.shape s.shape) rs && are_told_apart rs
+are_told_apart (x ∷ xs) = all (λ y. not (eqb y.0 x.0) || refuses x.1 y.1) xs && are_told_apart xs
+
+-- ---- operators that stand alone in a group
+
+-- Such an operator neither opens nor closes a block. Its group is no part of another operator, and none of the groups of a field.
+abbrev pub is_plain : Role → Bool
+is_plain Plain = true
+is_plain _ = false
+
+-- the words of the operators of blocks
+abbrev pub block_words : List (List ℕ)
+block_words =
+    codes "block" ∷ codes "loop" ∷ codes "if" ∷ codes "else" ∷ codes "try" ∷ codes "catch" ∷ codes "end"
+    ∷ codes "delegate" ∷ codes "catch_all" ∷ codes "try_table" ∷ []
+
+abbrev pub is_block_word : List ℕ → Bool
+is_block_word w = list_any (λ v. bytes_eq v w) block_words
+
+-- the words of groups that may stand where a folded operator may
+abbrev pub group_words : List (List ℕ)
+group_words = codes "then" ∷ codes "else" ∷ codes "offset" ∷ codes "item" ∷ codes "ref" ∷ codes "table" ∷ codes "memory" ∷ []
+
+abbrev pub is_group_word : List ℕ → Bool
+is_group_word w = list_any (λ v. bytes_eq w v) group_words
+
+abbrev pub is_part_word : List ℕ → Bool
+is_part_word w = list_any (λ v. bytes_eq v w) part_words
 
 -- ---- the tests
 
-pub table_tells_apart : are_told_apart table ≡ true
-unfolding table control_rows variable_rows number_rows
+pub table_tells_apart : are_told_apart (map keyed table) ≡ true
+unfolding table
 table_tells_apart = refl
 
 words_are_words : all (λ r. is_word r.word) table ≡ true
-unfolding table control_rows variable_rows number_rows class
+unfolding table class
 words_are_words = refl
 
-no_numbers : all (λ r. not (is_number r.word)) table ≡ true
-unfolding table control_rows variable_rows number_rows
-no_numbers = refl
+no_arguments : all (λ r. not (is_argument r.word)) table ≡ true
+unfolding table
+no_arguments = refl
 
 rows_fit : all (λ r. fits r.role r.shape) table ≡ true
-unfolding table control_rows variable_rows number_rows
+unfolding table
 rows_fit = refl
+
+plain_words : all (λ r. same_flag (is_plain r.role) (not (is_block_word r.word))) table ≡ true
+unfolding table
+plain_words = refl
+
+words_alone : all (λ r. not (is_plain r.role) || (not (is_part_word r.word) && not (is_group_word r.word))) table ≡ true
+unfolding table
+words_alone = refl
 
 -- ---- what they mean
 
@@ -96,6 +152,11 @@ all_at p r (s ∷ rs) h here = (and_parts (p r) (all p rs) h).0
 all_at p r (s ∷ rs) h (there i) = all_at p r rs (and_parts (p s) (all p rs) h).1 i
 all_at p r [] h i = elim i [ ]
 
+keyed_at : (p : ℕ × Shape → Bool) (r : Row) (rs : List Row) → all p (map keyed rs) ≡ true → In r rs → p (keyed r) ≡ true
+keyed_at p r (s ∷ rs) h here = (and_parts (p (keyed r)) (all p (map keyed rs)) h).0
+keyed_at p r (s ∷ rs) h (there i) = keyed_at p r rs (and_parts (p (keyed s)) (all p (map keyed rs)) h).1 i
+keyed_at p r [] h i = elim i [ ]
+
 -- what `first` gives is a row that passes
 first_gives : (p : Row → Bool) (rs : List Row) (r : Row) → first p rs ≡ Some r → In r rs × (p r ≡ true)
 first_gives p [] r h = absurd (cc)
@@ -105,12 +166,17 @@ first_gives p (s ∷ rs) r h = by (p s) refl h (first_gives p rs r)
     by true e g more = let same : s ≡ r = cc in (subst (λ x. In x (s ∷ rs)) same here, subst (λ x. p x ≡ true) same e)
     by false e g more = (there (more g).0, (more g).1)
 
+-- the rows are told apart from the second on
+pub told_apart_later : (s : Row) (rs : List Row) → are_told_apart (map keyed (s ∷ rs)) ≡ true → are_told_apart (map keyed rs) ≡ true
+told_apart_later s rs t = (and_parts (all (λ y. not (eqb y.0 (key s)) || refuses s.shape y.1) (map keyed rs)) (are_told_apart (map keyed rs)) t).1
+
 -- a row before another of its word refuses what that is written as
-pub refuses_later : (s r : Row) (rs : List Row) → are_told_apart (s ∷ rs) ≡ true → In r rs → has_word r.word s ≡ true → refuses s.shape r.shape ≡ true
+pub refuses_later : (s r : Row) (rs : List Row) → are_told_apart (map keyed (s ∷ rs)) ≡ true → In r rs → has_word r.word s ≡ true →
+    refuses s.shape r.shape ≡ true
 refuses_later s r rs t i e =
-    let parts : (all (λ x. not (eqb (key x) (key s)) || refuses s.shape x.shape) rs ≡ true) × (are_told_apart rs ≡ true) =
-    and_parts (all (λ x. not (eqb (key x) (key s)) || refuses s.shape x.shape) rs) (are_told_apart rs) t in
-    let either : (not (eqb (key r) (key s)) || refuses s.shape r.shape) ≡ true = all_at (λ x. not (eqb (key x) (key s)) || refuses s.shape x.shape) r rs parts.0 i in
+    let apart : all (λ (y : ℕ × Shape). not (eqb y.0 (key s)) || refuses s.shape y.1) (map keyed rs) ≡ true =
+    (and_parts (all (λ (y : ℕ × Shape). not (eqb y.0 (key s)) || refuses s.shape y.1) (map keyed rs)) (are_told_apart (map keyed rs)) t).0 in
+    let either : (not (eqb (key r) (key s)) || refuses s.shape r.shape) ≡ true = keyed_at (λ y. not (eqb y.0 (key s)) || refuses s.shape y.1) r rs apart i in
     let same : eqb (key r) (key s) ≡ true = eq-eqb (key r) (key s) (ap (key_after 0) (sym (bytes_same s.word r.word e))) in
     ap (λ b. not b || refuses s.shape r.shape) (sym same) ∙ either
 
@@ -133,7 +199,8 @@ row_for o h = by (by_opcode o.opcode) refl h.shape
     by None e l = absurd cc
     by (Some r) e l =
         let found : In r table × (has_opcode o.opcode r ≡ true) = first_gives (has_opcode o.opcode) table r e in
-        let codes : (eqb r.prefix o.opcode.prefix ≡ true) × (eqb r.number o.opcode.number ≡ true) = and_parts (eqb r.prefix o.opcode.prefix) (eqb r.number o.opcode.number) found.1 in
+        let codes : (eqb r.prefix o.opcode.prefix ≡ true) × (eqb r.number o.opcode.number ≡ true) =
+        and_parts (eqb r.prefix o.opcode.prefix) (eqb r.number o.opcode.number) found.1 in
         record {
           row = r;
           found = e;
@@ -145,18 +212,62 @@ row_for o h = by (by_opcode o.opcode) refl h.shape
           fit = all_at (λ x. fits x.role x.shape) r table rows_fit found.0;
         }
 
--- ---- a number is no word of the table
+-- ---- a plain operator stands alone in a group
 
-none_of_number : (w : List ℕ) (rs : List Row) → is_number w ≡ true → all (λ r. not (is_number r.word)) rs ≡ true → filter (has_word w) rs ≡ []
-none_of_number w [] n h = refl
-none_of_number w (r ∷ rs) n h =
-    let parts : (not (is_number r.word) ≡ true) × (all (λ x. not (is_number x.word)) rs ≡ true) = and_parts (not (is_number r.word)) (all (λ x. not (is_number x.word)) rs) h in
+pub record StandsAlone (w : List ℕ) : Type 0 where
+  pub part : is_part_word w ≡ false
+  pub others : AllByRecursion (λ v. bytes_eq w v ≡ false) group_words
+
+none_among : (w : List ℕ) (vs : List (List ℕ)) → list_any (λ v. bytes_eq w v) vs ≡ false → AllByRecursion (λ v. bytes_eq w v ≡ false) vs
+none_among w [] h = tt
+none_among w (v ∷ vs) h = by (bytes_eq w v) refl h (none_among w vs)
+  where
+    by : (t : Bool) → bytes_eq w v ≡ t → (t || list_any (λ u. bytes_eq w u) vs) ≡ false →
+        (list_any (λ u. bytes_eq w u) vs ≡ false → AllByRecursion (λ u. bytes_eq w u ≡ false) vs) → AllByRecursion (λ u. bytes_eq w u ≡ false) (v ∷ vs)
+    by true e k more = absurd cc
+    by false e k more = (e, more k)
+
+pub plain_alone : (r : Row) → In r table → r.role ≡ Plain → StandsAlone r.word
+plain_alone r i p =
+    let either : (not (is_plain r.role) || (not (is_part_word r.word) && not (is_group_word r.word))) ≡ true =
+    all_at (λ x. not (is_plain x.role) || (not (is_part_word x.word) && not (is_group_word x.word))) r table words_alone i in
+    let both : (not (is_part_word r.word) && not (is_group_word r.word)) ≡ true =
+    ap (λ x. not (is_plain x) || (not (is_part_word r.word) && not (is_group_word r.word))) (sym p) ∙ either in
+    let parts = and_parts (not (is_part_word r.word)) (not (is_group_word r.word)) both in
+    record { part = not-true (is_part_word r.word) parts.0; others = none_among r.word group_words (not-true (is_group_word r.word) parts.1) }
+
+is_plain-true : (x : Role) → is_plain x ≡ true → x ≡ Plain
+is_plain-true Plain e = refl
+is_plain-true _ e = absurd cc
+
+same_flag-true : (b c : Bool) → same_flag b c ≡ true → b ≡ c
+same_flag-true true true e = refl
+same_flag-true false false e = refl
+same_flag-true true false e = absurd cc
+same_flag-true false true e = absurd cc
+
+-- operators with one word are plain, or none of them is
+pub plain_by_word : (r s : Row) → In r table → In s table → s.word ≡ r.word → r.role ≡ Plain → s.role ≡ Plain
+plain_by_word r s i j same p =
+    let first : is_plain r.role ≡ not (is_block_word r.word) = same_flag-true _ _
+    (all_at (λ x. same_flag (is_plain x.role) (not (is_block_word x.word))) r table plain_words i) in
+    let second : is_plain s.role ≡ not (is_block_word s.word) = same_flag-true _ _
+    (all_at (λ x. same_flag (is_plain x.role) (not (is_block_word x.word))) s table plain_words j) in
+    is_plain-true s.role (second ∙ ap (λ w. not (is_block_word w)) same ∙ sym first ∙ ap is_plain p)
+
+-- ---- a word of immediates is no word of the table
+
+none_of_argument : (w : List ℕ) (rs : List Row) → is_argument w ≡ true → all (λ r. not (is_argument r.word)) rs ≡ true → filter (has_word w) rs ≡ []
+none_of_argument w [] n h = refl
+none_of_argument w (r ∷ rs) n h =
+    let parts : (not (is_argument r.word) ≡ true) × (all (λ x. not (is_argument x.word)) rs ≡ true) =
+    and_parts (not (is_argument r.word)) (all (λ x. not (is_argument x.word)) rs) h in
     let no : has_word w r ≡ false = false_from_ne_true (has_word w r) (λ e.
-    both_ways (is_number r.word) (not-true (is_number r.word) parts.0) (ap is_number (bytes_same r.word w e) ∙ n)) in
-    ap (λ t. cond t (r ∷ filter (has_word w) rs) (filter (has_word w) rs)) no ∙ none_of_number w rs n parts.1
+    both_ways (is_argument r.word) (not-true (is_argument r.word) parts.0) (ap is_argument (bytes_same r.word w e) ∙ n)) in
+    ap (λ t. cond t (r ∷ filter (has_word w) rs) (filter (has_word w) rs)) no ∙ none_of_argument w rs n parts.1
 
-no_rows : (w : List ℕ) → is_number w ≡ true → rows_of w ≡ []
-no_rows w h = none_of_number w table h no_numbers
+pub no_rows : (w : List ℕ) → is_argument w ≡ true → rows_of w ≡ []
+no_rows w h = none_of_argument w table h no_arguments
 
 or_true : (t : Bool) → (t || true) ≡ true
 or_true true = refl
@@ -168,9 +279,13 @@ is_number_digits (c ∷ cs) h =
     let within : (48 ≤ c) × (c ≤ 57) = digit_at (c ∷ cs) 0 h.1 h.0 in
     rw (le-leb 48 c within.0, le-leb c 57 within.1) (or_true (eqb c 45))
 
+pub no_rows-number : (w : List ℕ) → is_number w ≡ true → rows_of w ≡ []
+no_rows-number w h =
+    no_rows w (ap (λ b. b || (is_option w || (begins_with (codes "inf") w || (begins_with (codes "nan") w || list_any (λ v. bytes_eq v w) argument_words)))) h)
+
 pub no_rows-decimal : (n : ℕ) → n < 2 ^ 64 → rows_of (decimal n) ≡ []
-no_rows-decimal n h = no_rows (decimal n) (is_number_digits (decimal n) (decimal_is_IsNumeral n h).0)
+no_rows-decimal n h = no_rows-number (decimal n) (is_number_digits (decimal n) (decimal_is_IsNumeral n h).0)
 
 pub no_rows-signed_decimal : (z : ℤ) → mag z < 2 ^ 63 → rows_of (signed_decimal z) ≡ []
 no_rows-signed_decimal (pos n) h = no_rows-decimal n (omega arith)
-no_rows-signed_decimal (negsuc n) h = no_rows (45 ∷ decimal (suc n)) refl
+no_rows-signed_decimal (negsuc n) h = no_rows-number (45 ∷ decimal (suc n)) refl

@@ -1,10 +1,10 @@
 -- Operators that some bytes spell: opcodes that the table lists, with immediates of their shape, whose numbers lie in range.
-use Rattle.std.specs.Prelude.{◌≡◌, ℕ, ℤ, pos, neg_ℤ, ◌<◌, ◌^◌, ◌≤ℤ◌, ◌<ℤ◌, Bool, true, false, Option, Some, None}
+use Rattle.std.specs.Prelude.{◌≡◌, ℕ, ℤ, pos, neg_ℤ, ◌<◌, ◌^◌, ◌≤ℤ◌, ◌<ℤ◌, Bool, true, false, Option, Some, None, List, length}
 use Rattle.std.specs.List.{AllByRecursion}
 use Rattle.wasmprinter_spec.specs.Types.{FuncType}
-use Rattle.wasmprinter_spec.specs.Indexed.{IsDeclaredVal, IsDeclaredFunc}
-use Rattle.wasmprinter_spec.specs.Operator.{BlockType, Empty, Value, OfType, Catch, One, OneRef, All, AllRef, Immediates, NoImmediates, Block, TryTable, Index, BranchTable, I32, I64, Operator}
-use Rattle.wasmprinter_spec.specs.Row.{Row, Shape, NoneShape, BlockShape, TryTableShape, IndexShape, BranchTableShape, I32Shape, I64Shape}
+use Rattle.wasmprinter_spec.specs.Indexed.{IsDeclaredHeap, IsDeclaredRef, IsDeclaredVal, IsDeclaredFunc}
+use Rattle.wasmprinter_spec.specs.Operator.{BlockType, Empty, Value, OfType, Catch, One, OneRef, All, AllRef, MemArg, Immediates, NoImmediates, Block, TryTable, Index, Indices, BranchTable, Types, Heap, Cast, Memory, MemoryLane, Lane, I32, I64, F32, F64, Bytes, Operator}
+use Rattle.wasmprinter_spec.specs.Row.{Row, Shape, NoneShape, FenceShape, BlockShape, TryTableShape, IndexShape, DefaultIndexShape, PairShape, FieldShape, CountShape, CallShape, SegmentShape, CopyShape, BranchTableShape, SelectShape, HeapShape, RefShape, CastShape, MemoryShape, MemoryLaneShape, LaneShape, I32Shape, I64Shape, F32Shape, F64Shape, VectorShape, LanesShape}
 use Rattle.wasmprinter_spec.specs.Table.{by_opcode}
 
 -- a signed number of so many bits beside its sign
@@ -14,6 +14,9 @@ IsSigned n z = (neg_ℤ (pos (2 ^ n)) ≤ℤ z) × (z <ℤ pos (2 ^ n))
 -- a number of 32 bits
 abbrev pub IsU32 : ℕ → Type 0
 IsU32 n = n < 2 ^ 32
+
+abbrev pub IsByte : ℕ → Type 0
+IsByte n = n < 256
 
 abbrev pub IsBlockInRange : BlockType → Type 0
 IsBlockInRange Empty = Unit {0}
@@ -26,15 +29,35 @@ IsCatchInRange (OneRef t l) = IsU32 t × IsU32 l
 IsCatchInRange (All l) = IsU32 l
 IsCatchInRange (AllRef l) = IsU32 l
 
+pub record IsMemArgInRange (m : MemArg) : Type 0 where
+  pub exponent : m.exponent < 64
+  pub memory : IsU32 m.memory
+  pub offset : m.offset < 2 ^ 64
+
+-- sixteen bytes
+pub record IsVectorInRange (bs : List ℕ) : Type 0 where
+  pub count : length bs ≡ 16
+  pub each : AllByRecursion IsByte bs
+
 -- the numbers that immediates hold are in range
 abbrev pub AreInRange : Immediates → Type 0
 AreInRange NoImmediates = Unit {0}
 AreInRange (Block t) = IsBlockInRange t
 AreInRange (TryTable t cs) = IsBlockInRange t × AllByRecursion IsCatchInRange cs
 AreInRange (Index n) = IsU32 n
+AreInRange (Indices m n) = IsU32 m × IsU32 n
 AreInRange (BranchTable ls l) = AllByRecursion IsU32 ls × IsU32 l
+AreInRange (Types ts) = AllByRecursion (IsDeclaredVal (2 ^ 32)) ts
+AreInRange (Heap h) = IsDeclaredHeap (2 ^ 32) h
+AreInRange (Cast l r t) = IsU32 l × IsDeclaredRef (2 ^ 32) r × IsDeclaredRef (2 ^ 32) t
+AreInRange (Memory m) = IsMemArgInRange m
+AreInRange (MemoryLane m k) = IsMemArgInRange m × IsByte k
+AreInRange (Lane k) = IsByte k
 AreInRange (I32 z) = IsSigned 31 z
 AreInRange (I64 z) = IsSigned 63 z
+AreInRange (F32 bits) = bits < 2 ^ 32
+AreInRange (F64 bits) = bits < 2 ^ 64
+AreInRange (Bytes bs) = IsVectorInRange bs
 
 -- type indices in the signature of a function type are too; another type has no signature
 abbrev pub IsSignatureInRange : Option FuncType → Type 0
@@ -47,12 +70,31 @@ AreSignaturesInRange signature = (i : ℕ) → IsSignatureInRange (signature i)
 -- whether immediates are of a shape: a line for each shape
 abbrev pub has_shape : Shape → Immediates → Bool
 has_shape NoneShape NoImmediates = true
+has_shape FenceShape NoImmediates = true
 has_shape BlockShape (Block t) = true
 has_shape TryTableShape (TryTable t cs) = true
 has_shape (IndexShape space) (Index n) = true
+has_shape (DefaultIndexShape space) (Index n) = true
+has_shape (PairShape first second) (Indices m n) = true
+has_shape FieldShape (Indices t n) = true
+has_shape CountShape (Indices t n) = true
+has_shape CallShape (Indices t n) = true
+has_shape (SegmentShape segments space) (Indices m n) = true
+has_shape (CopyShape space) (Indices m n) = true
 has_shape BranchTableShape (BranchTable ls l) = true
+has_shape SelectShape (Types ts) = true
+has_shape HeapShape (Heap h) = true
+has_shape (RefShape null) (Heap h) = true
+has_shape CastShape (Cast l r t) = true
+has_shape (MemoryShape natural) (Memory m) = true
+has_shape (MemoryLaneShape natural) (MemoryLane m k) = true
+has_shape LaneShape (Lane k) = true
 has_shape I32Shape (I32 z) = true
 has_shape I64Shape (I64 z) = true
+has_shape F32Shape (F32 bits) = true
+has_shape F64Shape (F64 bits) = true
+has_shape VectorShape (Bytes bs) = true
+has_shape LanesShape (Bytes bs) = true
 has_shape _ _ = false
 
 abbrev pub has_row_shape : Option Row → Immediates → Bool

@@ -2,7 +2,8 @@
 //! with an empty body. No code of the printer is in them: they relate the grammar, the layout and the reader of text.
 #![tactic(auto)]
 
-ghost use Rattle.wasmprinter_spec.specs.Laws.{SpellsOne, TakesNested, ReadsBack, TokensStay, PrintsPlainText, PlainTextIsUtf8, PlainTextHasNoColour, PlainTextsJoin};
+ghost use Rattle.wasmprinter_spec.specs.Laws.{SpellsOne, TakesNested, ReadsBack, TokensStay};
+ghost use Rattle.wasmprinter_spec.specs.Laws.{PrintsPlainText, PlainTextIsUtf8, PlainTextHasNoColour, PlainTextsJoin};
 ghost use Rattle.wasmprinter_reading.specs.OperatorLaws.{OperatorsReadBack, NamedLabelsReadBack};
 
 /// Given bytes spell at most one module with its places (section 5.5 of the standard, "Modules").
@@ -15,7 +16,8 @@ pub fn reader_takes_nested_operators()
     ensures { TakesNested }
 {}
 
-/// The reading law: the text that is laid out for a module that some bytes spell reads as exactly that module.
+/// The reading law: the text that is laid out for a module that some bytes spell reads as exactly that module. No initialiser of a table is
+/// empty: the text of such a table is that of one without.
 pub fn printed_text_reads_back()
     ensures { ReadsBack }
 {}

@@ -6,11 +6,11 @@ use Rattle.std.specs.List.{list_all}
 use Rattle.std.specs.Char.{encode_utf8}
 use Rattle.std.specs.Str.{is_utf8, chars}
 use Rattle.wasmprinter_spec.specs.Grammar.{input, Placed}
-use Rattle.wasmprinter_spec.specs.Types.{I32}
+use Rattle.wasmprinter_spec.specs.Types.{I32, FuncKind}
 use Rattle.wasmprinter_spec.specs.Placed.{LocalEntry, PlacedModule}
 use Rattle.wasmprinter_spec.specs.Binary.{binary, AreBytes, Spells, IsComponent}
 use Rattle.wasmprinter_spec.specs.Limits.{most_functions, IsWithinLimits}
-use Rattle.wasmprinter_spec.specs.Table.{table, control_rows, variable_rows, number_rows}
+use Rattle.wasmprinter_spec.specs.Table.{table}
 use Rattle.wasmprinter_spec.proofs.Samples.{head_bytes, local_get, empty_placed, identity_bytes, identity_placed, stored_bytes_to_end, stored_bytes, stored_placed, mixed_bytes, mixed_placed, func, bare}
 
 abbrev parsed : List ℕ → Option PlacedModule
@@ -22,15 +22,15 @@ empty_module : parsed head_bytes ≡ Some empty_placed
 empty_module = refl
 
 identity_module : parsed identity_bytes ≡ Some identity_placed
-unfolding table control_rows variable_rows number_rows is_utf8 chars encode_utf8
+unfolding table is_utf8 chars encode_utf8
 identity_module = refl
 
 stored_module : parsed stored_bytes ≡ Some stored_placed
-unfolding table control_rows variable_rows number_rows
+unfolding table
 stored_module = refl
 
 mixed_module : parsed mixed_bytes ≡ Some mixed_placed
-unfolding table control_rows variable_rows number_rows is_utf8 chars encode_utf8
+unfolding table is_utf8 chars encode_utf8
 mixed_module = refl
 
 -- bytes by a test of each
@@ -49,7 +49,7 @@ identity_spelled = record {
 
 -- another byte in place of the last `end`
 without_end : parsed (stored_bytes_to_end ++ (0x0a ∷ [])) ≡ None
-unfolding table control_rows variable_rows number_rows
+unfolding table
 without_end = refl
 
 -- where there is no parse nothing is spelled
@@ -70,7 +70,7 @@ lengths_below (suc n) bytes = lengths_below n bytes ++ length_if (parsed (take n
 
 -- of its proper beginnings only two are modules: the head alone, and the head with the type section
 cut_identity : lengths_below 35 identity_bytes ≡ 8 ∷ 16 ∷ []
-unfolding table control_rows variable_rows number_rows is_utf8 chars encode_utf8
+unfolding table is_utf8 chars encode_utf8
 cut_identity = refl
 
 -- ---- sizes
@@ -81,7 +81,7 @@ identity_sized size = take 9 identity_bytes ++ size ++ drop 10 identity_bytes
 
 -- with a byte more in front of all fields
 abbrev identity_moved : PlacedModule
-identity_moved = record {
+identity_moved = record empty_placed {
   types = bare 0xc (func (I32 ∷ []) (I32 ∷ [])) ∷ [];
   functions =
       record {
@@ -92,13 +92,13 @@ identity_moved = record {
         };
       }
       ∷ [];
-  exports = record { place = 0x18; value = record { name = codes "f"; function = 0 } } ∷ [];
+  exports = record { place = 0x18; value = record { name = codes "f"; kind = FuncKind; index = 0 } } ∷ [];
   size = 36;
 }
 
 -- a spelling longer than is needed
 padded_size : parsed (identity_sized (0x86 ∷ 0x00 ∷ [])) ≡ Some identity_moved
-unfolding table control_rows variable_rows number_rows is_utf8 chars encode_utf8
+unfolding table is_utf8 chars encode_utf8
 padded_size = refl
 
 -- six bytes for a number of 32 bits
@@ -128,7 +128,7 @@ with_body size bytes =
 
 -- a module with one type and one function, which has no operators
 abbrev with_locals : List (Placed LocalEntry) → ℕ → ℕ → PlacedModule
-with_locals locals end size = record {
+with_locals locals end size = record empty_placed {
   types = bare 0xb (func [] []) ∷ [];
   functions = record { type_index = 0; body = record { place = 0x16; value = record { locals = locals; operators = []; end = end } } } ∷ [];
   exports = [];
@@ -136,47 +136,47 @@ with_locals locals end size = record {
 }
 
 body_exact : parsed (with_body 2 (0x00 ∷ 0x0b ∷ [])) ≡ Some (with_locals [] 0x17 0x18)
-unfolding table control_rows variable_rows number_rows
+unfolding table
 body_exact = refl
 
 -- bytes behind the last `end`, also where they are another `end`
 body_with_more : parsed (with_body 3 (0x00 ∷ 0x0b ∷ 0x0b ∷ [])) ≡ None
-unfolding table control_rows variable_rows number_rows
+unfolding table
 body_with_more = refl
 
 body_too_short : parsed (with_body 1 (0x00 ∷ 0x0b ∷ [])) ≡ None
-unfolding table control_rows variable_rows number_rows
+unfolding table
 body_too_short = refl
 
 -- a byte that no operator has
 body_unlisted : parsed (with_body 3 (0x00 ∷ 0xff ∷ 0x0b ∷ [])) ≡ None
-unfolding table control_rows variable_rows number_rows
+unfolding table
 body_unlisted = refl
 
 -- the body's end alone can't close a block
 body_open_block : parsed (with_body 4 (0x00 ∷ 0x02 ∷ 0x40 ∷ 0x0b ∷ [])) ≡ None
-unfolding table control_rows variable_rows number_rows
+unfolding table
 body_open_block = refl
 
 body_else_without_if : parsed (with_body 4 (0x00 ∷ 0x05 ∷ 0x0b ∷ 0x0b ∷ [])) ≡ None
-unfolding table control_rows variable_rows number_rows
+unfolding table
 body_else_without_if = refl
 
 body_two_else : parsed (with_body 7 (0x00 ∷ 0x04 ∷ 0x40 ∷ 0x05 ∷ 0x05 ∷ 0x0b ∷ 0x0b ∷ [])) ≡ None
-unfolding table control_rows variable_rows number_rows
+unfolding table
 body_two_else = refl
 
 body_catch_in_block : parsed (with_body 7 (0x00 ∷ 0x02 ∷ 0x40 ∷ 0x07 ∷ 0x00 ∷ 0x0b ∷ 0x0b ∷ [])) ≡ None
-unfolding table control_rows variable_rows number_rows
+unfolding table
 body_catch_in_block = refl
 
 -- constants of 32 and 64 bits, one bit too long
 body_long_constant : parsed (with_body 8 (0x00 ∷ 0x41 ∷ 0x80 ∷ 0x80 ∷ 0x80 ∷ 0x80 ∷ 0x08 ∷ 0x0b ∷ [])) ≡ None
-unfolding table control_rows variable_rows number_rows
+unfolding table
 body_long_constant = refl
 
 body_longer_constant : parsed (with_body 13 (0x00 ∷ 0x42 ∷ 0x80 ∷ 0x80 ∷ 0x80 ∷ 0x80 ∷ 0x80 ∷ 0x80 ∷ 0x80 ∷ 0x80 ∷ 0x80 ∷ 0x01 ∷ 0x0b ∷ [])) ≡ None
-unfolding table control_rows variable_rows number_rows
+unfolding table
 body_longer_constant = refl
 
 -- ---- locals
@@ -185,15 +185,15 @@ abbrev many_locals : ℕ → PlacedModule
 many_locals n = with_locals (record { place = 0x17; value = record { count = n; type = I32 } } ∷ []) 0x1b 0x1c
 
 most_locals : parsed (with_body 6 (0x01 ∷ 0xd0 ∷ 0x86 ∷ 0x03 ∷ 0x7f ∷ 0x0b ∷ [])) ≡ Some (many_locals 50000)
-unfolding table control_rows variable_rows number_rows
+unfolding table
 most_locals = refl
 
 too_many_locals : parsed (with_body 6 (0x01 ∷ 0xd1 ∷ 0x86 ∷ 0x03 ∷ 0x7f ∷ 0x0b ∷ [])) ≡ Some (many_locals 50001)
-unfolding table control_rows variable_rows number_rows
+unfolding table
 too_many_locals = refl
 
 most_locals_within : IsWithinLimits (many_locals 50000)
-most_locals_within = record { locals = (omega arith, tt); functions = omega arith }
+most_locals_within = record { tables = tt; locals = (omega arith, tt); functions = omega arith }
 
 too_many_beyond : IsWithinLimits (many_locals 50001) → ⊥
 too_many_beyond w = omega (arith, w.locals.0)
@@ -207,7 +207,7 @@ function_limit = refl
 
 -- no value type
 local_of_no_type : parsed (with_body 4 (0x01 ∷ 0x01 ∷ 0x40 ∷ 0x0b ∷ [])) ≡ None
-unfolding table control_rows variable_rows number_rows
+unfolding table
 local_of_no_type = refl
 
 -- ---- sections
@@ -234,19 +234,19 @@ long_id = refl
 
 -- two functions and one body
 fewer_bodies : parsed (head_bytes ++ (0x03 ∷ 0x03 ∷ 0x02 ∷ 0x00 ∷ 0x00 ∷ 0x0a ∷ 0x04 ∷ 0x01 ∷ 0x02 ∷ 0x00 ∷ 0x0b ∷ [])) ≡ None
-unfolding table control_rows variable_rows number_rows
+unfolding table
 fewer_bodies = refl
 
 -- one function and two bodies
 more_bodies : parsed (head_bytes ++ (0x03 ∷ 0x02 ∷ 0x01 ∷ 0x00 ∷ 0x0a ∷ 0x07 ∷ 0x02 ∷ 0x02 ∷ 0x00 ∷ 0x0b ∷ 0x02 ∷ 0x00 ∷ 0x0b ∷ [])) ≡ None
-unfolding table control_rows variable_rows number_rows
+unfolding table
 more_bodies = refl
 
 no_code_section : parsed (head_bytes ++ (0x03 ∷ 0x02 ∷ 0x01 ∷ 0x00 ∷ [])) ≡ None
 no_code_section = refl
 
 no_function_section : parsed (head_bytes ++ (0x0a ∷ 0x04 ∷ 0x01 ∷ 0x02 ∷ 0x00 ∷ 0x0b ∷ [])) ≡ None
-unfolding table control_rows variable_rows number_rows
+unfolding table
 no_function_section = refl
 
 -- ---- the head
@@ -274,7 +274,7 @@ abbrev with_name : List ℕ → List ℕ
 with_name bytes = head_bytes ++ (0x07 ∷ (length bytes + 4) ∷ 0x01 ∷ length bytes ∷ bytes) ++ (0x00 ∷ 0x00 ∷ [])
 
 abbrev named : List ℕ → ℕ → PlacedModule
-named bytes size = record empty_placed { exports = record { place = 0xb; value = record { name = bytes; function = 0 } } ∷ []; size = size }
+named bytes size = record empty_placed { exports = record { place = 0xb; value = record { name = bytes; kind = FuncKind; index = 0 } } ∷ []; size = size }
 
 empty_name : parsed (with_name []) ≡ Some (named [] 14)
 unfolding is_utf8 chars encode_utf8

@@ -7,7 +7,7 @@ use Rattle.wasmprinter_spec.specs.Grammar.{input, Placed}
 use Rattle.wasmprinter_spec.specs.Types as types
 use Rattle.wasmprinter_spec.specs.Types.{SubType, signature_at}
 use Rattle.wasmprinter_spec.specs.Operator.{Empty, Value, OfType, One, All, Operator}
-use Rattle.wasmprinter_spec.specs.Table.{table, control_rows, variable_rows, number_rows}
+use Rattle.wasmprinter_spec.specs.Table.{table}
 use Rattle.wasmprinter_spec.specs.Instructions.{expression}
 use Rattle.wasmprinter_spec.specs.Placed.{PlacedModule}
 use Rattle.wasmprinter_spec.specs.Module.{Module}
@@ -22,11 +22,18 @@ use Rattle.wasmprinter_spec.specs.Read.{read}
 use Rattle.wasmprinter_spec.specs.Call.{Call, Style, Text, Newline, Line, Start, Name, Keyword, TypeName, Comment, Reset, text_of, atoms}
 use Rattle.wasmprinter_spec.specs.Options.{defaults}
 use Rattle.wasmprinter_spec.specs.Piece.{all_calls, repeated, left_in, place_text}
-use Rattle.wasmprinter_spec.specs.Layout.Groups.{group_gap, group_at, group_gap_at, line_group, line_group_gap, numbered}
+use Rattle.wasmprinter_spec.specs.Layout.Groups.{line_group_gap, group_at, group_gap_at, line_group, numbered}
 use Rattle.wasmprinter_spec.specs.Layout.Types.{heap_pieces, null_ref_pieces, ref_pieces, val_pieces, type_list, list_group, signature_pieces, composite_pieces, sub_pieces, type_pieces, type_group_pieces, type_section_pieces}
 use Rattle.wasmprinter_spec.specs.Layout.Operators.{Form, OverLines, InLine, Setting, label_pieces, labels_pieces, id_pieces, ending_pieces, block_pieces, catch_pieces, catches_pieces, index_pieces, immediate_pieces, operator_pieces, operators_pieces, expression_pieces}
-use Rattle.wasmprinter_spec.specs.Layout.{no_names, body_pieces, local_group, local_pieces, signature_if, header_pieces, function_group, function_pieces, module_field_pieces, module_pieces, layout}
-use Rattle.wasmprinter_spec.proofs.Samples.{head_bytes, lines, to, to_null, func, bare, i32_const}
+use Rattle.wasmprinter_spec.specs.Layout.{module_field_pieces, module_pieces, layout, tag_pieces, start_pieces}
+use Rattle.wasmprinter_spec.specs.Layout.Memories.{memory_pieces, memory_type_pieces}
+use Rattle.wasmprinter_spec.specs.Layout.Exports.{export_pieces, kind_word, extern_index_pieces}
+use Rattle.wasmprinter_spec.specs.Text.Exports.{kind_of_word}
+use Rattle.wasmprinter_spec.specs.Layout.Functions.{body_pieces, local_group, local_pieces, signature_if, header_pieces, function_group, function_pieces}
+use Rattle.wasmprinter_spec.specs.LabelNames.{no_names}
+use Rattle.wasmprinter_spec.specs.Layout.Limits.{limits_pieces}
+use Rattle.wasmprinter_spec.specs.Layout.Imports.{imports_pieces}
+use Rattle.wasmprinter_spec.proofs.Samples.{head_bytes, lines, to, to_null, func, bare, i32_const, empty, empty_placed}
 use Rattle.wasmprinter_spec.proofs.BlockSamples.{all_samples, sample_types, nop, block, loop, if_op, else_op, try_op, catch_op, catch_all, end, br, delegate, try_table}
 
 -- ---- what bytes spell
@@ -35,7 +42,7 @@ abbrev spelled : List ℕ → Option (List Operator)
 spelled bytes = option_map (λ x. map (λ o. o.value) x.0.items) (expression.parse (input 0 (bytes ++ 0x0b ∷ [])))
 
 samples_spelled : map (λ ss. map (λ s. spelled s.bytes) ss) all_samples ≡ map (λ ss. map (λ s. Some s.operators) ss) all_samples
-unfolding table control_rows variable_rows number_rows
+unfolding table
 samples_spelled = refl
 
 -- ---- how they are printed
@@ -56,7 +63,7 @@ abbrev placed : {A : Type 0} → A → Placed A
 placed a = record { place = 0; value = a }
 
 abbrev placed_module : List Operator → PlacedModule
-placed_module os = record {
+placed_module os = record empty_placed {
   types = map (bare 0) sample_types;
   functions = record { type_index = 0; body = placed (record { locals = []; operators = map placed os; end = 0 }) } ∷ [];
   exports = [];
@@ -67,16 +74,16 @@ abbrev printed : PlacedModule → List ℕ
 printed m = text_of (layout defaults (λ n. false) m)
 
 samples_printed : map (λ ss. map (λ s. printed (placed_module s.operators)) ss) all_samples ≡ map (λ ss. map (λ s. module_lines s.lines) ss) all_samples
-unfolding line_group line_group_gap heap_pieces null_ref_pieces ref_pieces val_pieces list_group composite_pieces sub_pieces type_pieces type_group_pieces type_section_pieces signature_if module_field_pieces numbered group_gap group_at group_gap_at type_list signature_pieces label_pieces labels_pieces id_pieces ending_pieces block_pieces catch_pieces catches_pieces index_pieces immediate_pieces operator_pieces operators_pieces expression_pieces body_pieces local_group local_pieces header_pieces function_group function_pieces module_pieces layout repeated digits table control_rows variable_rows number_rows
+unfolding line_group line_group_gap heap_pieces null_ref_pieces ref_pieces val_pieces list_group composite_pieces sub_pieces type_pieces type_group_pieces type_section_pieces signature_if module_field_pieces numbered group_at group_gap_at type_list signature_pieces label_pieces labels_pieces id_pieces ending_pieces block_pieces catch_pieces catches_pieces index_pieces immediate_pieces operator_pieces operators_pieces expression_pieces body_pieces local_group local_pieces header_pieces function_group function_pieces module_pieces layout repeated digits table memory_pieces memory_type_pieces limits_pieces export_pieces kind_word extern_index_pieces tag_pieces start_pieces imports_pieces
 samples_printed = refl
 
 -- ---- the way back
 
 abbrev module_of_code : List Operator → Module
-module_of_code os = record { types = map (λ t. t ∷ []) sample_types; functions = record { type_index = 0; locals = []; operators = os } ∷ []; exports = [] }
+module_of_code os = record empty { types = map (λ t. t ∷ []) sample_types; functions = record { type_index = 0; locals = []; operators = os } ∷ []; exports = [] }
 
 samples_read : map (λ ss. map (λ s. read (module_lines s.lines)) ss) all_samples ≡ map (λ ss. map (λ s. Some (module_of_code s.operators)) ss) all_samples
-unfolding lex class numeral natural integer groups heap_of_word ref_of_word number_of_word table control_rows variable_rows number_rows head is_utf8 chars encode_utf8
+unfolding lex class numeral natural integer groups heap_of_word ref_of_word number_of_word table head is_utf8 chars encode_utf8 kind_of_word
 samples_read = refl
 
 -- ---- single operators, over lines and in one line
@@ -92,33 +99,33 @@ abbrev in_line : List ℕ
 in_line = codes "block (result i32)  (; label = @1 ;) i32.const 1 end"
 
 constant_in_line : shown InLine [] (block (Value types.I32) ∷ i32_const (pos 1) ∷ end ∷ []) ≡ in_line
-unfolding line_group line_group_gap val_pieces list_group label_pieces id_pieces ending_pieces block_pieces index_pieces immediate_pieces operator_pieces operators_pieces expression_pieces digits table control_rows variable_rows number_rows
+unfolding line_group line_group_gap val_pieces list_group label_pieces id_pieces ending_pieces block_pieces index_pieces immediate_pieces operator_pieces operators_pieces expression_pieces digits table
 constant_in_line = refl
 
 constant_reads : read (module_lines (in_line ∷ [])) ≡ Some (module_of_code (block (Value types.I32) ∷ i32_const (pos 1) ∷ end ∷ []))
-unfolding lex class numeral natural integer groups heap_of_word ref_of_word number_of_word table control_rows variable_rows number_rows head is_utf8 chars encode_utf8
+unfolding lex class numeral natural integer groups heap_of_word ref_of_word number_of_word table head is_utf8 chars encode_utf8 kind_of_word
 constant_reads = refl
 
 labels_in_line : shown InLine [] (loop Empty ∷ try_table Empty (All 0 ∷ []) ∷ br 1 ∷ br 3 ∷ end ∷ end ∷ [])
     ≡ codes "loop  (; label = @1 ;) try_table (catch_all 0 (;@1;))  (; label = @2 ;) br 1 (;@1;) br 3 (; INVALID ;) end end"
-unfolding line_group line_group_gap val_pieces list_group label_pieces id_pieces ending_pieces block_pieces catch_pieces catches_pieces index_pieces immediate_pieces operator_pieces operators_pieces expression_pieces digits table control_rows variable_rows number_rows
+unfolding line_group line_group_gap val_pieces list_group label_pieces id_pieces ending_pieces block_pieces catch_pieces catches_pieces index_pieces immediate_pieces operator_pieces operators_pieces expression_pieces digits table
 labels_in_line = refl
 
 cases_in_line : shown InLine [] (if_op Empty ∷ else_op ∷ try_op Empty ∷ catch_op 2 ∷ nop ∷ catch_all ∷ end ∷ end ∷ try_op Empty ∷ delegate 0 ∷ [])
     ≡ codes "if  (; label = @1 ;) else try  (; label = @2 ;) catch 2 nop catch_all end end try  (; label = @1 ;) delegate 0"
-unfolding label_pieces id_pieces ending_pieces block_pieces index_pieces immediate_pieces operator_pieces operators_pieces expression_pieces digits table control_rows variable_rows number_rows
+unfolding label_pieces id_pieces ending_pieces block_pieces index_pieces immediate_pieces operator_pieces operators_pieces expression_pieces digits table
 cases_in_line = refl
 
 -- parameters and results of a type
 whole_signature : shown OverLines (func (types.I32 ∷ types.I64 ∷ []) (types.I64 ∷ []) ∷ []) (block (OfType 0) ∷ end ∷ [])
     ≡ codes "\nblock (type 0) (param i32 i64) (result i64) ;; label = @1\nend"
-unfolding line_group line_group_gap val_pieces list_group type_list signature_pieces id_pieces ending_pieces block_pieces immediate_pieces operator_pieces operators_pieces expression_pieces repeated digits table control_rows variable_rows number_rows
+unfolding line_group line_group_gap val_pieces list_group type_list signature_pieces id_pieces ending_pieces block_pieces immediate_pieces operator_pieces operators_pieces expression_pieces repeated digits table index_pieces
 whole_signature = refl
 
 -- a type without parameters and results, and one that isn't there
 no_signature : shown OverLines (func [] [] ∷ []) (block (OfType 0) ∷ loop (OfType 5) ∷ end ∷ end ∷ [])
     ≡ codes "\nblock (type 0) ;; label = @1\n  loop (type 5) ;; label = @2\n  end\nend"
-unfolding line_group line_group_gap val_pieces list_group type_list signature_pieces id_pieces ending_pieces block_pieces immediate_pieces operator_pieces operators_pieces expression_pieces repeated digits table control_rows variable_rows number_rows
+unfolding line_group line_group_gap val_pieces list_group type_list signature_pieces id_pieces ending_pieces block_pieces immediate_pieces operator_pieces operators_pieces expression_pieces repeated digits table index_pieces
 no_signature = refl
 
 -- ---- calls
@@ -137,7 +144,7 @@ block_calls : atoms (calls_in_line sample_types (block (Value types.I32) ∷ blo
     plain (codes "block (") ++ in_style Keyword (codes "result ") ++ in_style TypeName (codes "i32") ++ plain (codes ") ") ++ in_style Comment (codes " (; label = @1 ;)")
     ++ plain (codes " block (") ++ in_style Keyword (codes "type ") ++ in_style Name (codes "1") ++ plain (codes ") (") ++ in_style Keyword (codes "result") ++ plain (codes " ") ++ in_style TypeName (codes "i32")
     ++ plain (codes ") ") ++ in_style Comment (codes " (; label = @2 ;)"))
-unfolding line_group line_group_gap val_pieces list_group type_list signature_pieces id_pieces ending_pieces block_pieces immediate_pieces operator_pieces operators_pieces expression_pieces digits table control_rows variable_rows number_rows
+unfolding line_group line_group_gap val_pieces list_group type_list signature_pieces id_pieces ending_pieces block_pieces immediate_pieces operator_pieces operators_pieces expression_pieces digits table index_pieces
 block_calls = refl
 
 -- references, one by its index and one by its word
@@ -147,7 +154,7 @@ reference_calls : atoms (calls_in_line [] (block (Value (to_null (types.Index 0)
     ++ plain (codes " loop (") ++ in_style Keyword (codes "result ") ++ in_style TypeName (codes "funcref") ++ plain (codes ") ") ++ in_style Comment (codes " (; label = @2 ;)")
     ++ plain (codes " if (") ++ in_style Keyword (codes "result ") ++ plain (codes "(") ++ in_style Keyword (codes "ref ") ++ in_style TypeName (codes "any")
     ++ plain (codes ")) ") ++ in_style Comment (codes " (; label = @3 ;)"))
-unfolding line_group line_group_gap heap_pieces null_ref_pieces ref_pieces val_pieces id_pieces ending_pieces block_pieces immediate_pieces operator_pieces operators_pieces expression_pieces digits table control_rows variable_rows number_rows
+unfolding line_group line_group_gap heap_pieces null_ref_pieces ref_pieces val_pieces id_pieces ending_pieces block_pieces immediate_pieces operator_pieces operators_pieces expression_pieces digits table index_pieces
 reference_calls = refl
 
 -- a label of nothing has no style, nor has its comment
@@ -156,18 +163,18 @@ label_calls : atoms (calls_in_line [] (block Empty ∷ br 0 ∷ br 1 ∷ br 2 �
     ++ plain (codes " br ") ++ in_style Name (codes "0") ++ in_style Comment (codes " (;@1;)")
     ++ plain (codes " br ") ++ in_style Name (codes "1")
     ++ plain (codes " br 2 (; INVALID ;)"))
-unfolding label_pieces id_pieces ending_pieces block_pieces index_pieces immediate_pieces operator_pieces operators_pieces expression_pieces digits table control_rows variable_rows number_rows
+unfolding label_pieces id_pieces ending_pieces block_pieces index_pieces immediate_pieces operator_pieces operators_pieces expression_pieces digits table
 label_calls = refl
 
 clause_calls : atoms (calls_in_line [] (try_table Empty (One 4 0 ∷ All 1 ∷ []) ∷ [])) ≡ atoms (
     plain (codes "try_table (") ++ in_style Keyword (codes "catch") ++ plain (codes " ") ++ in_style Name (codes "4") ++ plain (codes " ") ++ in_style Name (codes "0")
     ++ plain (codes ") (") ++ in_style Keyword (codes "catch_all") ++ plain (codes " 1 (; INVALID ;)) ") ++ in_style Comment (codes " (; label = @1 ;)"))
-unfolding line_group line_group_gap val_pieces list_group label_pieces id_pieces ending_pieces block_pieces catch_pieces catches_pieces index_pieces immediate_pieces operator_pieces operators_pieces expression_pieces digits table control_rows variable_rows number_rows
+unfolding line_group line_group_gap val_pieces list_group label_pieces id_pieces ending_pieces block_pieces catch_pieces catches_pieces index_pieces immediate_pieces operator_pieces operators_pieces expression_pieces digits table
 clause_calls = refl
 
 line_calls : atoms (all_calls defaults (expression_pieces (setting OverLines []) no_names (record { place = 9; value = block Empty } ∷ record { place = 11; value = end } ∷ []))) ≡ atoms (
     Newline ∷ Line (Some 9) ∷ plain (codes "block ") ++ in_style Comment (codes ";; label = @1") ++ Newline ∷ Line (Some 11) ∷ plain (codes "end"))
-unfolding id_pieces ending_pieces block_pieces immediate_pieces operator_pieces operators_pieces expression_pieces repeated digits table control_rows variable_rows number_rows
+unfolding id_pieces ending_pieces block_pieces immediate_pieces operator_pieces operators_pieces expression_pieces repeated digits table index_pieces
 line_calls = refl
 
 -- ---- a module from its bytes to its text, with places
@@ -190,5 +197,5 @@ with_places : option_map (λ m. text_of (layout (record defaults { offsets = tru
     ∷ codes "(;@1e    ;)  )"
     ∷ codes "(;@1f    ;))"
     ∷ []))
-unfolding line_group line_group_gap val_pieces list_group composite_pieces sub_pieces type_pieces type_group_pieces type_section_pieces signature_if module_field_pieces numbered group_gap group_at group_gap_at type_list signature_pieces label_pieces id_pieces ending_pieces block_pieces index_pieces immediate_pieces operator_pieces operators_pieces expression_pieces body_pieces local_group local_pieces header_pieces function_group function_pieces module_pieces layout place_text left_in repeated digits table control_rows variable_rows number_rows
+unfolding line_group line_group_gap val_pieces list_group composite_pieces sub_pieces type_pieces type_group_pieces type_section_pieces signature_if module_field_pieces numbered group_at group_gap_at type_list signature_pieces label_pieces id_pieces ending_pieces block_pieces index_pieces immediate_pieces operator_pieces operators_pieces expression_pieces body_pieces local_group local_pieces header_pieces function_group function_pieces module_pieces layout place_text left_in repeated digits table memory_pieces memory_type_pieces limits_pieces export_pieces kind_word extern_index_pieces tag_pieces start_pieces imports_pieces
 with_places = refl

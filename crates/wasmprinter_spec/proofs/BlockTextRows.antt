@@ -4,7 +4,7 @@ use Rattle.wasmprinter_spec.specs.Grammar.{◌>>=◌}
 use Rattle.wasmprinter_spec.specs.Types as types
 use Rattle.wasmprinter_spec.specs.Types.{signature_at}
 use Rattle.wasmprinter_spec.specs.Operator.{Empty, Value, OfType, One, OneRef, All, AllRef, Operator}
-use Rattle.wasmprinter_spec.specs.Table.{table, control_rows, variable_rows, number_rows}
+use Rattle.wasmprinter_spec.specs.Table.{table}
 use Rattle.wasmprinter_spec.specs.Character.{class}
 use Rattle.wasmprinter_spec.specs.Numeral.{numeral, natural, integer}
 use Rattle.wasmprinter_spec.specs.Token.{lex}
@@ -14,13 +14,13 @@ use Rattle.wasmprinter_spec.specs.IndexSpaces.{Context}
 use Rattle.wasmprinter_spec.specs.Text.Items.{groups}
 use Rattle.wasmprinter_spec.specs.Text.Types.{heap_of_word, ref_of_word, number_of_word}
 use Rattle.wasmprinter_spec.specs.Text.Operators.{read_operators}
-use Rattle.wasmprinter_spec.proofs.Samples.{to, to_null, local_get, i32_const}
+use Rattle.wasmprinter_spec.proofs.Samples.{to, to_null, local_get, i32_const, no_spaces}
 use Rattle.wasmprinter_spec.proofs.BlockSamples.{nop, block, loop, if_op, else_op, try_op, catch_op, throw, rethrow, end, br, br_if, br_table, delegate, catch_all, try_table, sample_types}
 
 -- type 0 takes an i32, type 1 gives one and is called t; tag 1 is called e, and local 2 x
 abbrev around : Context
 around = record {
-  spaces = record { types = None ∷ Some (codes "t") ∷ []; functions = []; tags = None ∷ Some (codes "e") ∷ []; locals = None ∷ None ∷ Some (codes "x") ∷ [] };
+  spaces = record no_spaces { types = None ∷ Some (codes "t") ∷ []; functions = []; tags = None ∷ Some (codes "e") ∷ []; locals = None ∷ None ∷ Some (codes "x") ∷ [] };
   signature = signature_at sample_types;
 }
 
@@ -32,29 +32,29 @@ ops text = forest text >>= λ f. unfolded (cut f) >>= read_operators around
 
 folded_if : ops (codes "(if (result i32) (local.get 0) (then i32.const 1) (else (i32.const 2) nop))")
     ≡ Some (local_get 0 ∷ if_op (Value types.I32) ∷ i32_const (pos 1) ∷ else_op ∷ i32_const (pos 2) ∷ nop ∷ end ∷ [])
-unfolding lex class numeral natural integer groups heap_of_word ref_of_word number_of_word table control_rows variable_rows number_rows head
+unfolding lex class numeral natural integer groups heap_of_word ref_of_word number_of_word table head
 folded_if = refl
 
 -- an `else` that holds nothing stands there; one that isn't written doesn't
 folded_cases : ops (codes "(if (then)) (if (then) (else)) (if (local.get $x) (nop) (then nop))")
     ≡ Some (if_op Empty ∷ end ∷ if_op Empty ∷ else_op ∷ end ∷ local_get 2 ∷ nop ∷ if_op Empty ∷ nop ∷ end ∷ [])
-unfolding lex class numeral natural integer groups heap_of_word ref_of_word number_of_word table control_rows variable_rows number_rows head
+unfolding lex class numeral natural integer groups heap_of_word ref_of_word number_of_word table head
 folded_cases = refl
 
 folded_blocks : ops (codes "(block $a (br $a)) (loop $a (result i32) br $a (block br 1)) (block)")
     ≡ Some (block Empty ∷ br 0 ∷ end ∷ loop (Value types.I32) ∷ br 0 ∷ block Empty ∷ br 1 ∷ end ∷ end ∷ block Empty ∷ end ∷ [])
-unfolding lex class numeral natural integer groups heap_of_word ref_of_word number_of_word table control_rows variable_rows number_rows head
+unfolding lex class numeral natural integer groups heap_of_word ref_of_word number_of_word table head
 folded_blocks = refl
 
 folded_try_table : ops (codes "(block $a (try_table $a (result i32) (catch $e $a) (catch_all_ref 1) (i32.const 0) br $a))")
     ≡ Some (block Empty ∷ try_table (Value types.I32) (One 1 0 ∷ AllRef 1 ∷ []) ∷ i32_const (pos 0) ∷ br 0 ∷ end ∷ end ∷ [])
-unfolding lex class numeral natural integer groups heap_of_word ref_of_word number_of_word table control_rows variable_rows number_rows head
+unfolding lex class numeral natural integer groups heap_of_word ref_of_word number_of_word table head
 folded_try_table = refl
 
 -- flat blocks in folded ones, and folded ones in flat blocks
 mixed : ops (codes "if (block $l nop br $l) else (if (then block end) (else if else end)) end")
     ≡ Some (if_op Empty ∷ block Empty ∷ nop ∷ br 0 ∷ end ∷ else_op ∷ if_op Empty ∷ block Empty ∷ end ∷ else_op ∷ if_op Empty ∷ else_op ∷ end ∷ end ∷ end ∷ [])
-unfolding lex class numeral natural integer groups heap_of_word ref_of_word number_of_word table control_rows variable_rows number_rows head
+unfolding lex class numeral natural integer groups heap_of_word ref_of_word number_of_word table head
 mixed = refl
 
 -- ---- labels
@@ -62,35 +62,35 @@ mixed = refl
 -- the innermost that has the identifier; a number counts from the innermost out, also to the body and beyond
 flat_labels : ops (codes "block $a br $a block $a br 1 br $a end br $a end br 0 br 7")
     ≡ Some (block Empty ∷ br 0 ∷ block Empty ∷ br 1 ∷ br 0 ∷ end ∷ br 0 ∷ end ∷ br 0 ∷ br 7 ∷ [])
-unfolding lex class numeral natural integer groups heap_of_word ref_of_word number_of_word table control_rows variable_rows number_rows head
+unfolding lex class numeral natural integer groups heap_of_word ref_of_word number_of_word table head
 flat_labels = refl
 
 outer_labels : ops (codes "loop $a block $b if br $a br_if $b else br $a br_if 2 br_if 3 end end end")
     ≡ Some (loop Empty ∷ block Empty ∷ if_op Empty ∷ br 2 ∷ br_if 1 ∷ else_op ∷ br 2 ∷ br_if 2 ∷ br_if 3 ∷ end ∷ end ∷ end ∷ [])
-unfolding lex class numeral natural integer groups heap_of_word ref_of_word number_of_word table control_rows variable_rows number_rows head
+unfolding lex class numeral natural integer groups heap_of_word ref_of_word number_of_word table head
 outer_labels = refl
 
 tabled : ops (codes "block $x block $y br_table 0 $x 4 $y end end br_table 3")
     ≡ Some (block Empty ∷ block Empty ∷ br_table (0 ∷ 1 ∷ 4 ∷ []) 0 ∷ end ∷ end ∷ br_table [] 3 ∷ [])
-unfolding lex class numeral natural integer groups heap_of_word ref_of_word number_of_word table control_rows variable_rows number_rows head
+unfolding lex class numeral natural integer groups heap_of_word ref_of_word number_of_word table head
 tabled = refl
 
 -- the operands of an `if` stand outside its label
 condition : ops (codes "(block $l (if $l (br_if $l (local.get 0)) (then br $l) (else (br $l))))")
     ≡ Some (block Empty ∷ local_get 0 ∷ br_if 0 ∷ if_op Empty ∷ br 0 ∷ else_op ∷ br 0 ∷ end ∷ end ∷ [])
-unfolding lex class numeral natural integer groups heap_of_word ref_of_word number_of_word table control_rows variable_rows number_rows head
+unfolding lex class numeral natural integer groups heap_of_word ref_of_word number_of_word table head
 condition = refl
 
 -- `delegate` sees the labels outside its block, which ends with it
 delegated : ops (codes "try $t delegate 0 block $u br $u br 1 end block $a try $b delegate $a try $a delegate $a br $a end")
     ≡ Some (try_op Empty ∷ delegate 0 ∷ block Empty ∷ br 0 ∷ br 1 ∷ end ∷ block Empty ∷ try_op Empty ∷ delegate 0 ∷ try_op Empty ∷ delegate 0 ∷ br 0 ∷ end ∷ [])
-unfolding lex class numeral natural integer groups heap_of_word ref_of_word number_of_word table control_rows variable_rows number_rows head
+unfolding lex class numeral natural integer groups heap_of_word ref_of_word number_of_word table head
 delegated = refl
 
 -- and clauses those outside theirs
 clauses : ops (codes "block $a try_table $a (result i32) (catch 7 $a) (catch_ref $e 1) (catch_all 0) (catch_all_ref $a) br $a br 1 end end")
     ≡ Some (block Empty ∷ try_table (Value types.I32) (One 7 0 ∷ OneRef 1 1 ∷ All 0 ∷ AllRef 0 ∷ []) ∷ br 0 ∷ br 1 ∷ end ∷ end ∷ [])
-unfolding lex class numeral natural integer groups heap_of_word ref_of_word number_of_word table control_rows variable_rows number_rows head
+unfolding lex class numeral natural integer groups heap_of_word ref_of_word number_of_word table head
 clauses = refl
 
 -- ---- words of operators and of clauses
@@ -98,13 +98,13 @@ clauses = refl
 -- as words by themselves they are operators, in groups clauses of the word in front
 catches : ops (codes "try catch 0 throw $e catch $e catch_all rethrow 0 end try_table (catch 0 0) (catch_all 1) end")
     ≡ Some (try_op Empty ∷ catch_op 0 ∷ throw 1 ∷ catch_op 1 ∷ catch_all ∷ rethrow 0 ∷ end ∷ try_table Empty (One 0 0 ∷ All 1 ∷ []) ∷ end ∷ [])
-unfolding lex class numeral natural integer groups heap_of_word ref_of_word number_of_word table control_rows variable_rows number_rows head
+unfolding lex class numeral natural integer groups heap_of_word ref_of_word number_of_word table head
 catches = refl
 
 -- a clause of a word in a case of another
 clause_in_case : ops (codes "try $a catch $e try_table (catch $e $a) end catch_all end")
     ≡ Some (try_op Empty ∷ catch_op 1 ∷ try_table Empty (One 1 0 ∷ []) ∷ end ∷ catch_all ∷ end ∷ [])
-unfolding lex class numeral natural integer groups heap_of_word ref_of_word number_of_word table control_rows variable_rows number_rows head
+unfolding lex class numeral natural integer groups heap_of_word ref_of_word number_of_word table head
 clause_in_case = refl
 
 -- ---- block types
@@ -113,11 +113,11 @@ clause_in_case = refl
 type_uses : ops (codes "block (type 0) end block $l (type 0) (param i32) end loop (type $t) (result i32) end if (type 1) end (block (type $t)) try (type 0) (param i32) delegate 0 (try_table (type 1) (catch_all 0) (nop))")
     ≡ Some (block (OfType 0) ∷ end ∷ block (OfType 0) ∷ end ∷ loop (OfType 1) ∷ end ∷ if_op (OfType 1) ∷ end ∷ block (OfType 1) ∷ end ∷ try_op (OfType 0) ∷ delegate 0
     ∷ try_table (OfType 1) (All 0 ∷ []) ∷ nop ∷ end ∷ [])
-unfolding lex class numeral natural integer groups heap_of_word ref_of_word number_of_word table control_rows variable_rows number_rows head
+unfolding lex class numeral natural integer groups heap_of_word ref_of_word number_of_word table head
 type_uses = refl
 
 one_result : ops (codes "block (result i32) end block (result i64) end block $r (result i32) end") ≡ Some (block (Value types.I32) ∷ end ∷ block (Value types.I64) ∷ end ∷ block (Value types.I32) ∷ end ∷ [])
-unfolding lex class numeral natural integer groups heap_of_word ref_of_word number_of_word table control_rows variable_rows number_rows head
+unfolding lex class numeral natural integer groups heap_of_word ref_of_word number_of_word table head
 one_result = refl
 
 -- one reference by its index, its identifier or its word, also where no type has the index; a long form is the short one
@@ -125,7 +125,7 @@ one_reference : ops (codes "block (result (ref null 0)) end block (result (ref n
     ≡ Some (block (Value (to_null (types.Index 0))) ∷ end ∷ block (Value (to_null (types.Index 1))) ∷ end ∷ block (Value (to (types.Index 1))) ∷ end ∷ block (Value (to (types.Index 7))) ∷ end
     ∷ loop (Value (to_null types.Func)) ∷ end ∷ loop (Value (to_null types.Func)) ∷ end ∷ if_op (Value (to types.I31)) ∷ else_op ∷ end
     ∷ try_table (Value (to_null types.Exn)) (AllRef 0 ∷ []) ∷ end ∷ [])
-unfolding lex class numeral natural integer groups heap_of_word ref_of_word number_of_word table control_rows variable_rows number_rows head
+unfolding lex class numeral natural integer groups heap_of_word ref_of_word number_of_word table head
 one_reference = refl
 
 -- ---- what isn't read
@@ -144,7 +144,7 @@ numbers_read ts = numbers_from 0 ts
 
 -- a text that reads is seen
 read_among : numbers_read (codes "end" ∷ codes "block end" ∷ codes "(then)" ∷ codes "" ∷ codes "nop" ∷ []) ≡ 1 ∷ 3 ∷ 4 ∷ []
-unfolding lex class numeral natural integer groups heap_of_word ref_of_word number_of_word table control_rows variable_rows number_rows head
+unfolding lex class numeral natural integer groups heap_of_word ref_of_word number_of_word table head
 read_among = refl
 
 unread_nesting : numbers_read (
@@ -181,7 +181,7 @@ unread_nesting : numbers_read (
     ∷ codes "try (block catch 0) end"
     ∷ codes "(block $a try $b) (block delegate 0)"
     ∷ []) ≡ []
-unfolding lex class numeral natural integer groups heap_of_word ref_of_word number_of_word table control_rows variable_rows number_rows head
+unfolding lex class numeral natural integer groups heap_of_word ref_of_word number_of_word table head
 unread_nesting = refl
 
 -- groups that belong to an `if`, and groups of words that aren't folded
@@ -220,7 +220,7 @@ unread_groups : numbers_read (
     ∷ codes "block (catch_all 0) end"
     ∷ codes "(block (catch_all 0))"
     ∷ []) ≡ []
-unfolding lex class numeral natural integer groups heap_of_word ref_of_word number_of_word table control_rows variable_rows number_rows head
+unfolding lex class numeral natural integer groups heap_of_word ref_of_word number_of_word table head
 unread_groups = refl
 
 -- a label that isn't open has no number, also where it is the block's own
@@ -249,7 +249,7 @@ unread_labels : numbers_read (
     ∷ codes "block 0 end"
     ∷ codes "block \"a\" end"
     ∷ []) ≡ []
-unfolding lex class numeral natural integer groups heap_of_word ref_of_word number_of_word table control_rows variable_rows number_rows head
+unfolding lex class numeral natural integer groups heap_of_word ref_of_word number_of_word table head
 unread_labels = refl
 
 -- the signature of another type beside an index, no such type, parameters with identifiers
@@ -274,7 +274,7 @@ unread_types : numbers_read (
     ∷ codes "block (result i33) end"
     ∷ codes "block (local i32) end"
     ∷ []) ≡ []
-unfolding lex class numeral natural integer groups heap_of_word ref_of_word number_of_word table control_rows variable_rows number_rows head
+unfolding lex class numeral natural integer groups heap_of_word ref_of_word number_of_word table head
 unread_types = refl
 
 -- a storage type, a heap type by itself, no heap type, an identifier of no type, a type of a block beside the type of another one
@@ -298,7 +298,7 @@ unread_results : numbers_read (
     ∷ codes "block (type 1) (result (ref null 0)) end"
     ∷ codes "try_table (catch_all 0) (result funcref) end"
     ∷ []) ≡ []
-unfolding lex class numeral natural integer groups heap_of_word ref_of_word number_of_word table control_rows variable_rows number_rows head
+unfolding lex class numeral natural integer groups heap_of_word ref_of_word number_of_word table head
 unread_results = refl
 
 -- What the standard has and the reader hasn't: identifiers again behind `else` and `end`, and block types without an index that aren't one result.
@@ -310,7 +310,7 @@ unread_forms : numbers_read (
     ∷ codes "block (result i32) (result i32) end"
     ∷ codes "block (result) end"
     ∷ []) ≡ []
-unfolding lex class numeral natural integer groups heap_of_word ref_of_word number_of_word table control_rows variable_rows number_rows head
+unfolding lex class numeral natural integer groups heap_of_word ref_of_word number_of_word table head
 unread_forms = refl
 
 -- clauses behind the type, each with its tag and its label
@@ -335,5 +335,5 @@ unread_clauses : numbers_read (
     ∷ codes "try catch end"
     ∷ codes "try catch_all 0 end"
     ∷ []) ≡ []
-unfolding lex class numeral natural integer groups heap_of_word ref_of_word number_of_word table control_rows variable_rows number_rows head
+unfolding lex class numeral natural integer groups heap_of_word ref_of_word number_of_word table head
 unread_clauses = refl

@@ -8,7 +8,7 @@ use Rattle.std.specs.Str.{is_utf8, chars}
 use Rattle.wasmprinter_spec.specs.Grammar.{input}
 use Rattle.wasmprinter_spec.specs.Types.{Func, Index, StructComposite, SubType, final_type}
 use Rattle.wasmprinter_spec.specs.Operator.{BlockType, Value, OfType, All, Operator}
-use Rattle.wasmprinter_spec.specs.Table.{table, control_rows, variable_rows, number_rows}
+use Rattle.wasmprinter_spec.specs.Table.{table}
 use Rattle.wasmprinter_spec.specs.Module.{Module, module_of}
 use Rattle.wasmprinter_spec.specs.Binary.{binary}
 use Rattle.wasmprinter_spec.specs.Indexed.{IsIndexed}
@@ -22,11 +22,17 @@ use Rattle.wasmprinter_spec.specs.Read.{read}
 use Rattle.wasmprinter_spec.specs.Call.{text_of}
 use Rattle.wasmprinter_spec.specs.Options.{defaults}
 use Rattle.wasmprinter_spec.specs.Piece.{repeated}
-use Rattle.wasmprinter_spec.specs.Layout.Groups.{group, group_gap, group_at, group_gap_at, line_group, line_group_gap, numbered}
+use Rattle.wasmprinter_spec.specs.Layout.Groups.{group, line_group_gap, group_at, group_gap_at, line_group, numbered}
 use Rattle.wasmprinter_spec.specs.Layout.Types.{heap_pieces, null_ref_pieces, ref_pieces, val_pieces, type_list, list_group, signature_pieces, struct_pieces, composite_pieces, sub_pieces, type_pieces, member_pieces, type_group_pieces, type_section_pieces}
-use Rattle.wasmprinter_spec.specs.Layout.Operators.{id_pieces, ending_pieces, block_pieces, immediate_pieces, operator_pieces, operators_pieces, expression_pieces}
-use Rattle.wasmprinter_spec.specs.Layout.{body_pieces, local_group, local_pieces, signature_if, header_pieces, function_group, function_pieces, module_field_pieces, module_pieces, layout}
-use Rattle.wasmprinter_spec.proofs.Samples.{head_bytes, lines, to, to_null, func}
+use Rattle.wasmprinter_spec.specs.Layout.Operators.{id_pieces, ending_pieces, block_pieces, immediate_pieces, operator_pieces, operators_pieces, expression_pieces, index_pieces}
+use Rattle.wasmprinter_spec.specs.Layout.{module_field_pieces, module_pieces, layout, tag_pieces, start_pieces}
+use Rattle.wasmprinter_spec.specs.Layout.Memories.{memory_pieces, memory_type_pieces}
+use Rattle.wasmprinter_spec.specs.Layout.Exports.{export_pieces, kind_word, extern_index_pieces}
+use Rattle.wasmprinter_spec.specs.Text.Exports.{kind_of_word}
+use Rattle.wasmprinter_spec.specs.Layout.Functions.{body_pieces, local_group, local_pieces, signature_if, header_pieces, function_group, function_pieces}
+use Rattle.wasmprinter_spec.specs.Layout.Limits.{limits_pieces}
+use Rattle.wasmprinter_spec.specs.Layout.Imports.{imports_pieces}
+use Rattle.wasmprinter_spec.proofs.Samples.{head_bytes, lines, to, to_null, func, empty}
 use Rattle.wasmprinter_spec.proofs.BlockSamples.{block, loop, end, try_table}
 
 -- a module of the types that the first bytes spell, and of one function of type i, whose operators the last bytes spell
@@ -38,7 +44,7 @@ module_bytes types i code =
     ++ (0x0a ∷ (length code + 4) ∷ 0x01 ∷ (length code + 2) ∷ 0x00 ∷ code ++ 0x0b ∷ [])
 
 abbrev one_function : List (List SubType) → ℕ → List Operator → Module
-one_function types i os = record { types = types; functions = record { type_index = i; locals = []; operators = os } ∷ []; exports = [] }
+one_function types i os = record empty { types = types; functions = record { type_index = i; locals = []; operators = os } ∷ []; exports = [] }
 
 abbrev decoded : List ℕ → Option Module
 decoded bytes = option_map module_of (binary.parse (input 0 bytes))
@@ -71,37 +77,37 @@ beside_structure_text t = lines (
     ∷ [])
 
 structure_decoded : decoded structure_bytes ≡ Some (beside_structure (OfType 0))
-unfolding table control_rows variable_rows number_rows
+unfolding table
 structure_decoded = refl
 
 structure_printed : printed structure_bytes ≡ Some (beside_structure_text (codes " (type 0)"))
-unfolding group group_gap group_at group_gap_at line_group line_group_gap list_group signature_pieces struct_pieces composite_pieces sub_pieces type_pieces type_group_pieces type_section_pieces id_pieces ending_pieces block_pieces immediate_pieces operator_pieces operators_pieces expression_pieces body_pieces local_group local_pieces signature_if header_pieces function_group function_pieces numbered module_field_pieces module_pieces layout repeated digits table control_rows variable_rows number_rows
+unfolding group line_group_gap group_at group_gap_at line_group list_group signature_pieces struct_pieces composite_pieces sub_pieces type_pieces type_group_pieces type_section_pieces id_pieces ending_pieces block_pieces immediate_pieces operator_pieces operators_pieces expression_pieces body_pieces local_group local_pieces signature_if header_pieces function_group function_pieces numbered module_field_pieces module_pieces layout repeated digits table memory_pieces memory_type_pieces limits_pieces export_pieces kind_word extern_index_pieces tag_pieces start_pieces index_pieces imports_pieces
 structure_printed = refl
 
 structure_unread : read (beside_structure_text (codes " (type 0)")) ≡ None
-unfolding lex class numeral natural groups heap_of_word ref_of_word number_of_word table control_rows variable_rows number_rows head is_utf8 chars encode_utf8
+unfolding lex class numeral natural groups heap_of_word ref_of_word number_of_word table head is_utf8 chars encode_utf8 kind_of_word
 structure_unread = refl
 
 -- nor with a signature
 structure_with_signature_unread : read (beside_structure_text (codes " (type 0) (param i32)")) ≡ None
-unfolding lex class numeral natural groups heap_of_word ref_of_word number_of_word table control_rows variable_rows number_rows head is_utf8 chars encode_utf8
+unfolding lex class numeral natural groups heap_of_word ref_of_word number_of_word table head is_utf8 chars encode_utf8 kind_of_word
 structure_with_signature_unread = refl
 
 -- the function type beside it can be the block's, and a reference to it the block's result
 function_read : read (beside_structure_text (codes " (type 1)")) ≡ Some (beside_structure (OfType 1))
-unfolding lex class numeral natural groups heap_of_word ref_of_word number_of_word table control_rows variable_rows number_rows head is_utf8 chars encode_utf8
+unfolding lex class numeral natural groups heap_of_word ref_of_word number_of_word table head is_utf8 chars encode_utf8 kind_of_word
 function_read = refl
 
 reference_read : read (beside_structure_text (codes " (result (ref null 0))")) ≡ Some (beside_structure (Value (to_null (Index 0))))
-unfolding lex class numeral natural groups heap_of_word ref_of_word number_of_word table control_rows variable_rows number_rows head is_utf8 chars encode_utf8
+unfolding lex class numeral natural groups heap_of_word ref_of_word number_of_word table head is_utf8 chars encode_utf8 kind_of_word
 reference_read = refl
 
 structure_undeclared : IsIndexed (beside_structure (OfType 0)) → ⊥
-unfolding table control_rows variable_rows number_rows
+unfolding table
 structure_undeclared i = i.functions.0.operators.0
 
 structure_of_try_table : IsIndexed (one_function ((structure ∷ []) ∷ (func [] [] ∷ []) ∷ []) 1 (try_table (OfType 0) [] ∷ end ∷ [])) → ⊥
-unfolding table control_rows variable_rows number_rows
+unfolding table
 structure_of_try_table i = i.functions.0.operators.0.0
 
 -- ---- the index of a type in a group: type indices count the types of all groups, not the groups
@@ -136,31 +142,38 @@ group_text = lines (
     ∷ [])
 
 group_decoded : decoded group_bytes ≡ Some over_group
-unfolding table control_rows variable_rows number_rows
+unfolding table
 group_decoded = refl
 
 group_printed : printed group_bytes ≡ Some group_text
-unfolding group group_gap group_at group_gap_at line_group line_group_gap heap_pieces null_ref_pieces ref_pieces val_pieces type_list list_group signature_pieces struct_pieces composite_pieces sub_pieces type_pieces member_pieces type_group_pieces type_section_pieces id_pieces ending_pieces block_pieces immediate_pieces operator_pieces operators_pieces expression_pieces body_pieces local_group local_pieces signature_if header_pieces function_group function_pieces numbered module_field_pieces module_pieces layout repeated digits table control_rows variable_rows number_rows
+unfolding group line_group_gap group_at group_gap_at line_group heap_pieces null_ref_pieces ref_pieces val_pieces type_list list_group signature_pieces struct_pieces composite_pieces sub_pieces type_pieces member_pieces type_group_pieces type_section_pieces id_pieces ending_pieces block_pieces immediate_pieces operator_pieces operators_pieces expression_pieces body_pieces local_group local_pieces signature_if header_pieces function_group function_pieces numbered module_field_pieces module_pieces layout repeated digits table memory_pieces memory_type_pieces limits_pieces export_pieces kind_word extern_index_pieces tag_pieces start_pieces index_pieces imports_pieces
 group_printed = refl
 
 group_read : read group_text ≡ Some over_group
-unfolding lex class numeral natural groups heap_of_word ref_of_word number_of_word table control_rows variable_rows number_rows head is_utf8 chars encode_utf8
+unfolding lex class numeral natural groups heap_of_word ref_of_word number_of_word table head is_utf8 chars encode_utf8 kind_of_word
 group_read = refl
 
 -- in other words: identifiers of a group behind its use, a signature that is absent or in its long form
 group_of_names : read (codes "(module (func (type 2) (block $l (type $f) (loop (type 2) (block (result (ref null $f)))))) (rec (type $s (struct)) (type $f (func (param (ref $s)) (result (ref null $s))))) (type (func)))") ≡ Some over_group
-unfolding lex class numeral natural groups heap_of_word ref_of_word number_of_word table control_rows variable_rows number_rows head is_utf8 chars encode_utf8
+unfolding lex class numeral natural groups heap_of_word ref_of_word number_of_word table head is_utf8 chars encode_utf8 kind_of_word
 group_of_names = refl
 
 group_indexed : IsIndexed over_group
-unfolding table control_rows variable_rows number_rows
+unfolding table
 group_indexed = record {
   types = (
     (record { supertypes = tt; composite = tt }, (record { supertypes = tt; composite = record { params = (omega arith, tt); results = (omega arith, tt) } }, tt)),
     ((record { supertypes = tt; composite = record { params = tt; results = tt } }, tt), tt),
   );
   functions = (record { type_index = (_, refl); locals = tt; operators = (tt, (tt, (omega arith, (tt, (tt, (tt, tt)))))) }, tt);
+  imports = tt;
+  tables = tt;
+  tags = tt;
+  globals = tt;
   exports = tt;
+  start = tt;
+  elements = tt;
+  datas = tt;
 }
 
 -- ---- a signature of references beside the index of a type
@@ -174,7 +187,7 @@ over_references os = one_function ((func (to_null Func ∷ to (Index 0) ∷ []) 
 
 references_agree : read (with_references (codes "block (type 0) (param funcref (ref 0)) (result (ref null 0)) end (block (type $f) (param (ref null func)) (param (ref $f)) (result (ref null $f))) block (type 0) end"))
     ≡ Some (over_references (block (OfType 0) ∷ end ∷ block (OfType 0) ∷ end ∷ block (OfType 0) ∷ end ∷ []))
-unfolding lex class numeral natural groups heap_of_word ref_of_word number_of_word table control_rows variable_rows number_rows head is_utf8 chars encode_utf8
+unfolding lex class numeral natural groups heap_of_word ref_of_word number_of_word table head is_utf8 chars encode_utf8 kind_of_word
 references_agree = refl
 
 -- a reference that can't be null for one that may be, one to another type, one that is missing
@@ -191,7 +204,7 @@ references_differ : map (λ c. read (with_references c)) (
     ∷ codes "block (type 0) (param $x funcref) (param (ref 0)) (result (ref null 0)) end"
     ∷ codes "block (type 1) (result (ref null 0)) end"
     ∷ []) ≡ replicate 11 None
-unfolding lex class numeral natural groups heap_of_word ref_of_word number_of_word table control_rows variable_rows number_rows head is_utf8 chars encode_utf8
+unfolding lex class numeral natural groups heap_of_word ref_of_word number_of_word table head is_utf8 chars encode_utf8 kind_of_word
 references_differ = refl
 
 -- ---- references to types that aren't declared: texts and bytes have them, valid modules don't
@@ -200,25 +213,32 @@ abbrev with_block : BlockType → Module
 with_block t = one_function ((func [] [] ∷ []) ∷ []) 0 (block t ∷ end ∷ [])
 
 last_reference : IsIndexed (with_block (Value (to (Index 0))))
-unfolding table control_rows variable_rows number_rows
+unfolding table
 last_reference = record {
   types = ((record { supertypes = tt; composite = record { params = tt; results = tt } }, tt), tt);
   functions = (record { type_index = (_, refl); locals = tt; operators = (omega arith, (tt, tt)) }, tt);
+  imports = tt;
+  tables = tt;
+  tags = tt;
+  globals = tt;
   exports = tt;
+  start = tt;
+  elements = tt;
+  datas = tt;
 }
 
 undeclared_reference : IsIndexed (with_block (Value (to (Index 1)))) → ⊥
-unfolding table control_rows variable_rows number_rows
+unfolding table
 undeclared_reference i = omega (arith, i.functions.0.operators.0)
 
 undeclared_null_reference : IsIndexed (with_block (Value (to_null (Index 1)))) → ⊥
-unfolding table control_rows variable_rows number_rows
+unfolding table
 undeclared_null_reference i = omega (arith, i.functions.0.operators.0)
 
 undeclared_reference_of_try_table : IsIndexed (one_function ((func [] [] ∷ []) ∷ []) 0 (try_table (Value (to (Index 1))) (All 0 ∷ []) ∷ end ∷ [])) → ⊥
-unfolding table control_rows variable_rows number_rows
+unfolding table
 undeclared_reference_of_try_table i = omega (arith, i.functions.0.operators.0.0)
 
 undeclared_reference_read : read (codes "(module (type (func)) (func (type 0) block (result (ref 1)) end))") ≡ Some (with_block (Value (to (Index 1))))
-unfolding lex class numeral natural groups heap_of_word ref_of_word number_of_word table control_rows variable_rows number_rows head is_utf8 chars encode_utf8
+unfolding lex class numeral natural groups heap_of_word ref_of_word number_of_word table head is_utf8 chars encode_utf8 kind_of_word
 undeclared_reference_read = refl

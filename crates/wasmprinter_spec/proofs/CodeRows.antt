@@ -10,44 +10,46 @@ use Rattle.wasmprinter_spec.specs.Token.{escape, lex}
 use Rattle.wasmprinter_spec.specs.Forest.{Forest, End, Word, String, forest}
 use Rattle.wasmprinter_spec.specs.Operator.{NoImmediates, I32}
 use Rattle.wasmprinter_spec.specs.Row.{Row, NoneShape, BlockShape, I32Shape, IndexShape, Tag, Fixed, OfBlock, OpensIf, OpensTry, Catches}
-use Rattle.wasmprinter_spec.specs.Table.{plain, control, table, control_rows, variable_rows, number_rows, rows_of}
+use Rattle.wasmprinter_spec.specs.Table.{table, rows_of}
+use Rattle.wasmprinter_spec.specs.Table.Rows.{plain, control}
 use Rattle.wasmprinter_spec.specs.Code.{Chunk, PartHead, ThenHead, ElseHead, OperatorHead, head, Folded, operands, flattened, unfolded}
 use Rattle.wasmprinter_spec.specs.IndexSpaces.{Context}
 use Rattle.wasmprinter_spec.specs.Text.Operators.{first_reading}
+use Rattle.wasmprinter_spec.proofs.Samples.{no_spaces}
 
 -- ---- what groups are
 
 parts : map head (codes "type" ∷ codes "param" ∷ codes "result" ∷ codes "catch" ∷ codes "catch_ref" ∷ codes "catch_all" ∷ codes "catch_all_ref" ∷ codes "local" ∷ codes "1" ∷ [])
     ≡ PartHead ∷ PartHead ∷ PartHead ∷ PartHead ∷ PartHead ∷ PartHead ∷ PartHead ∷ PartHead ∷ PartHead ∷ []
-unfolding table control_rows variable_rows number_rows head
+unfolding table head
 parts = refl
 
 -- `else` is an operator's word too, which as the word of a group it is not
 cases : map head (codes "then" ∷ codes "else" ∷ []) ≡ ThenHead ∷ ElseHead ∷ []
-unfolding table control_rows variable_rows number_rows head
+unfolding table head
 cases = refl
 
 operator_groups : map head (codes "nop" ∷ codes "if" ∷ codes "try" ∷ [])
-    ≡ OperatorHead (plain 0x01 (codes "nop") NoneShape (Fixed 0 0)) [] ∷ OperatorHead (control 0x04 (codes "if") BlockShape OfBlock OpensIf) []
-    ∷ OperatorHead (control 0x06 (codes "try") BlockShape OfBlock OpensTry) [] ∷ []
-unfolding table control_rows variable_rows number_rows head
+    ≡ OperatorHead (plain 0x01 "nop" NoneShape (Fixed 0 0)) [] ∷ OperatorHead (control 0x04 "if" BlockShape OfBlock OpensIf) []
+    ∷ OperatorHead (control 0x06 "try" BlockShape OfBlock OpensTry) [] ∷ []
+unfolding table head
 operator_groups = refl
 
 -- as a word alone `catch` is an operator
-catch_word : rows_of (codes "catch") ≡ control 0x07 (codes "catch") (IndexShape Tag) OfBlock Catches ∷ []
-unfolding table control_rows variable_rows number_rows
+catch_word : rows_of (codes "catch") ≡ control 0x07 "catch" (IndexShape Tag) OfBlock Catches ∷ []
+unfolding table
 catch_word = refl
 
 -- ---- operators with one word
 
 abbrev bare : Row
-bare = plain 0x01 (codes "w") NoneShape (Fixed 0 0)
+bare = plain 0x01 "w" NoneShape (Fixed 0 0)
 
 abbrev numbered : Row
-numbered = plain 0x02 (codes "w") I32Shape (Fixed 0 0)
+numbered = plain 0x02 "w" I32Shape (Fixed 0 0)
 
 abbrev nothing_declared : Context
-nothing_declared = record { spaces = record { types = []; functions = []; tags = []; locals = [] }; signature = λ n. None }
+nothing_declared = record { spaces = record no_spaces { types = []; functions = []; tags = []; locals = [] }; signature = λ n. None }
 
 first_row : first_reading nothing_declared [] (bare ∷ numbered ∷ []) End ≡ Some (bare, NoImmediates)
 first_row = refl
@@ -74,41 +76,41 @@ abbrev byte : ℕ → Forest
 byte b = String (b ∷ []) End
 
 hint_of_operator : hints (codes "local.get 0 (@metadata.code.branch_hint \"\\01\") drop return") ≡ Some ([] ∷ (byte 1 ∷ []) ∷ [] ∷ [])
-unfolding lex class escape table control_rows variable_rows number_rows head is_utf8 chars encode_utf8
+unfolding lex class escape table head is_utf8 chars encode_utf8
 hint_of_operator = refl
 
 -- the group's own operator, which stands behind its operands
 hint_of_group : hints (codes "(@metadata.code.branch_hint \"\\00\") (drop (i32.const 1)) return") ≡ Some ([] ∷ (byte 0 ∷ []) ∷ [] ∷ [])
-unfolding lex class escape table control_rows variable_rows number_rows head is_utf8 chars encode_utf8
+unfolding lex class escape table head is_utf8 chars encode_utf8
 hint_of_group = refl
 
 hint_in_group : hints (codes "(drop (@metadata.code.branch_hint \"\\01\") (i32.const 1))") ≡ Some ((byte 1 ∷ []) ∷ [] ∷ [])
-unfolding lex class escape table control_rows variable_rows number_rows head is_utf8 chars encode_utf8
+unfolding lex class escape table head is_utf8 chars encode_utf8
 hint_in_group = refl
 
 -- the operands of an `if` stand in front of it; a hint in front of what it holds in a case is nothing
 hint_of_if : hints (codes "(@metadata.code.branch_hint \"\\01\") (if (local.get 0) (@metadata.code.branch_hint \"\\00\") (then nop (@metadata.code.branch_hint \"\\00\") br_if 0))")
     ≡ Some ([] ∷ (byte 1 ∷ []) ∷ [] ∷ (byte 0 ∷ []) ∷ [] ∷ [])
-unfolding lex class escape table control_rows variable_rows number_rows head is_utf8 chars encode_utf8
+unfolding lex class escape table head is_utf8 chars encode_utf8
 hint_of_if = refl
 
 -- a block's hint is that of its first word, not of its `end`
 hint_of_block : hints (codes "(@metadata.code.branch_hint \"\\01\") (block nop) block (@metadata.code.branch_hint \"\\00\") end") ≡ Some ((byte 1 ∷ []) ∷ [] ∷ [] ∷ [] ∷ (byte 0 ∷ []) ∷ [])
-unfolding lex class escape table control_rows variable_rows number_rows head is_utf8 chars encode_utf8
+unfolding lex class escape table head is_utf8 chars encode_utf8
 hint_of_block = refl
 
 -- other annotations between are passed over
 two_hints : hints (codes "(@metadata.code.branch_hint \"\\00\") (@a) (@metadata.code.branch_hint \"\\01\") drop") ≡ Some ((byte 0 ∷ byte 1 ∷ []) ∷ [])
-unfolding lex class escape table control_rows variable_rows number_rows head is_utf8 chars encode_utf8
+unfolding lex class escape table head is_utf8 chars encode_utf8
 two_hints = refl
 
 -- in another annotation, in front of an immediate, behind the last operator
 inner_hint : hints (codes "(@a (@metadata.code.branch_hint \"\\00\")) local.get (@metadata.code.branch_hint \"\\00\") 0 drop (@metadata.code.branch_hint \"\\00\")") ≡ Some ([] ∷ [] ∷ [])
-unfolding lex class escape table control_rows variable_rows number_rows head is_utf8 chars encode_utf8
+unfolding lex class escape table head is_utf8 chars encode_utf8
 inner_hint = refl
 
 other_names : hints (codes "(@metadata.code.hint \"\\00\") drop (@metadata.code.branch_hints \"\\00\") drop") ≡ Some ([] ∷ [] ∷ [])
-unfolding lex class escape table control_rows variable_rows number_rows head is_utf8 chars encode_utf8
+unfolding lex class escape table head is_utf8 chars encode_utf8
 other_names = refl
 
 -- ---- folded instructions: what stands before their own operator, it, and what stands behind

@@ -6,7 +6,7 @@ use Rattle.std.specs.Str.{is_utf8, chars}
 use Rattle.wasmprinter_spec.specs.Grammar.{◌>>=◌}
 use Rattle.wasmprinter_spec.specs.Types as types
 use Rattle.wasmprinter_spec.specs.Operator.{Empty, Value, All, AllRef, Operator}
-use Rattle.wasmprinter_spec.specs.Table.{table, control_rows, variable_rows, number_rows}
+use Rattle.wasmprinter_spec.specs.Table.{table}
 use Rattle.wasmprinter_spec.specs.Character.{class}
 use Rattle.wasmprinter_spec.specs.Numeral.{numeral, natural}
 use Rattle.wasmprinter_spec.specs.Token.{escape, lex}
@@ -24,6 +24,7 @@ use Rattle.wasmprinter_spec.specs.Layout.Groups.{line_group, line_group_gap}
 use Rattle.wasmprinter_spec.specs.Layout.Types.{val_pieces}
 use Rattle.wasmprinter_spec.specs.Layout.Operators.{OverLines, mark_pieces, label_pieces, labels_pieces, id_pieces, ending_pieces, block_pieces, catch_pieces, catches_pieces, index_pieces, immediate_pieces, operator_pieces, operators_pieces, expression_pieces}
 use Rattle.wasmprinter_spec.proofs.BlockSamples.{block, loop, if_op, else_op, try_op, end, br, br_table, delegate, try_table}
+use Rattle.wasmprinter_spec.proofs.Samples.{no_spaces}
 
 abbrev printed : Naming → List Operator → List ℕ
 printed naming os =
@@ -36,7 +37,7 @@ lines ls = flat_map (λ l. codes "\n    " ++ l) ls
 -- what code without indices into other spaces reads as
 abbrev read_back : List ℕ → Option (List Operator)
 read_back text =
-    forest text >>= λ f. unfolded (cut f) >>= read_operators (record { spaces = record { types = []; functions = []; tags = []; locals = [] }; signature = λ n. None })
+    forest text >>= λ f. unfolded (cut f) >>= read_operators (record { spaces = record no_spaces { types = []; functions = []; tags = []; locals = [] }; signature = λ n. None })
 
 -- the first labels have these names, and all others none
 abbrev named : List (List ℕ) → Naming
@@ -58,11 +59,11 @@ abbrev both_lines : List ℕ
 both_lines = lines (codes "block $a" ∷ codes "  block $a" ∷ codes "    br 1" ∷ codes "    br $a" ∷ codes "  end" ∷ codes "end" ∷ [])
 
 shadowed : printed (named (codes "a" ∷ codes "a" ∷ [])) both ≡ both_lines
-unfolding line_group line_group_gap val_pieces mark_pieces label_pieces labels_pieces id_pieces ending_pieces block_pieces catch_pieces catches_pieces index_pieces immediate_pieces operator_pieces operators_pieces expression_pieces repeated digits table control_rows variable_rows number_rows is_utf8 encode_utf8 chars class identifier_text quoted_text char_text
+unfolding line_group line_group_gap val_pieces mark_pieces label_pieces labels_pieces id_pieces ending_pieces block_pieces catch_pieces catches_pieces index_pieces immediate_pieces operator_pieces operators_pieces expression_pieces repeated digits table is_utf8 encode_utf8 chars class identifier_text quoted_text char_text
 shadowed = refl
 
 shadowed_reads : read_back both_lines ≡ Some both
-unfolding lex class escape numeral natural table control_rows variable_rows number_rows head is_utf8 chars encode_utf8
+unfolding lex class escape numeral natural table head is_utf8 chars encode_utf8
 shadowed_reads = refl
 
 -- behind the inner block the name is the outer block's again
@@ -85,11 +86,11 @@ between_lines = lines (
     ∷ [])
 
 shadowed_for_a_while : printed (named (codes "a" ∷ codes "b" ∷ codes "a" ∷ [])) between ≡ between_lines
-unfolding line_group line_group_gap val_pieces mark_pieces label_pieces labels_pieces id_pieces ending_pieces block_pieces catch_pieces catches_pieces index_pieces immediate_pieces operator_pieces operators_pieces expression_pieces repeated digits table control_rows variable_rows number_rows is_utf8 encode_utf8 chars class identifier_text quoted_text char_text
+unfolding line_group line_group_gap val_pieces mark_pieces label_pieces labels_pieces id_pieces ending_pieces block_pieces catch_pieces catches_pieces index_pieces immediate_pieces operator_pieces operators_pieces expression_pieces repeated digits table is_utf8 encode_utf8 chars class identifier_text quoted_text char_text
 shadowed_for_a_while = refl
 
 shadowed_for_a_while_reads : read_back between_lines ≡ Some between
-unfolding lex class escape numeral natural table control_rows variable_rows number_rows head is_utf8 chars encode_utf8
+unfolding lex class escape numeral natural table head is_utf8 chars encode_utf8
 shadowed_for_a_while_reads = refl
 
 -- ---- labels outside the block
@@ -101,11 +102,11 @@ abbrev delegated_lines : List ℕ
 delegated_lines = lines (codes "try $t" ∷ codes "delegate 0" ∷ codes "block $u" ∷ codes "  br $u" ∷ codes "  br 1" ∷ codes "end" ∷ [])
 
 label_goes_with_delegate : printed (named (codes "t" ∷ codes "u" ∷ [])) delegated ≡ delegated_lines
-unfolding line_group line_group_gap val_pieces mark_pieces label_pieces labels_pieces id_pieces ending_pieces block_pieces catch_pieces catches_pieces index_pieces immediate_pieces operator_pieces operators_pieces expression_pieces repeated digits table control_rows variable_rows number_rows is_utf8 encode_utf8 chars class identifier_text quoted_text char_text
+unfolding line_group line_group_gap val_pieces mark_pieces label_pieces labels_pieces id_pieces ending_pieces block_pieces catch_pieces catches_pieces index_pieces immediate_pieces operator_pieces operators_pieces expression_pieces repeated digits table is_utf8 encode_utf8 chars class identifier_text quoted_text char_text
 label_goes_with_delegate = refl
 
 label_goes_with_delegate_reads : read_back delegated_lines ≡ Some delegated
-unfolding lex class escape numeral natural table control_rows variable_rows number_rows head is_utf8 chars encode_utf8
+unfolding lex class escape numeral natural table head is_utf8 chars encode_utf8
 label_goes_with_delegate_reads = refl
 
 -- the label of a `try` hides those of its name from its `delegate`, that of a `try_table` doesn't from its clauses
@@ -128,11 +129,11 @@ hiding_lines = lines (
     ∷ [])
 
 hides_from_delegate : printed (named (codes "a" ∷ codes "a" ∷ codes "b" ∷ codes "a" ∷ [])) hiding ≡ hiding_lines
-unfolding line_group line_group_gap val_pieces mark_pieces label_pieces labels_pieces id_pieces ending_pieces block_pieces catch_pieces catches_pieces index_pieces immediate_pieces operator_pieces operators_pieces expression_pieces repeated digits table control_rows variable_rows number_rows is_utf8 encode_utf8 chars class identifier_text quoted_text char_text
+unfolding line_group line_group_gap val_pieces mark_pieces label_pieces labels_pieces id_pieces ending_pieces block_pieces catch_pieces catches_pieces index_pieces immediate_pieces operator_pieces operators_pieces expression_pieces repeated digits table is_utf8 encode_utf8 chars class identifier_text quoted_text char_text
 hides_from_delegate = refl
 
 hides_from_delegate_reads : read_back hiding_lines ≡ Some hiding
-unfolding lex class escape numeral natural number_of_word table control_rows variable_rows number_rows head is_utf8 chars encode_utf8
+unfolding lex class escape numeral natural number_of_word table head is_utf8 chars encode_utf8
 hides_from_delegate_reads = refl
 
 -- ---- names that are no identifiers
@@ -149,11 +150,11 @@ empty_lines = lines (
     ∷ [])
 
 empty_names : printed (named ([] ∷ [] ∷ [])) both ≡ empty_lines
-unfolding line_group line_group_gap val_pieces mark_pieces label_pieces labels_pieces id_pieces ending_pieces block_pieces catch_pieces catches_pieces index_pieces immediate_pieces operator_pieces operators_pieces expression_pieces repeated digits table control_rows variable_rows number_rows is_utf8 encode_utf8 chars class identifier_text quoted_text char_text
+unfolding line_group line_group_gap val_pieces mark_pieces label_pieces labels_pieces id_pieces ending_pieces block_pieces catch_pieces catches_pieces index_pieces immediate_pieces operator_pieces operators_pieces expression_pieces repeated digits table is_utf8 encode_utf8 chars class identifier_text quoted_text char_text
 empty_names = refl
 
 empty_names_read : read_back empty_lines ≡ Some both
-unfolding lex class escape numeral natural table control_rows variable_rows number_rows head is_utf8 chars encode_utf8
+unfolding lex class escape numeral natural table head is_utf8 chars encode_utf8
 empty_names_read = refl
 
 -- a sign # in front; characters that no identifier has in its text; names of several bytes
@@ -175,11 +176,11 @@ strange_lines = lines (
     ∷ [])
 
 strange_names : printed (named (codes "#x\"" ∷ codes "a b" ∷ (0xc3 ∷ 0xa9 ∷ []) ∷ [])) strange ≡ strange_lines
-unfolding line_group line_group_gap val_pieces mark_pieces label_pieces labels_pieces id_pieces ending_pieces block_pieces catch_pieces catches_pieces index_pieces immediate_pieces operator_pieces operators_pieces expression_pieces repeated digits table control_rows variable_rows number_rows is_utf8 encode_utf8 chars class identifier_text quoted_text char_text
+unfolding line_group line_group_gap val_pieces mark_pieces label_pieces labels_pieces id_pieces ending_pieces block_pieces catch_pieces catches_pieces index_pieces immediate_pieces operator_pieces operators_pieces expression_pieces repeated digits table is_utf8 encode_utf8 chars class identifier_text quoted_text char_text
 strange_names = refl
 
 strange_names_read : read_back strange_lines ≡ Some strange
-unfolding lex class escape numeral natural table control_rows variable_rows number_rows head is_utf8 chars encode_utf8
+unfolding lex class escape numeral natural table head is_utf8 chars encode_utf8
 strange_names_read = refl
 
 -- ---- some labels without names
@@ -188,11 +189,11 @@ abbrev mixed_lines : List ℕ
 mixed_lines = lines (codes "block ;; label = @1" ∷ codes "  block $a" ∷ codes "    br 1 (;@1;)" ∷ codes "    br $a" ∷ codes "  end" ∷ codes "end" ∷ [])
 
 second_named : printed (one_named 1 (codes "a")) both ≡ mixed_lines
-unfolding line_group line_group_gap val_pieces mark_pieces label_pieces labels_pieces id_pieces ending_pieces block_pieces catch_pieces catches_pieces index_pieces immediate_pieces operator_pieces operators_pieces expression_pieces repeated digits table control_rows variable_rows number_rows is_utf8 encode_utf8 chars class identifier_text quoted_text char_text
+unfolding line_group line_group_gap val_pieces mark_pieces label_pieces labels_pieces id_pieces ending_pieces block_pieces catch_pieces catches_pieces index_pieces immediate_pieces operator_pieces operators_pieces expression_pieces repeated digits table is_utf8 encode_utf8 chars class identifier_text quoted_text char_text
 second_named = refl
 
 second_named_reads : read_back mixed_lines ≡ Some both
-unfolding lex class escape numeral natural table control_rows variable_rows number_rows head is_utf8 chars encode_utf8
+unfolding lex class escape numeral natural table head is_utf8 chars encode_utf8
 second_named_reads = refl
 
 -- ---- invented identifiers
@@ -202,18 +203,18 @@ abbrev invented_lines : List ℕ
 invented_lines = lines (codes "try $#label0" ∷ codes "delegate 0" ∷ codes "block $#label0" ∷ codes "  br $#label0" ∷ codes "  br 1" ∷ codes "end" ∷ [])
 
 invented_identifiers : printed invented delegated ≡ invented_lines
-unfolding line_group line_group_gap val_pieces mark_pieces label_pieces labels_pieces id_pieces ending_pieces block_pieces catch_pieces catches_pieces index_pieces immediate_pieces operator_pieces operators_pieces expression_pieces repeated digits table control_rows variable_rows number_rows is_utf8 encode_utf8 chars class identifier_text quoted_text char_text
+unfolding line_group line_group_gap val_pieces mark_pieces label_pieces labels_pieces id_pieces ending_pieces block_pieces catch_pieces catches_pieces index_pieces immediate_pieces operator_pieces operators_pieces expression_pieces repeated digits table is_utf8 encode_utf8 chars class identifier_text quoted_text char_text
 invented_identifiers = refl
 
 invented_identifiers_read : read_back invented_lines ≡ Some delegated
-unfolding lex class escape numeral natural table control_rows variable_rows number_rows head is_utf8 chars encode_utf8
+unfolding lex class escape numeral natural table head is_utf8 chars encode_utf8
 invented_identifiers_read = refl
 
 abbrev deep_lines : List ℕ
 deep_lines = lines (codes "block $#label0" ∷ codes "  block $#label1" ∷ codes "    br $#label0" ∷ codes "    br $#label1" ∷ codes "  end" ∷ codes "end" ∷ [])
 
 invented_deeper : printed invented both ≡ deep_lines
-unfolding line_group line_group_gap val_pieces mark_pieces label_pieces labels_pieces id_pieces ending_pieces block_pieces catch_pieces catches_pieces index_pieces immediate_pieces operator_pieces operators_pieces expression_pieces repeated digits table control_rows variable_rows number_rows is_utf8 encode_utf8 chars class identifier_text quoted_text char_text
+unfolding line_group line_group_gap val_pieces mark_pieces label_pieces labels_pieces id_pieces ending_pieces block_pieces catch_pieces catches_pieces index_pieces immediate_pieces operator_pieces operators_pieces expression_pieces repeated digits table is_utf8 encode_utf8 chars class identifier_text quoted_text char_text
 invented_deeper = refl
 
 -- a name beside invented identifiers
@@ -222,9 +223,9 @@ partly_lines =
     lines (codes "block $#label0" ∷ codes "  block $\"#label1 #label0\" (@name \"#label0\")" ∷ codes "    br $#label0" ∷ codes "    br $\"#label1 #label0\" (@name \"#label0\")" ∷ codes "  end" ∷ codes "end" ∷ [])
 
 partly_invented : printed (label_naming true (λ n. cond (n == 1) (Some (codes "#label0")) None)) both ≡ partly_lines
-unfolding line_group line_group_gap val_pieces mark_pieces label_pieces labels_pieces id_pieces ending_pieces block_pieces catch_pieces catches_pieces index_pieces immediate_pieces operator_pieces operators_pieces expression_pieces repeated digits table control_rows variable_rows number_rows is_utf8 encode_utf8 chars class identifier_text quoted_text char_text
+unfolding line_group line_group_gap val_pieces mark_pieces label_pieces labels_pieces id_pieces ending_pieces block_pieces catch_pieces catches_pieces index_pieces immediate_pieces operator_pieces operators_pieces expression_pieces repeated digits table is_utf8 encode_utf8 chars class identifier_text quoted_text char_text
 partly_invented = refl
 
 partly_invented_reads : read_back partly_lines ≡ Some both
-unfolding lex class escape numeral natural table control_rows variable_rows number_rows head is_utf8 chars encode_utf8
+unfolding lex class escape numeral natural table head is_utf8 chars encode_utf8
 partly_invented_reads = refl

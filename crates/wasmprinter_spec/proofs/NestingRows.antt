@@ -6,7 +6,7 @@ use Rattle.wasmprinter_spec.specs.Types as types
 use Rattle.wasmprinter_spec.specs.Types.{ref_type}
 use Rattle.wasmprinter_spec.specs.Operator.{opcode, Operator, Immediates, NoImmediates, Block, Empty, Value, OfType}
 use Rattle.wasmprinter_spec.specs.Row.{Role, Plain, Opens, OpensIf, Turns, OpensTry, Catches, CatchesAll, Delegates, Ends}
-use Rattle.wasmprinter_spec.specs.Table.{table, control_rows, variable_rows, number_rows}
+use Rattle.wasmprinter_spec.specs.Table.{table}
 use Rattle.wasmprinter_spec.specs.Nesting.{Nests, Sequence, none, plain, block, one_armed, two_armed, tried, delegated, caught, caught_all, advance, at_start}
 use Rattle.wasmprinter_spec.specs.NestingSteps.{stops_at_end}
 use Rattle.wasmprinter_spec.specs.Stepped.{stops}
@@ -18,7 +18,7 @@ op p n i = record { place = p; value = record { opcode = opcode 0 n; immediates 
 -- a block of no results, and a byte behind the expression
 block_read : expression.parse (input 7 (0x02 ∷ 0x40 ∷ 0x01 ∷ 0x0b ∷ 0x0b ∷ 0x0b ∷ []))
     ≡ Some (record { items = op 7 0x02 (Block Empty) ∷ op 9 0x01 NoImmediates ∷ op 10 0x0b NoImmediates ∷ []; end = 11 }, input 12 (0x0b ∷ []))
-unfolding table control_rows variable_rows number_rows
+unfolding table
 block_read = refl
 
 -- how many bytes are left behind an expression, none where there is none
@@ -34,7 +34,7 @@ read_whole : map left_behind (
     ∷ (0x02 ∷ 0x7e ∷ 0x03 ∷ 0x40 ∷ 0x0c ∷ 0x00 ∷ 0x0b ∷ 0x0b ∷ 0x0b ∷ [])
     ∷ (0x0b ∷ 0x0b ∷ []) ∷ [])
     ≡ Some 0 ∷ Some 1 ∷ Some 0 ∷ Some 0 ∷ Some 0 ∷ Some 1 ∷ []
-unfolding table control_rows variable_rows number_rows
+unfolding table
 read_whole = refl
 
 -- which of these lists of bytes have an expression at their beginning, counted from 0
@@ -50,7 +50,7 @@ abbrev numbers_read : List (List ℕ) → List ℕ
 numbers_read bs = numbers_from 0 bs
 
 read_among : numbers_read ((0x05 ∷ 0x0b ∷ 0x0b ∷ []) ∷ (0x0b ∷ []) ∷ [] ∷ (0x01 ∷ 0x0b ∷ []) ∷ []) ≡ 1 ∷ 3 ∷ []
-unfolding table control_rows variable_rows number_rows
+unfolding table
 read_among = refl
 
 -- a block without its end; what stands outside the blocks that it belongs to; no such `else` or `catch` behind the last
@@ -79,12 +79,12 @@ unread_nesting : numbers_read (
     ∷ (0x18 ∷ 0x00 ∷ 0x0b ∷ [])
     ∷ (0x02 ∷ 0x40 ∷ 0x18 ∷ 0x00 ∷ 0x0b ∷ 0x0b ∷ [])
     ∷ []) ≡ []
-unfolding table control_rows variable_rows number_rows
+unfolding table
 unread_nesting = refl
 
 -- An opcode of one byte is no number: 8B 00 isn't 0B, nor is 0B behind a prefix. No operator has the byte 1D.
 unread_opcodes : numbers_read ((0x8b ∷ 0x00 ∷ []) ∷ (0xfc ∷ 0x0b ∷ []) ∷ (0x1d ∷ 0x0b ∷ []) ∷ []) ≡ []
-unfolding table control_rows variable_rows number_rows
+unfolding table
 unread_opcodes = refl
 
 -- No such block type: 41 alone and 7A are negative numbers, as is the byte of a composite type or of a packed one, also in two bytes; references
@@ -117,7 +117,7 @@ unread_immediates : numbers_read (
     ∷ (0x0c ∷ 0xff ∷ 0xff ∷ 0xff ∷ 0xff ∷ 0x1f ∷ 0x0b ∷ [])
     ∷ (0x0c ∷ [])
     ∷ []) ≡ []
-unfolding table control_rows variable_rows number_rows
+unfolding table
 unread_immediates = refl
 
 -- where there is no parse nothing is spelled
@@ -125,7 +125,7 @@ unspelled : (at : Input) (x : Closed (Placed Operator) × Input) → expression.
 unspelled at x e s = absurd (cc (e, expression.complete at x s))
 
 else_outside_if : (x : Closed (Placed Operator) × Input) → Spans IsExpression (input 0 (0x02 ∷ 0x40 ∷ 0x05 ∷ 0x0b ∷ 0x0b ∷ [])) x → ⊥
-unfolding table control_rows variable_rows number_rows
+unfolding table
 else_outside_if x = unspelled (input 0 (0x02 ∷ 0x40 ∷ 0x05 ∷ 0x0b ∷ 0x0b ∷ [])) x refl
 
 -- ---- block types
@@ -180,7 +180,7 @@ block_types : map type_of_block (
     ∷ Some (Block (OfType 112))
     ∷ Some (Block (Value (types.Ref (ref_type false (types.Index 11)))))
     ∷ []
-unfolding table control_rows variable_rows number_rows
+unfolding table
 block_types = refl
 
 -- the rules, by hand: try nop catch catch_all if else end end

@@ -4,24 +4,42 @@ use Rattle.std.specs.List.{AllByRecursion}
 use Rattle.std.proofs.lemmas.Bool.{and_parts, ltb-true}
 use Rattle.wasmprinter_spec.specs.Grammar.{some_is}
 use Rattle.wasmprinter_spec.specs.Repeated.{some_or}
-use Rattle.wasmprinter_spec.specs.Sections.{Kind, TypeSection, FunctionSection, ExportSection, CodeSection, Content, Section, holds, section_kind, content_of, rank, follows, rank_behind, are_above, content_in}
+use Rattle.wasmprinter_spec.specs.Sections.{Kind, TypeSection, ImportSection, FunctionSection, TableSection, MemorySection, TagSection, GlobalSection, ExportSection, StartSection, ElementSection, DataCountSection, CodeSection, DataSection, Content, Section, holds, section_kind, content_of, rank, follows, rank_behind, are_above, content_in}
 
 -- ---- of each kind
 
 -- a section is of another kind, or holds what is picked of it
 pub picks : (kind : Kind) (s : Section) → (content_of kind s ≡ None) ⊎ ((x : Content kind) × (s ≡ holds kind x))
 picks TypeSection (holds TypeSection x) = inr (x, refl)
+picks ImportSection (holds ImportSection x) = inr (x, refl)
 picks FunctionSection (holds FunctionSection x) = inr (x, refl)
+picks TableSection (holds TableSection x) = inr (x, refl)
+picks MemorySection (holds MemorySection x) = inr (x, refl)
+picks TagSection (holds TagSection x) = inr (x, refl)
+picks GlobalSection (holds GlobalSection x) = inr (x, refl)
 picks ExportSection (holds ExportSection x) = inr (x, refl)
+picks StartSection (holds StartSection x) = inr (x, refl)
+picks ElementSection (holds ElementSection x) = inr (x, refl)
+picks DataCountSection (holds DataCountSection x) = inr (x, refl)
 picks CodeSection (holds CodeSection x) = inr (x, refl)
+picks DataSection (holds DataSection x) = inr (x, refl)
 picks _ _ = inl refl
 
 -- of a section of the kind it is picked
 pub picked_own : (kind : Kind) (x : Content kind) → content_of kind (holds kind x) ≡ Some x
 picked_own TypeSection x = refl
+picked_own ImportSection x = refl
 picked_own FunctionSection x = refl
+picked_own TableSection x = refl
+picked_own MemorySection x = refl
+picked_own TagSection x = refl
+picked_own GlobalSection x = refl
 picked_own ExportSection x = refl
+picked_own StartSection x = refl
+picked_own ElementSection x = refl
+picked_own DataCountSection x = refl
 picked_own CodeSection x = refl
+picked_own DataSection x = refl
 
 -- what is picked of a section is all that it holds
 pub picked_is : (kind : Kind) (s : Section) (x : Content kind) → content_of kind s ≡ Some x → s ≡ holds kind x

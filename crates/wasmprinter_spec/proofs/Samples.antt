@@ -1,11 +1,12 @@
 -- Modules that the worked rows share, written by hand: their bytes, what the bytes spell with places, their texts, and what these say.
-use Rattle.std.specs.Prelude.{ℕ, ℤ, pos, negsuc, neg_ℤ, List, [], ◌∷◌, ◌++◌, true, false, codes}
+use Rattle.std.specs.Prelude.{ℕ, ℤ, pos, negsuc, neg_ℤ, List, [], ◌∷◌, ◌++◌, true, false, codes, None}
 use Rattle.wasmprinter_spec.specs.Grammar.{Placed}
 use Rattle.wasmprinter_spec.specs.Types as types
-use Rattle.wasmprinter_spec.specs.Types.{HeapType, ref_type, ValType, Ref, FuncComposite, SubType, final_type}
+use Rattle.wasmprinter_spec.specs.Types.{HeapType, ref_type, ValType, Ref, FuncComposite, SubType, final_type, FuncKind}
 use Rattle.wasmprinter_spec.specs.Operator.{opcode, NoImmediates, Index, I32, I64, Operator}
 use Rattle.wasmprinter_spec.specs.Placed.{TypeGroup, type_group, PlacedModule}
 use Rattle.wasmprinter_spec.specs.Module.{Module}
+use Rattle.wasmprinter_spec.specs.IndexSpaces.{Spaces}
 
 -- the magic and the version
 abbrev pub head_bytes : List ℕ
@@ -59,10 +60,39 @@ i64_const z = record { opcode = opcode 0 0x42; immediates = I64 z }
 -- ---- the module without fields
 
 abbrev pub empty_placed : PlacedModule
-empty_placed = record { types = []; functions = []; exports = []; size = 8 }
+empty_placed = record {
+  types = [];
+  imports = [];
+  tables = [];
+  memories = [];
+  tags = [];
+  globals = [];
+  exports = [];
+  start = None;
+  elements = [];
+  functions = [];
+  datas = [];
+  size = 8;
+}
 
 abbrev pub empty : Module
-empty = record { types = []; functions = []; exports = [] }
+empty = record {
+  types = [];
+  imports = [];
+  functions = [];
+  tables = [];
+  memories = [];
+  tags = [];
+  globals = [];
+  exports = [];
+  start = None;
+  elements = [];
+  datas = [];
+}
+
+-- no index spaces hold anything
+abbrev pub no_spaces : Spaces
+no_spaces = record { types = []; functions = []; tables = []; memories = []; tags = []; globals = []; elems = []; datas = []; locals = [] }
 
 -- ---- a function that gives back its parameter, under the name f
 
@@ -75,7 +105,7 @@ identity_bytes =
     ++ (0x0a ∷ 0x06 ∷ 0x01 ∷ 0x04 ∷ 0x00 ∷ 0x20 ∷ 0x00 ∷ 0x0b ∷ [])
 
 abbrev pub identity_placed : PlacedModule
-identity_placed = record {
+identity_placed = record empty_placed {
   types = bare 0xb (func (types.I32 ∷ []) (types.I32 ∷ [])) ∷ [];
   functions =
       record {
@@ -86,15 +116,15 @@ identity_placed = record {
         };
       }
       ∷ [];
-  exports = record { place = 0x17; value = record { name = codes "f"; function = 0 } } ∷ [];
+  exports = record { place = 0x17; value = record { name = codes "f"; kind = FuncKind; index = 0 } } ∷ [];
   size = 35;
 }
 
 abbrev pub identity : Module
-identity = record {
+identity = record empty {
   types = (func (types.I32 ∷ []) (types.I32 ∷ []) ∷ []) ∷ [];
   functions = record { type_index = 0; locals = []; operators = local_get 0 ∷ [] } ∷ [];
-  exports = record { name = codes "f"; function = 0 } ∷ [];
+  exports = record { name = codes "f"; kind = FuncKind; index = 0 } ∷ [];
 }
 
 abbrev pub identity_text : List ℕ
@@ -132,7 +162,7 @@ abbrev pub stored_bytes : List ℕ
 stored_bytes = stored_bytes_to_end ++ (0x0b ∷ [])
 
 abbrev pub stored_placed : PlacedModule
-stored_placed = record {
+stored_placed = record empty_placed {
   types = bare 0xb (func [] (types.I64 ∷ [])) ∷ [];
   functions =
       record {
@@ -156,7 +186,7 @@ stored_placed = record {
 }
 
 abbrev pub stored : Module
-stored = record {
+stored = record empty {
   types = (func [] (types.I64 ∷ []) ∷ []) ∷ [];
   functions =
       record {
@@ -202,7 +232,7 @@ mixed_bytes =
     ++ (0x04 ∷ 0x01 ∷ 0x00 ∷ 0x7f ∷ 0x0b ∷ [])
 
 abbrev pub mixed_placed : PlacedModule
-mixed_placed = record {
+mixed_placed = record empty_placed {
   types =
       bare 0xb (func [] [])
       ∷ bare 0xe (func (types.I32 ∷ types.I64 ∷ []) (types.I64 ∷ types.I32 ∷ []))
@@ -237,15 +267,15 @@ mixed_placed = record {
       }
       ∷ [];
   exports =
-      record { place = 0x1e; value = record { name = 0x1b ∷ 0xc3 ∷ 0xa9 ∷ []; function = 1 } }
-      ∷ record { place = 0x24; value = record { name = []; function = 12 } }
+      record { place = 0x1e; value = record { name = 0x1b ∷ 0xc3 ∷ 0xa9 ∷ []; kind = FuncKind; index = 1 } }
+      ∷ record { place = 0x24; value = record { name = []; kind = FuncKind; index = 12 } }
       ∷ [];
   size = 0x56;
 }
 
 -- what it is without places, where its last function uses this type
 abbrev pub mixed_using : ℕ → Module
-mixed_using type = record {
+mixed_using type = record empty {
   types = (func [] [] ∷ []) ∷ (func (types.I32 ∷ types.I64 ∷ []) (types.I64 ∷ types.I32 ∷ []) ∷ []) ∷ [];
   functions =
       record { type_index = 0; locals = []; operators = [] }
@@ -256,7 +286,7 @@ mixed_using type = record {
       }
       ∷ record { type_index = type; locals = []; operators = [] }
       ∷ [];
-  exports = record { name = 0x1b ∷ 0xc3 ∷ 0xa9 ∷ []; function = 1 } ∷ record { name = []; function = 12 } ∷ [];
+  exports = record { name = 0x1b ∷ 0xc3 ∷ 0xa9 ∷ []; kind = FuncKind; index = 1 } ∷ record { name = []; kind = FuncKind; index = 12 } ∷ [];
 }
 
 abbrev pub mixed : Module

@@ -180,7 +180,14 @@ mutual_types = record {
     tt,
   );
   functions = (record { type_index = (_, refl); locals = (omega arith, tt); operators = tt }, tt);
+  imports = tt;
+  tables = tt;
+  tags = tt;
+  globals = tt;
   exports = tt;
+  start = tt;
+  elements = tt;
+  datas = tt;
 }
 
 undeclared_supertype : IsIndexed (of_types (sub_type false (1 ∷ []) nothing ∷ [])) → ⊥

@@ -11,11 +11,11 @@ use Rattle.wasmprinter_spec.specs.Module.{Module}
 use Rattle.wasmprinter_spec.specs.Call.{Call, Style, Text, Start, Name, Keyword, TypeName, Reset, text_of, atoms}
 use Rattle.wasmprinter_spec.specs.Options.{Options, defaults}
 use Rattle.wasmprinter_spec.specs.Piece.{Piece, repeated, left_in, place_text, all_calls}
-use Rattle.wasmprinter_spec.specs.Layout.Groups.{group, group_gap, group_at, group_gap_at, line_group, line_group_gap, numbered}
+use Rattle.wasmprinter_spec.specs.Layout.Groups.{group, line_group_gap, group_at, group_gap_at, line_group, numbered}
 use Rattle.wasmprinter_spec.specs.Layout.Types.{heap_pieces, null_ref_pieces, ref_pieces, val_pieces, type_list, list_group, signature_pieces, storage_pieces, field_pieces, struct_pieces, composite_pieces, supertype_pieces, sub_group, sub_pieces, type_pieces, member_pieces, type_group_pieces, type_section_pieces}
 use Rattle.wasmprinter_spec.specs.Layout.Operators.{operator_pieces, operators_pieces, expression_pieces}
-use Rattle.wasmprinter_spec.specs.Layout.{body_pieces, local_group, local_pieces, signature_if, header_pieces, function_group, function_pieces, module_field_pieces, module_pieces, layout}
-use Rattle.wasmprinter_spec.specs.Table.{table, control_rows, variable_rows, number_rows}
+use Rattle.wasmprinter_spec.specs.Layout.{module_field_pieces, module_pieces, layout, tag_pieces, start_pieces}
+use Rattle.wasmprinter_spec.specs.Table.{table}
 use Rattle.wasmprinter_spec.specs.Character.{class}
 use Rattle.wasmprinter_spec.specs.Numeral.{numeral, natural}
 use Rattle.wasmprinter_spec.specs.Token.{lex}
@@ -23,6 +23,12 @@ use Rattle.wasmprinter_spec.specs.Code.{head}
 use Rattle.wasmprinter_spec.specs.Text.Items.{groups}
 use Rattle.wasmprinter_spec.specs.Text.Types.{heap_of_word, ref_of_word, number_of_word, packed_of_word}
 use Rattle.wasmprinter_spec.specs.Read.{read}
+use Rattle.wasmprinter_spec.specs.Layout.Exports.{export_pieces, kind_word, extern_index_pieces}
+use Rattle.wasmprinter_spec.specs.Layout.Memories.{memory_pieces, memory_type_pieces}
+use Rattle.wasmprinter_spec.specs.Text.Exports.{kind_of_word}
+use Rattle.wasmprinter_spec.specs.Layout.Functions.{body_pieces, local_group, local_pieces, signature_if, header_pieces, function_group, function_pieces}
+use Rattle.wasmprinter_spec.specs.Layout.Limits.{limits_pieces}
+use Rattle.wasmprinter_spec.specs.Layout.Imports.{imports_pieces}
 use Rattle.wasmprinter_spec.proofs.Samples.{lines, head_bytes, to, to_null, func, empty}
 
 -- ---- from bytes to text
@@ -47,7 +53,7 @@ group_of_one : printed (with_types (0x01 ∷ 0x4e ∷ 0x01 ∷ 0x60 ∷ 0x00 ∷
     ∷ codes "    (type (;0;) (func))"
     ∷ codes "  )"
     ∷ []))
-unfolding group group_at line_group line_group_gap list_group signature_pieces composite_pieces sub_pieces type_pieces member_pieces type_group_pieces type_section_pieces numbered module_field_pieces module_pieces layout repeated digits
+unfolding group group_at line_group line_group_gap list_group signature_pieces composite_pieces sub_pieces type_pieces member_pieces type_group_pieces type_section_pieces numbered module_field_pieces module_pieces layout repeated digits memory_pieces memory_type_pieces limits_pieces export_pieces kind_word extern_index_pieces tag_pieces start_pieces imports_pieces
 group_of_one = refl
 
 -- each type of a group has the place behind two bytes, whatever the bytes before it are
@@ -61,15 +67,15 @@ group_with_offsets : printed_by (record defaults { offsets = true }) (with_types
     ∷ codes "(;@18    ;)  (rec)"
     ∷ codes "(;@1a    ;))"
     ∷ []))
-unfolding group group_at line_group line_group_gap list_group signature_pieces composite_pieces supertype_pieces sub_group sub_pieces type_pieces member_pieces type_group_pieces type_section_pieces numbered module_field_pieces module_pieces layout repeated left_in place_text digits
+unfolding group group_at line_group line_group_gap list_group signature_pieces composite_pieces supertype_pieces sub_group sub_pieces type_pieces member_pieces type_group_pieces type_section_pieces numbered module_field_pieces module_pieces layout repeated left_in place_text digits memory_pieces memory_type_pieces limits_pieces export_pieces kind_word extern_index_pieces tag_pieces start_pieces imports_pieces
 group_with_offsets = refl
 
 structure : printed (with_types (0x01 ∷ 0x5f ∷ 0x02 ∷ 0x78 ∷ 0x01 ∷ 0x7f ∷ 0x00 ∷ [])) ≡ Some (module_text (codes "  (type (;0;) (struct (field (mut i8)) (field i32)))" ∷ []))
-unfolding group_at line_group line_group_gap val_pieces storage_pieces field_pieces struct_pieces composite_pieces sub_pieces type_pieces type_group_pieces type_section_pieces numbered module_field_pieces module_pieces layout repeated digits
+unfolding group_at line_group line_group_gap val_pieces storage_pieces field_pieces struct_pieces composite_pieces sub_pieces type_pieces type_group_pieces type_section_pieces numbered module_field_pieces module_pieces layout repeated digits memory_pieces memory_type_pieces limits_pieces export_pieces kind_word extern_index_pieces tag_pieces start_pieces imports_pieces
 structure = refl
 
 open_array : printed (with_types (0x01 ∷ 0x50 ∷ 0x00 ∷ 0x5e ∷ 0x7f ∷ 0x00 ∷ [])) ≡ Some (module_text (codes "  (type (;0;) (sub (array i32)))" ∷ []))
-unfolding group_at line_group line_group_gap val_pieces storage_pieces field_pieces composite_pieces supertype_pieces sub_group sub_pieces type_pieces type_group_pieces type_section_pieces numbered module_field_pieces module_pieces layout repeated digits
+unfolding group_at line_group line_group_gap val_pieces storage_pieces field_pieces composite_pieces supertype_pieces sub_group sub_pieces type_pieces type_group_pieces type_section_pieces numbered module_field_pieces module_pieces layout repeated digits memory_pieces memory_type_pieces limits_pieces export_pieces kind_word extern_index_pieces tag_pieces start_pieces imports_pieces
 open_array = refl
 
 -- a final type with a supertype, and one without
@@ -78,7 +84,7 @@ final_types : printed (with_types (0x03 ∷ 0x50 ∷ 0x00 ∷ 0x60 ∷ 0x00 ∷ 
     ∷ codes "  (type (;1;) (sub final 0 (func)))"
     ∷ codes "  (type (;2;) (func))"
     ∷ []))
-unfolding group_at line_group line_group_gap list_group signature_pieces composite_pieces supertype_pieces sub_group sub_pieces type_pieces type_group_pieces type_section_pieces numbered module_field_pieces module_pieces layout repeated digits
+unfolding group_at line_group line_group_gap list_group signature_pieces composite_pieces supertype_pieces sub_group sub_pieces type_pieces type_group_pieces type_section_pieces numbered module_field_pieces module_pieces layout repeated digits memory_pieces memory_type_pieces limits_pieces export_pieces kind_word extern_index_pieces tag_pieces start_pieces imports_pieces
 final_types = refl
 
 -- supertypes, of which the second stands behind
@@ -86,7 +92,7 @@ two_supertypes : printed (with_types (0x02 ∷ 0x50 ∷ 0x02 ∷ 0x00 ∷ 0x01 �
     codes "  (type (;0;) (sub 0 1 (struct)))"
     ∷ codes "  (type (;1;) (array (mut i16)))"
     ∷ []))
-unfolding group_at line_group line_group_gap storage_pieces field_pieces struct_pieces composite_pieces supertype_pieces sub_group sub_pieces type_pieces type_group_pieces type_section_pieces numbered module_field_pieces module_pieces layout repeated digits
+unfolding group_at line_group line_group_gap storage_pieces field_pieces struct_pieces composite_pieces supertype_pieces sub_group sub_pieces type_pieces type_group_pieces type_section_pieces numbered module_field_pieces module_pieces layout repeated digits memory_pieces memory_type_pieces limits_pieces export_pieces kind_word extern_index_pieces tag_pieces start_pieces imports_pieces
 two_supertypes = refl
 
 abbrev value_bytes : List ℕ
@@ -103,7 +109,7 @@ each_type_text = module_text ((
     ++ codes " (result (ref exn) (ref array) (ref struct) (ref i31) (ref eq) (ref any) (ref extern) (ref func) (ref none) (ref noextern) (ref nofunc) (ref noexn) (ref null 0) (ref 0))))") ∷ [])
 
 each_type : printed (with_types (0x01 ∷ 0x60 ∷ 0x13 ∷ (value_bytes ++ 0x0e ∷ reference_bytes))) ≡ Some each_type_text
-unfolding group_at line_group line_group_gap heap_pieces null_ref_pieces ref_pieces val_pieces type_list list_group signature_pieces composite_pieces sub_pieces type_pieces type_group_pieces type_section_pieces numbered module_field_pieces module_pieces layout repeated digits
+unfolding group_at line_group line_group_gap heap_pieces null_ref_pieces ref_pieces val_pieces type_list list_group signature_pieces composite_pieces sub_pieces type_pieces type_group_pieces type_section_pieces numbered module_field_pieces module_pieces layout repeated digits memory_pieces memory_type_pieces limits_pieces export_pieces kind_word extern_index_pieces tag_pieces start_pieces imports_pieces
 each_type = refl
 
 -- functions use types of groups: one of a function type behind a group, and one of a structure
@@ -121,7 +127,7 @@ functions_of_groups : printed (head_bytes
     ∷ codes "  )"
     ∷ codes "  (func (;1;) (type 0))"
     ∷ []))
-unfolding group group_gap group_at group_gap_at line_group line_group_gap heap_pieces ref_pieces val_pieces type_list list_group signature_pieces struct_pieces composite_pieces sub_pieces type_pieces member_pieces type_group_pieces type_section_pieces operator_pieces operators_pieces expression_pieces body_pieces local_group local_pieces signature_if header_pieces function_group function_pieces numbered module_field_pieces module_pieces layout repeated digits table control_rows variable_rows number_rows
+unfolding group line_group_gap group_at group_gap_at line_group heap_pieces ref_pieces val_pieces type_list list_group signature_pieces struct_pieces composite_pieces sub_pieces type_pieces member_pieces type_group_pieces type_section_pieces operator_pieces operators_pieces expression_pieces body_pieces local_group local_pieces signature_if header_pieces function_group function_pieces numbered module_field_pieces module_pieces layout repeated digits table memory_pieces memory_type_pieces limits_pieces export_pieces kind_word extern_index_pieces tag_pieces start_pieces imports_pieces
 functions_of_groups = refl
 
 -- ---- calls
@@ -175,13 +181,13 @@ nothing = FuncComposite (record { params = []; results = [] })
 reads_each_type : read each_type_text ≡ Some (of_groups ((func
     (I32 ∷ I64 ∷ F32 ∷ F64 ∷ V128 ∷ map to_null (Exn ∷ Array ∷ Struct ∷ I31 ∷ Eq ∷ Any ∷ Extern ∷ Func ∷ NoAny ∷ NoExtern ∷ NoFunc ∷ NoExn ∷ Func ∷ NoExn ∷ []))
     (map to (Exn ∷ Array ∷ Struct ∷ I31 ∷ Eq ∷ Any ∷ Extern ∷ Func ∷ NoAny ∷ NoExtern ∷ NoFunc ∷ NoExn ∷ []) ++ to_null (Index 0) ∷ to (Index 0) ∷ []) ∷ []) ∷ []))
-unfolding lex class numeral natural groups heap_of_word ref_of_word number_of_word is_utf8 chars encode_utf8
+unfolding lex class numeral natural groups heap_of_word ref_of_word number_of_word is_utf8 chars encode_utf8 kind_of_word
 reads_each_type = refl
 
 -- the long forms of references that may be null
 reads_long_forms : read (codes "(module (type (func (param (ref null func) (ref null none) (ref null 0x0) (ref null $t)))) (type $t (array (ref null i31))))")
     ≡ Some (of_groups ((func (to_null Func ∷ to_null NoAny ∷ to_null (Index 0) ∷ to_null (Index 1) ∷ []) [] ∷ []) ∷ (final_type (ArrayComposite (field_type false (Val (to_null I31)))) ∷ []) ∷ []))
-unfolding lex class numeral natural groups heap_of_word ref_of_word number_of_word packed_of_word is_utf8 chars encode_utf8
+unfolding lex class numeral natural groups heap_of_word ref_of_word number_of_word packed_of_word is_utf8 chars encode_utf8 kind_of_word
 reads_long_forms = refl
 
 -- printed groups, also without types
@@ -198,7 +204,7 @@ reads_groups : read (module_text (
     ∷ []
     ∷ (func [] [] ∷ [])
     ∷ []))
-unfolding lex class numeral natural groups heap_of_word ref_of_word number_of_word packed_of_word is_utf8 chars encode_utf8
+unfolding lex class numeral natural groups heap_of_word ref_of_word number_of_word packed_of_word is_utf8 chars encode_utf8 kind_of_word
 reads_groups = refl
 
 -- identifiers of types and fields, in groups and outside, for types behind their use; fields in one group
@@ -206,13 +212,13 @@ reads_names : read (codes "(module (type $p (sub final $a $q (struct (field $x i
     (sub_type true (1 ∷ 3 ∷ []) (StructComposite (field_type false (Val I32) ∷ field_type false I16 ∷ field_type true (Val (to (Index 2))) ∷ field_type true (Val F32) ∷ [])) ∷ [])
     ∷ (final_type nothing ∷ sub_type false [] nothing ∷ final_type (ArrayComposite (field_type false (Val (to (Index 0))))) ∷ [])
     ∷ []))
-unfolding lex class numeral natural groups heap_of_word ref_of_word number_of_word packed_of_word is_utf8 chars encode_utf8
+unfolding lex class numeral natural groups heap_of_word ref_of_word number_of_word packed_of_word is_utf8 chars encode_utf8 kind_of_word
 reads_names = refl
 
 -- one identifier in two structures; `sub final` without supertypes is the composite type by itself
 reads_shared_names : read (codes "(module (type $x (struct (field $x i32))) (type (sub final (struct (field $x i32)))))")
     ≡ Some (of_groups ((final_type (StructComposite (field_type false (Val I32) ∷ [])) ∷ []) ∷ (final_type (StructComposite (field_type false (Val I32) ∷ [])) ∷ []) ∷ []))
-unfolding lex class numeral natural groups heap_of_word ref_of_word number_of_word packed_of_word is_utf8 chars encode_utf8
+unfolding lex class numeral natural groups heap_of_word ref_of_word number_of_word packed_of_word is_utf8 chars encode_utf8 kind_of_word
 reads_shared_names = refl
 
 -- a signature with references beside the index of a type in a group
@@ -221,5 +227,5 @@ reads_function : read (codes "(module (func (type $f) (param $x (ref $s)) (resul
       types = (final_type (StructComposite []) ∷ func (to (Index 0) ∷ []) (to_null (Index 0) ∷ []) ∷ []) ∷ [];
       functions = record { type_index = 1; locals = to (Index 0) ∷ to_null Func ∷ V128 ∷ []; operators = record { opcode = record { prefix = 0; number = 0x20 }; immediates = operator.Index 0 } ∷ [] } ∷ [];
     })
-unfolding lex class numeral natural groups heap_of_word ref_of_word number_of_word packed_of_word table control_rows variable_rows number_rows is_utf8 chars encode_utf8 head
+unfolding lex class numeral natural groups heap_of_word ref_of_word number_of_word packed_of_word table is_utf8 chars encode_utf8 head kind_of_word
 reads_function = refl

@@ -2,7 +2,7 @@
 use Rattle.std.specs.Prelude.{◌≡◌, ℕ, ◌+◌, List, [], ◌∷◌, ◌++◌, map, codes, Option, Some, None, refl}
 use Rattle.std.specs.Char.{encode_utf8}
 use Rattle.std.specs.Str.{is_utf8, chars}
-use Rattle.wasmprinter_spec.specs.Table.{table, control_rows, variable_rows, number_rows}
+use Rattle.wasmprinter_spec.specs.Table.{table}
 use Rattle.wasmprinter_spec.specs.Module.{Module}
 use Rattle.wasmprinter_spec.specs.Character.{class}
 use Rattle.wasmprinter_spec.specs.Numeral.{numeral, natural, integer}
@@ -11,6 +11,7 @@ use Rattle.wasmprinter_spec.specs.Code.{head}
 use Rattle.wasmprinter_spec.specs.Text.Types.{heap_of_word, ref_of_word, number_of_word, packed_of_word}
 use Rattle.wasmprinter_spec.specs.Text.Items.{groups}
 use Rattle.wasmprinter_spec.specs.Read.{read}
+use Rattle.wasmprinter_spec.specs.Text.Exports.{kind_of_word}
 use Rattle.wasmprinter_spec.proofs.Samples.{mixed_text}
 
 abbrev number_if : Option Module → ℕ → List ℕ
@@ -22,12 +23,12 @@ numbers_from n [] = []
 numbers_from n (t ∷ ts) = number_if (read t) n ++ numbers_from (n + 1) ts
 
 -- which of these texts write a module, counted from 0
-abbrev numbers_read : List (List ℕ) → List ℕ
+abbrev pub numbers_read : List (List ℕ) → List ℕ
 numbers_read ts = numbers_from 0 ts
 
 -- a text that reads is seen
 read_among : numbers_read (codes "(module" ∷ codes "(module)" ∷ codes "module" ∷ codes "(module (type (func)))" ∷ []) ≡ 1 ∷ 3 ∷ []
-unfolding lex class escape numeral natural integer groups table control_rows variable_rows number_rows head is_utf8 chars encode_utf8 heap_of_word ref_of_word number_of_word packed_of_word
+unfolding lex class escape numeral natural integer groups table head is_utf8 chars encode_utf8 heap_of_word ref_of_word number_of_word packed_of_word kind_of_word
 read_among = refl
 
 -- parentheses that don't match, more than one module or none
@@ -44,7 +45,7 @@ unread_groups : numbers_read (
     ∷ codes "((module))"
     ∷ codes "(modules)"
     ∷ []) ≡ []
-unfolding lex class escape numeral natural integer groups table control_rows variable_rows number_rows head is_utf8 chars encode_utf8 heap_of_word ref_of_word number_of_word packed_of_word
+unfolding lex class escape numeral natural integer groups table head is_utf8 chars encode_utf8 heap_of_word ref_of_word number_of_word packed_of_word kind_of_word
 unread_groups = refl
 
 -- texts and comments that stay open, signs that mean nothing outside annotations, and characters that stand in comments alone
@@ -68,7 +69,7 @@ unread_tokens : numbers_read (
     ∷ (codes "(module " ++ 0xc3 ∷ 0xa9 ∷ codes ")")
     ∷ (codes "(module (; " ++ 0xff ∷ codes " ;))")
     ∷ []) ≡ []
-unfolding lex class escape numeral natural integer groups table control_rows variable_rows number_rows head is_utf8 chars encode_utf8 heap_of_word ref_of_word number_of_word packed_of_word
+unfolding lex class escape numeral natural integer groups table head is_utf8 chars encode_utf8 heap_of_word ref_of_word number_of_word packed_of_word kind_of_word
 unread_tokens = refl
 
 -- two tokens that touch
@@ -80,12 +81,12 @@ unread_touching : numbers_read (
     ∷ codes "(module (type (func (param i32))) (func (type 0) (param $x i32) local.get$x))"
     ∷ codes "(module (type (func)) (func (type 0) (local $\"x\"i32)))"
     ∷ []) ≡ []
-unfolding lex class escape numeral natural integer groups table control_rows variable_rows number_rows head is_utf8 chars encode_utf8 heap_of_word ref_of_word number_of_word packed_of_word
+unfolding lex class escape numeral natural integer groups table head is_utf8 chars encode_utf8 heap_of_word ref_of_word number_of_word packed_of_word kind_of_word
 unread_touching = refl
 
 -- custom sections are not read yet
 unread_customs : numbers_read (codes "(module (@custom \"a\" \"b\"))" ∷ codes "(module (type (func)) (@\"custom\" \"a\" (before first) \"b\"))" ∷ []) ≡ []
-unfolding lex class escape numeral natural integer groups table control_rows variable_rows number_rows head is_utf8 chars encode_utf8 heap_of_word ref_of_word number_of_word packed_of_word
+unfolding lex class escape numeral natural integer groups table head is_utf8 chars encode_utf8 heap_of_word ref_of_word number_of_word packed_of_word kind_of_word
 unread_customs = refl
 
 unread_fields : numbers_read (
@@ -108,7 +109,7 @@ unread_fields : numbers_read (
     ∷ codes "(module (export \"f\" (type 0)))"
     ∷ codes "(module (export \"\\ff\" (func 0)))"
     ∷ []) ≡ []
-unfolding lex class escape numeral natural integer groups table control_rows variable_rows number_rows head is_utf8 chars encode_utf8 heap_of_word ref_of_word number_of_word packed_of_word
+unfolding lex class escape numeral natural integer groups table head is_utf8 chars encode_utf8 heap_of_word ref_of_word number_of_word packed_of_word kind_of_word
 unread_fields = refl
 
 -- numbers beyond 32 bits, and identifiers without one declaration in their space
@@ -129,7 +130,7 @@ unread_indices : numbers_read (
     ∷ codes "(module (type (func)) (func $f (type 0)) (func (type $f)))"
     ∷ codes "(module (type (func)) (func $f (type 0) (local $l i32) call $l))"
     ∷ []) ≡ []
-unfolding lex class escape numeral natural integer groups table control_rows variable_rows number_rows head is_utf8 chars encode_utf8 heap_of_word ref_of_word number_of_word packed_of_word
+unfolding lex class escape numeral natural integer groups table head is_utf8 chars encode_utf8 heap_of_word ref_of_word number_of_word packed_of_word kind_of_word
 unread_indices = refl
 
 -- an identifier declared twice in one space, which nothing uses
@@ -145,7 +146,7 @@ unread_identifiers : numbers_read (
     ∷ codes "(module (type (func)) (func (type 0) (local $x i32) (local i32) (local $x i32)))"
     ∷ codes "(module (type (func (param i32))) (func (type 0) (local i32) (local $x i32) (local $x i32)))"
     ∷ []) ≡ []
-unfolding lex class escape numeral natural integer groups table control_rows variable_rows number_rows head is_utf8 chars encode_utf8 heap_of_word ref_of_word number_of_word packed_of_word
+unfolding lex class escape numeral natural integer groups table head is_utf8 chars encode_utf8 heap_of_word ref_of_word number_of_word packed_of_word kind_of_word
 unread_identifiers = refl
 
 -- a signature beside a type's index is whole and in order
@@ -166,7 +167,7 @@ unread_signatures : numbers_read (
     ∷ codes "(module (type (func)) (func (type 0) $f))"
     ∷ codes "(module (type (func)) (func (type 0 0)))"
     ∷ []) ≡ []
-unfolding lex class escape numeral natural integer groups table control_rows variable_rows number_rows head is_utf8 chars encode_utf8 heap_of_word ref_of_word number_of_word packed_of_word
+unfolding lex class escape numeral natural integer groups table head is_utf8 chars encode_utf8 heap_of_word ref_of_word number_of_word packed_of_word kind_of_word
 unread_signatures = refl
 
 -- a function whose type isn't declared or is no function type, with a signature beside it and without one
@@ -183,7 +184,7 @@ unread_type_uses : numbers_read (
     ∷ codes "(module (rec (type (func)) (type (struct))) (func (type 1)))"
     ∷ mixed_text
     ∷ []) ≡ []
-unfolding lex class escape numeral natural integer groups table control_rows variable_rows number_rows head is_utf8 chars encode_utf8 heap_of_word ref_of_word number_of_word packed_of_word
+unfolding lex class escape numeral natural integer groups table head is_utf8 chars encode_utf8 heap_of_word ref_of_word number_of_word packed_of_word kind_of_word
 unread_type_uses = refl
 
 -- types that no grammar has, an identifier declared twice in a structure or in groups, a name of no type
@@ -220,7 +221,7 @@ unread_types : numbers_read (
     ∷ codes "(module (type $t (func)) (rec (type $t (func))))"
     ∷ codes "(module (rec (type $t (func)) (type $t (func))))"
     ∷ []) ≡ []
-unfolding lex class escape numeral natural integer groups heap_of_word ref_of_word number_of_word packed_of_word table control_rows variable_rows number_rows is_utf8 chars encode_utf8
+unfolding lex class escape numeral natural integer groups heap_of_word ref_of_word number_of_word packed_of_word table is_utf8 chars encode_utf8 kind_of_word
 unread_types = refl
 
 -- words of no heap type or of no value type, more than a heap type, and indices that can't be
@@ -251,7 +252,7 @@ unread_references : numbers_read (map (λ t. codes "(module (type $t (func (para
     ∷ codes "$t"
     ∷ codes "$x i32 (ref func)"
     ∷ [])) ≡ []
-unfolding lex class escape numeral natural integer groups heap_of_word ref_of_word number_of_word packed_of_word table control_rows variable_rows number_rows is_utf8 chars encode_utf8
+unfolding lex class escape numeral natural integer groups heap_of_word ref_of_word number_of_word packed_of_word table is_utf8 chars encode_utf8 kind_of_word
 unread_references = refl
 
 -- a text of one function with this code
@@ -283,7 +284,7 @@ unread_code : numbers_read (map procedure (
     ∷ codes "block (type 0) (param i32) end"
     ∷ codes "block (type 1) end"
     ∷ [])) ≡ []
-unfolding lex class escape numeral natural integer groups table control_rows variable_rows number_rows head is_utf8 chars encode_utf8 heap_of_word ref_of_word number_of_word packed_of_word
+unfolding lex class escape numeral natural integer groups table head is_utf8 chars encode_utf8 heap_of_word ref_of_word number_of_word packed_of_word kind_of_word
 unread_code = refl
 
 -- operands stand behind what the operator's word takes, and are folded themselves
@@ -308,5 +309,5 @@ unread_folded : numbers_read (map procedure (
     ∷ codes "(call 0 (type 0))"
     ∷ codes "(drop (drop) (param i32))"
     ∷ [])) ≡ []
-unfolding lex class escape numeral natural integer groups table control_rows variable_rows number_rows head is_utf8 chars encode_utf8 heap_of_word ref_of_word number_of_word packed_of_word
+unfolding lex class escape numeral natural integer groups table head is_utf8 chars encode_utf8 heap_of_word ref_of_word number_of_word packed_of_word kind_of_word
 unread_folded = refl

@@ -1,15 +1,26 @@
 -- How bytes spell a module (section 5.5 of the standard, "Modules"): a preamble, and sections up to the end.
-use Rattle.std.specs.Prelude.{◌≡◌, ℕ, ◌<◌, List, [], ◌∷◌, ◌++◌, bytes_eq, Option, Some, None, if◌then◌else◌}
+use Rattle.std.specs.Prelude.{◌≡◌, ℕ, ◌<◌, Bool, true, ◌&&◌, ◌==◌, length, List, [], ◌∷◌, ◌++◌, bytes_eq, Option, Some, None, if◌then◌else◌}
 use Rattle.std.specs.List.{AllByRecursion}
 use Rattle.wasmprinter_spec.specs.Grammar.{Grammar, Remainder, ◌>>=◌, try_map, Placed}
 use Rattle.wasmprinter_spec.specs.Repeated.{until_end}
 use Rattle.wasmprinter_spec.specs.Sized.{take_bytes, headed, concluded}
-use Rattle.wasmprinter_spec.specs.Placed.{TypeGroup, Body, Export, PlacedFunction, PlacedModule}
-use Rattle.wasmprinter_spec.specs.Sections.{Section, TypeSection, FunctionSection, ExportSection, CodeSection, section, are_above, content_in}
+use Rattle.wasmprinter_spec.specs.Types.{MemoryType}
+use Rattle.wasmprinter_spec.specs.Operator.{Operator}
+use Rattle.wasmprinter_spec.specs.Placed.{TypeGroup, Import, Table, Global, ElementEntry, Data, Body, Export, PlacedFunction, PlacedModule}
+use Rattle.wasmprinter_spec.specs.Sections.{Section, TypeSection, ImportSection, FunctionSection, TableSection, MemorySection, TagSection, GlobalSection, ExportSection, StartSection, ElementSection, DataCountSection, CodeSection, DataSection, section, are_above, content_in}
 pub mod ValTypes
 pub mod Types
 pub mod Functions
+pub mod Limits
+pub mod Memories
+pub mod Tables
+pub mod Globals
+pub mod Imports
+pub mod Elements
+pub mod DataSegments
+pub mod Tags
 pub mod Exports
+pub mod Start
 pub mod Code
 
 -- the magic and the version
@@ -26,14 +37,41 @@ preamble = try_map (λ bytes. if bytes_eq bytes preamble_bytes then Some bytes e
 abbrev pub types_in : List Section → List (Placed TypeGroup)
 types_in ss = content_in TypeSection [] ss
 
+abbrev pub imports_in : List Section → List (Placed Import)
+imports_in ss = content_in ImportSection [] ss
+
 abbrev pub type_indices_in : List Section → List ℕ
 type_indices_in ss = content_in FunctionSection [] ss
+
+abbrev pub tables_in : List Section → List (Placed (Table (Placed Operator)))
+tables_in ss = content_in TableSection [] ss
+
+abbrev pub memories_in : List Section → List (Placed MemoryType)
+memories_in ss = content_in MemorySection [] ss
+
+abbrev pub tags_in : List Section → List (Placed ℕ)
+tags_in ss = content_in TagSection [] ss
+
+abbrev pub globals_in : List Section → List (Placed (Global (Placed Operator)))
+globals_in ss = content_in GlobalSection [] ss
 
 abbrev pub exports_in : List Section → List (Placed Export)
 exports_in ss = content_in ExportSection [] ss
 
+abbrev pub start_in : List Section → Option (Placed ℕ)
+start_in ss = content_in StartSection None ss
+
+abbrev pub elements_in : List Section → List (Placed ElementEntry)
+elements_in ss = content_in ElementSection [] ss
+
+abbrev pub data_count_in : List Section → Option ℕ
+data_count_in ss = content_in DataCountSection None ss
+
 abbrev pub bodies_in : List Section → List (Placed Body)
 bodies_in ss = content_in CodeSection [] ss
+
+abbrev pub datas_in : List Section → List (Placed (Data (Placed Operator)))
+datas_in ss = content_in DataSection [] ss
 
 -- the type index of each function with its body, where there are as many of the one as of the other
 abbrev pub function_pairs : List ℕ → List (Placed Body) → Option (List PlacedFunction)
@@ -42,11 +80,31 @@ function_pairs (i ∷ is) (b ∷ bs) = function_pairs is bs >>= λ fs. Some (rec
 function_pairs _ _ = None
 
 abbrev pub module_from : ℕ → List Section → List PlacedFunction → PlacedModule
-module_from size ss fs = record { types = types_in ss; functions = fs; exports = exports_in ss; size = size }
+module_from size ss fs = record {
+  types = types_in ss;
+  imports = imports_in ss;
+  tables = tables_in ss;
+  memories = memories_in ss;
+  tags = tags_in ss;
+  globals = globals_in ss;
+  exports = exports_in ss;
+  start = start_in ss;
+  elements = elements_in ss;
+  functions = fs;
+  datas = datas_in ss;
+  size = size;
+}
+
+-- a data count, where it stands, is the number of data segments
+abbrev pub counts_data : Option ℕ → ℕ → Bool
+counts_data None n = true
+counts_data (Some count) n = count == n
 
 -- the module of the sections, which end at this place
 abbrev pub module_of_sections : ℕ → List Section → Option PlacedModule
-module_of_sections size ss = if are_above 0 ss then (function_pairs (type_indices_in ss) (bodies_in ss) >>= λ fs. Some (module_from size ss fs)) else None
+module_of_sections size ss =
+    if are_above 0 ss && counts_data (data_count_in ss) (length (datas_in ss))
+    then (function_pairs (type_indices_in ss) (bodies_in ss) >>= λ fs. Some (module_from size ss fs)) else None
 
 abbrev pub binary : Remainder PlacedModule
 binary = concluded (λ size x. module_of_sections size x.1) (headed preamble (until_end section))

@@ -1,7 +1,7 @@
 -- Indices in the text format: a number means itself, an identifier the place of its declaration (sections 6.3, "Identifiers" and
 -- "Contexts", and 6.6, "Indices", of the standard). An index space is given by the identifiers of its declarations, in order.
 use Rattle.std.specs.Prelude.{ℕ, ◌+◌, List, [], ◌∷◌, Bool, true, false, cond, not, ◌&&◌, bytes_eq, Option, Some, None, if◌then◌else◌, option_map}
-use Rattle.wasmprinter_spec.specs.Row.{Space, Func, Local, Label, Tag}
+use Rattle.wasmprinter_spec.specs.Row.{Space, Types, Func, Table, Memory, Tag, Global, Elem, Data, Local, Label}
 use Rattle.wasmprinter_spec.specs.Grammar.{◌>>=◌}
 use Rattle.wasmprinter_spec.specs.Types.{FuncType}
 use Rattle.wasmprinter_spec.specs.Numeral.{natural, below}
@@ -41,19 +41,36 @@ index ids (Word w End) = natural w >>= below 32
 index ids (Name s End) = resolve s ids
 index ids _ = None
 
+-- one item that is an index, and what stands behind it
+abbrev pub leading_index : Identifiers → Forest → Option (ℕ × Forest)
+leading_index ids (Word w f) = index ids (Word w End) >>= λ i. Some (i, f)
+leading_index ids (Name s f) = index ids (Name s End) >>= λ i. Some (i, f)
+leading_index ids _ = None
+
 -- the index spaces of a module, and of a function's parameters with its locals
 pub record Spaces : Type 0 where
   pub types : Identifiers
   pub functions : Identifiers
+  pub tables : Identifiers
+  pub memories : Identifiers
   pub tags : Identifiers
+  pub globals : Identifiers
+  pub elems : Identifiers
+  pub datas : Identifiers
   pub locals : Identifiers
 
 -- (Labels are found by another rule, with the operators.)
 abbrev pub space_in : Spaces → Space → Identifiers
+space_in s Types = s.types
 space_in s Func = s.functions
+space_in s Table = s.tables
+space_in s Memory = s.memories
+space_in s Tag = s.tags
+space_in s Global = s.globals
+space_in s Elem = s.elems
+space_in s Data = s.datas
 space_in s Local = s.locals
 space_in s Label = []
-space_in s Tag = s.tags
 
 -- what functions and operators are read with: the index spaces, and the signature of each function type
 pub record Context : Type 0 where

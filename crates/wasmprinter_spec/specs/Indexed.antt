@@ -1,13 +1,15 @@
 -- Every used index is declared: it is below the number of what its index space holds (section 2.5 of the standard, "Indices"). Every valid
 -- module is so.
-use Rattle.std.specs.Prelude.{◌≡◌, ℕ, ◌+◌, ◌<◌, length, Option, Some, None}
+use Rattle.std.specs.Prelude.{◌≡◌, ℕ, ◌+◌, ◌<◌, List, length, Option, Some, None}
 use Rattle.std.specs.List.{AllByRecursion}
-use Rattle.wasmprinter_spec.specs.Types.{FuncType, HeapType, Index, RefType, ValType, Ref, StorageType, Val, FieldType, CompositeType, FuncComposite, ArrayComposite, StructComposite, SubType, all_types, signature_at}
-use Rattle.wasmprinter_spec.specs.Operator.{BlockType, Empty, Value, OfType, Catch, One, OneRef, All, AllRef, Immediates, NoImmediates, Block, TryTable, BranchTable, I32, I64, Operator}
-use Rattle.wasmprinter_spec.specs.Row.{Row, Space, Func, Local, Label, Tag, Shape, NoneShape, BlockShape, TryTableShape, IndexShape, BranchTableShape, I32Shape, I64Shape}
+use Rattle.wasmprinter_spec.specs.Types.{FuncType, HeapType, Index, RefType, ValType, Ref, StorageType, Val, FieldType, CompositeType, FuncComposite, ArrayComposite, StructComposite, SubType, ExternKind, FuncKind, TableKind, MemoryKind, GlobalKind, TagKind, ExternType, FuncExtern, TableExtern, MemoryExtern, GlobalExtern, TagExtern, all_types, signature_at, fields_at}
+use Rattle.wasmprinter_spec.specs.Operator.{BlockType, Empty, Value, OfType, Catch, One, OneRef, All, AllRef, Immediates, NoImmediates, Block, TryTable, Indices, BranchTable, Heap, Cast, MemoryLane, Lane, I32, I64, F32, F64, Bytes, Operator}
+use Rattle.wasmprinter_spec.specs.Row.{Row, Space, Types, Func, Table, Memory, Tag, Global, Elem, Data, Local, Label, Shape, NoneShape, FenceShape, BlockShape, TryTableShape, IndexShape, DefaultIndexShape, PairShape, FieldShape, CountShape, CallShape, SegmentShape, CopyShape, BranchTableShape, SelectShape, HeapShape, RefShape, CastShape, MemoryShape, MemoryLaneShape, LaneShape, I32Shape, I64Shape, F32Shape, F64Shape, VectorShape, LanesShape}
 use Rattle.wasmprinter_spec.specs.Operator as operator
 use Rattle.wasmprinter_spec.specs.Table.{by_opcode}
-use Rattle.wasmprinter_spec.specs.Module.{Function, Module}
+use Rattle.wasmprinter_spec.specs.Placed as placed
+use Rattle.wasmprinter_spec.specs.Placed.{Export, Import, Mode, Passive, Declared, Active, Items, Functions, Expressions, Element, DataMode, PassiveData, ActiveData}
+use Rattle.wasmprinter_spec.specs.Module.{Function, Module, imported, func_import, table_import, memory_import, global_import, tag_import}
 
 -- ---- types: each type index in them is below the number of types
 
@@ -45,19 +47,31 @@ module _ (types : ℕ) where
 
 -- ---- operators
 
--- how many items each index space holds, and the signature of each type that is a function type
+-- how many items each index space holds, and of the types the signature of each function type and the fields of each structure type
 pub record Counts : Type 0 where
-  pub functions : ℕ
-  pub tags : ℕ
-  pub locals : ℕ
   pub types : ℕ
+  pub functions : ℕ
+  pub tables : ℕ
+  pub memories : ℕ
+  pub tags : ℕ
+  pub globals : ℕ
+  pub elems : ℕ
+  pub datas : ℕ
+  pub locals : ℕ
   pub signature : ℕ → Option FuncType
+  pub fields : ℕ → Option (List FieldType)
 
 -- An index into a space. A label may be any number: it is the text of a branch that leads nowhere.
 abbrev pub IsIndex : Counts → Space → ℕ → Type 0
+IsIndex c Types n = n < c.types
 IsIndex c Func n = n < c.functions
-IsIndex c Local n = n < c.locals
+IsIndex c Table n = n < c.tables
+IsIndex c Memory n = n < c.memories
 IsIndex c Tag n = n < c.tags
+IsIndex c Global n = n < c.globals
+IsIndex c Elem n = n < c.elems
+IsIndex c Data n = n < c.datas
+IsIndex c Local n = n < c.locals
 IsIndex c Label n = Unit {0}
 
 abbrev pub IsFunctionType : Option FuncType → Type 0
@@ -75,15 +89,39 @@ IsCatch c (OneRef t l) = t < c.tags
 IsCatch c (All l) = Unit {0}
 IsCatch c (AllRef l) = Unit {0}
 
+-- a field of a structure type
+abbrev pub IsFieldOf : Option (List FieldType) → ℕ → Type 0
+IsFieldOf None n = ⊥
+IsFieldOf (Some fs) n = n < length fs
+
 -- A line for each shape, with the immediates that fit it. No other immediates are an operator's.
 abbrev pub AreDeclared : Counts → Shape → Immediates → Type 0
 AreDeclared c NoneShape NoImmediates = Unit {0}
+AreDeclared c FenceShape NoImmediates = Unit {0}
 AreDeclared c BlockShape (Block t) = IsBlockType c t
 AreDeclared c TryTableShape (TryTable t cs) = IsBlockType c t × AllByRecursion (IsCatch c) cs
 AreDeclared c (IndexShape space) (operator.Index n) = IsIndex c space n
+AreDeclared c (DefaultIndexShape space) (operator.Index n) = IsIndex c space n
+AreDeclared c (PairShape first second) (Indices m n) = IsIndex c first m × IsIndex c second n
+AreDeclared c FieldShape (Indices t n) = IsFieldOf (c.fields t) n
+AreDeclared c CountShape (Indices t n) = IsIndex c Types t
+AreDeclared c CallShape (Indices t n) = IsFunctionType (c.signature t) × IsIndex c Table n
+AreDeclared c (SegmentShape segments space) (Indices m n) = IsIndex c segments m × IsIndex c space n
+AreDeclared c (CopyShape space) (Indices m n) = IsIndex c space m × IsIndex c space n
 AreDeclared c BranchTableShape (BranchTable ls l) = Unit {0}
+AreDeclared c SelectShape (operator.Types ts) = AllByRecursion (IsDeclaredVal c.types) ts
+AreDeclared c HeapShape (Heap h) = IsDeclaredHeap c.types h
+AreDeclared c (RefShape null) (Heap h) = IsDeclaredHeap c.types h
+AreDeclared c CastShape (Cast l r s) = IsDeclaredRef c.types r × IsDeclaredRef c.types s
+AreDeclared c (MemoryShape natural) (operator.Memory m) = IsIndex c Memory m.memory
+AreDeclared c (MemoryLaneShape natural) (MemoryLane m k) = IsIndex c Memory m.memory
+AreDeclared c LaneShape (Lane k) = Unit {0}
 AreDeclared c I32Shape (I32 z) = Unit {0}
 AreDeclared c I64Shape (I64 z) = Unit {0}
+AreDeclared c F32Shape (F32 bits) = Unit {0}
+AreDeclared c F64Shape (F64 bits) = Unit {0}
+AreDeclared c VectorShape (Bytes bs) = Unit {0}
+AreDeclared c LanesShape (Bytes bs) = Unit {0}
 AreDeclared c _ _ = ⊥
 
 -- an opcode that isn't listed has no immediates
@@ -100,18 +138,28 @@ abbrev pub parameter_count : Option FuncType → ℕ
 parameter_count None = 0
 parameter_count (Some t) = length t.params
 
--- the parameters of a function are the first of its locals
-abbrev pub counts_in : Module → Function → Counts
-counts_in m f = record {
-  functions = length m.functions;
-  tags = 0;
-  types = length (all_types m.types);
-  signature = signature_at (all_types m.types);
-  locals = parameter_count (signature_at (all_types m.types) f.type_index) + length f.locals;
-}
-
 abbrev pub type_count : Module → ℕ
 type_count m = length (all_types m.types)
+
+-- outside functions there are no locals
+abbrev pub counts_of : Module → Counts
+counts_of m = record {
+  types = type_count m;
+  functions = length (imported func_import m.imports) + length m.functions;
+  tables = length (imported table_import m.imports) + length m.tables;
+  memories = length (imported memory_import m.imports) + length m.memories;
+  tags = length (imported tag_import m.imports) + length m.tags;
+  globals = length (imported global_import m.imports) + length m.globals;
+  elems = length m.elements;
+  datas = length m.datas;
+  locals = 0;
+  signature = signature_at (all_types m.types);
+  fields = fields_at (all_types m.types);
+}
+
+-- the parameters of a function are the first of its locals
+abbrev pub counts_in : Module → Function → Counts
+counts_in m f = record (counts_of m) { locals = parameter_count (signature_at (all_types m.types) f.type_index) + length f.locals }
 
 -- the type with this index is a function type
 abbrev pub NamesFunction : Module → ℕ → Type 0
@@ -122,7 +170,76 @@ pub record IsIndexedFunction (m : Module) (f : Function) : Type 0 where
   pub locals : AllByRecursion (IsDeclaredVal (type_count m)) f.locals
   pub operators : AllByRecursion (IsIndexedOperator (counts_in m f)) f.operators
 
+-- the space of what is exported
+abbrev pub space_of : ExternKind → Space
+space_of FuncKind = Func
+space_of TableKind = Table
+space_of MemoryKind = Memory
+space_of GlobalKind = Global
+space_of TagKind = Tag
+
+abbrev pub IsIndexedExport : Module → Export → Type 0
+IsIndexedExport m e = IsIndex (counts_of m) (space_of e.kind) e.index
+
+abbrev pub IsStart : Module → Option ℕ → Type 0
+IsStart m None = Unit {0}
+IsStart m (Some i) = IsIndex (counts_of m) Func i
+
+-- ---- the other parts of a module
+
+abbrev pub IsIndexedExpression : Module → List Operator → Type 0
+IsIndexedExpression m os = AllByRecursion (IsIndexedOperator (counts_of m)) os
+
+abbrev pub IsIndexedExtern : Module → ExternType → Type 0
+IsIndexedExtern m (FuncExtern i) = NamesFunction m i
+IsIndexedExtern m (TableExtern t) = IsDeclaredRef (type_count m) t.element
+IsIndexedExtern m (MemoryExtern t) = Unit {0}
+IsIndexedExtern m (GlobalExtern t) = IsDeclaredVal (type_count m) t.type
+IsIndexedExtern m (TagExtern i) = NamesFunction m i
+
+abbrev pub IsIndexedImport : Module → Import → Type 0
+IsIndexedImport m i = IsIndexedExtern m i.type
+
+abbrev pub IsIndexedInit : Module → Option (List Operator) → Type 0
+IsIndexedInit m None = Unit {0}
+IsIndexedInit m (Some os) = IsIndexedExpression m os
+
+pub record IsIndexedTable (m : Module) (t : placed.Table Operator) : Type 0 where
+  pub element : IsDeclaredRef (type_count m) t.type.element
+  pub init : IsIndexedInit m t.init
+
+pub record IsIndexedGlobal (m : Module) (g : placed.Global Operator) : Type 0 where
+  pub type : IsDeclaredVal (type_count m) g.type.type
+  pub init : IsIndexedExpression m g.init
+
+abbrev pub IsIndexedMode : Module → Mode Operator → Type 0
+IsIndexedMode m Passive = Unit {0}
+IsIndexedMode m Declared = Unit {0}
+IsIndexedMode m (Active t os) = IsIndex (counts_of m) Table t × IsIndexedExpression m os
+
+abbrev pub AreIndexedItems : Module → Items Operator → Type 0
+AreIndexedItems m (Functions is) = AllByRecursion (IsIndex (counts_of m) Func) is
+AreIndexedItems m (Expressions t es) = IsDeclaredRef (type_count m) t × AllByRecursion (IsIndexedExpression m) es
+
+pub record IsIndexedElement (m : Module) (e : Element Operator) : Type 0 where
+  pub mode : IsIndexedMode m e.mode
+  pub items : AreIndexedItems m e.items
+
+abbrev pub IsIndexedDataMode : Module → DataMode Operator → Type 0
+IsIndexedDataMode m PassiveData = Unit {0}
+IsIndexedDataMode m (ActiveData memory os) = IsIndex (counts_of m) Memory memory × IsIndexedExpression m os
+
+abbrev pub IsIndexedData : Module → placed.Data Operator → Type 0
+IsIndexedData m d = IsIndexedDataMode m d.mode
+
 pub record IsIndexed (m : Module) : Type 0 where
+  pub imports : AllByRecursion (IsIndexedImport m) m.imports
+  pub tables : AllByRecursion (IsIndexedTable m) m.tables
+  pub globals : AllByRecursion (IsIndexedGlobal m) m.globals
+  pub elements : AllByRecursion (IsIndexedElement m) m.elements
+  pub datas : AllByRecursion (IsIndexedData m) m.datas
   pub types : AllByRecursion (λ g. AllByRecursion (IsDeclaredSub (type_count m)) g) m.types
   pub functions : AllByRecursion (IsIndexedFunction m) m.functions
-  pub exports : AllByRecursion (λ e. e.function < length m.functions) m.exports
+  pub tags : AllByRecursion (NamesFunction m) m.tags
+  pub exports : AllByRecursion (IsIndexedExport m) m.exports
+  pub start : IsStart m m.start

@@ -1,17 +1,19 @@
 -- How bytes spell operators and expressions (section 5.4 of the standard). Expressions nest blocks in one another.
-use Rattle.std.specs.Prelude.{◌≡◌, ◌⊎◌, ℕ, ◌+◌, ◌<◌, List, [], length, ◌∷◌, ◌++◌, map, Bool, true, false, cond, ◌||◌, ◌&&◌, ◌==◌, Option, Some, None, refl}
+use Rattle.std.specs.Prelude.{◌≡◌, ◌⊎◌, ℕ, ◌+◌, ◌-◌, ◌*◌, nat_lt, ◌<◌, List, [], length, ◌∷◌, ◌++◌, map, Bool, true, false, cond, ◌||◌, ◌&&◌, ◌==◌, Option, Some, None, refl}
 use Rattle.std.proofs.Common.{sym, ap, ◌∙◌, subst, arith, append-nil, inl, inr, eqb}
 use Rattle.std.proofs.lemmas.Bool.{and_parts, eqb-true}
 use Rattle.std.proofs.lemmas.List.{length-append}
-use Rattle.wasmprinter_spec.specs.Grammar.{input, Grammar, byte, seq, map_value, succeed, fail, choose, Placed, placed, restated, some_is}
+use Rattle.wasmprinter_spec.specs.Grammar.{input, Grammar, byte, seq, try_map, map_value, succeed, fail, choose, Placed, placed, restated, some_is}
 use Rattle.wasmprinter_spec.specs.Repeated.{Items}
-use Rattle.wasmprinter_spec.specs.Leb.{signed}
+use Rattle.wasmprinter_spec.specs.Leb.{signed, unsigned}
 use Rattle.wasmprinter_spec.specs.Name.{u32, vec}
-use Rattle.wasmprinter_spec.specs.FirstByte.{announced, peeked}
-use Rattle.wasmprinter_spec.specs.Binary.ValTypes.{signed_index, val_type, begins_val_type}
-use Rattle.wasmprinter_spec.specs.Operator.{Opcode, opcode, BlockType, Empty, Value, OfType, Catch, One, OneRef, All, AllRef, Immediates, NoImmediates, Block, TryTable, Index, BranchTable, I32, I64, Operator}
-use Rattle.wasmprinter_spec.specs.Row.{Row, Shape, NoneShape, BlockShape, TryTableShape, IndexShape, BranchTableShape, I32Shape, I64Shape, Role, Ends}
-use Rattle.wasmprinter_spec.specs.Table.{table, control_rows, variable_rows, number_rows, first, has_opcode, by_opcode, role_of, role_of_row}
+use Rattle.wasmprinter_spec.specs.Sized.{take_bytes}
+use Rattle.wasmprinter_spec.specs.FirstByte.{only, announced, peeked}
+use Rattle.wasmprinter_spec.specs.Types.{ref_type}
+use Rattle.wasmprinter_spec.specs.Binary.ValTypes.{lookup, signed_index, heap_type, val_type, begins_val_type}
+use Rattle.wasmprinter_spec.specs.Operator.{Opcode, opcode, BlockType, Empty, Value, OfType, Catch, One, OneRef, All, AllRef, MemArg, mem_arg_of, Immediates, NoImmediates, Block, TryTable, Index, Indices, BranchTable, Types, Heap, Cast, Memory, MemoryLane, Lane, I32, I64, F32, F64, Bytes, Operator}
+use Rattle.wasmprinter_spec.specs.Row.{Row, Shape, NoneShape, FenceShape, BlockShape, TryTableShape, IndexShape, DefaultIndexShape, PairShape, FieldShape, CountShape, CallShape, SegmentShape, CopyShape, BranchTableShape, SelectShape, HeapShape, RefShape, CastShape, MemoryShape, MemoryLaneShape, LaneShape, I32Shape, I64Shape, F32Shape, F64Shape, VectorShape, LanesShape, Role, Ends}
+use Rattle.wasmprinter_spec.specs.Table.{table, first, has_opcode, by_opcode, role_of, role_of_row}
 use Rattle.wasmprinter_spec.specs.Stepped.{Move, On, Stop, Never, by_move, stops, Ended, ended, stepped}
 use Rattle.wasmprinter_spec.specs.Nesting.{Nests, Sequence, Open, advance, at_start}
 use Rattle.wasmprinter_spec.specs.NestingSteps.{stops_at_end, nested_to_end}
@@ -48,14 +50,69 @@ catch_by k =
 abbrev pub catch : Grammar Catch
 catch = announced catch_by
 
+abbrev pub u64 : Grammar ℕ
+u64 = unsigned 64
+
+-- A memory operand (section 5.4, "Memory Instructions"): below 64 the exponent of the alignment, of an operand of memory 0; else 64 more, and
+-- the memory's index; and an offset.
+abbrev pub mem_arg_by : ℕ → Grammar MemArg
+mem_arg_by n =
+    choose (nat_lt n 64) (map_value (mem_arg_of n 0) u64)
+    (choose (nat_lt n 128) (map_value (λ x. mem_arg_of (n - 64) x.0 x.1) (seq u32 (λ _. u64))) fail)
+
+abbrev pub mem_arg : Grammar MemArg
+mem_arg = map_value (λ x. x.1) (seq u32 mem_arg_by)
+
+-- two indices, or an index and a number
+abbrev pub indices : Grammar Immediates
+indices = map_value (λ x. Indices x.0 x.1) (seq u32 (λ _. u32))
+
+-- whether the two reference types of a cast may be null
+abbrev pub cast_nulls : ℕ → Option (Bool × Bool)
+cast_nulls b = lookup ((0x00, (false, false)) ∷ (0x01, (true, false)) ∷ (0x02, (false, true)) ∷ (0x03, (true, true)) ∷ []) b
+
+-- these, a label, and two heap types
+abbrev pub cast : Grammar Immediates
+cast =
+    map_value (λ x. Cast x.1.0 (ref_type x.0.0 x.1.1.0) (ref_type x.0.1 x.1.1.1))
+    (seq (try_map cast_nulls byte) (λ _. seq u32 (λ _. seq heap_type (λ _. heap_type))))
+
+-- the number whose bytes these are, the lowest first
+abbrev pub little_endian : List ℕ → ℕ
+little_endian [] = 0
+little_endian (b ∷ bs) = b + 256 * little_endian bs
+
+-- the bits of a float of so many bytes
+abbrev pub float_bits : ℕ → Grammar ℕ
+float_bits n = map_value little_endian (take_bytes n)
+
 abbrev pub immediates : Shape → Grammar Immediates
 immediates NoneShape = succeed NoImmediates
+immediates FenceShape = map_value (λ _. NoImmediates) (only 0x00)
 immediates BlockShape = map_value Block block_type
 immediates TryTableShape = map_value (λ x. TryTable x.0 x.1) (seq block_type (λ _. vec catch))
 immediates (IndexShape space) = map_value Index u32
+immediates (DefaultIndexShape space) = map_value Index u32
+immediates (PairShape first second) = indices
+immediates FieldShape = indices
+immediates CountShape = indices
+immediates CallShape = indices
+immediates (SegmentShape segments space) = indices
+immediates (CopyShape space) = indices
 immediates BranchTableShape = map_value (λ x. BranchTable x.0 x.1) (seq (vec u32) (λ _. u32))
+immediates SelectShape = map_value Types (vec val_type)
+immediates HeapShape = map_value Heap heap_type
+immediates (RefShape null) = map_value Heap heap_type
+immediates CastShape = cast
+immediates (MemoryShape natural) = map_value Memory mem_arg
+immediates (MemoryLaneShape natural) = map_value (λ x. MemoryLane x.0 x.1) (seq mem_arg (λ _. byte))
+immediates LaneShape = map_value Lane byte
 immediates I32Shape = map_value I32 (signed 32)
 immediates I64Shape = map_value I64 (signed 64)
+immediates F32Shape = map_value F32 (float_bits 4)
+immediates F64Shape = map_value F64 (float_bits 8)
+immediates VectorShape = map_value Bytes (take_bytes 16)
+immediates LanesShape = map_value Bytes (take_bytes 16)
 
 abbrev pub listed : Option Row → Grammar Immediates
 listed None = fail
@@ -131,7 +188,7 @@ all_fit [] = true
 all_fit (r ∷ rs) = fits_end r && all_fit rs
 
 table_fits : all_fit table ≡ true
-unfolding table control_rows variable_rows number_rows
+unfolding table
 table_fits = refl
 
 found_or_later : (b : Bool) (r : Row) (x : Option Row) → role_of_row (cond b (Some r) x) ≡ Ends → ((b ≡ true) × (r.role ≡ Ends)) ⊎ (role_of_row x ≡ Ends)
@@ -170,7 +227,7 @@ code_text true b p t o c s e =
 code_text false b p t o c s e = (s.0, ap (λ (x : Opcode). x.number) (sym s.1 ∙ e))
 
 no_immediates : (p : ℕ) (t : List ℕ) (i : Immediates) → (listed (by_opcode (opcode 0 end_byte))).spells p t i → (t ≡ []) × (i ≡ NoImmediates)
-unfolding table control_rows variable_rows number_rows
+unfolding table
 no_immediates p t i s = s
 
 -- the operator `end`
@@ -193,7 +250,7 @@ end_text p text o s e =
     parts.2 ∙ ap (λ (r : List ℕ). r ++ parts.1) front ∙ ap (λ (r : List ℕ). (end_byte ∷ []) ++ r) n.0
 
 end_read : (p : ℕ) → operator.parse (input p (end_byte ∷ [])) ≡ Some (end_operator, input (p + 1) [])
-unfolding table control_rows variable_rows number_rows
+unfolding table
 end_read p = refl
 
 end_spelled : (p : ℕ) → operator.spells p (end_byte ∷ []) end_operator
@@ -202,7 +259,7 @@ end_spelled p =
     subst (λ (r : List ℕ). operator.spells p r end_operator) (sym (s.parts ∙ append-nil s.text)) s.spelled
 
 end_role : role_of (opcode 0 end_byte) ≡ Ends
-unfolding table control_rows variable_rows number_rows
+unfolding table
 end_role = refl
 
 -- ---- both say the same
@@ -229,3 +286,7 @@ said p text x s =
 -- operators, each with its place, and the byte 0B of the last `end`, whose place is kept
 abbrev pub expression : Grammar (Closed (Placed Operator))
 expression = restated closed_grammar IsExpression says said
+
+-- an expression without the place of its `end`
+abbrev pub constant : Grammar (List (Placed Operator))
+constant = map_value (λ x. x.items) expression

@@ -1,9 +1,11 @@
 -- The laws of these definitions. Functions of the crates above have them as their contracts.
 use Rattle.std.specs.Prelude.{◌≡◌, ℕ, ◌<◌, ◌^◌, List, [], ◌∷◌, ◌++◌, map, false, Some, ◌↔◌, chars, IsUtf8}
+use Rattle.std.specs.List.{AllByRecursion}
 use Rattle.wasmprinter_spec.specs.Binary.{AreBytes, Spells}
 use Rattle.wasmprinter_spec.specs.Placed.{PlacedModule}
 use Rattle.wasmprinter_spec.specs.Module.{module_of}
 use Rattle.wasmprinter_spec.specs.Indexed.{IsIndexed}
+use Rattle.wasmprinter_spec.specs.Limits.{HasNoEmptyInit}
 use Rattle.wasmprinter_spec.specs.Call.{Call, atoms, text_of}
 use Rattle.wasmprinter_spec.specs.Colour.{uncolour}
 use Rattle.wasmprinter_spec.specs.Plain.{IsPlainText}
@@ -52,11 +54,12 @@ FloatsAreExact = (w : Width) (s : Scaled) (bits : ℕ) → IsWidth w → (bits_w
 abbrev pub TakesNested : Type 0
 TakesNested = (os : List Operator) → (if_nested os ≡ Some os) ↔ Nests Sequence (map (λ o. role_of o.opcode) os)
 
--- The reading law: printed text reads back as the module that the bytes spell.
+-- The reading law: printed text reads back as the module that the bytes spell. (No initialiser of a table is empty: the text of such a table is
+-- that of one without.)
 abbrev pub ReadsBack : Type 0
 ReadsBack =
     (bytes : List ℕ) (m : PlacedModule) (o : Options) (answers : Answers) →
-    Spells bytes m → IsIndexed (module_of m) → o.skeleton ≡ false → IsBlank o.indent → AreUnclaimed answers →
+    Spells bytes m → IsIndexed (module_of m) → AllByRecursion (λ t. HasNoEmptyInit t.value.init) m.tables → o.skeleton ≡ false → IsBlank o.indent → AreUnclaimed answers →
     read (text_of (layout o answers m)) ≡ Some (module_of m)
 
 -- Places at the beginnings of lines, and an indent of blanks and tabs, change blanks and comments alone.

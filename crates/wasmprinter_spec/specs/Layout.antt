@@ -1,75 +1,63 @@
 -- The layout of a module: the pieces that are printed, in order. Sections 6.4 to 6.6 of the standard say how the text of each construct
 -- is composed; where lines break and where places stand is this printer's own.
-use Rattle.std.specs.Prelude.{ℕ, List, [], ◌∷◌, ◌++◌, codes, chars, Option, Some, None, Bool, true, false, ◌==◌, cond}
+use Rattle.std.specs.Prelude.{ℕ, List, [], ◌∷◌, ◌++◌, codes, length, Option, Some, None}
 use Rattle.wasmprinter_spec.specs.Grammar.{Placed}
-use Rattle.wasmprinter_spec.specs.Types.{ValType, FuncType, SubType, all_types, signature_at}
-use Rattle.wasmprinter_spec.specs.Operator.{Operator}
-use Rattle.wasmprinter_spec.specs.Labels.{Naming}
-use Rattle.wasmprinter_spec.specs.Placed.{LocalEntry, Export, PlacedFunction, PlacedModule}
-use Rattle.wasmprinter_spec.specs.Module.{groups_of, locals_of}
+use Rattle.wasmprinter_spec.specs.Types.{SubType, all_types, signature_at}
+use Rattle.wasmprinter_spec.specs.Placed.{Import, PlacedModule}
+use Rattle.wasmprinter_spec.specs.Module.{groups_of, imported, func_import, table_import, memory_import, global_import, tag_import, without_places}
 use Rattle.wasmprinter_spec.specs.Call.{Call}
 use Rattle.wasmprinter_spec.specs.Options.{Options, Answers}
-use Rattle.wasmprinter_spec.specs.Piece.{Piece, Begin, Feed, Break, Gap, Word, Number, Mark, Quoted, all_calls}
-use Rattle.wasmprinter_spec.specs.Layout.Groups.{group_gap, group_at, group_gap_at, line_group, numbered}
-use Rattle.wasmprinter_spec.specs.Layout.Types.{type_list, signature_pieces, type_section_pieces}
-use Rattle.wasmprinter_spec.specs.Layout.Operators.{OverLines, Setting, expression_pieces}
+use Rattle.wasmprinter_spec.specs.Piece.{Piece, Begin, Feed, Break, Number, all_calls}
+use Rattle.wasmprinter_spec.specs.Layout.Groups.{group_at, line_group_gap, numbered}
+use Rattle.wasmprinter_spec.specs.Layout.Types.{type_section_pieces}
+use Rattle.wasmprinter_spec.specs.Layout.Functions.{header_pieces, function_pieces}
+use Rattle.wasmprinter_spec.specs.Layout.Imports.{no_numbers, imports_pieces}
+use Rattle.wasmprinter_spec.specs.Layout.Tables.{table_pieces}
+use Rattle.wasmprinter_spec.specs.Layout.Memories.{memory_pieces}
+use Rattle.wasmprinter_spec.specs.Layout.Globals.{global_pieces}
+use Rattle.wasmprinter_spec.specs.Layout.Exports.{export_pieces}
+use Rattle.wasmprinter_spec.specs.Layout.Elements.{element_pieces}
+use Rattle.wasmprinter_spec.specs.Layout.DataSegments.{data_pieces}
 pub mod Groups
 pub mod Types
 pub mod Operators
+pub mod Expressions
+pub mod Functions
+pub mod Limits
+pub mod Tables
+pub mod Memories
+pub mod Globals
+pub mod Imports
+pub mod Exports
+pub mod Elements
+pub mod DataSegments
 
 -- ---- fields of the module, each on a line
 
-unfoldable pub export_pieces : Placed Export → List Piece
-export_pieces e =
-    Break (Some e.place) 1 ∷ group_gap 1 (codes "export") (Quoted (chars e.value.name) ∷ (Gap ∷ group_gap 2 (codes "func") (Number e.value.function ∷ [])))
+-- a tag has a type as a function has
+unfoldable pub tag_pieces : List SubType → ℕ → Placed ℕ → List Piece
+tag_pieces ts i tag = Break (Some tag.place) 1 ∷ line_group_gap (codes "tag") (header_pieces i tag.value (signature_at ts tag.value))
 
--- the place of the first entry that declares a local, if one does
-abbrev pub locals_place : List (Placed LocalEntry) → Option ℕ
-locals_place [] = None
-locals_place (e ∷ es) = cond (e.value.count == 0) (locals_place es) (Some e.place)
-
--- all locals on one line
-unfoldable pub local_group : Option ℕ → List ValType → List Piece
-local_group place [] = []
-local_group place (t ∷ ts) = Break place 2 ∷ line_group (codes "local") (type_list (t ∷ ts))
-
-unfoldable pub local_pieces : List (Placed LocalEntry) → List Piece
-local_pieces es = local_group (locals_place es) (locals_of es)
-
--- nothing where the type is no function type
-unfoldable pub signature_if : Option FuncType → List Piece
-signature_if None = []
-signature_if (Some t) = signature_pieces t
-
--- a function's number, the index of its type, and its signature
-unfoldable pub header_pieces : ℕ → ℕ → Option FuncType → List Piece
-header_pieces i type_index t = Mark i ∷ (Gap ∷ (group_gap 2 (codes "type") (Number type_index ∷ []) ++ signature_if t))
-
--- no name section is in the grammar yet, so no label has an identifier
-abbrev pub no_names : Naming
-no_names i d = None
-
--- the operators of a body, each on a line
-unfoldable pub body_pieces : List SubType → List (Placed Operator) → List Piece
-body_pieces ts os = expression_pieces (record { form = OverLines; signature = signature_at ts; nesting = 2 }) no_names os
-
--- a function, whole or without its locals and operators
-unfoldable pub function_group : Bool → Bool → List SubType → Option FuncType → ℕ → PlacedFunction → List Piece
-function_group true offsets ts t i f = group_gap 1 (codes "func") (header_pieces i f.type_index t ++ (Gap ∷ (Word (codes "...") ∷ [])))
-function_group false offsets ts t i f =
-    group_gap_at offsets f.body.value.end 1 (codes "func")
-    (header_pieces i f.type_index t ++ (local_pieces f.body.value.locals ++ body_pieces ts f.body.value.operators))
-
-unfoldable pub function_pieces : Options → List SubType → ℕ → PlacedFunction → List Piece
-function_pieces o ts i f =
-    Break (Some f.body.place) 1 ∷ function_group o.skeleton o.offsets ts (signature_at ts f.type_index) i f
+unfoldable pub start_pieces : Option (Placed ℕ) → List Piece
+start_pieces None = []
+start_pieces (Some start) = Break (Some start.place) 1 ∷ line_group_gap (codes "start") (Number start.value ∷ [])
 
 -- the fields, in the order of their sections
 unfoldable pub module_field_pieces : Options → PlacedModule → List Piece
 module_field_pieces o m =
+    let ts : List SubType = all_types (groups_of m.types) in
+    let is : List Import = without_places m.imports in
     type_section_pieces 0 m.types
+    ++ (imports_pieces ts no_numbers m.imports
+    ++ (numbered (table_pieces ts) (length (imported table_import is)) m.tables
+    ++ (numbered memory_pieces (length (imported memory_import is)) m.memories
+    ++ (numbered (tag_pieces ts) (length (imported tag_import is)) m.tags
+    ++ (numbered (global_pieces ts) (length (imported global_import is)) m.globals
     ++ (numbered (λ i e. export_pieces e) 0 m.exports
-    ++ numbered (function_pieces o (all_types (groups_of m.types))) 0 m.functions)
+    ++ (start_pieces m.start
+    ++ (numbered (element_pieces o.skeleton ts) 0 m.elements
+    ++ (numbered (function_pieces o ts) (length (imported func_import is)) m.functions
+    ++ numbered (data_pieces o.skeleton ts) 0 m.datas)))))))))
 
 unfoldable pub module_pieces : Options → PlacedModule → List Piece
 module_pieces o m = Begin 0 ∷ (group_at o.offsets m.size 0 (codes "module") (module_field_pieces o m) ++ (Feed ∷ []))

@@ -1,7 +1,10 @@
--- The limits of this printer (the standard leaves them to implementations, in its appendix "Implementation Limitations"): at most 50,000 locals in a function, parameters not counted, and at most 1,000,000 functions.
-use Rattle.std.specs.Prelude.{ℕ, ◌+◌, ◌≤◌, List, [], ◌∷◌, length}
+-- The limits of this printer (the standard leaves them to implementations, in its appendix "Implementation Limitations"): at most 50,000 locals in a
+-- function, parameters not counted, and at most 1,000,000 functions. Nor is a table with an initialiser that is empty: its text would be that of a
+-- table without one.
+use Rattle.std.specs.Prelude.{ℕ, ◌+◌, ◌≤◌, List, [], ◌∷◌, Option, Some, length}
 use Rattle.std.specs.List.{AllByRecursion}
 use Rattle.wasmprinter_spec.specs.Grammar.{Placed}
+use Rattle.wasmprinter_spec.specs.Operator.{Operator}
 use Rattle.wasmprinter_spec.specs.Placed.{LocalEntry, PlacedFunction, PlacedModule}
 
 abbrev pub most_locals : ℕ
@@ -17,6 +20,11 @@ local_count (e ∷ es) = e.value.count + local_count es
 abbrev pub HasFewLocals : PlacedFunction → Type 0
 HasFewLocals f = local_count f.body.value.locals ≤ most_locals
 
+abbrev pub HasNoEmptyInit : Option (List (Placed Operator)) → Type 0
+HasNoEmptyInit (Some []) = ⊥
+HasNoEmptyInit _ = Unit {0}
+
 pub record IsWithinLimits (m : PlacedModule) : Type 0 where
+  pub tables : AllByRecursion (λ t. HasNoEmptyInit t.value.init) m.tables
   pub locals : AllByRecursion HasFewLocals m.functions
   pub functions : length m.functions ≤ most_functions

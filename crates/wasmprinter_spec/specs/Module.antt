@@ -1,10 +1,10 @@
 -- A module: what its text has to say again (section 2.5 of the standard). The places, how numbers were spelled and how locals
 -- were grouped are not in it.
-use Rattle.std.specs.Prelude.{ℕ, List, [], ◌∷◌, ◌++◌, map, replicate}
+use Rattle.std.specs.Prelude.{ℕ, List, [], ◌∷◌, ◌++◌, map, replicate, Option, Some, None, option_map}
 use Rattle.wasmprinter_spec.specs.Grammar.{Placed}
-use Rattle.wasmprinter_spec.specs.Types.{ValType, SubType}
+use Rattle.wasmprinter_spec.specs.Types.{ValType, SubType, TableType, MemoryType, GlobalType, ExternType, FuncExtern, TableExtern, MemoryExtern, GlobalExtern, TagExtern}
 use Rattle.wasmprinter_spec.specs.Operator.{Operator}
-use Rattle.wasmprinter_spec.specs.Placed.{TypeGroup, LocalEntry, Export, PlacedFunction, PlacedModule}
+use Rattle.wasmprinter_spec.specs.Placed.{TypeGroup, LocalEntry, Export, Import, Table, table_of, Global, global_of, Mode, Passive, Declared, Active, Items, Functions, Expressions, Element, element_of, ElementEntry, DataMode, PassiveData, ActiveData, Data, data_of, PlacedFunction, PlacedModule}
 
 -- a defined function: the types of all its locals, parameters not among them, and its operators without the last `end`
 pub record Function : Type 0 where
@@ -12,11 +12,19 @@ pub record Function : Type 0 where
   pub locals : List ValType
   pub operators : List Operator
 
--- The types stand in their groups. A type by itself is a group of one.
+-- The types stand in their groups. A type by itself is a group of one. Tags are given by the indices of their types.
 pub record Module : Type 0 where
   pub types : List (List SubType)
+  pub imports : List Import
   pub functions : List Function
+  pub tables : List (Table Operator)
+  pub memories : List MemoryType
+  pub tags : List ℕ
+  pub globals : List (Global Operator)
   pub exports : List Export
+  pub start : Option ℕ
+  pub elements : List (Element Operator)
+  pub datas : List (Data Operator)
 
 abbrev pub without_places : {A : Type 0} → List (Placed A) → List A
 without_places xs = map (λ x. x.value) xs
@@ -37,9 +45,79 @@ function_of f = record {
   operators = without_places f.body.value.operators;
 }
 
+abbrev pub table_without_places : Table (Placed Operator) → Table Operator
+table_without_places t = table_of t.type (option_map without_places t.init)
+
+abbrev pub global_without_places : Global (Placed Operator) → Global Operator
+global_without_places g = global_of g.type (without_places g.init)
+
+abbrev pub mode_without_places : Mode (Placed Operator) → Mode Operator
+mode_without_places Passive = Passive
+mode_without_places Declared = Declared
+mode_without_places (Active table offset) = Active table (without_places offset)
+
+abbrev pub items_without_places : Items (Placed Operator) → Items Operator
+items_without_places (Functions is) = Functions is
+items_without_places (Expressions t es) = Expressions t (map without_places es)
+
+abbrev pub element_without_places : ElementEntry → Element Operator
+element_without_places e = element_of (mode_without_places e.element.mode) (items_without_places e.element.items)
+
+abbrev pub data_mode_without_places : DataMode (Placed Operator) → DataMode Operator
+data_mode_without_places PassiveData = PassiveData
+data_mode_without_places (ActiveData memory offset) = ActiveData memory (without_places offset)
+
+abbrev pub data_without_places : Data (Placed Operator) → Data Operator
+data_without_places d = data_of (data_mode_without_places d.mode) d.bytes
+
+-- each without its place, and its operators without theirs
+abbrev pub each_value : {A B : Type 0} → (A → B) → List (Placed A) → List B
+each_value f xs = map (λ x. f x.value) xs
+
 abbrev pub module_of : PlacedModule → Module
 module_of m = record {
   types = groups_of m.types;
+  imports = without_places m.imports;
   functions = map function_of m.functions;
+  tables = each_value table_without_places m.tables;
+  memories = without_places m.memories;
+  tags = without_places m.tags;
+  globals = each_value global_without_places m.globals;
   exports = without_places m.exports;
+  start = option_map (λ x. x.value) m.start;
+  elements = each_value element_without_places m.elements;
+  datas = each_value data_without_places m.datas;
 }
+
+-- ---- what is imported of each kind: in each index space imports come first (section 2.5.1 of the standard, "Indices")
+
+abbrev pub selected_first : {A : Type 0} → Option A → List A → List A
+selected_first None xs = xs
+selected_first (Some x) xs = x ∷ xs
+
+abbrev pub selected : {A B : Type 0} → (A → Option B) → List A → List B
+selected f [] = []
+selected f (x ∷ xs) = selected_first (f x) (selected f xs)
+
+abbrev pub func_import : ExternType → Option ℕ
+func_import (FuncExtern i) = Some i
+func_import _ = None
+
+abbrev pub table_import : ExternType → Option TableType
+table_import (TableExtern t) = Some t
+table_import _ = None
+
+abbrev pub memory_import : ExternType → Option MemoryType
+memory_import (MemoryExtern t) = Some t
+memory_import _ = None
+
+abbrev pub global_import : ExternType → Option GlobalType
+global_import (GlobalExtern t) = Some t
+global_import _ = None
+
+abbrev pub tag_import : ExternType → Option ℕ
+tag_import (TagExtern i) = Some i
+tag_import _ = None
+
+abbrev pub imported : {A : Type 0} → (ExternType → Option A) → List Import → List A
+imported f is = selected (λ i. f i.type) is

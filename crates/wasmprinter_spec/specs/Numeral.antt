@@ -1,8 +1,9 @@
 -- Whole numbers in the text format (section 6.3 of the standard, "Integers"): decimal or hexadecimal, with or without a sign, and with an
 -- underscore between digits where one is wanted.
-use Rattle.std.specs.Prelude.{ℕ, ℤ, pos, neg_ℤ, ◌-ℤ◌, ◌-◌, ◌^◌, Bool, true, false, ◌&&◌, ◌||◌, ◌==◌, nat_lt, nat_le, List, [], ◌∷◌, Option, Some, None, if◌then◌else◌, cond}
+use Rattle.std.specs.Prelude.{ℕ, zero, suc, ℤ, pos, neg_ℤ, ◌-ℤ◌, ◌-◌, ◌^◌, Bool, true, false, ◌&&◌, ◌||◌, ◌==◌, nat_lt, nat_le, List, [], ◌∷◌, Option, Some, None, if◌then◌else◌, cond}
 use Rattle.std.specs.Char.{digit_value}
 use Rattle.std.specs.Str.Parse.{digits_value}
+use Rattle.wasmprinter_spec.specs.Grammar.{◌>>=◌}
 
 abbrev pub is_underscore : ℕ → Bool
 is_underscore b = b == 95
@@ -41,6 +42,25 @@ natural (b ∷ c ∷ bs) = if (b == 48) && (c == 120) then numeral 16 bs else nu
 -- a number below 2 ^ bits
 abbrev pub below : ℕ → ℕ → Option ℕ
 below bits n = if nat_lt n (2 ^ bits) then Some n else None
+
+-- whole numbers without a sign, of so many bits
+abbrev pub u8 : List ℕ → Option ℕ
+u8 w = natural w >>= below 8
+
+abbrev pub u32 : List ℕ → Option ℕ
+u32 w = natural w >>= below 32
+
+abbrev pub u64 : List ℕ → Option ℕ
+u64 w = natural w >>= below 64
+
+-- the exponent below n of a power of two
+abbrev pub exponent_below : ℕ → ℕ → Option ℕ
+exponent_below zero power = None
+exponent_below (suc n) power = if 2 ^ n == power then Some n else exponent_below n power
+
+-- a power of two of 64 bits, by its exponent
+abbrev pub exponent_of : List ℕ → Option ℕ
+exponent_of w = u64 w >>= exponent_below 64
 
 -- a number of so many bits as a signed one: the upper half stands for the negative numbers
 abbrev pub as_signed : ℕ → ℕ → ℤ

@@ -1,9 +1,11 @@
 -- Pieces: the smallest parts of a layout that read by themselves. Each has its calls on the printer and its tokens.
-use Rattle.std.specs.Prelude.{ℕ, ℤ, zero, suc, ◌-◌, min, List, [], ◌∷◌, ◌++◌, Bool, true, false, codes, decimal, Option, Some, None, replicate, length, flat_map, encode_utf8_all}
+use Rattle.std.specs.Prelude.{ℕ, ℤ, zero, suc, ◌-◌, min, List, [], ◌∷◌, ◌++◌, Bool, true, false, codes, decimal, Option, Some, None, replicate, length, flat_map, encode_utf8_all, map}
 use Rattle.std.specs.Fmt.{signed_decimal, digits}
 use Rattle.wasmprinter_spec.specs.Call.{Call, Text, Newline, Line, Start, Style, Literal, Name, Keyword, TypeName, Comment, Reset, text_of}
 use Rattle.wasmprinter_spec.specs.Options.{Options}
-use Rattle.wasmprinter_spec.specs.Quoted.{char_text, quoted_text, identifier_text}
+use Rattle.wasmprinter_spec.specs.Float.{Width}
+use Rattle.wasmprinter_spec.specs.FloatText.{float_text, float_calls}
+use Rattle.wasmprinter_spec.specs.Quoted.{char_text, quoted_text, quoted_bytes, identifier_text}
 use Rattle.wasmprinter_spec.specs.Token as token
 use Rattle.wasmprinter_spec.specs.Token.{Token}
 
@@ -15,13 +17,21 @@ pub data Piece : Type 0 where
   Open : List ℕ → Piece  -- a parenthesis and a keyword
   OpenGap : List ℕ → Piece  -- the same and a blank
   OpenPlain : List ℕ → Piece  -- a parenthesis and a keyword without a style
+  OpenBare : Piece  -- a parenthesis and no keyword
+  OpenTypeGap : List ℕ → Piece  -- a parenthesis, the word of a type and a blank
   Shut : Piece
   Word : List ℕ → Piece
   TypeWord : List ℕ → Piece  -- the word of a type
+  TypeWordGap : List ℕ → Piece  -- the same and a blank
+  GapTypeWord : List ℕ → Piece  -- a blank and the word of a type
   Number : ℕ → Piece  -- an index
   Constant : ℤ → Piece  -- a blank and a number with its sign
+  Literals : List ℕ → List (List ℕ) → Piece  -- words with blanks between them
+  GapLiterals : List (List ℕ) → Piece  -- words, a blank before each
+  Float : Width → ℕ → Piece  -- a floating point number, by its bits
   Mark : ℕ → Piece  -- (;i;), the number of a declaration
   Quoted : List ℕ → Piece  -- a text in quotes, by its characters
+  QuotedBytes : List ℕ → Piece  -- bytes in quotes
   Identifier : List ℕ → Piece  -- by the characters behind the dollar sign
   NameNote : List ℕ → Piece  -- the annotation with a name, by its characters
   Remark : Bool → List ℕ → Piece  -- a blank and a comment, with a style or without
@@ -53,6 +63,14 @@ place_calls true None = Text (place_text None) ∷ []
 abbrev pub styled : Style → List ℕ → List Call
 styled style s = Start style ∷ (Text s ∷ (Start Reset ∷ []))
 
+-- words, with a blank before each
+abbrev pub behind_blanks : List (List ℕ) → List ℕ
+behind_blanks [] = []
+behind_blanks (w ∷ ws) = 32 ∷ (w ++ behind_blanks ws)
+
+abbrev pub word_tokens : List (List ℕ) → List Token
+word_tokens ws = map token.word ws
+
 abbrev pub calls : Options → Piece → List Call
 calls o (Begin place) = Line (Some place) ∷ []
 calls o Feed = Newline ∷ []
@@ -61,13 +79,21 @@ calls o Gap = Text (codes " ") ∷ []
 calls o (Open w) = Text (codes "(") ∷ styled Keyword w
 calls o (OpenGap w) = Text (codes "(") ∷ styled Keyword (w ++ codes " ")
 calls o (OpenPlain w) = Text (codes "(" ++ w) ∷ []
+calls o OpenBare = Text (codes "(") ∷ styled Keyword []
+calls o (OpenTypeGap w) = Text (codes "(") ∷ styled TypeName (w ++ codes " ")
 calls o Shut = Text (codes ")") ∷ []
 calls o (Word w) = Text w ∷ []
 calls o (TypeWord w) = styled TypeName w
+calls o (TypeWordGap w) = styled TypeName (w ++ codes " ")
+calls o (GapTypeWord w) = styled TypeName (32 ∷ w)
 calls o (Number n) = styled Name (decimal n)
 calls o (Constant z) = styled Literal (32 ∷ signed_decimal z)
+calls o (Literals w ws) = styled Literal (w ++ behind_blanks ws)
+calls o (GapLiterals ws) = styled Literal (behind_blanks ws)
+calls o (Float w bits) = float_calls w bits
 calls o (Mark n) = styled Name (codes "(;" ++ (decimal n ++ codes ";)"))
 calls o (Quoted cs) = styled Literal (quoted_text cs)
+calls o (QuotedBytes bs) = styled Literal (quoted_bytes bs)
 calls o (Identifier cs) = Text (identifier_text cs) ∷ []
 calls o (NameNote cs) = Text (codes "(") ∷ (styled Keyword (codes "@name \"") ++ (Text (flat_map char_text cs) ∷ (Text (codes "\")") ∷ [])))
 calls o (Remark true s) = styled Comment (codes " (;" ++ (s ++ codes ";)"))
@@ -78,12 +104,20 @@ abbrev pub piece_tokens : Piece → List Token
 piece_tokens (Open w) = token.left ∷ (token.word w ∷ [])
 piece_tokens (OpenGap w) = token.left ∷ (token.word w ∷ [])
 piece_tokens (OpenPlain w) = token.left ∷ (token.word w ∷ [])
+piece_tokens OpenBare = token.left ∷ []
+piece_tokens (OpenTypeGap w) = token.left ∷ (token.word w ∷ [])
 piece_tokens Shut = token.right ∷ []
 piece_tokens (Word w) = token.word w ∷ []
 piece_tokens (TypeWord w) = token.word w ∷ []
+piece_tokens (TypeWordGap w) = token.word w ∷ []
+piece_tokens (GapTypeWord w) = token.word w ∷ []
 piece_tokens (Number n) = token.word (decimal n) ∷ []
 piece_tokens (Constant z) = token.word (signed_decimal z) ∷ []
+piece_tokens (Literals w ws) = word_tokens (w ∷ ws)
+piece_tokens (GapLiterals ws) = word_tokens ws
+piece_tokens (Float w bits) = token.word (float_text w bits) ∷ []
 piece_tokens (Quoted cs) = token.string (encode_utf8_all cs) ∷ []
+piece_tokens (QuotedBytes bs) = token.string bs ∷ []
 piece_tokens (Identifier cs) = token.name (encode_utf8_all cs) ∷ []
 piece_tokens (NameNote cs) = token.left_note (codes "name") ∷ (token.string (encode_utf8_all cs) ∷ (token.right ∷ []))
 piece_tokens _ = []

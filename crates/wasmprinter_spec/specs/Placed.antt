@@ -1,8 +1,8 @@
 -- A module as its bytes lay it out: what the sections hold, with the places that the text can show. All places are counted
 -- from the module's first byte.
-use Rattle.std.specs.Prelude.{ℕ, List, Bool}
+use Rattle.std.specs.Prelude.{ℕ, List, Bool, Option}
 use Rattle.wasmprinter_spec.specs.Grammar.{Placed}
-use Rattle.wasmprinter_spec.specs.Types.{ValType, SubType}
+use Rattle.wasmprinter_spec.specs.Types.{ValType, SubType, RefType, TableType, MemoryType, GlobalType, ExternKind, ExternType}
 use Rattle.wasmprinter_spec.specs.Operator.{Operator}
 
 -- A group of types: written as one, or a single type that stands by itself.
@@ -29,14 +29,86 @@ pub record PlacedFunction : Type 0 where
   pub type_index : ℕ
   pub body : Placed Body
 
--- a function that the module gives out under a name
+-- what the module gives out under a name
 pub record Export : Type 0 where
   pub name : List ℕ
-  pub function : ℕ
+  pub kind : ExternKind
+  pub index : ℕ
 
--- `size` is the number of the module's bytes
+-- an import: the module that it comes from, its name there, and what it is
+pub record Import : Type 0 where
+  pub source : List ℕ
+  pub name : List ℕ
+  pub type : ExternType
+
+abbrev pub import_of : List ℕ → List ℕ → ExternType → Import
+import_of m n t = record { source = m; name = n; type = t }
+
+-- ---- what holds expressions: lists of operators, with or without their places
+
+-- a table, perhaps with an initialiser, which may be empty
+pub record Table (O : Type 0) : Type 0 where
+  pub type : TableType
+  pub init : Option (List O)
+
+abbrev pub table_of : {O : Type 0} → TableType → Option (List O) → Table O
+table_of t init = record { type = t; init = init }
+
+pub record Global (O : Type 0) : Type 0 where
+  pub type : GlobalType
+  pub init : List O
+
+abbrev pub global_of : {O : Type 0} → GlobalType → List O → Global O
+global_of t init = record { type = t; init = init }
+
+-- an element segment: what becomes of it (the table and the offset, where it is active), and its items
+pub data Mode (O : Type 0) : Type 0 where
+  Passive : Mode O
+  Declared : Mode O
+  Active : ℕ → List O → Mode O
+
+pub data Items (O : Type 0) : Type 0 where
+  Functions : List ℕ → Items O
+  Expressions : RefType → List (List O) → Items O
+
+pub record Element (O : Type 0) : Type 0 where
+  pub mode : Mode O
+  pub items : Items O
+
+abbrev pub element_of : {O : Type 0} → Mode O → Items O → Element O
+element_of mode items = record { mode = mode; items = items }
+
+-- an element segment as the bytes lay it out, which may name its table or leave it out
+pub record ElementEntry : Type 0 where
+  pub names_table : Bool
+  pub element : Element (Placed Operator)
+
+abbrev pub entry_of : Bool → Element (Placed Operator) → ElementEntry
+entry_of names e = record { names_table = names; element = e }
+
+-- a data segment, passive or with its memory and offset
+pub data DataMode (O : Type 0) : Type 0 where
+  PassiveData : DataMode O
+  ActiveData : ℕ → List O → DataMode O
+
+pub record Data (O : Type 0) : Type 0 where
+  pub mode : DataMode O
+  pub bytes : List ℕ
+
+abbrev pub data_of : {O : Type 0} → DataMode O → List ℕ → Data O
+data_of mode bytes = record { mode = mode; bytes = bytes }
+
+-- Tags by the indices of their types; the start function; `size` is the number of the module's bytes.
 pub record PlacedModule : Type 0 where
   pub types : List (Placed TypeGroup)
-  pub functions : List PlacedFunction
+  pub imports : List (Placed Import)
+  pub tables : List (Placed (Table (Placed Operator)))
+  pub memories : List (Placed MemoryType)
+  pub tags : List (Placed ℕ)
+  pub globals : List (Placed (Global (Placed Operator)))
   pub exports : List (Placed Export)
+  pub start : Option (Placed ℕ)
+  pub elements : List (Placed ElementEntry)
+  pub functions : List PlacedFunction
+  pub datas : List (Placed (Data (Placed Operator)))
   pub size : ℕ

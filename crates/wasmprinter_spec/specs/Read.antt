@@ -1,16 +1,24 @@
 -- Reading a text (section 6 of the standard): the module that it writes, or none. Identifiers may be used before they are declared, so the
 -- fields are sorted by kind and their identifiers gathered before a field is read. Of the abbreviations of section 6.6 the reader has folded
 -- operators, and groups of several parameters, results, locals and fields.
-use Rattle.std.specs.Prelude.{ℕ, List, [], ◌∷◌, codes, bytes_eq, Option, Some, None, if◌then◌else◌, map, option_map}
+use Rattle.std.specs.Prelude.{ℕ, List, [], ◌∷◌, ◌++◌, Bool, true, false, codes, bytes_eq, Option, Some, None, if◌then◌else◌, map, option_map}
+use Rattle.std.specs.List.{filter}
 use Rattle.std.specs.Str.{is_utf8}
 use Rattle.wasmprinter_spec.specs.Grammar.{◌>>=◌}
 use Rattle.wasmprinter_spec.specs.Forest.{Forest, End, Word, Group, forest, cut, customs}
-use Rattle.wasmprinter_spec.specs.Types.{SubType, concat, all_types, signature_at}
+use Rattle.wasmprinter_spec.specs.Types.{SubType, ExternKind, FuncKind, TableKind, MemoryKind, GlobalKind, TagKind, concat, all_types, signature_at}
 use Rattle.wasmprinter_spec.specs.Module.{Module}
-use Rattle.wasmprinter_spec.specs.IndexSpaces.{Identifiers, index_space, Spaces, Context}
+use Rattle.wasmprinter_spec.specs.IndexSpaces.{Identifiers, index_space, index, Spaces, Context}
 use Rattle.wasmprinter_spec.specs.Text.Items.{each, identified}
 use Rattle.wasmprinter_spec.specs.Text.Types.{group_members, read_group}
 use Rattle.wasmprinter_spec.specs.Text.Functions.{read_function}
+use Rattle.wasmprinter_spec.specs.Text.Imports.{ImportField, import_field, read_import}
+use Rattle.wasmprinter_spec.specs.Text.Tables.{read_table}
+use Rattle.wasmprinter_spec.specs.Text.Memories.{read_memory}
+use Rattle.wasmprinter_spec.specs.Text.Globals.{read_global}
+use Rattle.wasmprinter_spec.specs.Text.Elements.{read_element}
+use Rattle.wasmprinter_spec.specs.Text.DataSegments.{read_data}
+use Rattle.wasmprinter_spec.specs.Text.Tags.{read_tag}
 use Rattle.wasmprinter_spec.specs.Text.Exports.{read_export}
 
 -- ---- fields
@@ -18,19 +26,57 @@ use Rattle.wasmprinter_spec.specs.Text.Exports.{read_export}
 -- What the fields hold behind their words, sorted by kind, each kind in order. Types stand in their groups.
 pub record Fields : Type 0 where
   pub types : List (List Forest)
-  pub exports : List Forest
+  pub imports : List ImportField
   pub functions : List Forest
+  pub tables : List Forest
+  pub memories : List Forest
+  pub tags : List Forest
+  pub globals : List Forest
+  pub exports : List Forest
+  pub start : Option Forest
+  pub elements : List Forest
+  pub datas : List Forest
 
 abbrev pub no_fields : Fields
-no_fields = record { types = []; exports = []; functions = [] }
+no_fields = record {
+  types = [];
+  imports = [];
+  functions = [];
+  tables = [];
+  memories = [];
+  tags = [];
+  globals = [];
+  exports = [];
+  start = None;
+  elements = [];
+  datas = [];
+}
+
+-- there is at most one start function
+abbrev pub with_start : Forest → Fields → Option Forest → Option Fields
+with_start f m None = Some (record m { start = Some f })
+with_start f m (Some g) = None
+
+-- imports stand before all that is defined in the index spaces which they share
+abbrev pub defining : Fields → List ImportField → Option Fields
+defining m [] = Some m
+defining m (i ∷ is) = None
 
 -- A field before others, by its word: none where it can't stand before them.
 abbrev pub with_field : List ℕ → Forest → Fields → Option Fields
 with_field w f m =
     if bytes_eq w (codes "type") then Some (record m { types = (f ∷ []) ∷ m.types }) else
     (if bytes_eq w (codes "rec") then option_map (λ fs. record m { types = fs ∷ m.types }) (group_members f) else
+    (if bytes_eq w (codes "import") then option_map (λ i. record m { imports = i ∷ m.imports }) (import_field f) else
+    (if bytes_eq w (codes "func") then defining (record m { functions = f ∷ m.functions }) m.imports else
+    (if bytes_eq w (codes "table") then defining (record m { tables = f ∷ m.tables }) m.imports else
+    (if bytes_eq w (codes "memory") then defining (record m { memories = f ∷ m.memories }) m.imports else
+    (if bytes_eq w (codes "tag") then defining (record m { tags = f ∷ m.tags }) m.imports else
+    (if bytes_eq w (codes "global") then defining (record m { globals = f ∷ m.globals }) m.imports else
     (if bytes_eq w (codes "export") then Some (record m { exports = f ∷ m.exports }) else
-    (if bytes_eq w (codes "func") then Some (record m { functions = f ∷ m.functions }) else None)))
+    (if bytes_eq w (codes "start") then with_start f m m.start else
+    (if bytes_eq w (codes "elem") then Some (record m { elements = f ∷ m.elements }) else
+    (if bytes_eq w (codes "data") then Some (record m { datas = f ∷ m.datas }) else None)))))))))))
 
 abbrev pub fields : Forest → Option Fields
 fields End = Some no_fields
@@ -43,25 +89,81 @@ fields _ = None
 abbrev pub declared : List Forest → Identifiers
 declared fs = map (λ f. (identified f).0) fs
 
+abbrev pub same_kind : ExternKind → ExternKind → Bool
+same_kind FuncKind FuncKind = true
+same_kind TableKind TableKind = true
+same_kind MemoryKind MemoryKind = true
+same_kind GlobalKind GlobalKind = true
+same_kind TagKind TagKind = true
+same_kind _ _ = false
+
+-- the identifiers of imports of a kind
+abbrev pub imported_ids : ExternKind → List ImportField → Identifiers
+imported_ids kind is = declared (map (λ i. i.item) (filter (λ i. same_kind kind i.kind) is))
+
+-- an index space counts imports first
+abbrev pub space_behind : ExternKind → List ImportField → List Forest → Option Identifiers
+space_behind kind is fs = index_space (imported_ids kind is ++ declared fs)
+
 -- the index spaces outside functions
 abbrev pub spaces_of : Fields → Option Spaces
 spaces_of m = do
   types ← index_space (declared (concat m.types))
-  functions ← index_space (declared m.functions)
-  Some (record { types = types; functions = functions; tags = []; locals = [] })
+  functions ← space_behind FuncKind m.imports m.functions
+  tables ← space_behind TableKind m.imports m.tables
+  memories ← space_behind MemoryKind m.imports m.memories
+  tags ← space_behind TagKind m.imports m.tags
+  globals ← space_behind GlobalKind m.imports m.globals
+  elems ← index_space (declared m.elements)
+  datas ← index_space (declared m.datas)
+  Some (record {
+    types = types;
+    functions = functions;
+    tables = tables;
+    memories = memories;
+    tags = tags;
+    globals = globals;
+    elems = elems;
+    datas = datas;
+    locals = [];
+  })
 
 -- ---- the module
 
 abbrev pub context : Spaces → List (List SubType) → Context
 context s types = record { spaces = s; signature = signature_at (all_types types) }
 
+abbrev pub read_start : Spaces → Option Forest → Option (Option ℕ)
+read_start s None = Some None
+read_start s (Some f) = option_map Some (index s.functions f)
+
 abbrev pub module_of_fields : Fields → Option Module
 module_of_fields m = do
   spaces ← spaces_of m
   types ← each (read_group spaces.types) m.types
+  imports ← each (read_import (context spaces types)) m.imports
   functions ← each (read_function (context spaces types)) m.functions
+  tables ← each (read_table (context spaces types)) m.tables
+  memories ← each read_memory m.memories
+  tags ← each (read_tag (context spaces types)) m.tags
+  globals ← each (read_global (context spaces types)) m.globals
   exports ← each (read_export (context spaces types)) m.exports
-  Some (record { types = types; functions = functions; exports = exports })
+  start ← read_start spaces m.start
+  elements ← each (read_element (context spaces types)) m.elements
+  datas ← each (read_data (context spaces types)) m.datas
+  Some (record {
+    types = types;
+    imports = imports;
+    functions = functions;
+    tables = tables;
+    memories = memories;
+    tags = tags;
+    globals = globals;
+    exports = exports;
+    start = start;
+    elements = elements;
+    datas = datas;
+  })
 
 -- what a group `module` holds behind its identifier
 abbrev pub module_fields : Forest → Option Forest

@@ -1,52 +1,99 @@
 -- Sections (section 5.5 of the standard, "Sections"): each has a kind, and holds what is spelled by all the bytes of its size. The grammar so
--- far has the type, function, export and code sections. What is said of each kind stands here, one line for each; how the content of a kind
+-- far has all sections but custom ones. What is said of each kind stands here, one line for each; how the content of a kind
 -- is spelled stands in a file of its own, in `Binary`.
-use Rattle.std.specs.Prelude.{ℕ, List, [], ◌∷◌, Bool, true, ◌&&◌, nat_lt, ◌==◌, Option, Some, None, if◌then◌else◌}
+use Rattle.std.specs.Prelude.{ℕ, List, [], ◌∷◌, Bool, true, ◌&&◌, nat_lt, ◌==◌, Option, Some, None}
 use Rattle.wasmprinter_spec.specs.Grammar.{Grammar, Remainder, byte, seq, map_value, try_map, Placed}
 use Rattle.wasmprinter_spec.specs.Repeated.{some_or}
 use Rattle.wasmprinter_spec.specs.Sized.{exactly}
 use Rattle.wasmprinter_spec.specs.Name.{u32}
-use Rattle.wasmprinter_spec.specs.Placed.{TypeGroup, Body, Export}
+use Rattle.wasmprinter_spec.specs.Types.{MemoryType}
+use Rattle.wasmprinter_spec.specs.Operator.{Operator}
+use Rattle.wasmprinter_spec.specs.Placed.{TypeGroup, Import, Table, Global, ElementEntry, Data, Body, Export}
+use Rattle.wasmprinter_spec.specs.Binary.ValTypes.{lookup}
 use Rattle.wasmprinter_spec.specs.Binary.Types.{type_section}
+use Rattle.wasmprinter_spec.specs.Binary.Imports.{import_section}
 use Rattle.wasmprinter_spec.specs.Binary.Functions.{function_section}
+use Rattle.wasmprinter_spec.specs.Binary.Tables.{table_section}
+use Rattle.wasmprinter_spec.specs.Binary.Memories.{memory_section}
+use Rattle.wasmprinter_spec.specs.Binary.Tags.{tag_section}
+use Rattle.wasmprinter_spec.specs.Binary.Globals.{global_section}
 use Rattle.wasmprinter_spec.specs.Binary.Exports.{export_section}
+use Rattle.wasmprinter_spec.specs.Binary.Start.{start_section}
+use Rattle.wasmprinter_spec.specs.Binary.Elements.{element_section}
+use Rattle.wasmprinter_spec.specs.Binary.DataSegments.{data_count_section, data_section}
 use Rattle.wasmprinter_spec.specs.Binary.Code.{code_section}
 
 pub data Kind : Type 0 where
   TypeSection : Kind
+  ImportSection : Kind
   FunctionSection : Kind
+  TableSection : Kind
+  MemorySection : Kind
+  TagSection : Kind
+  GlobalSection : Kind
   ExportSection : Kind
+  StartSection : Kind
+  ElementSection : Kind
+  DataCountSection : Kind
   CodeSection : Kind
+  DataSection : Kind
 
 -- the kind of the sections with the id
 abbrev pub kind_of : ℕ → Option Kind
 kind_of id =
-    if id == 1 then Some TypeSection
-    else (if id == 3 then Some FunctionSection
-    else (if id == 7 then Some ExportSection
-    else (if id == 10 then Some CodeSection else None)))
+    lookup (
+    (1, TypeSection) ∷ (2, ImportSection) ∷ (3, FunctionSection) ∷ (4, TableSection) ∷ (5, MemorySection) ∷ (6, GlobalSection)
+    ∷ (7, ExportSection) ∷ (8, StartSection) ∷ (9, ElementSection) ∷ (10, CodeSection) ∷ (11, DataSection)
+    ∷ (12, DataCountSection) ∷ (13, TagSection) ∷ []) id
 
 -- Where each kind stands in the order type, import, function, table, memory, tag, global, export, start, element, data count, code, data.
 -- Sections of a kind that has no place there may stand anywhere.
 abbrev pub rank : Kind → Option ℕ
 rank TypeSection = Some 1
+rank ImportSection = Some 2
 rank FunctionSection = Some 3
+rank TableSection = Some 4
+rank MemorySection = Some 5
+rank TagSection = Some 6
+rank GlobalSection = Some 7
 rank ExportSection = Some 8
+rank StartSection = Some 9
+rank ElementSection = Some 10
+rank DataCountSection = Some 11
 rank CodeSection = Some 12
+rank DataSection = Some 13
 
 -- what a section of the kind holds
 abbrev pub Content : Kind → Type 0
 Content TypeSection = List (Placed TypeGroup)
+Content ImportSection = List (Placed Import)
 Content FunctionSection = List ℕ
+Content TableSection = List (Placed (Table (Placed Operator)))
+Content MemorySection = List (Placed MemoryType)
+Content TagSection = List (Placed ℕ)
+Content GlobalSection = List (Placed (Global (Placed Operator)))
 Content ExportSection = List (Placed Export)
+Content StartSection = Option (Placed ℕ)
+Content ElementSection = List (Placed ElementEntry)
+Content DataCountSection = Option ℕ
 Content CodeSection = List (Placed Body)
+Content DataSection = List (Placed (Data (Placed Operator)))
 
 -- how it is spelled, by all the bytes of the section
 abbrev pub content : (kind : Kind) → Remainder (Content kind)
 content TypeSection = type_section
+content ImportSection = import_section
 content FunctionSection = function_section
+content TableSection = table_section
+content MemorySection = memory_section
+content TagSection = tag_section
+content GlobalSection = global_section
 content ExportSection = export_section
+content StartSection = start_section
+content ElementSection = element_section
+content DataCountSection = data_count_section
 content CodeSection = code_section
+content DataSection = data_section
 
 pub data Section : Type 0 where
   holds : (kind : Kind) → Content kind → Section
@@ -57,9 +104,18 @@ section_kind (holds kind x) = kind
 -- what the section holds, if it is of this kind
 abbrev pub content_of : (kind : Kind) → Section → Option (Content kind)
 content_of TypeSection (holds TypeSection x) = Some x
+content_of ImportSection (holds ImportSection x) = Some x
 content_of FunctionSection (holds FunctionSection x) = Some x
+content_of TableSection (holds TableSection x) = Some x
+content_of MemorySection (holds MemorySection x) = Some x
+content_of TagSection (holds TagSection x) = Some x
+content_of GlobalSection (holds GlobalSection x) = Some x
 content_of ExportSection (holds ExportSection x) = Some x
+content_of StartSection (holds StartSection x) = Some x
+content_of ElementSection (holds ElementSection x) = Some x
+content_of DataCountSection (holds DataCountSection x) = Some x
 content_of CodeSection (holds CodeSection x) = Some x
+content_of DataSection (holds DataSection x) = Some x
 content_of _ _ = None
 
 -- an id, which is that of a kind

@@ -66,6 +66,59 @@ sub_type final supers c = record { final = final; supertypes = supers; composite
 abbrev pub final_type : CompositeType → SubType
 final_type c = sub_type true [] c
 
+-- ---- what is not in the type section
+
+-- the least size, and the greatest if there is one
+pub record Limits : Type 0 where
+  pub min : ℕ
+  pub max : Option ℕ
+
+abbrev pub limits_of : ℕ → Option ℕ → Limits
+limits_of min max = record { min = min; max = max }
+
+-- A memory: whether its addresses have 64 bits, whether threads may share it, its size in pages, and the exponent of the size of a page. (No
+-- exponent is another thing than 16, which means the same size.)
+pub record MemoryType : Type 0 where
+  pub wide : Bool
+  pub shared : Bool
+  pub limits : Limits
+  pub page : Option ℕ
+
+abbrev pub memory_type_of : Bool → Bool → Limits → Option ℕ → MemoryType
+memory_type_of wide shared l page = record { wide = wide; shared = shared; limits = l; page = page }
+
+-- a table: whether its indices have 64 bits, its size, and what it holds
+pub record TableType : Type 0 where
+  pub wide : Bool
+  pub limits : Limits
+  pub element : RefType
+
+abbrev pub table_type_of : Bool → Limits → RefType → TableType
+table_type_of wide l t = record { wide = wide; limits = l; element = t }
+
+pub record GlobalType : Type 0 where
+  pub mutable : Bool
+  pub type : ValType
+
+abbrev pub global_type_of : Bool → ValType → GlobalType
+global_type_of mut t = record { mutable = mut; type = t }
+
+-- what can be imported and exported (section 2.3.16 of the standard, "External Types")
+pub data ExternKind : Type 0 where
+  FuncKind : ExternKind
+  TableKind : ExternKind
+  MemoryKind : ExternKind
+  GlobalKind : ExternKind
+  TagKind : ExternKind
+
+-- what is imported, functions and tags by the index of their type
+pub data ExternType : Type 0 where
+  FuncExtern : ℕ → ExternType
+  TableExtern : TableType → ExternType
+  MemoryExtern : MemoryType → ExternType
+  GlobalExtern : GlobalType → ExternType
+  TagExtern : ℕ → ExternType
+
 -- ---- types by their indices
 
 abbrev pub concat : {A : Type 0} → List (List A) → List A
@@ -87,3 +140,15 @@ signature_of (Some t) = func_type_of t.composite
 -- the function type with an index: none where there is no such type, or it is of another kind
 abbrev pub signature_at : List SubType → ℕ → Option FuncType
 signature_at types i = signature_of (slice_get types i)
+
+abbrev pub fields_of : CompositeType → Option (List FieldType)
+fields_of (StructComposite fs) = Some fs
+fields_of _ = None
+
+abbrev pub structure_of : Option SubType → Option (List FieldType)
+structure_of None = None
+structure_of (Some t) = fields_of t.composite
+
+-- the fields of the structure type with an index: none where there is no such type, or it is of another kind
+abbrev pub fields_at : List SubType → ℕ → Option (List FieldType)
+fields_at types i = structure_of (slice_get types i)

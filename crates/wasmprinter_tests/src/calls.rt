@@ -1,21 +1,23 @@
 //! The calls on a printer, in their order, and which error comes where one of them fails.
 
-use crate::modules::{
-    CONTROL, CONTROL_CALLS, EMPTY_CALLS, EVERYTHING, EVERYTHING_CALLS, IDENTITY, IDENTITY_CALLS,
-    PREAMBLE,
-};
 use crate::recorder::{REFUSED, Recorder};
 use std::io::ErrorKind;
 use std::test::Fail;
 use wasmprinter::{Config, Error};
+use wasmprinter_samples::{
+    CONTROL, CONTROL_CALLS, EMPTY_CALLS, EVERYTHING, EVERYTHING_CALLS, FIELDS, FIELDS_CALLS,
+    IDENTITY, IDENTITY_CALLS, KINDS, KINDS_CALLS, PREAMBLE,
+};
 
 #[test]
 fn makes_each_call_in_order(rt: HostRuntime) -> Result<(), Fail> {
-    let modules: [(&[u8], &str); 4] = [
+    let modules: [(&[u8], &str); 6] = [
         (&PREAMBLE, EMPTY_CALLS),
         (&IDENTITY, IDENTITY_CALLS),
         (&EVERYTHING, EVERYTHING_CALLS),
+        (&KINDS, KINDS_CALLS),
         (&CONTROL, CONTROL_CALLS),
+        (&FIELDS, FIELDS_CALLS),
     ];
     for (wasm, calls) in modules {
         let mut recorder = Recorder::new(rt.alloc());

@@ -1,9 +1,9 @@
 //! Blocks, labels and branches: texts of functions, what isn't well nested, and deep nesting.
 
-use crate::modules::PREAMBLE;
 use std::alloc::{AllocError, Global};
 use std::test::Fail;
 use wasmprinter::{Error, print_bytes};
+use wasmprinter_samples::PREAMBLE;
 
 /// A type section with the type of functions without parameters and results.
 const NO_PARAMS: [u8; 6] = [0x01, 0x04, 0x01, 0x60, 0x00, 0x00];
@@ -25,7 +25,7 @@ fn with_operators(alloc: Global, types: &[u8], operators: &[u8]) -> Result<Vec<u
 }
 
 /// The text of such a module with functions that have no parameters.
-fn text_of(alloc: Global, operators: &[u8]) -> Result<String, Error> {
+pub fn text_of(alloc: Global, operators: &[u8]) -> Result<String, Error> {
     let wasm = with_operators(alloc, &NO_PARAMS, operators)?;
     print_bytes(alloc, &wasm)
 }
@@ -263,8 +263,8 @@ fn refuses_what_is_not_nested(rt: HostRuntime) -> Result<(), Fail> {
 const INNERMOST: &str =
     "\n                                                                                                    block ;; label = @100000\n";
 
-/// A module whose function opens so many blocks in one another by these two bytes each, and closes each by these. Given are the sizes of the
-/// code section and of the body, as the binary format spells them.
+/// A module whose function opens so many blocks in one another by these two bytes each, and closes each by these.
+/// Given are the sizes of the code section and of the body, as the binary format spells them.
 fn with_blocks(
     alloc: Global,
     depth: u32,

@@ -1,10 +1,11 @@
 //! What a decoded module gives out, through the crate's own paths.
 
-use crate::modules::{CONTROL, EVERYTHING, PREAMBLE};
 use std::test::Fail;
 use wasmprinter::wasm::{
-    BlockType, Body, Catch, Immediates, Module, Opcode, Operator, OperatorsReader, ValType, decode,
+    BlockType, Body, Catch, ExternKind, Immediates, Module, Opcode, Operator, OperatorsReader,
+    ValType, decode,
 };
+use wasmprinter_samples::{CONTROL, EVERYTHING, PREAMBLE};
 
 /// What stands behind an opcode, with lists as slices.
 #[derive(Clone, Copy)]
@@ -165,8 +166,13 @@ fn has_no_words_for_opcodes_that_are_not_listed(rt: HostRuntime) {
         (0, 0x27),
         (0, 0x100),
         (0, u32::MAX),
-        (0xfc, 0x10),
-        (0xfb, 0x0f),
+        (0xfc, 18),
+        (0xfc, 0x100),
+        (0xfb, 31),
+        (0xfd, 154),
+        (0xfd, 0x1_0000),
+        (0xfe, 0x04),
+        (0xff, 0x00),
     ] {
         assert_eq!(rt; Opcode { prefix, number }.word(), "");
     }
@@ -180,11 +186,14 @@ fn place_of_type(module: &Module<'_>, number: usize) -> Option<u64> {
     }
 }
 
-/// Whether the module has this export at the place.
+/// Whether the module has this export of a function at the place.
 fn has_export(module: &Module<'_>, number: usize, place: u64, name: &str, function: u32) -> bool {
     match module.exports().get(number) {
         Some(export) => {
-            export.place() == place && export.name() == name && export.function() == function
+            export.place() == place
+                && export.name() == name
+                && export.kind() == ExternKind::Func
+                && export.index() == function
         }
         None => false,
     }

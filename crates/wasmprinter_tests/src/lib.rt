@@ -1,13 +1,9 @@
-//! Tests that cross crates, through the paths of the crate `wasmprinter` alone: whole texts, single values, refusals, limits, decoded modules, and calls
-//! on printers that record them or fail. What is expected is typed by hand.
+//! Tests that cross crates, through the paths of the crate `wasmprinter` alone: whole texts, all operators,
+//! single values, refusals, limits, decoded modules, and calls on printers that record them or fail. What is expected is typed by hand.
 #![tactic(auto)]
 
 #[cfg(test)]
-mod byte_writers;
-#[cfg(test)]
 mod calls;
-#[cfg(test)]
-mod colors;
 #[cfg(test)]
 mod control;
 #[cfg(test)]
@@ -17,22 +13,26 @@ mod example;
 #[cfg(test)]
 mod floats;
 #[cfg(test)]
+mod imports;
+#[cfg(test)]
 mod limits;
 #[cfg(test)]
-mod modules;
+mod opcode_words;
 #[cfg(test)]
-mod passing;
+mod opcodes;
 #[cfg(test)]
 mod recorder;
 #[cfg(test)]
 mod refusals;
 #[cfg(test)]
-mod scripted;
+mod sections;
+#[cfg(test)]
+mod segments;
 #[cfg(test)]
 mod strings;
+#[cfg(test)]
+mod tables;
 #[cfg(test)]
 mod texts;
 #[cfg(test)]
 mod types;
-#[cfg(test)]
-mod writers;

@@ -1,11 +1,11 @@
 //! The greatest numbers that are taken, and what comes past them.
 
-use crate::modules::PREAMBLE;
 use crate::recorder::Recorder;
 use std::alloc::{AllocError, Global};
 use std::test::Fail;
 use wasmprinter::wasm::decode;
 use wasmprinter::{Config, Error, print_bytes};
+use wasmprinter_samples::PREAMBLE;
 
 /// A type, a function of it, and this code section.
 fn with_code(alloc: Global, code: &[u8]) -> Result<Vec<u8>, AllocError> {

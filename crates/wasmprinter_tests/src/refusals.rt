@@ -1,11 +1,11 @@
 //! What is refused, and how.
 
-use crate::modules::{IDENTITY, IDENTITY_TEXT, MINUS_ONE, PREAMBLE};
 use crate::recorder::Recorder;
 use std::alloc::Global;
 use std::test::Fail;
 use wasmprinter::wasm::decode;
 use wasmprinter::{Config, Error, print_bytes};
+use wasmprinter_samples::{IDENTITY, IDENTITY_TEXT, MINUS_ONE, PREAMBLE};
 
 /// What stands behind the first section of `IDENTITY`, cut off.
 const TYPE_TEXT: &str = "(module\n  (type (;0;) (func (param i32) (result i32)))\n)\n";

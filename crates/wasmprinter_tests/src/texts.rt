@@ -1,20 +1,22 @@
 //! Whole texts.
 
-use crate::modules::{
-    CONTROL, CONTROL_TEXT, EMPTY_TEXT, EVERYTHING, EVERYTHING_TEXT, IDENTITY, IDENTITY_TEXT,
-    MINUS_ONE, MINUS_ONE_TEXT, PREAMBLE,
-};
 use std::test::Fail;
 use wasmprinter::print_bytes;
+use wasmprinter_samples::{
+    CONTROL, CONTROL_TEXT, EMPTY_TEXT, EVERYTHING, EVERYTHING_TEXT, FIELDS, FIELDS_TEXT, IDENTITY,
+    IDENTITY_TEXT, KINDS, KINDS_TEXT, MINUS_ONE, MINUS_ONE_TEXT, PREAMBLE,
+};
 
 #[test]
 fn prints_each_module(rt: HostRuntime) -> Result<(), Fail> {
-    let modules: [(&[u8], &str); 5] = [
+    let modules: [(&[u8], &str); 7] = [
         (&PREAMBLE, EMPTY_TEXT),
         (&IDENTITY, IDENTITY_TEXT),
         (&MINUS_ONE, MINUS_ONE_TEXT),
         (&EVERYTHING, EVERYTHING_TEXT),
+        (&KINDS, KINDS_TEXT),
         (&CONTROL, CONTROL_TEXT),
+        (&FIELDS, FIELDS_TEXT),
     ];
     for (wasm, text) in modules {
         let printed = print_bytes(rt.alloc(), wasm)?;

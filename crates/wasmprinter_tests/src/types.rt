@@ -1,10 +1,10 @@
 //! Types: texts of value types, composite types, subtypes and groups, their places, and many types.
 
-use crate::modules::PREAMBLE;
 use crate::recorder::Recorder;
 use std::alloc::{AllocError, Global};
 use std::test::Fail;
 use wasmprinter::{Config, Error, print_bytes};
+use wasmprinter_samples::PREAMBLE;
 
 /// A module with a type section of these bytes, a count in front. There are fewer than 100.
 fn with_types(alloc: Global, content: &[u8]) -> Result<Vec<u8>, AllocError> {
@@ -90,7 +90,8 @@ fn prints_references_to_abstract_types(rt: HostRuntime) -> Result<(), Fail> {
     );
     assert!(rt;
         text.as_str().contains(
-            "(result (ref exn) (ref array) (ref struct) (ref i31) (ref eq) (ref any) (ref extern) (ref func) (ref none) (ref noextern) (ref nofunc) (ref noexn))))\n"
+            "(result (ref exn) (ref array) (ref struct) (ref i31) (ref eq) (ref any) (ref extern) (ref func) \
+             (ref none) (ref noextern) (ref nofunc) (ref noexn))))\n"
         )
     );
     Ok(())

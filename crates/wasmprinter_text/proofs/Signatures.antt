@@ -1,10 +1,10 @@
 -- Types stand on one line.
-use Rattle.std.specs.Prelude.{◌≡◌, ℕ, List, [], ◌∷◌, ◌++◌, Bool, true, false, codes, refl}
+use Rattle.std.specs.Prelude.{◌≡◌, ℕ, List, [], ◌∷◌, Bool, true, false, codes, refl}
 use Rattle.wasmprinter_spec.specs.Types as defined
 use Rattle.wasmprinter_spec.specs.Types.{HeapType, RefType, ValType, StorageType, FieldType, FuncType, CompositeType, FuncComposite, ArrayComposite, StructComposite, SubType}
-use Rattle.wasmprinter_spec.specs.Piece.{Piece, Gap, Open, OpenGap, OpenPlain, Number, Shut, Mark}
+use Rattle.wasmprinter_spec.specs.Piece.{Piece, Shut}
 use Rattle.wasmprinter_spec.specs.Layout.Groups.{has_break, line_group, line_group_gap}
-use Rattle.wasmprinter_spec.specs.Layout.Types.{heap_pieces, null_ref_pieces, ref_pieces_by, ref_pieces, val_pieces, type_list, list_group, signature_pieces, storage_pieces, field_pieces_by, field_pieces, struct_pieces, composite_pieces, final_pieces, supertype_pieces, sub_group, sub_pieces_by, sub_pieces, type_pieces}
+use Rattle.wasmprinter_spec.specs.Layout.Types.{heap_pieces, null_ref_pieces, ref_pieces_by, ref_pieces, val_pieces, type_list, list_group, signature_pieces}
 use Rattle.wasmprinter_lines.proofs.Groups.{line-append}
 
 -- groups of what stands on one line

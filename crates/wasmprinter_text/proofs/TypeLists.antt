@@ -1,8 +1,8 @@
 -- The layout of types, one by one, and of lists of them.
-use Rattle.std.specs.Prelude.{◌≡◌, ℕ, List, [], ◌∷◌, ◌++◌, length, map, refl}
+use Rattle.std.specs.Prelude.{◌≡◌, ℕ, List, [], ◌∷◌, ◌++◌, length, refl}
 use Rattle.std.proofs.Common.{sym, ap, ◌∙◌, append_assoc, append-nil}
 use Rattle.wasmprinter_spec.specs.Types.{ValType as DefinedType}
-use Rattle.wasmprinter_spec.specs.Piece.{Gap, Open, Shut}
+use Rattle.wasmprinter_spec.specs.Piece.{Gap}
 use Rattle.wasmprinter_spec.specs.Layout.Groups.{line_group}
 use Rattle.wasmprinter_spec.specs.Layout.Types.{val_pieces, type_list, list_group}
 use Rattle.wasmprinter_ops.specs.ValTypes.{type_view, types_view}
@@ -38,7 +38,7 @@ list_group-none w (t ∷ ts) e = absurd cc
 
 -- a group of types
 pub list_group-some : (w : List ℕ) (ts : List ValType) → (length ts ≡ 0 → ⊥) →
-    list_group w (types_view ts) ≡ Gap ∷ (Open w ∷ (type_list (types_view ts) ++ (Shut ∷ [])))
-unfolding list_group line_group
+    list_group w (types_view ts) ≡ Gap ∷ line_group w (type_list (types_view ts))
+unfolding list_group
 list_group-some w [] e = absurd (e refl)
 list_group-some w (t ∷ ts) e = refl

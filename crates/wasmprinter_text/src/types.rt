@@ -2,10 +2,12 @@
 //! and leave.
 ghost use Rattle.std.specs.Prelude.{◌≡◌, [], ◌∷◌, ◌++◌, codes};
 ghost use Rattle.wasmprinter_spec.specs.Options.{Options};
-ghost use Rattle.wasmprinter_spec.specs.Piece.{Gap, Open, Shut};
+ghost use Rattle.wasmprinter_spec.specs.Piece.{Gap};
 ghost use Rattle.wasmprinter_spec.specs.Types.{Index};
-ghost use Rattle.wasmprinter_spec.specs.Layout.Types.{heap_word, ref_word, heap_pieces, null_ref_pieces, ref_pieces_by, ref_pieces, val_pieces, type_list as list_of_types, list_group as group_of_types, signature_pieces};
-ghost use Rattle.wasmprinter_spec.specs.Layout.Groups.{line_group_gap};
+ghost use Rattle.wasmprinter_spec.specs.Layout.Types.{heap_word, ref_word, heap_pieces, null_ref_pieces, ref_pieces_by, ref_pieces};
+ghost use Rattle.wasmprinter_spec.specs.Layout.Types.{val_pieces, type_list as list_of_types, list_group as group_of_types};
+ghost use Rattle.wasmprinter_spec.specs.Layout.Types.{signature_pieces};
+ghost use Rattle.wasmprinter_spec.specs.Layout.Groups.{line_group, line_group_gap};
 ghost use Rattle.wasmprinter_print.specs.Prints.{Prints};
 ghost use Rattle.wasmprinter_ops.specs.ValTypes.{heap_view, ref_view, type_view, types_view};
 
@@ -72,7 +74,7 @@ pub fn write_heap_type<P: Print>(p: &mut P, heap: HeapType) -> io::Result<()>
 }
 
 /// Writes the type of references to a type by its index that may be null.
-#[tactic(auto, unfolding(wasmprinter_spec::specs::Layout::Types::null_ref_pieces, wasmprinter_spec::specs::Layout::Types::heap_pieces, wasmprinter_spec::specs::Layout::Groups::line_group))]
+#[tactic(auto, unfolding(wasmprinter_spec::specs::Layout::Types::null_ref_pieces, wasmprinter_spec::specs::Layout::Groups::line_group))]
 fn write_null_index<P: Print>(p: &mut P, index: u32) -> io::Result<()>
     ensures { (o : Options) → Prints P.meaning o p.old p.new result (null_ref_pieces (Index index)) }
 {
@@ -80,7 +82,7 @@ fn write_null_index<P: Print>(p: &mut P, index: u32) -> io::Result<()>
     gap(p)?;
     word(p, "null")?;
     gap(p)?;
-    number(p, u64::from(index))?;
+    write_heap_type(p, HeapType::Index(index))?;
     shut(p)
 }
 
@@ -150,8 +152,11 @@ fn type_list<P: Print>(p: &mut P, types: &ValTypes<'_>) -> io::Result<()>
     Ok(())
 }
 
-fn write_group<P: Print>(p: &mut P, keyword: &str, types: &ValTypes<'_>) -> io::Result<()>
-    ensures { (o : Options) → Prints P.meaning o p.old p.new result (Gap ∷ (Open keyword.now ∷ (list_of_types (types_view types.now) ++ (Shut ∷ [])))) }
+/// Writes a blank and a group of types behind a keyword.
+#[tactic(auto, unfolding(wasmprinter_spec::specs::Layout::Groups::line_group))]
+pub fn write_group<P: Print>(p: &mut P, keyword: &str, types: &ValTypes<'_>) -> io::Result<()>
+    ensures { (o : Options) → Prints P.meaning o p.old p.new result
+        (Gap ∷ line_group keyword.now (list_of_types (types_view types.now))) }
 {
     gap(p)?;
     open(p, keyword)?;

@@ -1,43 +1,67 @@
 -- A module is put together from its sections.
-use Rattle.std.proofs.Common.{◌≡◌, ℕ, ◌+◌, ◌<◌, ◌≤◌, true, List, [], ◌∷◌, length, Some, refl, sym, ap, subst, ◌∙◌, arith, inl, inr, lit≤}
-use Rattle.std.specs.Prelude.{Result, Ok, Err, IsOk, IsOkUnless}
+use Rattle.std.proofs.Common.{◌≡◌, ℕ, ◌+◌, ◌<◌, ◌≤◌, true, List, [], ◌∷◌, length, Option, Some, refl, sym, ap, ap₂, subst, ◌∙◌, arith, inl, inr, lit≤}
+use Rattle.std.specs.Prelude.{Bool, ◌&&◌, Result, Ok, Err, IsOk, IsOkUnless}
+use Rattle.std.proofs.lemmas.Bool.{and_parts}
 use Rattle.std.proofs.lemmas.List.{nil_from_length}
 use Rattle.std.specs.List.{AllByRecursion}
 use Rattle.wasmprinter_spec.specs.Grammar.{Input, input, ◌>>=◌, bind_some, some_is, Placed}
 use Rattle.wasmprinter_spec.specs.Choices.{tested}
 use Rattle.wasmprinter_spec.specs.Repeated.{until_end}
 use Rattle.wasmprinter_spec.specs.Sized.{headed}
-use Rattle.wasmprinter_spec.specs.Placed.{TypeGroup, Export, PlacedFunction, PlacedModule}
-use Rattle.wasmprinter_spec.specs.Sections.{FunctionSection, TypeSection, ExportSection, CodeSection, Section, section, are_above}
-use Rattle.wasmprinter_spec.specs.Binary.{AreBytes, preamble, types_in, type_indices_in, exports_in, bodies_in, function_pairs, module_from, module_of_sections, binary, Spells}
+use Rattle.wasmprinter_spec.specs.Operator.{Operator}
+use Rattle.wasmprinter_spec.specs.Types.{MemoryType}
+use Rattle.wasmprinter_spec.specs.Placed.{TypeGroup, Import, Global, Export, ElementEntry, Data, PlacedFunction, PlacedModule}
+use Rattle.wasmprinter_spec.specs.Sections.{TypeSection, ImportSection, FunctionSection, TableSection, MemorySection, TagSection, GlobalSection}
+use Rattle.wasmprinter_spec.specs.Sections.{ExportSection, StartSection, ElementSection, DataCountSection, CodeSection, DataSection, Section, section, are_above}
+use Rattle.wasmprinter_spec.specs.Binary.{AreBytes, preamble, types_in, imports_in, type_indices_in, tables_in, memories_in, tags_in, globals_in, exports_in, elements_in, data_count_in, bodies_in, datas_in}
+use Rattle.wasmprinter_spec.specs.Binary.{counts_data, function_pairs, module_from, module_of_sections, binary, Spells}
+use Rattle.wasmprinter_spec.specs.Binary.{AreBytes, preamble, types_in, imports_in, type_indices_in, tables_in, memories_in, tags_in, globals_in, exports_in, elements_in, data_count_in, bodies_in, datas_in}
+use Rattle.wasmprinter_spec.specs.Binary.{counts_data, function_pairs, module_from, module_of_sections, binary, Spells}
 use Rattle.wasmprinter_spec.specs.Limits.{HasFewLocals, IsWithinLimits, most_functions}
 use Rattle.wasmprinter_bytes.specs.Reads.{end_of}
 use Rattle.wasmprinter_error.specs.declared.error.Error.{Error}
 use Rattle.wasmprinter_error.specs.declared.error.Error.TheVariants as e
 use Rattle.wasmprinter_error.specs.Reasons.{HasReason}
 use Rattle.wasmprinter_error.proofs.Reasons.{reason_implied, memory_alone}
-use Rattle.wasmprinter_wasm.specs.Refusals.{AnyIsOver}
-use Rattle.wasmprinter_wasm.specs.Contents.{HasFew}
-use Rattle.wasmprinter_wasm.specs.Gathering.{Gathered, sections_at, item_count_in, HoldsSections, sections_reasons}
-use Rattle.wasmprinter_wasm.specs.Modules.{functions_of, module_view, bodies_of, IsPaired}
+use Rattle.wasmprinter_wasm.specs.Refusals.{AnyIsOver, PlacedTable, AnyIsEmpty}
+use Rattle.wasmprinter_wasm.specs.Contents.{HasFew, HasNoEmpty}
+use Rattle.wasmprinter_wasm.specs.Gathering.{Gathered, IsWhole, sections_at, item_count_in, HoldsSections, sections_reasons}
+use Rattle.wasmprinter_wasm.specs.Modules.{functions_of, bodies_of, IsPaired, HasFewItems}
 use Rattle.wasmprinter_wasm.specs.Decoding.{HoldsSome, HoldsNothing, module_reasons, IsFaultOf, TakesModule}
-use Rattle.wasmprinter_wasm.proofs.Later.{Later, later_none, later_more, many_later, section_later, items_later}
+use Rattle.wasmprinter_wasm.proofs.Later.{Later, later_none, later_more, many_later, empty_later, section_later, items_later}
+use Rattle.wasmprinter_wasm.proofs.Emptied.{not_empty}
 use Rattle.wasmprinter_wasm.proofs.Pairing.{Paired, Pairs, paired_of, paired_length, pairs_of}
 use Rattle.wasmprinter_wasm.proofs.Held.{HoldsFew, few_held}
+use Rattle.wasmprinter_wasm.proofs.Listed.{bytes_apart, sections_listed, items_held}
 
--- what the bytes of a module are: a preamble, and sections in order with as many type indices as bodies
+-- what the bytes of a module are: a preamble, and sections in order with as many type indices as bodies, and as many data segments as are counted
 record Spelled (at : Input) (m : PlacedModule) (size : ℕ) : Type 0 where
   sections : List Section
   read : sections_at at ≡ Some sections
   rise : are_above 0 sections ≡ true
+  counted : counts_data (data_count_in sections) (length (datas_in sections)) ≡ true
   functions : List PlacedFunction
   pairs : function_pairs (type_indices_in sections) (bodies_in sections) ≡ Some functions
   is : module_from size sections functions ≡ m
 
 -- modules of the same parts
-alike : (ts ts' : List (Placed TypeGroup)) (fs fs' : List PlacedFunction) (es es' : List (Placed Export)) (n n' : ℕ) → ts ≡ ts' → fs ≡ fs' → es ≡ es' → n ≡ n'
-    → ◌≡◌ {A = PlacedModule} (record { types = ts; functions = fs; exports = es; size = n }) (record { types = ts'; functions = fs'; exports = es'; size = n' })
-alike ts ts' fs fs' es es' n n' a b c d = rw (a, b, c, d) refl
+alike : {ts ts' : List (Placed TypeGroup)}
+    {is is' : List (Placed Import)}
+    {us us' : List PlacedTable}
+    {ms ms' : List (Placed MemoryType)}
+    {gs gs' : List (Placed ℕ)}
+    {vs vs' : List (Placed (Global (Placed Operator)))}
+    {es es' : List (Placed Export)}
+    {f f' : Option (Placed ℕ)}
+    {ss ss' : List (Placed ElementEntry)}
+    {fs fs' : List PlacedFunction}
+    {ds ds' : List (Placed (Data (Placed Operator)))}
+    {n n' : ℕ}
+    → ts ≡ ts' → is ≡ is' → us ≡ us' → ms ≡ ms' → gs ≡ gs' → vs ≡ vs' → es ≡ es' → f ≡ f' → ss ≡ ss' → fs ≡ fs' → ds ≡ ds' → n ≡ n'
+    → ◌≡◌ {A = PlacedModule}
+    (record { types = ts; imports = is; tables = us; memories = ms; tags = gs; globals = vs; exports = es; start = f; elements = ss; functions = fs; datas = ds; size = n })
+    (record { types = ts'; imports = is'; tables = us'; memories = ms'; tags = gs'; globals = vs'; exports = es'; start = f'; elements = ss'; functions = fs'; datas = ds'; size = n' })
+alike a b c d h i j k l m n o = rw (a, b, c, d, h, i, j, k, l, m, n, o) refl
 
 -- functions whose bodies have few locals have few
 few_functions : (fs : List PlacedFunction) → AllByRecursion HasFew (bodies_of fs) → AllByRecursion HasFewLocals fs
@@ -52,9 +76,12 @@ module _ (bytes pre : List ℕ) (at : Input) (first : preamble.parse (input 0 by
   -- what was put together
   assembled_of : (ss : List Section) (m : PlacedModule) → sections_at at ≡ Some ss → module_of_sections size ss ≡ Some m → Spelled at m size
   assembled_of ss m read e =
-      let t = tested (are_above 0 ss) (function_pairs (type_indices_in ss) (bodies_in ss) >>= λ fs. Some (module_from size ss fs)) m e in
+      let up : Bool = are_above 0 ss in
+      let count : Bool = counts_data (data_count_in ss) (length (datas_in ss)) in
+      let t = tested (up && count) (function_pairs (type_indices_in ss) (bodies_in ss) >>= λ fs. Some (module_from size ss fs)) m e in
+      let both = and_parts up count t.0 in
       let p = bind_some (function_pairs (type_indices_in ss) (bodies_in ss)) (λ fs. Some (module_from size ss fs)) m t.1 in
-      record { sections = ss; read = read; rise = t.0; functions = p.0; pairs = p.1; is = some_is (module_from size ss p.0) m p.2 }
+      record { sections = ss; read = read; rise = both.0; counted = both.1; functions = p.0; pairs = p.1; is = some_is (module_from size ss p.0) m p.2 }
 
   -- what the bytes of a module are
   spelled_of : (m : PlacedModule) → Spells bytes m → Spelled at m size
@@ -80,9 +107,20 @@ module _ (bytes pre : List ℕ) (at : Input) (first : preamble.parse (input 0 by
   holds_some : (m : PlacedModule) (s : Spelled at m size) → 0 < item_count_in s.sections → HoldsSome m
   holds_some m s some =
       let types : length m.types ≡ length (types_in s.sections) = ap (λ (x : PlacedModule). length x.types) (sym s.is) in
+      let imports : length m.imports ≡ length (imports_in s.sections) = ap (λ (x : PlacedModule). length x.imports) (sym s.is) in
+      let tables : length m.tables ≡ length (tables_in s.sections) = ap (λ (x : PlacedModule). length x.tables) (sym s.is) in
+      let memories : length m.memories ≡ length (memories_in s.sections) = ap (λ (x : PlacedModule). length x.memories) (sym s.is) in
+      let tags : length m.tags ≡ length (tags_in s.sections) = ap (λ (x : PlacedModule). length x.tags) (sym s.is) in
+      let globals : length m.globals ≡ length (globals_in s.sections) = ap (λ (x : PlacedModule). length x.globals) (sym s.is) in
       let exports : length m.exports ≡ length (exports_in s.sections) = ap (λ (x : PlacedModule). length x.exports) (sym s.is) in
+      let elements : length m.elements ≡ length (elements_in s.sections) = ap (λ (x : PlacedModule). length x.elements) (sym s.is) in
+      let datas : length m.datas ≡ length (datas_in s.sections) = ap (λ (x : PlacedModule). length x.datas) (sym s.is) in
       let bodies = paired_length (type_indices_in s.sections) (bodies_in s.sections) s.functions s.pairs in
       omega (arith, (functions_are m s).count)
+
+  -- its tables are those of its sections
+  tables_are : (m : PlacedModule) (s : Spelled at m size) → tables_in s.sections ≡ m.tables
+  tables_are m s = ap (λ (x : PlacedModule). x.tables) s.is
 
   -- sections were refused
   pub module_fault : end_of at ≡ length bytes → (f : Error) → HasReason (sections_reasons at) f → IsFaultOf bytes f
@@ -97,6 +135,10 @@ module _ (bytes pre : List ℕ) (at : Input) (first : preamble.parse (input 0 by
     );
     functions = λ count h.
         (section_later (input 0 bytes) at FunctionSection count later h.0, h.1, λ m s. let p = spelled_of m s in (functions_are m p).count ∙ h.2 p.sections p.read p.rise);
+    tables = λ place h. (
+      empty_later (input 0 bytes) at place later h.0,
+      λ m s. let p = spelled_of m s in subst (AnyIsEmpty place) (tables_are m p) (h.1 p.sections p.read p.rise),
+    );
     memory = λ h. (items_later (input 0 bytes) at later h.0, λ m s. let p = spelled_of m s in holds_some m p (h.1 p.sections p.read p.rise));
   })
 
@@ -106,30 +148,57 @@ module _ (bytes pre : List ℕ) (at : Input) (first : preamble.parse (input 0 by
     few : HoldsFew g
     few = few_held g h.sections h.small h.held
 
-    -- but the numbers of type indices and bodies differ
-    pub module_unpaired : (length g.type_indices ≡ length g.bodies → ⊥) → IsFaultOf bytes (e.Malformed (length bytes))
+    -- the sections of a module that is spelled are these
+    those : (m : PlacedModule) (p : Spelled at m size) → p.sections ≡ h.sections
+    those m p = some_is p.sections h.sections (sym p.read ∙ h.read)
+
+    -- but the numbers of type indices and bodies differ, or the data count is wrong
+    pub module_unpaired : (IsWhole g → ⊥) → IsFaultOf bytes (e.Malformed (length bytes))
     module_unpaired ne = (
       λ m s.
           let p = spelled_of m s in
-          let same : p.sections ≡ h.sections = some_is p.sections h.sections (sym p.read ∙ h.read) in
-          let lengths : length (type_indices_in p.sections) ≡ length (bodies_in p.sections) = paired_length (type_indices_in p.sections) (bodies_in p.sections) p.functions p.pairs in
-          ne (ap length (h.held FunctionSection ∙ ap type_indices_in (sym same)) ∙ lengths ∙ ap length (ap bodies_in same ∙ sym (h.held CodeSection))),
+          let same : p.sections ≡ h.sections = those m p in
+          let lengths : length (type_indices_in p.sections) ≡ length (bodies_in p.sections) =
+          paired_length (type_indices_in p.sections) (bodies_in p.sections) p.functions p.pairs in
+          let counted : counts_data (data_count_in h.sections) (length (datas_in h.sections)) ≡ true =
+          subst (λ (ss : List Section). counts_data (data_count_in ss) (length (datas_in ss)) ≡ true) same p.counted in
+          ne (record {
+            paired = ap length (h.held FunctionSection ∙ ap type_indices_in (sym same)) ∙ lengths ∙ ap length (ap bodies_in same ∙ sym (h.held CodeSection));
+            counted =
+                ap₂ (λ (n : Option ℕ) (ds : List (Placed (Data (Placed Operator)))). counts_data n (length ds)) (h.held DataCountSection) (h.held DataSection) ∙ counted;
+          }),
       omega arith,
     )
 
-    -- and the numbers of type indices and bodies are the same
-    module _ (same : length g.type_indices ≡ length g.bodies) where
-      -- so they can be paired
-      pub paired_few : IsPaired g.type_indices g.bodies
-      paired_few = record { same = same; few = few.functions }
+    -- and the numbers of type indices and bodies are the same, and the data count is right
+    module _ (whole : IsWhole g) where
+      -- so they can be paired, and of bytes are read no more items than their counts can say
+      pub module_kept : AreBytes bytes → IsPaired g.type_indices g.bodies × HasFewItems g.imports g.tables g.memories g.tags g.globals
+      module_kept all =
+          let s = preamble.sound (input 0 bytes) (pre, at) first in
+          let rest : AreBytes at.bytes = (bytes_apart s.text at.bytes (subst AreBytes s.parts all)).1 in
+          (record { same = whole.paired; few = few.functions }, items_held g h.sections (sections_listed at h.sections h.read rest) h.held)
 
       -- the module that is put together
       abbrev seen : PlacedModule
-      seen = module_view g.types g.type_indices g.exports g.bodies (length bytes)
+      seen = record {
+        types = g.types;
+        imports = g.imports;
+        tables = g.tables;
+        memories = g.memories;
+        tags = g.tags;
+        globals = g.globals;
+        exports = g.exports;
+        start = g.start;
+        elements = g.elements;
+        functions = functions_of g.type_indices g.bodies;
+        datas = g.datas;
+        size = length bytes;
+      }
 
       -- the functions that are paired
       made : Pairs g.type_indices g.bodies
-      made = pairs_of g.type_indices g.bodies same
+      made = pairs_of g.type_indices g.bodies whole.paired
 
       -- they are those of the module
       functions_made : functions_of g.type_indices g.bodies ≡ made.functions
@@ -139,14 +208,19 @@ module _ (bytes pre : List ℕ) (at : Input) (first : preamble.parse (input 0 by
       pairs : function_pairs (type_indices_in h.sections) (bodies_in h.sections) ≡ Some made.functions
       pairs = ap (λ (is : List ℕ). function_pairs is (bodies_in h.sections)) (sym (h.held FunctionSection)) ∙ ap (function_pairs g.type_indices) (sym (h.held CodeSection)) ∙ made.are
 
+      -- the data count of the sections is right
+      counts : counts_data (data_count_in h.sections) (length (datas_in h.sections)) ≡ true
+      counts = ap₂ (λ (n : Option ℕ) (ds : List (Placed (Data (Placed Operator)))). counts_data n (length ds)) (sym (h.held DataCountSection)) (sym (h.held DataSection)) ∙ whole.counted
+
       -- the definitions read a module of them
       read : binary.parse (input 0 bytes) ≡ Some (module_from size h.sections made.functions)
-      read = rw (first, h.read, h.rise, pairs) refl
+      read = rw (first, h.read, h.rise, counts, pairs) refl
 
       -- the bytes spell the module
       pub module_spelled : AreBytes bytes → Spells bytes seen
       module_spelled all =
-          let same_module : module_from size h.sections made.functions ≡ seen = alike _ _ _ _ _ _ _ _ (sym (h.held TypeSection)) (sym functions_made) (sym (h.held ExportSection)) (omega arith) in
+          let same_module : module_from size h.sections made.functions ≡ seen =
+          alike (sym (h.held TypeSection)) (sym (h.held ImportSection)) (sym (h.held TableSection)) (sym (h.held MemorySection)) (sym (h.held TagSection)) (sym (h.held GlobalSection)) (sym (h.held ExportSection)) (sym (h.held StartSection)) (sym (h.held ElementSection)) (sym functions_made) (sym (h.held DataSection)) (omega arith) in
           record { are_bytes = all; spelled = binary.sound (input 0 bytes) seen (read ∙ ap (λ (m : PlacedModule). Some m) same_module) }
 
       -- the module is within the limits
@@ -155,6 +229,7 @@ module _ (bytes pre : List ℕ) (at : Input) (first : preamble.parse (input 0 by
           let p = paired_of g.type_indices g.bodies made.functions made.are in
           let locals : AllByRecursion HasFew (bodies_of made.functions) = subst (AllByRecursion HasFew) (sym made.bodies) few.locals in
           record {
+            tables = few.tables;
             locals = subst (AllByRecursion HasFewLocals) (sym functions_made) (few_functions made.functions locals);
             functions = omega (arith, ap length functions_made, p.count, few.functions);
           }
@@ -165,11 +240,17 @@ over_few place [] few over = over
 over_few place (f ∷ fs) few (inl here) = absurd (omega (arith, here.1, few.0))
 over_few place (f ∷ fs) few (inr there) = over_few place fs few.1 there
 
+-- nor is a table with an empty initialiser among tables without one
+empty_none : (place : ℕ) (ts : List PlacedTable) → AllByRecursion HasNoEmpty ts → AnyIsEmpty place ts → ⊥
+empty_none place [] none any = any
+empty_none place (t ∷ ts) none (inl here) = not_empty t.value.init none.0 here.1
+empty_none place (t ∷ ts) none (inr there) = empty_none place ts none.1 there
+
 -- where a module within the limits is spelled, and no component, memory was what was wanting, and it holds something
 pub within_fault : (bytes : List ℕ) (f : Error) → IsFaultOf bytes f → (m : PlacedModule) → Spells bytes m → IsWithinLimits m → (f ≡ e.Memory) × HoldsSome m
 within_fault bytes f h m s w =
     let a = memory_alone (module_reasons bytes ⊥) (λ place r. r.0 m s) (λ r. r) (λ place r. over_few place m.functions w.locals (r.1 m s))
-    (λ count r. let l = r.2 m s in omega (arith, r.1, w.functions)) f h in
+    (λ count r. let l = r.2 m s in omega (arith, r.1, w.functions)) (λ place r. empty_none place m.tables w.tables (r.1 m s)) f h in
     (a.0, a.1.1 m s)
 
 -- the same of a result
@@ -181,8 +262,9 @@ within_alone bytes (Err f) h m s w = (within_fault bytes f h m s w).0
 nothing_within : (m : PlacedModule) → HoldsNothing m → IsWithinLimits m
 nothing_within m none =
     let nil : m.functions ≡ [] = nil_from_length m.functions (omega arith) in
+    let no_tables : m.tables ≡ [] = nil_from_length m.tables (omega arith) in
     let least : 0 ≤ most_functions = lit≤ tt in
-    record { locals = subst (AllByRecursion HasFewLocals) (sym nil) tt; functions = omega (arith, least) }
+    record { tables = subst (AllByRecursion HasNoEmpty) (sym no_tables) tt; locals = subst (AllByRecursion HasFewLocals) (sym nil) tt; functions = omega (arith, least) }
 
 -- bytes that spell such a module are never refused
 pub nothing_decoded : (bytes : List ℕ) (r : Result PlacedModule Error) → TakesModule bytes r → (m : PlacedModule) → Spells bytes m → HoldsNothing m → IsOk r

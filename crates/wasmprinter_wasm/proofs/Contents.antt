@@ -12,10 +12,11 @@ use Rattle.wasmprinter_bytes.specs.Lists.{reader_reasons}
 use Rattle.wasmprinter_error.proofs.Reasons.{reason_implied}
 use Rattle.wasmprinter_wasm.specs.declared.sections.Section.{Section as SectionRead}
 use Rattle.wasmprinter_wasm.specs.Refusals.{BeginsSection}
-use Rattle.wasmprinter_wasm.specs.Contents.{section_view, HasOver, HasCount, item_count, Counts, content_reasons, section_reasons, TakesContent, TakesSection}
+use Rattle.wasmprinter_wasm.specs.Contents.{section_view, HasOver, HasEmpty, HasCount, item_count, Counts, content_reasons, section_reasons, TakesContent, TakesSection}
 use Rattle.wasmprinter_wasm.proofs.Parts.{sized, sized_is, sized_none, sized_some, old_parts, part_within}
 use Rattle.wasmprinter_wasm.proofs.Over.{many_in_part}
-use Rattle.wasmprinter_wasm.proofs.Later.{Later, later_none, later_more, many_later}
+use Rattle.wasmprinter_wasm.proofs.Later.{Later, later_none, later_more, many_later, empty_later}
+use Rattle.wasmprinter_wasm.proofs.Emptied.{empty_in_part}
 
 -- an id and a size were read, and so many bytes cut out
 module _ (old behind mid part new : Input) (id size : ℕ) (id_read : byte.parse old ≡ Some (id, behind)) (size_read : u32.parse behind ≡ Some (size, mid))
@@ -101,9 +102,12 @@ module _ (old behind mid part new : Input) (id size : ℕ) (id_read : byte.parse
           let p = old_parts behind mid part new size size_read cut begins in
           (many_later old behind place later (many_in_part behind part p.0 new.bytes place p.1 p.2 h.0), of_section (HasOver place) h.1);
       functions = λ count h. (subst (λ (k : Kind). BeginsSection old k count) h.0 (begun count h.1), h.2, of_section (HasCount count) h.3);
+      tables = λ place h.
+          let p = old_parts behind mid part new size size_read cut begins in
+          (empty_later old behind place later (empty_in_part behind part p.0 new.bytes place p.1 p.2 h.0), of_section (HasEmpty place) h.1);
       memory = λ h. (
-        record { kind = kind; count = h.0.count; some = h.0.some; begins = begun h.0.count (record { after = h.0.after; counted = h.0.counted }) },
-        of_section (λ (s : Section). 0 < item_count s) h.1,
+        record { kind = kind; listed = h.0; count = h.1.count; some = h.1.some; begins = begun h.1.count (record { after = h.1.after; counted = h.1.counted }) },
+        of_section (λ (s : Section). 0 < item_count s) h.2,
       );
     })
 
@@ -114,6 +118,7 @@ module _ (old behind mid part new : Input) (id size : ℕ) (id_read : byte.parse
     component = λ h. h;
     locals = λ place h. absurd h;
     functions = λ count h. absurd h;
+    tables = λ place h. absurd h;
     memory = λ h. absurd h;
   })
 

@@ -3,18 +3,18 @@ use Rattle.std.proofs.Common.{◌≡◌, ℕ, ◌<◌, true, false, List, [], �
 use Rattle.std.specs.List.{AllByRecursion}
 use Rattle.wasmprinter_spec.specs.Grammar.{Input, bind_some, some_is}
 use Rattle.wasmprinter_spec.specs.Sections.{FunctionSection, Content, Section, section, section_kind, rank, follows, rank_behind, are_above}
-use Rattle.wasmprinter_spec.specs.Binary.{type_indices_in, bodies_in}
+use Rattle.wasmprinter_spec.specs.Binary.{type_indices_in, tables_in, bodies_in}
 use Rattle.wasmprinter_spec.proofs.Ordered.{last_rank, last_rank_push, above_push, above_midst, with_one, held_push}
 use Rattle.wasmprinter_bytes.specs.Reads.{end_of}
 use Rattle.wasmprinter_error.specs.declared.error.Error.{Error}
 use Rattle.wasmprinter_error.specs.Reasons.{HasReason}
 use Rattle.wasmprinter_error.proofs.Reasons.{reason_implied}
-use Rattle.wasmprinter_wasm.specs.Refusals.{AnyIsOver}
-use Rattle.wasmprinter_wasm.specs.Contents.{IsSmall, HasCount, HasOver, item_count, section_reasons}
+use Rattle.wasmprinter_wasm.specs.Refusals.{AnyIsOver, AnyIsEmpty}
+use Rattle.wasmprinter_wasm.specs.Contents.{IsSmall, HasCount, HasOver, HasEmpty, item_count, section_reasons}
 use Rattle.wasmprinter_wasm.specs.Gathering.{Gathered, none_gathered, content_kept, with_section, IsHeld, sections_at, item_count_in, HoldsSections, sections_reasons}
-use Rattle.wasmprinter_wasm.proofs.Later.{Later, later_none, later_more, many_later, section_later, items_later}
+use Rattle.wasmprinter_wasm.proofs.Later.{Later, later_none, later_more, many_later, empty_later, section_later, items_later}
 use Rattle.wasmprinter_wasm.proofs.Until.{in_front, until_item, until_fault, until_done}
-use Rattle.wasmprinter_wasm.proofs.Held.{rank_added, kept_added, some_midst, count_midst, over_midst}
+use Rattle.wasmprinter_wasm.proofs.Held.{rank_added, kept_added, some_midst, count_midst, over_midst, empty_midst}
 
 -- a section takes a byte
 pub takes_byte : (at : Input) (x : Section × Input) → section.parse at ≡ Some x → length x.1.bytes < length at.bytes
@@ -139,6 +139,7 @@ module _ (start at : Input) (g : Gathered) (some : at.bytes ≡ [] → ⊥) (k :
       h.1,
       of_sections (HasCount count) (λ (ss : List Section). length (type_indices_in ss) ≡ count) (count_midst count) h.2,
     );
+    tables = λ place h. (empty_later start at place k.later h.0, of_sections (HasEmpty place) (λ (ss : List Section). AnyIsEmpty place (tables_in ss)) (empty_midst place) h.1);
     memory = λ h. (items_later start at k.later h.0, of_sections (λ (s : Section). 0 < item_count s) (λ (ss : List Section). 0 < item_count_in ss) some_midst h.1);
   })
 

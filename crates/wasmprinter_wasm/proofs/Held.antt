@@ -1,12 +1,14 @@
 -- What sections in order hold together.
 use Rattle.std.proofs.Common.{◌≡◌, ℕ, ◌<◌, ◌≤◌, lit≤, true, List, [], ◌∷◌, ◌++◌, length, refl, sym, ap, subst, ◌∙◌, arith}
 use Rattle.std.specs.List.{AllByRecursion}
-use Rattle.wasmprinter_spec.specs.Sections.{Kind, TypeSection, FunctionSection, ExportSection, CodeSection, Section, holds, section_kind, rank, rank_behind, are_above}
-use Rattle.wasmprinter_spec.specs.Binary.{type_indices_in, bodies_in}
+use Rattle.wasmprinter_spec.specs.Sections.{TypeSection, ImportSection, FunctionSection, TableSection, MemorySection, TagSection, GlobalSection}
+use Rattle.wasmprinter_spec.specs.Sections.{ExportSection, StartSection, ElementSection, DataCountSection, CodeSection, DataSection}
+use Rattle.wasmprinter_spec.specs.Sections.{Kind, Section, holds, section_kind, rank, rank_behind, are_above}
+use Rattle.wasmprinter_spec.specs.Binary.{type_indices_in, tables_in, bodies_in}
 use Rattle.wasmprinter_spec.specs.Limits.{most_functions}
 use Rattle.wasmprinter_spec.proofs.Ordered.{with_one, held_each, held_midst, held_picked}
-use Rattle.wasmprinter_wasm.specs.Refusals.{AnyIsOver}
-use Rattle.wasmprinter_wasm.specs.Contents.{HasFew, IsSmall, HasCount, HasOver, item_count}
+use Rattle.wasmprinter_wasm.specs.Refusals.{AnyIsOver, AnyIsEmpty}
+use Rattle.wasmprinter_wasm.specs.Contents.{HasFew, HasNoEmpty, IsSmall, HasCount, HasOver, HasEmpty, item_count}
 use Rattle.wasmprinter_wasm.specs.Gathering.{Gathered, content_kept, with_section, IsHeld, item_count_in}
 
 -- ---- of each kind
@@ -14,24 +16,51 @@ use Rattle.wasmprinter_wasm.specs.Gathering.{Gathered, content_kept, with_sectio
 -- the rank that is kept is that of the last section that has one
 pub rank_added : (g : Gathered) (s : Section) → (with_section g s).rank ≡ rank_behind g.rank (rank (section_kind s))
 rank_added g (holds TypeSection x) = refl
+rank_added g (holds ImportSection x) = refl
 rank_added g (holds FunctionSection x) = refl
+rank_added g (holds TableSection x) = refl
+rank_added g (holds MemorySection x) = refl
+rank_added g (holds TagSection x) = refl
+rank_added g (holds GlobalSection x) = refl
 rank_added g (holds ExportSection x) = refl
+rank_added g (holds StartSection x) = refl
+rank_added g (holds ElementSection x) = refl
+rank_added g (holds DataCountSection x) = refl
 rank_added g (holds CodeSection x) = refl
+rank_added g (holds DataSection x) = refl
 
 -- a section sets what is kept of its kind, and leaves the rest
 pub kept_added : (kind : Kind) (g : Gathered) (s : Section) → content_kept kind (with_section g s) ≡ with_one kind (content_kept kind g) s
 kept_added TypeSection g (holds TypeSection x) = refl
+kept_added ImportSection g (holds ImportSection x) = refl
 kept_added FunctionSection g (holds FunctionSection x) = refl
+kept_added TableSection g (holds TableSection x) = refl
+kept_added MemorySection g (holds MemorySection x) = refl
+kept_added TagSection g (holds TagSection x) = refl
+kept_added GlobalSection g (holds GlobalSection x) = refl
 kept_added ExportSection g (holds ExportSection x) = refl
+kept_added StartSection g (holds StartSection x) = refl
+kept_added ElementSection g (holds ElementSection x) = refl
+kept_added DataCountSection g (holds DataCountSection x) = refl
 kept_added CodeSection g (holds CodeSection x) = refl
+kept_added DataSection g (holds DataSection x) = refl
 kept_added _ g _ = refl
 
 -- sections in order among which one holds an item hold one
 pub some_midst : (xs : List Section) (s : Section) (ys : List Section) → are_above 0 (xs ++ s ∷ ys) ≡ true → 0 < item_count s → 0 < item_count_in (xs ++ s ∷ ys)
 some_midst xs (holds TypeSection x) ys up some = omega (arith, ap length (held_midst TypeSection 1 refl [] 0 xs x ys up))
+some_midst xs (holds ImportSection x) ys up some = omega (arith, ap length (held_midst ImportSection 2 refl [] 0 xs x ys up))
 some_midst xs (holds FunctionSection x) ys up some = omega (arith, ap length (held_midst FunctionSection 3 refl [] 0 xs x ys up))
+some_midst xs (holds TableSection x) ys up some = omega (arith, ap length (held_midst TableSection 4 refl [] 0 xs x ys up))
+some_midst xs (holds MemorySection x) ys up some = omega (arith, ap length (held_midst MemorySection 5 refl [] 0 xs x ys up))
+some_midst xs (holds TagSection x) ys up some = omega (arith, ap length (held_midst TagSection 6 refl [] 0 xs x ys up))
+some_midst xs (holds GlobalSection x) ys up some = omega (arith, ap length (held_midst GlobalSection 7 refl [] 0 xs x ys up))
 some_midst xs (holds ExportSection x) ys up some = omega (arith, ap length (held_midst ExportSection 8 refl [] 0 xs x ys up))
+some_midst xs (holds StartSection x) ys up some = absurd (omega (arith, some))
+some_midst xs (holds ElementSection x) ys up some = omega (arith, ap length (held_midst ElementSection 10 refl [] 0 xs x ys up))
+some_midst xs (holds DataCountSection x) ys up some = absurd (omega (arith, some))
 some_midst xs (holds CodeSection x) ys up some = omega (arith, ap length (held_midst CodeSection 12 refl [] 0 xs x ys up))
+some_midst xs (holds DataSection x) ys up some = omega (arith, ap length (held_midst DataSection 13 refl [] 0 xs x ys up))
 
 -- ---- limits
 
@@ -43,14 +72,21 @@ count_midst count xs s ys up h = ap length (held_picked FunctionSection 3 refl [
 pub over_midst : (place : ℕ) (xs : List Section) (s : Section) (ys : List Section) → are_above 0 (xs ++ s ∷ ys) ≡ true → HasOver place s → AnyIsOver place (bodies_in (xs ++ s ∷ ys))
 over_midst place xs s ys up h = subst (AnyIsOver place) (sym (held_picked CodeSection 12 refl [] 0 xs s h.0 ys h.1 up)) h.2
 
--- no function has too many locals, and there aren't too many functions
+-- all tables are those of the one table section
+pub empty_midst : (place : ℕ) (xs : List Section) (s : Section) (ys : List Section) → are_above 0 (xs ++ s ∷ ys) ≡ true → HasEmpty place s
+    → AnyIsEmpty place (tables_in (xs ++ s ∷ ys))
+empty_midst place xs s ys up h = subst (AnyIsEmpty place) (sym (held_picked TableSection 4 refl [] 0 xs s h.0 ys h.1 up)) h.2
+
+-- no function has too many locals, there aren't too many functions, and no table has an empty initialiser
 pub record HoldsFew (g : Gathered) : Type 0 where
   pub functions : length g.type_indices ≤ most_functions
+  pub tables : AllByRecursion HasNoEmpty g.tables
   pub locals : AllByRecursion HasFew g.bodies
 
 -- sections within the limits hold no more together
 pub few_held : (g : Gathered) (ss : List Section) → AllByRecursion IsSmall ss → IsHeld g ss → HoldsFew g
 few_held g ss small held = record {
   functions = subst (λ (is : List ℕ). length is ≤ most_functions) (sym (held FunctionSection)) (held_each FunctionSection IsSmall [] ss small (lit≤ tt));
+  tables = subst (AllByRecursion HasNoEmpty) (sym (held TableSection)) (held_each TableSection IsSmall [] ss small tt);
   locals = subst (AllByRecursion HasFew) (sym (held CodeSection)) (held_each CodeSection IsSmall [] ss small tt);
 }

@@ -2,8 +2,9 @@
 use Rattle.std.proofs.Common.{◌≡◌, ℕ, ◌+◌, List, [], ◌∷◌, ◌++◌, length, Some, refl, sym, ap, ◌∙◌, arith, append_assoc, append-nil, length-append}
 use Rattle.wasmprinter_spec.specs.Grammar.{Input, Grammar}
 use Rattle.wasmprinter_spec.specs.Sections.{Kind}
-use Rattle.wasmprinter_wasm.specs.Refusals.{HasManyLocals, BeginsSection, BeginsItems}
+use Rattle.wasmprinter_wasm.specs.Refusals.{HasManyLocals, HasEmptyInit, BeginsSection, BeginsItems}
 use Rattle.wasmprinter_wasm.proofs.Over.{many_in_part}
+use Rattle.wasmprinter_wasm.proofs.Emptied.{empty_in_part}
 
 -- the bytes from the second place on end those from the first
 pub record Later (start at : Input) : Type 0 where
@@ -29,6 +30,10 @@ later_more g start at after x e l =
 pub many_later : (start at : Input) (place : ℕ) → Later start at → HasManyLocals at place → HasManyLocals start place
 many_later start at place l m = many_in_part start at l.text [] place (l.parts ∙ ap (λ (bs : List ℕ). l.text ++ bs) (sym (append-nil at.bytes))) l.begins m
 
+-- the same of a table
+pub empty_later : (start at : Input) (place : ℕ) → Later start at → HasEmptyInit at place → HasEmptyInit start place
+empty_later start at place l h = empty_in_part start at l.text [] place (l.parts ∙ ap (λ (bs : List ℕ). l.text ++ bs) (sym (append-nil at.bytes))) l.begins h
+
 -- the same of a section that begins
 pub section_later : (start at : Input) (kind : Kind) (count : ℕ) → Later start at → BeginsSection at kind count → BeginsSection start kind count
 section_later start at kind count l h = record {
@@ -46,4 +51,4 @@ section_later start at kind count l h = record {
 
 -- and of one with items that are kept
 pub items_later : (start at : Input) → Later start at → BeginsItems at → BeginsItems start
-items_later start at l h = record { kind = h.kind; count = h.count; some = h.some; begins = section_later start at h.kind h.count l h.begins }
+items_later start at l h = record { kind = h.kind; listed = h.listed; count = h.count; some = h.some; begins = section_later start at h.kind h.count l h.begins }

@@ -1,6 +1,6 @@
 pub mod Parts
-pub mod Opening
 pub mod Over
+pub mod Emptied
 pub mod Later
 pub mod Listing
 pub mod Counting
@@ -12,5 +12,10 @@ pub mod GroupPlaces
 pub mod Flattening
 pub mod Until
 pub mod Held
+pub mod Listed
 pub mod Gathering
 pub mod Assembling
+pub mod Constants
+pub mod Elements
+pub mod Tables
+pub mod Imported

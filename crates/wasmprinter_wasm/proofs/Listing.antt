@@ -12,7 +12,7 @@ use Rattle.wasmprinter_error.specs.Reasons.{HasReason}
 use Rattle.wasmprinter_error.proofs.Reasons.{reason_implied}
 use Rattle.wasmprinter_bytes.proofs.Fronts.{with_front}
 use Rattle.wasmprinter_wasm.specs.Refusals.{HasManyLocals, IsOver, AnyIsOver}
-use Rattle.wasmprinter_wasm.specs.Bodies.{body_reasons}
+use Rattle.wasmprinter_wasm.specs.Bodies.{body_reasons, HasEntryBlocks}
 use Rattle.wasmprinter_wasm.specs.Contents.{HasFew, bodies_reasons}
 use Rattle.wasmprinter_wasm.proofs.Later.{Later, later_none, later_more, many_later}
 
@@ -81,13 +81,14 @@ module _ (old start at : Input) (count i : ℕ) (front : List (Placed Body)) (co
       subst (λ (bs : List (Placed Body)). AnyIsOver place bs) all there
 
   -- a fault of an entry is one of all entries
-  pub bodies_fault : (f : Error) → HasReason (body_reasons P at) f → HasReason (bodies_reasons old) f
-  bodies_fault = reason_implied (body_reasons P at) (bodies_reasons old) (record {
+  pub bodies_fault : (f : Error) → HasReason (body_reasons P (HasEntryBlocks at) at) f → HasReason (bodies_reasons old) f
+  bodies_fault = reason_implied (body_reasons P (HasEntryBlocks at) at) (bodies_reasons old) (record {
     malformed = λ place h. (one_more ∙ rw h.0 refl, omega (arith, h.1));
     component = λ h. h;
     locals = λ place h.
         let from_start : HasManyLocals start place = many_later start at place later h.0 in
         (many_later old start place (later_more u32 old old start count counted (later_none old)) from_start, any_over place h.1);
     functions = λ count h. h;
+    tables = λ place h. absurd h;
     memory = λ h. record { count = count; after = start; counted = counted; some = omega arith };
   })

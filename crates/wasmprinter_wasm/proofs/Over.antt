@@ -1,6 +1,6 @@
 -- Bodies with more locals than are allowed.
 use Rattle.std.proofs.Common.{◌≡◌, ℕ, ◌+◌, ◌<◌, List, [], ◌++◌, length, Some, None, refl, sym, ap, subst, ◌∙◌, arith, append_assoc, length-append}
-use Rattle.wasmprinter_spec.specs.Grammar.{Input, ◌>>=◌, bind_some, some_is, seq, Placed, placed}
+use Rattle.wasmprinter_spec.specs.Grammar.{Input, input, ◌>>=◌, bind_some, some_is, seq, Placed, placed}
 use Rattle.wasmprinter_spec.specs.Sized.{front_at, alone}
 use Rattle.wasmprinter_spec.specs.Name.{u32, vec}
 use Rattle.wasmprinter_spec.specs.Placed.{LocalEntry, Body}
@@ -16,8 +16,7 @@ use Rattle.wasmprinter_error.specs.declared.error.Error.{Error}
 use Rattle.wasmprinter_error.specs.Reasons.{HasReason}
 use Rattle.wasmprinter_error.proofs.Reasons.{reason_implied}
 use Rattle.wasmprinter_wasm.specs.Refusals.{HasManyLocals, IsOver}
-use Rattle.wasmprinter_wasm.specs.Bodies.{body_reasons}
-use Rattle.wasmprinter_wasm.proofs.Opening.{blocks_behind, blocks_in_part}
+use Rattle.wasmprinter_wasm.specs.Bodies.{body_reasons, HasBlocks, HasEntryBlocks}
 
 -- what is among some of the bytes is among all of them
 pub many_in_part : (at part : Input) (t r : List ℕ) (place : ℕ) → at.bytes ≡ t ++ (part.bytes ++ r) → part.place ≡ at.place + length t → HasManyLocals part place → HasManyLocals at place
@@ -77,13 +76,14 @@ module _ (at mid : Input) (locals : Entries) (read : (vec (placed local_entry)).
       )
 
   -- a fault of the expression is one of the body
-  pub body_fault : end_of mid ≡ end_of at → (f : Error) → HasReason (reader_reasons (expression.parse mid ≡ None) (HasBlock mid) mid) f → HasReason (body_reasons (placed body).parse at) f
-  body_fault ends = reason_implied (reader_reasons (expression.parse mid ≡ None) (HasBlock mid) mid) (body_reasons (placed body).parse at) (record {
+  pub body_fault : end_of mid ≡ end_of at → (f : Error) → HasReason (reader_reasons (expression.parse mid ≡ None) (HasBlock mid) mid) f → HasReason (body_reasons (placed body).parse (HasBlocks at) at) f
+  body_fault ends = reason_implied (reader_reasons (expression.parse mid ≡ None) (HasBlock mid) mid) (body_reasons (placed body).parse (HasBlocks at) at) (record {
     malformed = λ place h. (rw (read, h.0) refl, omega (arith, h.1, ends));
     component = λ h. h;
     locals = λ place h. absurd h;
     functions = λ count h. h;
-    memory = λ h. blocks_behind (vec (placed local_entry)) at mid locals read h;
+    tables = λ place h. absurd h;
+    memory = λ h. record { locals = locals; behind = mid; read = read; block = h };
   })
 
 -- a fault of a body is one of the entry
@@ -96,24 +96,33 @@ module _ (old mid part new : Input) (size : ℕ) (size_read : u32.parse old ≡ 
       alone_some (placed body) part x.0 (sized_some old mid part new size size_read cut begins (alone (placed body)) a.0 a.1 ∙ ap (λ (b : Placed Body). Some b) same)
 
   -- it has too many locals
-  entry_over : (place : ℕ) → (body_reasons (placed body).parse part).locals place → (body_reasons code_entry.parse old).locals place
+  entry_over : (place : ℕ) → (body_reasons (placed body).parse (HasBlocks part) part).locals place → (body_reasons code_entry.parse (HasEntryBlocks old) old).locals place
   entry_over place h =
       let p = old_parts old mid part new size size_read cut begins in
       (many_in_part old part p.0 new.bytes place p.1 p.2 h.0, λ x f. let b = entry_body x f in h.1 (x.0, b.0) b.1)
 
   -- none is spelled there
-  entry_malformed : (place : ℕ) → (body_reasons (placed body).parse part).malformed place → (body_reasons code_entry.parse old).malformed place
+  entry_malformed : (place : ℕ) → (body_reasons (placed body).parse (HasBlocks part) part).malformed place → (body_reasons code_entry.parse (HasEntryBlocks old) old).malformed place
   entry_malformed place h =
       let none : code_entry.parse old ≡ None = rw (sized_none old mid part new size size_read cut begins (alone (placed body)) (alone_none (placed body) part h.0)) refl in
       let within = part_within old mid part new size size_read cut begins in
       (none, omega (arith, h.1, within))
 
   -- each fault is one of the entry
-  pub entry_fault : (f : Error) → HasReason (body_reasons (placed body).parse part) f → HasReason (body_reasons code_entry.parse old) f
-  entry_fault = reason_implied (body_reasons (placed body).parse part) (body_reasons code_entry.parse old) (record {
+  pub entry_fault : (f : Error) → HasReason (body_reasons (placed body).parse (HasBlocks part) part) f → HasReason (body_reasons code_entry.parse (HasEntryBlocks old) old) f
+  entry_fault = reason_implied (body_reasons (placed body).parse (HasBlocks part) part) (body_reasons code_entry.parse (HasEntryBlocks old) old) (record {
     malformed = entry_malformed;
     component = λ h. h;
     locals = entry_over;
     functions = λ count h. h;
-    memory = λ h. let p = old_parts old mid part new size size_read cut begins in blocks_in_part old part p.0 new.bytes p.1 p.2 h;
+    tables = λ place h. absurd h;
+    memory = λ h. record {
+      size = size;
+      behind = mid;
+      sized = size_read;
+      part = part.bytes;
+      rest = new;
+      cut = cut;
+      blocks = subst (λ (p : ℕ). HasBlocks (input p part.bytes)) begins h;
+    };
   })

@@ -1,8 +1,10 @@
 -- Reading bodies of functions.
-use Rattle.std.specs.Prelude.{◌≡◌, ℕ, ◌+◌, ◌≤◌, List, ◌++◌, length, Option, Some, None, Result, Ok, Err}
+use Rattle.std.specs.Prelude.{◌≡◌, ℕ, ◌≤◌, List, Option, Some, None, Result, Ok, Err}
 use Rattle.wasmprinter_spec.specs.Grammar.{Input, input, Placed, placed}
-use Rattle.wasmprinter_spec.specs.Placed.{Body}
-use Rattle.wasmprinter_spec.specs.Binary.Code.{body, code_entry}
+use Rattle.wasmprinter_spec.specs.Sized.{front_at}
+use Rattle.wasmprinter_spec.specs.Name.{u32, vec}
+use Rattle.wasmprinter_spec.specs.Placed.{LocalEntry, Body}
+use Rattle.wasmprinter_spec.specs.Binary.Code.{local_entry, body, code_entry}
 use Rattle.wasmprinter_spec.specs.Limits.{local_count, most_locals}
 use Rattle.wasmprinter_bytes.specs.Reads.{end_of}
 use Rattle.wasmprinter_error.specs.declared.error.Error.{Error}
@@ -10,33 +12,44 @@ use Rattle.wasmprinter_error.specs.Reasons.{Reasons, HasReason}
 use Rattle.wasmprinter_ops.specs.Operators.{HasBlock}
 use Rattle.wasmprinter_wasm.specs.Refusals.{HasManyLocals, IsOver}
 
--- among the bytes begin operators of which one opens a block
+-- locals stand there, and behind them an expression in which a block is opened
 pub record HasBlocks (at : Input) : Type 0 where
-  pub before : List ℕ
-  pub behind : List ℕ
-  pub parts : at.bytes ≡ before ++ behind
-  pub block : HasBlock (input (at.place + length before) behind)
+  pub locals : List (Placed LocalEntry)
+  pub behind : Input
+  pub read : (vec (placed local_entry)).parse at ≡ Some (locals, behind)
+  pub block : HasBlock behind
 
--- nothing of the kind stands there; or there are too many locals, and what stands there, if anything, has them; or a growth was refused,
--- which comes where a block is opened
-abbrev pub body_reasons : (Input → Option (Placed Body × Input)) → Input → Reasons
-body_reasons parse at = record {
+-- a size stands there, and in so many bytes behind it what HasBlocks says
+pub record HasEntryBlocks (at : Input) : Type 0 where
+  pub size : ℕ
+  pub behind : Input
+  pub sized : u32.parse at ≡ Some (size, behind)
+  pub part : List ℕ
+  pub rest : Input
+  pub cut : front_at size behind ≡ Some (part, rest)
+  pub blocks : HasBlocks (input behind.place part)
+
+-- nothing of the kind stands there; or there are too many locals, and what stands there, if anything, has them; or a growth was refused, for
+-- which this is so
+abbrev pub body_reasons : (Input → Option (Placed Body × Input)) → Type 0 → Input → Reasons
+body_reasons parse grows at = record {
   malformed = λ place. (parse at ≡ None) × (place ≤ end_of at);
   component = ⊥;
   locals = λ place. HasManyLocals at place × ((x : Placed Body × Input) → parse at ≡ Some x → IsOver place x.0);
   functions = λ count. ⊥;
-  memory = HasBlocks at;
+  tables = λ place. ⊥;
+  memory = grows;
 }
 
 -- a body of few locals is read, or the refusal is true
-abbrev pub TakesBodyBy : (Input → Option (Placed Body × Input)) → Input → Result (Placed Body) Error → Input → Type 0
-TakesBodyBy parse old (Ok b) new = (parse old ≡ Some (b, new)) × (local_count b.value.locals ≤ most_locals)
-TakesBodyBy parse old (Err e) new = HasReason (body_reasons parse old) e
+abbrev pub TakesBodyBy : (Input → Option (Placed Body × Input)) → (Input → Type 0) → Input → Result (Placed Body) Error → Input → Type 0
+TakesBodyBy parse Grows old (Ok b) new = (parse old ≡ Some (b, new)) × (local_count b.value.locals ≤ most_locals)
+TakesBodyBy parse Grows old (Err e) new = HasReason (body_reasons parse (Grows old) old) e
 
 -- a body of few locals is read, or the refusal is true
 abbrev pub TakesBody : Input → Result (Placed Body) Error → Input → Type 0
-TakesBody old r new = TakesBodyBy (placed body).parse old r new
+TakesBody old r new = TakesBodyBy (placed body).parse HasBlocks old r new
 
 -- the same of an entry of a code section
 abbrev pub TakesEntry : Input → Result (Placed Body) Error → Input → Type 0
-TakesEntry old r new = TakesBodyBy code_entry.parse old r new
+TakesEntry old r new = TakesBodyBy code_entry.parse HasEntryBlocks old r new

@@ -5,43 +5,68 @@ use Rattle.wasmprinter_spec.specs.Grammar.{Input, Remainder, ◌>>=◌, Placed}
 use Rattle.wasmprinter_spec.specs.Name.{u32, vec}
 use Rattle.wasmprinter_spec.specs.Placed.{Body}
 use Rattle.wasmprinter_spec.specs.Binary.Code.{code_entry}
-use Rattle.wasmprinter_spec.specs.Sections.{Kind, TypeSection, FunctionSection, ExportSection, CodeSection, Content, content, holds, content_of, section}
+use Rattle.wasmprinter_spec.specs.Sections.{TypeSection, ImportSection, FunctionSection, TableSection, MemorySection, TagSection, GlobalSection}
+use Rattle.wasmprinter_spec.specs.Sections.{ExportSection, StartSection, ElementSection, DataCountSection, CodeSection, DataSection}
+use Rattle.wasmprinter_spec.specs.Sections.{Kind, Content, content, holds, content_of, section}
 use Rattle.wasmprinter_spec.specs.Sections.{Section as SectionValue}
-use Rattle.wasmprinter_spec.specs.Limits.{local_count, most_locals, most_functions}
+use Rattle.wasmprinter_spec.specs.Limits.{local_count, most_locals, most_functions, HasNoEmptyInit}
 use Rattle.wasmprinter_bytes.specs.Reads.{end_of}
 use Rattle.wasmprinter_error.specs.declared.error.Error.{Error}
+use Rattle.wasmprinter_error.specs.declared.error.Malformed.{Malformed}
 use Rattle.wasmprinter_error.specs.Reasons.{Reasons, HasReason}
 use Rattle.wasmprinter_bytes.specs.Lists.{CountsItems, reader_reasons}
 use Rattle.wasmprinter_wasm.specs.declared.sections.Section.{Section}
 use Rattle.wasmprinter_wasm.specs.declared.sections.Section.TheVariants as s
-use Rattle.wasmprinter_wasm.specs.Refusals.{HasManyLocals, BeginsSection, BeginsItems, AnyIsOver}
+use Rattle.wasmprinter_wasm.specs.Refusals.{HasManyLocals, HasEmptyInit, HoldsItems, BeginsSection, BeginsItems, AnyIsOver, PlacedTable, AnyIsEmpty}
 
 -- ---- of each kind
 
 -- the section of the definitions
 abbrev pub section_view : Section → SectionValue
 section_view (s.Types ts) = holds TypeSection ts
+section_view (s.Imports is) = holds ImportSection is.items
 section_view (s.Functions is) = holds FunctionSection is.items
+section_view (s.Tables ts) = holds TableSection ts.items
+section_view (s.Memories ms) = holds MemorySection ms.items
+section_view (s.Tags ts) = holds TagSection ts.items
+section_view (s.Globals gs) = holds GlobalSection gs.items
 section_view (s.Exports es) = holds ExportSection es.items
+section_view (s.Start f) = holds StartSection (Some f)
+section_view (s.Elements es) = holds ElementSection es.items
+section_view (s.DataCount n) = holds DataCountSection (Some n)
 section_view (s.Code bs) = holds CodeSection bs.items
+section_view (s.Data ds) = holds DataSection ds.items
 
 -- a body of no more locals than are allowed
 abbrev pub HasFew : Placed Body → Type 0
 HasFew b = local_count b.value.locals ≤ most_locals
 
--- the section's bodies have no more locals than are allowed, and there are no more functions
-abbrev pub IsSmall : SectionValue → Type 0
-IsSmall (holds TypeSection ts) = Unit {0}
-IsSmall (holds FunctionSection is) = length is ≤ most_functions
-IsSmall (holds ExportSection es) = Unit {0}
-IsSmall (holds CodeSection bs) = AllByRecursion HasFew bs
+-- the table has no initialiser without operators
+abbrev pub HasNoEmpty : PlacedTable → Type 0
+HasNoEmpty t = HasNoEmptyInit t.value.init
 
--- how many items the section holds
+-- the section's bodies have no more locals than are allowed, there are no more functions, and no table has an empty initialiser
+abbrev pub IsSmall : SectionValue → Type 0
+IsSmall (holds FunctionSection is) = length is ≤ most_functions
+IsSmall (holds TableSection ts) = AllByRecursion HasNoEmpty ts
+IsSmall (holds CodeSection bs) = AllByRecursion HasFew bs
+IsSmall _ = Unit {0}
+
+-- how many items the section holds; the start function and the data count are none
 abbrev pub item_count : SectionValue → ℕ
 item_count (holds TypeSection ts) = length ts
+item_count (holds ImportSection is) = length is
 item_count (holds FunctionSection is) = length is
+item_count (holds TableSection ts) = length ts
+item_count (holds MemorySection ms) = length ms
+item_count (holds TagSection ts) = length ts
+item_count (holds GlobalSection gs) = length gs
 item_count (holds ExportSection es) = length es
+item_count (holds StartSection f) = 0
+item_count (holds ElementSection es) = length es
+item_count (holds DataCountSection n) = 0
 item_count (holds CodeSection bs) = length bs
+item_count (holds DataSection ds) = length ds
 
 -- the section holds the type indices of so many functions
 abbrev pub HasCount : ℕ → SectionValue → Type 0
@@ -50,6 +75,10 @@ HasCount count s = (is : List ℕ) × (content_of FunctionSection s ≡ Some is)
 -- it holds bodies of which one begins at the place and has too many locals
 abbrev pub HasOver : ℕ → SectionValue → Type 0
 HasOver place s = (bs : List (Placed Body)) × (content_of CodeSection s ≡ Some bs) × AnyIsOver place bs
+
+-- it holds tables of which one begins at the place and has an empty initialiser
+abbrev pub HasEmpty : ℕ → SectionValue → Type 0
+HasEmpty place s = (ts : List PlacedTable) × (content_of TableSection s ≡ Some ts) × AnyIsEmpty place ts
 
 -- ---- what stands in front of the end of a section
 
@@ -60,6 +89,7 @@ bodies_reasons at = record {
   component = ⊥;
   locals = λ place. HasManyLocals at place × ((x : List (Placed Body) × Input) → (vec code_entry).parse at ≡ Some x → AnyIsOver place x.0);
   functions = λ count. ⊥;
+  tables = λ place. ⊥;
   memory = CountsItems at;
 }
 
@@ -83,6 +113,7 @@ indices_reasons at = record {
   component = ⊥;
   locals = λ place. ⊥;
   functions = λ count. AreTooMany at count;
+  tables = λ place. ⊥;
   memory = CountsItems at;
 }
 
@@ -98,20 +129,26 @@ pub record Counts (at : Input) (count : ℕ) : Type 0 where
   pub after : Input
   pub counted : u32.parse at ≡ Some (count, after)
 
--- Why the content of a section may be refused, which is spelled so and makes this section. `functions` says whether it may be for its
--- functions. What is said of the content is true of what stands there, if it is spelled at all.
-abbrev pub whole_reasons : {C : Type 0} → Remainder C → (C → SectionValue) → Type 0 → Input → Reasons
-whole_reasons {C} w made functions at = record {
+-- Why the content of a section may be refused, which is spelled so and makes this section. `items` says whether it is a list of items, and
+-- `functions` whether it may be refused for its functions. What is said of the content is true of what stands there, if it is spelled at all.
+abbrev pub whole_reasons : {C : Type 0} → Remainder C → (C → SectionValue) → Type 0 → Type 0 → Input → Reasons
+whole_reasons {C} w made items functions at = record {
   malformed = λ place. (w.parse at ≡ None) × (place ≤ end_of at);
   component = ⊥;
   locals = λ place. HasManyLocals at place × ((x : C) → w.parse at ≡ Some x → HasOver place (made x));
   functions = λ count. functions × Counts at count × (most_functions < count) × ((x : C) → w.parse at ≡ Some x → HasCount count (made x));
-  memory = CountsItems at × ((x : C) → w.parse at ≡ Some x → 0 < item_count (made x));
+  tables = λ place. HasEmptyInit at place × ((x : C) → w.parse at ≡ Some x → HasEmpty place (made x));
+  memory = items × CountsItems at × ((x : C) → w.parse at ≡ Some x → 0 < item_count (made x));
 }
 
 -- the content of a section of the kind
 abbrev pub content_reasons : Kind → Input → Reasons
-content_reasons kind at = whole_reasons (content kind) (holds kind) (kind ≡ FunctionSection) at
+content_reasons kind at = whole_reasons (content kind) (holds kind) (HoldsItems kind) (kind ≡ FunctionSection) at
+
+-- the value takes all bytes, or nothing of the kind does
+abbrev pub ReadsAll : {X A : Type 0} → (X → A) → (Input → Option A) → Input → Result X Malformed → Type 0
+ReadsAll view parse at (Ok x) = parse at ≡ Some (view x)
+ReadsAll view parse at (Err e) = (parse at ≡ None) × (e.place ≤ end_of at)
 
 -- content of the kind within the limits takes all bytes, or the refusal is true
 abbrev pub TakesHeld : (kind : Kind) → {X : Type 0} → (X → Content kind) → Input → Result X Error → Type 0
@@ -134,6 +171,7 @@ section_reasons at = record {
   component = ⊥;
   locals = λ place. HasManyLocals at place × ((x : SectionValue × Input) → section.parse at ≡ Some x → HasOver place x.0);
   functions = λ count. BeginsSection at FunctionSection count × (most_functions < count) × ((x : SectionValue × Input) → section.parse at ≡ Some x → HasCount count x.0);
+  tables = λ place. HasEmptyInit at place × ((x : SectionValue × Input) → section.parse at ≡ Some x → HasEmpty place x.0);
   memory = BeginsItems at × ((x : SectionValue × Input) → section.parse at ≡ Some x → 0 < item_count x.0);
 }
 
@@ -141,3 +179,10 @@ section_reasons at = record {
 abbrev pub TakesSection : Input → Result Section Error → Input → Type 0
 TakesSection old (Ok s) new = (section.parse old ≡ Some (section_view s, new)) × IsSmall (section_view s)
 TakesSection old (Err e) new = HasReason (section_reasons old) e
+
+-- ---- tables
+
+-- the place of a table with an empty initialiser, or there is none
+abbrev pub FindsEmpty : List PlacedTable → Option ℕ → Type 0
+FindsEmpty ts (Some place) = AnyIsEmpty place ts
+FindsEmpty ts None = AllByRecursion HasNoEmpty ts

@@ -1,47 +1,98 @@
 -- What sections hold together.
-use Rattle.std.specs.Prelude.{◌≡◌, ℕ, ◌+◌, ◌<◌, ◌≤◌, List, [], length, true, Option, Some, Result, Ok, Err}
+use Rattle.std.specs.Prelude.{◌≡◌, ℕ, ◌+◌, ◌<◌, ◌≤◌, List, [], length, true, Option, Some, None, Result, Ok, Err}
 use Rattle.std.specs.List.{AllByRecursion}
 use Rattle.wasmprinter_spec.specs.Grammar.{Input, Placed}
 use Rattle.wasmprinter_spec.specs.Repeated.{until_end}
-use Rattle.wasmprinter_spec.specs.Placed.{TypeGroup, Body, Export}
-use Rattle.wasmprinter_spec.specs.Sections.{Kind, TypeSection, FunctionSection, ExportSection, CodeSection, Content, Section, holds, section, rank, rank_behind, are_above, content_in}
-use Rattle.wasmprinter_spec.specs.Binary.{types_in, type_indices_in, exports_in, bodies_in}
+use Rattle.wasmprinter_spec.specs.Types.{MemoryType}
+use Rattle.wasmprinter_spec.specs.Operator.{Operator}
+use Rattle.wasmprinter_spec.specs.Placed.{TypeGroup, Import, Table, Global, ElementEntry, Data, Body, Export}
+use Rattle.wasmprinter_spec.specs.Sections.{TypeSection, ImportSection, FunctionSection, TableSection, MemorySection, TagSection, GlobalSection}
+use Rattle.wasmprinter_spec.specs.Sections.{ExportSection, StartSection, ElementSection, DataCountSection, CodeSection, DataSection}
+use Rattle.wasmprinter_spec.specs.Sections.{Kind, Content, Section, holds, section, rank, rank_behind, are_above, content_in}
+use Rattle.wasmprinter_spec.specs.Binary.{types_in, imports_in, type_indices_in, tables_in, memories_in, tags_in, globals_in, exports_in, elements_in, bodies_in, datas_in, counts_data}
 use Rattle.wasmprinter_spec.specs.Limits.{most_functions}
 use Rattle.wasmprinter_bytes.specs.Reads.{end_of}
 use Rattle.wasmprinter_error.specs.declared.error.Error.{Error}
 use Rattle.wasmprinter_error.specs.Reasons.{Reasons, HasReason}
-use Rattle.wasmprinter_wasm.specs.Refusals.{HasManyLocals, BeginsSection, BeginsItems, AnyIsOver}
+use Rattle.wasmprinter_wasm.specs.Refusals.{HasManyLocals, HasEmptyInit, BeginsSection, BeginsItems, AnyIsOver, AnyIsEmpty}
 use Rattle.wasmprinter_wasm.specs.Contents.{IsSmall}
 
 -- what the sections hold, and the rank of the last
 pub record Gathered : Type 0 where
   pub rank : ℕ
   pub types : List (Placed TypeGroup)
+  pub imports : List (Placed Import)
   pub type_indices : List ℕ
+  pub tables : List (Placed (Table (Placed Operator)))
+  pub memories : List (Placed MemoryType)
+  pub tags : List (Placed ℕ)
+  pub globals : List (Placed (Global (Placed Operator)))
   pub exports : List (Placed Export)
+  pub start : Option (Placed ℕ)
+  pub elements : List (Placed ElementEntry)
+  pub data_count : Option ℕ
   pub bodies : List (Placed Body)
+  pub datas : List (Placed (Data (Placed Operator)))
 
 -- before any section
 abbrev pub none_gathered : Gathered
-none_gathered = record { rank = 0; types = []; type_indices = []; exports = []; bodies = [] }
+none_gathered = record {
+  rank = 0;
+  types = [];
+  imports = [];
+  type_indices = [];
+  tables = [];
+  memories = [];
+  tags = [];
+  globals = [];
+  exports = [];
+  start = None;
+  elements = [];
+  data_count = None;
+  bodies = [];
+  datas = [];
+}
 
 -- what is kept of each kind
 abbrev pub content_kept : (kind : Kind) → Gathered → Content kind
 content_kept TypeSection g = g.types
+content_kept ImportSection g = g.imports
 content_kept FunctionSection g = g.type_indices
+content_kept TableSection g = g.tables
+content_kept MemorySection g = g.memories
+content_kept TagSection g = g.tags
+content_kept GlobalSection g = g.globals
 content_kept ExportSection g = g.exports
+content_kept StartSection g = g.start
+content_kept ElementSection g = g.elements
+content_kept DataCountSection g = g.data_count
 content_kept CodeSection g = g.bodies
+content_kept DataSection g = g.datas
 
 -- with what one more section holds, in place of what one of its kind held
 abbrev pub with_section : Gathered → Section → Gathered
 with_section g (holds TypeSection ts) = record g { rank = rank_behind g.rank (rank TypeSection); types = ts }
+with_section g (holds ImportSection is) = record g { rank = rank_behind g.rank (rank ImportSection); imports = is }
 with_section g (holds FunctionSection is) = record g { rank = rank_behind g.rank (rank FunctionSection); type_indices = is }
+with_section g (holds TableSection ts) = record g { rank = rank_behind g.rank (rank TableSection); tables = ts }
+with_section g (holds MemorySection ms) = record g { rank = rank_behind g.rank (rank MemorySection); memories = ms }
+with_section g (holds TagSection ts) = record g { rank = rank_behind g.rank (rank TagSection); tags = ts }
+with_section g (holds GlobalSection gs) = record g { rank = rank_behind g.rank (rank GlobalSection); globals = gs }
 with_section g (holds ExportSection es) = record g { rank = rank_behind g.rank (rank ExportSection); exports = es }
+with_section g (holds StartSection f) = record g { rank = rank_behind g.rank (rank StartSection); start = f }
+with_section g (holds ElementSection es) = record g { rank = rank_behind g.rank (rank ElementSection); elements = es }
+with_section g (holds DataCountSection n) = record g { rank = rank_behind g.rank (rank DataCountSection); data_count = n }
 with_section g (holds CodeSection bs) = record g { rank = rank_behind g.rank (rank CodeSection); bodies = bs }
+with_section g (holds DataSection ds) = record g { rank = rank_behind g.rank (rank DataSection); datas = ds }
 
 -- what is gathered is what the sections hold of each kind
 abbrev pub IsHeld : Gathered → List Section → Type 0
 IsHeld g ss = (kind : Kind) → content_kept kind g ≡ content_in kind (content_kept kind none_gathered) ss
+
+-- there are as many bodies as type indices, and as many data segments as are counted
+pub record IsWhole (g : Gathered) : Type 0 where
+  pub paired : length g.type_indices ≡ length g.bodies
+  pub counted : counts_data g.data_count (length g.datas) ≡ true
 
 -- sections up to the end of the bytes
 abbrev pub sections_at : Input → Option (List Section)
@@ -57,7 +108,9 @@ pub record HoldsSections (at : Input) (g : Gathered) : Type 0 where
 
 -- how many items the sections hold
 abbrev pub item_count_in : List Section → ℕ
-item_count_in ss = length (types_in ss) + length (type_indices_in ss) + length (exports_in ss) + length (bodies_in ss)
+item_count_in ss =
+    length (types_in ss) + length (imports_in ss) + length (type_indices_in ss) + length (tables_in ss) + length (memories_in ss) + length (tags_in ss)
+    + length (globals_in ss) + length (exports_in ss) + length (elements_in ss) + length (bodies_in ss) + length (datas_in ss)
 
 -- why sections up to the end of the bytes may be refused
 abbrev pub sections_reasons : Input → Reasons
@@ -68,6 +121,7 @@ sections_reasons at = record {
   functions = λ count.
       BeginsSection at FunctionSection count × (most_functions < count)
       × ((ss : List Section) → sections_at at ≡ Some ss → are_above 0 ss ≡ true → length (type_indices_in ss) ≡ count);
+  tables = λ place. HasEmptyInit at place × ((ss : List Section) → sections_at at ≡ Some ss → are_above 0 ss ≡ true → AnyIsEmpty place (tables_in ss));
   memory = BeginsItems at × ((ss : List Section) → sections_at at ≡ Some ss → are_above 0 ss ≡ true → 0 < item_count_in ss);
 }
 

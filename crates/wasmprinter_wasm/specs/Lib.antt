@@ -1,3 +1,5 @@
+pub mod Externs
+pub mod Segments
 pub mod Refusals
 pub mod Bodies
 pub mod Contents

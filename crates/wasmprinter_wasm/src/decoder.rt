@@ -1,18 +1,26 @@
 //! Decoding: a preamble, and sections up to the end (section 5.5, "Modules").
-ghost use Rattle.std.specs.Prelude.{◌≡◌, ◌↔◌, IsTrue, IsOk, IfOk, IfErr, IsErrOf, IsOkUnless};
+ghost use Rattle.std.specs.Prelude.{◌≡◌, ◌↔◌, length, IsTrue, IsOk, IfOk, IfErr, IsErrOf, IsOkUnless};
 ghost use Rattle.wasmprinter_spec.specs.Placed.{PlacedModule};
-ghost use Rattle.wasmprinter_spec.specs.Binary.{Spells, IsComponent, preamble, preamble_bytes};
+ghost use Rattle.wasmprinter_spec.specs.Binary.{Spells, IsComponent, preamble, preamble_bytes, counts_data};
 ghost use Rattle.wasmprinter_spec.specs.Sections.{section_kind, rank, follows};
 ghost use Rattle.wasmprinter_spec.specs.Limits.{IsWithinLimits};
 ghost use Rattle.wasmprinter_bytes.specs.Reads.{Reads, IsWithin, end_of};
 ghost use Rattle.wasmprinter_wasm.specs.Contents.{section_view};
-ghost use Rattle.wasmprinter_wasm.specs.Gathering.{none_gathered, with_section, TakesSections};
+ghost use Rattle.wasmprinter_wasm.specs.Gathering.{none_gathered, with_section, IsWhole, TakesSections};
 ghost use Rattle.wasmprinter_wasm.specs.Decoding.{IsRefusal, HoldsNothing, TakesModule};
 
 use crate::module::Module;
 use crate::sections::Section;
 use crate::sections::code::Body;
+use crate::sections::data::Data;
+use crate::sections::elements::Element;
 use crate::sections::exports::Export;
+use crate::sections::globals::Global as GlobalVariable;
+use crate::sections::imports::Import;
+use crate::sections::memories::Memory;
+use crate::sections::start::Start;
+use crate::sections::tables::Table;
+use crate::sections::tags::Tag;
 use crate::sections::types::Types;
 use std::alloc::Global;
 use std::marker::Model;
@@ -50,9 +58,18 @@ struct Gathered<'a> {
     /// Where the last section stands in the order of sections.
     rank: u8,
     types: Types<'a>,
+    imports: Vec<Import<'a>>,
     type_indices: Vec<u32>,
+    tables: Vec<Table<'a>>,
+    memories: Vec<Memory>,
+    tags: Vec<Tag>,
+    globals: Vec<GlobalVariable<'a>>,
     exports: Vec<Export<'a>>,
+    start: Option<Start>,
+    elements: Vec<Element<'a>>,
+    data_count: Option<u32>,
     bodies: Vec<Body<'a>>,
+    datas: Vec<Data<'a>>,
 }
 
 impl<'a> Model for Gathered<'a> {
@@ -63,9 +80,18 @@ impl<'a> Model for Gathered<'a> {
     ghost view = { λ g. record {
       rank = g.rank;
       types = g.types;
+      imports = g.imports.items;
       type_indices = g.type_indices.items;
+      tables = g.tables.items;
+      memories = g.memories.items;
+      tags = g.tags.items;
+      globals = g.globals.items;
       exports = g.exports.items;
+      start = g.start;
+      elements = g.elements.items;
+      data_count = g.data_count;
       bodies = g.bodies.items;
+      datas = g.datas.items;
     } };
 }
 
@@ -77,9 +103,18 @@ impl<'a> Gathered<'a> {
         Gathered {
             rank: 0,
             types: Types::new(alloc),
+            imports: Vec::new(alloc),
             type_indices: Vec::new(alloc),
+            tables: Vec::new(alloc),
+            memories: Vec::new(alloc),
+            tags: Vec::new(alloc),
+            globals: Vec::new(alloc),
             exports: Vec::new(alloc),
+            start: None,
+            elements: Vec::new(alloc),
+            data_count: None,
             bodies: Vec::new(alloc),
+            datas: Vec::new(alloc),
         }
     }
 
@@ -100,10 +135,36 @@ impl<'a> Gathered<'a> {
         self.rank = section.rank().unwrap_or(self.rank);
         match section {
             Section::Types(types) => self.types.replace(types),
+            Section::Imports(imports) => self.imports = imports,
             Section::Functions(type_indices) => self.type_indices = type_indices,
+            Section::Tables(tables) => self.tables = tables,
+            Section::Memories(memories) => self.memories = memories,
+            Section::Tags(tags) => self.tags = tags,
+            Section::Globals(globals) => self.globals = globals,
             Section::Exports(exports) => self.exports = exports,
+            Section::Start(start) => self.start = Some(start),
+            Section::Elements(elements) => self.elements = elements,
+            Section::DataCount(count) => self.data_count = Some(count),
             Section::Code(bodies) => self.bodies = bodies,
+            Section::Data(datas) => self.datas = datas,
         }
+    }
+
+    /// Whether the data count, if there is one, is the number of data segments.
+    fn counts_data(&self) -> bool
+        ensures { result ≡ counts_data self.now.data_count (length self.now.datas) }
+    {
+        match self.data_count {
+            Some(count) => count as usize == self.datas.len(),
+            None => true,
+        }
+    }
+
+    /// Whether there are as many bodies as type indices, and as many data segments as are counted.
+    fn is_whole(&self) -> bool
+        ensures { IsTrue result ↔ IsWhole self.now }
+    {
+        self.type_indices.len() == self.bodies.len() && self.counts_data()
     }
 
     /// Reads sections up to the end of the bytes.
@@ -131,14 +192,22 @@ fn read_module<'a>(alloc: Global, wasm: &'a [u8]) -> Result<Module<'a>, Error>
     read_preamble(&mut cursor)?;
     let gathered = Gathered::read(alloc, &mut cursor)?;
     let size = wasm.len() as u64;
-    if gathered.type_indices.len() != gathered.bodies.len() {
+    if !gathered.is_whole() {
         return Err(Error::Malformed { place: size });
     }
     Ok(Module {
         types: gathered.types,
+        imports: gathered.imports,
         type_indices: gathered.type_indices,
+        tables: gathered.tables,
+        memories: gathered.memories,
+        tags: gathered.tags,
+        globals: gathered.globals,
         exports: gathered.exports,
+        start: gathered.start,
+        elements: gathered.elements,
         bodies: gathered.bodies,
+        datas: gathered.datas,
         size,
     })
 }
@@ -148,8 +217,9 @@ fn read_module<'a>(alloc: Global, wasm: &'a [u8]) -> Result<Module<'a>, Error>
 /// # Errors
 ///
 /// `Component` where the bytes are marked as a component; `Malformed` where they are outside the binary format;
-/// `TooManyLocals` and `TooManyFunctions` where a limit of this printer is passed; `Memory` where a growth is refused, which needs a
-/// section with a count above zero. `Component` goes before the others; where several of these hold, any may be answered.
+/// `TooManyLocals` and `TooManyFunctions` where a limit of this printer is passed; `EmptyTableInit` where a
+/// table has an initialiser without operators; `Memory` where a growth is refused, which needs a section of
+/// items with a count above zero. `Component` goes before the others; where several of these hold, any may be answered.
 pub fn decode<'a>(alloc: Global, wasm: &'a [u8]) -> Result<Module<'a>, Error>
     ensures ok { IfOk result (λ m. Spells wasm.now m × IsWithinLimits m) }
     ensures refused { IfErr result (IsRefusal wasm.now) }
@@ -158,7 +228,7 @@ pub fn decode<'a>(alloc: Global, wasm: &'a [u8]) -> Result<Module<'a>, Error>
     // Bytes that spell a module within the limits are refused for memory alone.
     ensures within { (m : PlacedModule) → Spells wasm.now m → IsWithinLimits m → IsOkUnless result Error.Memory }
 
-    // Bytes that spell a module without groups of types, functions and exports are never refused.
+    // Bytes that spell a module without items are never refused.
     ensures empty { (m : PlacedModule) → Spells wasm.now m → HoldsNothing m → IsOk result }
 {
     if is_component(wasm) {

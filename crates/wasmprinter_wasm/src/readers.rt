@@ -1,11 +1,20 @@
 //! What a decoded module holds, for those that print it.
-ghost use Rattle.std.specs.Prelude.{◌≡◌, ◌<◌, ◌^◌, length, Some, slice_get};
+ghost use Rattle.std.specs.Prelude.{◌≡◌, ◌<◌, ◌≤◌, ◌^◌, length, Some, slice_get};
 ghost use Rattle.wasmprinter_spec.specs.Types.{all_types, signature_at};
 ghost use Rattle.wasmprinter_spec.specs.Module.{groups_of};
+ghost use Rattle.wasmprinter_wasm.specs.Externs.{kind_view, imported_count};
 
 use crate::module::Module;
 use crate::sections::code::Body;
-use crate::sections::exports::Export;
+use crate::sections::data::Data;
+use crate::sections::elements::Element;
+use crate::sections::exports::{Export, ExternKind};
+use crate::sections::globals::Global;
+use crate::sections::imports::Import;
+use crate::sections::memories::Memory;
+use crate::sections::start::Start;
+use crate::sections::tables::Table;
+use crate::sections::tags::Tag;
 use crate::sections::types::TypeGroup;
 use std::marker::Model;
 use wasmprinter_ops::types::composite::FuncType;
@@ -59,11 +68,86 @@ impl<'a> Module<'a> {
         self.types.signature(index)
     }
 
+    /// The imports.
+    pub fn imports(&self) -> &[Import<'a>]
+        ensures all { result.now ≡ self.now.imports }
+        ensures few { length self.now.imports < 2 ^ 32 }
+    {
+        &self.imports
+    }
+
+    /// How many imports are of the kind. It takes time in proportion to the number of imports.
+    pub fn imported_count(&self, kind: ExternKind) -> u64
+        ensures is { result ≡ imported_count (kind_view kind) self.now.imports }
+        ensures few { result ≤ length self.now.imports }
+    {
+        let mut count = 0;
+        for import in self.imports() {
+            if import.is_of(kind) {
+                count += 1;
+            }
+        }
+        count
+    }
+
+    /// The tables that the module defines.
+    pub fn tables(&self) -> &[Table<'a>]
+        ensures all { result.now ≡ self.now.tables }
+        ensures few { length self.now.tables < 2 ^ 32 }
+    {
+        &self.tables
+    }
+
+    /// The memories that the module defines.
+    pub fn memories(&self) -> &[Memory]
+        ensures all { result.now ≡ self.now.memories }
+        ensures few { length self.now.memories < 2 ^ 32 }
+    {
+        &self.memories
+    }
+
+    /// The tags that the module defines.
+    pub fn tags(&self) -> &[Tag]
+        ensures all { result.now ≡ self.now.tags }
+        ensures few { length self.now.tags < 2 ^ 32 }
+    {
+        &self.tags
+    }
+
+    /// The global variables that the module defines.
+    pub fn globals(&self) -> &[Global<'a>]
+        ensures all { result.now ≡ self.now.globals }
+        ensures few { length self.now.globals < 2 ^ 32 }
+    {
+        &self.globals
+    }
+
     /// The exports.
     pub fn exports(&self) -> &[Export<'a>]
         ensures { result.now ≡ self.now.exports }
     {
         &self.exports
+    }
+
+    /// The start function, `None` where there is no start section.
+    pub fn start(&self) -> Option<Start>
+        ensures { result ≡ self.now.start }
+    {
+        self.start
+    }
+
+    /// The element segments.
+    pub fn elements(&self) -> &[Element<'a>]
+        ensures { result.now ≡ self.now.elements }
+    {
+        &self.elements
+    }
+
+    /// The data segments.
+    pub fn datas(&self) -> &[Data<'a>]
+        ensures { result.now ≡ self.now.datas }
+    {
+        &self.datas
     }
 
     /// How many bytes the module has.

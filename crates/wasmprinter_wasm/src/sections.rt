@@ -6,13 +6,30 @@ ghost use Rattle.wasmprinter_bytes.specs.Reads.{Reads, IsWithin, end_of};
 ghost use Rattle.wasmprinter_wasm.specs.Contents.{section_view, TakesContent, TakesSection};
 
 pub mod code;
+pub mod data;
+pub mod elements;
 pub mod exports;
 mod functions;
+pub mod globals;
+pub mod imports;
+pub mod limits;
+pub mod memories;
+pub mod start;
+pub mod tables;
+pub mod tags;
 pub mod types;
 
 use crate::sections::code::{Body, read_code};
+use crate::sections::data::{Data, read_data, read_data_count};
+use crate::sections::elements::{Element, read_elements};
 use crate::sections::exports::{Export, read_exports};
 use crate::sections::functions::read_functions;
+use crate::sections::globals::{Global as GlobalVariable, read_globals};
+use crate::sections::imports::{Import, read_imports};
+use crate::sections::memories::{Memory, read_memories};
+use crate::sections::start::{Start, read_start};
+use crate::sections::tables::{Table, read_tables};
+use crate::sections::tags::{Tag, read_tags};
 use crate::sections::types::Types;
 use std::alloc::Global;
 use wasmprinter_bytes::bytes::Cursor;
@@ -20,23 +37,59 @@ use wasmprinter_error::{Error, Malformed};
 
 const TYPE: u8 = 1;
 
+const IMPORT: u8 = 2;
+
 const FUNCTION: u8 = 3;
+
+const TABLE: u8 = 4;
+
+const MEMORY: u8 = 5;
+
+const GLOBAL: u8 = 6;
 
 const EXPORT: u8 = 7;
 
+const START: u8 = 8;
+
+const ELEMENT: u8 = 9;
+
 const CODE: u8 = 10;
+
+const DATA: u8 = 11;
+
+const DATA_COUNT: u8 = 12;
+
+const TAG: u8 = 13;
 
 /// What a section holds.
 #[derive(Drop)]
 pub(crate) enum Section<'a> {
     /// Types.
     Types(Types<'a>),
+    /// Imports.
+    Imports(Vec<Import<'a>>),
     /// The type index of each defined function.
     Functions(Vec<u32>),
+    /// Tables.
+    Tables(Vec<Table<'a>>),
+    /// Memories.
+    Memories(Vec<Memory>),
+    /// Tags.
+    Tags(Vec<Tag>),
+    /// Global variables.
+    Globals(Vec<GlobalVariable<'a>>),
     /// Exports.
     Exports(Vec<Export<'a>>),
+    /// The start function.
+    Start(Start),
+    /// Element segments.
+    Elements(Vec<Element<'a>>),
+    /// How many data segments there are.
+    DataCount(u32),
     /// The bodies of the defined functions.
     Code(Vec<Body<'a>>),
+    /// Data segments.
+    Data(Vec<Data<'a>>),
 }
 
 /// Nothing may be left of what a section holds.
@@ -73,9 +126,18 @@ fn read_content<'a>(alloc: Global, id: u8, cursor: &mut Cursor<'a>) -> Result<Se
 {
     match id {
         TYPE => Ok(Section::Types(Types::read(alloc, cursor)?)),
+        IMPORT => Ok(Section::Imports(read_imports(alloc, cursor)?)),
         FUNCTION => Ok(Section::Functions(read_functions(alloc, cursor)?)),
+        TABLE => Ok(Section::Tables(read_tables(alloc, cursor)?)),
+        MEMORY => Ok(Section::Memories(read_memories(alloc, cursor)?)),
+        TAG => Ok(Section::Tags(read_tags(alloc, cursor)?)),
+        GLOBAL => Ok(Section::Globals(read_globals(alloc, cursor)?)),
         EXPORT => Ok(Section::Exports(read_exports(alloc, cursor)?)),
+        START => Ok(Section::Start(read_start(cursor)?)),
+        ELEMENT => Ok(Section::Elements(read_elements(alloc, cursor)?)),
+        DATA_COUNT => Ok(Section::DataCount(read_data_count(cursor)?)),
         CODE => Ok(Section::Code(read_code(alloc, cursor)?)),
+        DATA => Ok(Section::Data(read_data(alloc, cursor)?)),
         _ => Err(Error::Malformed {
             place: cursor.place(),
         }),
@@ -100,9 +162,18 @@ impl<'a> Section<'a> {
     {
         match self {
             Section::Types(_) => Some(1),
+            Section::Imports(_) => Some(2),
             Section::Functions(_) => Some(3),
+            Section::Tables(_) => Some(4),
+            Section::Memories(_) => Some(5),
+            Section::Tags(_) => Some(6),
+            Section::Globals(_) => Some(7),
             Section::Exports(_) => Some(8),
+            Section::Start(_) => Some(9),
+            Section::Elements(_) => Some(10),
+            Section::DataCount(_) => Some(11),
             Section::Code(_) => Some(12),
+            Section::Data(_) => Some(13),
         }
     }
 }

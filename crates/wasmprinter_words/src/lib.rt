@@ -3,6 +3,7 @@
 #![tactic(auto)]
 
 pub mod comments;
+pub mod limits;
 pub mod numbers;
 pub mod strings;
 pub mod words;

@@ -1,10 +1,10 @@
 //! Whole numbers (section 6.3 of the WebAssembly Core Specification, "Integers").
-ghost use Rattle.std.specs.Prelude.{ℕ, ◌≡◌, ◌<◌, ◌≤◌, false, [], ◌∷◌, ◌++◌, decimal, length};
+ghost use Rattle.std.specs.Prelude.{◌≡◌, ◌<◌, ◌≤◌, ◌/◌, ◌%◌, ◌^◌, false, [], ◌∷◌, ◌++◌, decimal, length};
 ghost use Rattle.std.specs.Fmt.{digits, digit_glyph, signed_decimal};
 ghost use Rattle.wasmprinter_spec.specs.Call.{Text};
 ghost use Rattle.wasmprinter_spec.specs.Options.{Options};
 ghost use Rattle.wasmprinter_spec.specs.Piece.{Word, Number, Mark, Constant};
-ghost use Rattle.wasmprinter_spec.specs.Layout.Groups.{group_gap, line_group_gap};
+ghost use Rattle.wasmprinter_spec.specs.Layout.Groups.{line_group_gap};
 ghost use Rattle.wasmprinter_print.specs.Emits.{Emits};
 ghost use Rattle.wasmprinter_print.specs.Prints.{Prints};
 
@@ -17,6 +17,14 @@ pub const DECIMAL: u64 = 10;
 
 /// The base of hexadecimal numbers.
 pub const HEXADECIMAL: u64 = 16;
+
+/// A power of two.
+pub fn power(exponent: u32) -> u64
+    requires { exponent < 64 }
+    ensures { result ≡ 2 ^ exponent }
+{
+    1 << exponent
+}
 
 /// The character of a digit.
 fn glyph_of(digit: u8) -> u8
@@ -49,6 +57,15 @@ pub fn write_digits<P: Print>(p: &mut P, base: u64, n: u64) -> io::Result<()>
     }
     write_digits(p, base, n / base)?;
     write_digit(p, (n % base) as u8)
+}
+
+/// Writes the two hexadecimal digits of a byte.
+pub fn write_byte_digits<P: Print>(p: &mut P, byte: u8) -> io::Result<()>
+    ensures { Emits P.meaning p.old p.new result
+        (Text (digit_glyph false (byte / 16) ∷ (digit_glyph false (byte % 16) ∷ [])) ∷ []) }
+{
+    write_digit(p, byte / 16)?;
+    write_digit(p, byte % 16)
 }
 
 /// How many digits a number has in hexadecimal.
@@ -94,13 +111,19 @@ pub fn number_word<P: Print>(p: &mut P, n: u64) -> io::Result<()>
     write_digits(p, DECIMAL, n)
 }
 
+/// Writes a word that ends in a number, without a style.
+pub fn numbered_word<P: Print>(p: &mut P, word: &str, n: u64) -> io::Result<()>
+    ensures { (o : Options) → Prints P.meaning o p.old p.new result (Word (word.now ++ decimal n) ∷ []) }
+{
+    text(p, word)?;
+    write_digits(p, DECIMAL, n)
+}
+
 /// Writes an index as a group behind a keyword.
-#[tactic(auto, unfolding(wasmprinter_spec::specs::Layout::Groups::group_gap, wasmprinter_spec::specs::Layout::Groups::line_group_gap))]
+#[tactic(auto, unfolding(wasmprinter_spec::specs::Layout::Groups::line_group_gap))]
 pub fn write_index_group<P: Print>(p: &mut P, keyword: &str, index: u32) -> io::Result<()>
-    ensures in_line { (o : Options) → Prints P.meaning o p.old p.new result
+    ensures { (o : Options) → Prints P.meaning o p.old p.new result
         (line_group_gap keyword.now (Number index ∷ [])) }
-    ensures nested { (o : Options) (nesting : ℕ) → Prints P.meaning o p.old p.new result
-        (group_gap nesting keyword.now (Number index ∷ [])) }
 {
     open_gap(p, keyword)?;
     number(p, u64::from(index))?;

@@ -2,12 +2,12 @@
 ghost use Rattle.std.specs.Prelude.{◌≡◌, [], ◌∷◌, flat_map, chars};
 ghost use Rattle.wasmprinter_spec.specs.Call.{Text, Literal};
 ghost use Rattle.wasmprinter_spec.specs.Options.{Options};
-ghost use Rattle.wasmprinter_spec.specs.Piece.{Quoted, styled};
+ghost use Rattle.wasmprinter_spec.specs.Piece.{Quoted, QuotedBytes, styled};
 ghost use Rattle.wasmprinter_spec.specs.Quoted.{is_plain, char_text, byte_text, quoted_text, quoted_bytes};
 ghost use Rattle.wasmprinter_print.specs.Emits.{Emits, EmitsOrFails};
 ghost use Rattle.wasmprinter_print.specs.Prints.{Prints};
 
-use crate::numbers::{HEXADECIMAL, write_digit, write_digits_between};
+use crate::numbers::{HEXADECIMAL, write_byte_digits, write_digits_between};
 use std::io;
 use wasmprinter_error::Error;
 use wasmprinter_print::{Print, Style, reset, start, text};
@@ -73,8 +73,7 @@ fn write_byte<P: Print>(p: &mut P, byte: u8) -> io::Result<()>
         return text(p, c.encode_utf8(&mut [0; 4]));
     }
     text(p, "\\")?;
-    write_digit(p, byte / 16)?;
-    write_digit(p, byte % 16)
+    write_byte_digits(p, byte)
 }
 
 fn write_each_byte<P: Print>(p: &mut P, bytes: &[u8]) -> io::Result<()>
@@ -88,8 +87,9 @@ fn write_each_byte<P: Print>(p: &mut P, bytes: &[u8]) -> io::Result<()>
 
 /// Writes bytes in quotes, with what isn't printable by its hexadecimal digits.
 #[tactic(auto, unfolding(wasmprinter_spec::specs::Quoted::quoted_bytes))]
-fn write_byte_string<P: Print>(p: &mut P, bytes: &[u8]) -> io::Result<()>
-    ensures { Emits P.meaning p.old p.new result (styled Literal (quoted_bytes bytes.now)) }
+pub fn write_byte_string<P: Print>(p: &mut P, bytes: &[u8]) -> io::Result<()>
+    ensures calls { Emits P.meaning p.old p.new result (styled Literal (quoted_bytes bytes.now)) }
+    ensures pieces { (o : Options) → Prints P.meaning o p.old p.new result (QuotedBytes bytes.now ∷ []) }
 {
     start(p, Style::Literal)?;
     text(p, "\"")?;

@@ -1,11 +1,24 @@
 //! Parentheses, blanks and words.
-ghost use Rattle.std.specs.Prelude.{[], ◌∷◌};
+ghost use Rattle.std.specs.Prelude.{[], ◌∷◌, ◌++◌};
 ghost use Rattle.wasmprinter_spec.specs.Options.{Options};
-ghost use Rattle.wasmprinter_spec.specs.Piece.{Gap, Open, OpenGap, OpenPlain, Shut, Word, TypeWord};
+ghost use Rattle.wasmprinter_spec.specs.Piece.{Gap, Open, OpenBare, OpenGap, OpenPlain, OpenTypeGap, Shut};
+ghost use Rattle.wasmprinter_spec.specs.Piece.{Word, TypeWord, TypeWordGap, GapTypeWord, styled as in_style};
+ghost use Rattle.wasmprinter_print.specs.Emits.{Emits};
 ghost use Rattle.wasmprinter_print.specs.Prints.{Prints};
+ghost use Rattle.wasmprinter_print.specs.Styles.{style_of};
 
 use std::io;
 use wasmprinter_print::{Print, Style, reset, start, styled, text};
+
+/// Writes two texts as one in a style.
+fn styled_pair<P: Print>(p: &mut P, style: Style, first: &str, second: &str) -> io::Result<()>
+    ensures { Emits P.meaning p.old p.new result (in_style (style_of style) (first.now ++ second.now)) }
+{
+    start(p, style)?;
+    text(p, first)?;
+    text(p, second)?;
+    reset(p)
+}
 
 /// Opens a group: a parenthesis and a keyword.
 pub fn open<P: Print>(p: &mut P, keyword: &str) -> io::Result<()>
@@ -20,10 +33,7 @@ pub fn open_gap<P: Print>(p: &mut P, keyword: &str) -> io::Result<()>
     ensures { (o : Options) → Prints P.meaning o p.old p.new result (OpenGap keyword.now ∷ []) }
 {
     text(p, "(")?;
-    start(p, Style::Keyword)?;
-    text(p, keyword)?;
-    text(p, " ")?;
-    reset(p)
+    styled_pair(p, Style::Keyword, keyword, " ")
 }
 
 /// Opens a group whose keyword has no style.
@@ -32,6 +42,22 @@ pub fn open_plain<P: Print>(p: &mut P, unstyled: &str) -> io::Result<()>
 {
     text(p, "(")?;
     text(p, unstyled)
+}
+
+/// Opens a group whose keyword is the word of a type, with a blank behind it.
+pub fn open_type_gap<P: Print>(p: &mut P, word: &str) -> io::Result<()>
+    ensures { (o : Options) → Prints P.meaning o p.old p.new result (OpenTypeGap word.now ∷ []) }
+{
+    text(p, "(")?;
+    type_word_gap(p, word)
+}
+
+/// Opens a group without a keyword.
+pub fn open_bare<P: Print>(p: &mut P) -> io::Result<()>
+    ensures { (o : Options) → Prints P.meaning o p.old p.new result (OpenBare ∷ []) }
+{
+    text(p, "(")?;
+    styled(p, Style::Keyword, "")
 }
 
 /// Closes a group on the line where it ends.
@@ -60,4 +86,18 @@ pub fn type_word<P: Print>(p: &mut P, word: &str) -> io::Result<()>
     ensures { (o : Options) → Prints P.meaning o p.old p.new result (TypeWord word.now ∷ []) }
 {
     styled(p, Style::TypeName, word)
+}
+
+/// Writes the word of a type and a blank.
+pub fn type_word_gap<P: Print>(p: &mut P, word: &str) -> io::Result<()>
+    ensures { (o : Options) → Prints P.meaning o p.old p.new result (TypeWordGap word.now ∷ []) }
+{
+    styled_pair(p, Style::TypeName, word, " ")
+}
+
+/// Writes a blank and the word of a type.
+pub fn gap_type_word<P: Print>(p: &mut P, word: &str) -> io::Result<()>
+    ensures { (o : Options) → Prints P.meaning o p.old p.new result (GapTypeWord word.now ∷ []) }
+{
+    styled_pair(p, Style::TypeName, " ", word)
 }

@@ -126,8 +126,8 @@ impl StorageType {
     }
 }
 
-/// Reads whether a field can be changed.
-fn read_mutability(cursor: &mut Cursor) -> Result<bool, Malformed>
+/// Reads whether a field or a global variable can be changed.
+pub fn read_mutability(cursor: &mut Cursor) -> Result<bool, Malformed>
     ensures reads { Reads (λ b. b) mutability.parse cursor.old result cursor.new }
     ensures within { IsWithin cursor.old result }
     ensures end { end_of cursor.new ≡ end_of cursor.old }

@@ -1,5 +1,5 @@
 -- Functions among the fields of a module.
-use Rattle.std.proofs.Common.{◌≡◌, ℕ, zero, suc, ◌<◌, ◌^◌, true, false, Bool, cond, List, [], ◌∷◌, ◌++◌, Option, Some, None, refl, append_assoc, codes, decimal, arith, replicate}
+use Rattle.std.proofs.Common.{◌≡◌, ℕ, zero, suc, ◌<◌, ◌^◌, true, false, Bool, cond, List, [], ◌∷◌, ◌++◌, Option, Some, refl, codes, replicate}
 use Rattle.std.specs.List.{AllByRecursion}
 use Rattle.wasmprinter_spec.specs.Character.{class}
 use Rattle.wasmprinter_spec.specs.Forest.{Forest, End, Word, Group, onto}
@@ -9,33 +9,31 @@ use Rattle.wasmprinter_spec.specs.Operator.{Operator}
 use Rattle.wasmprinter_spec.specs.Placed.{LocalEntry, PlacedFunction}
 use Rattle.wasmprinter_spec.specs.Module.{without_places, locals_of, function_of}
 use Rattle.wasmprinter_spec.specs.Indexed.{Counts, IsIndexedOperator}
-use Rattle.wasmprinter_spec.specs.Labels.{AreApart}
 use Rattle.wasmprinter_spec.specs.Piece as piece
-use Rattle.wasmprinter_spec.specs.Piece.{Piece, Gap, Mark, Number}
-use Rattle.wasmprinter_spec.specs.Layout.Groups.{group_gap, group_gap_at, breaks, has_break}
+use Rattle.wasmprinter_spec.specs.Piece.{Piece, Gap}
+use Rattle.wasmprinter_spec.specs.Layout.Groups.{group_gap_at, breaks, has_break}
 use Rattle.wasmprinter_spec.specs.Layout.Operators.{OverLines, Setting, operator_pieces, operators_pieces, expression_pieces}
-use Rattle.wasmprinter_spec.specs.Layout.{locals_place, local_group, local_pieces, signature_if, header_pieces, no_names, body_pieces, function_group}
+use Rattle.wasmprinter_spec.specs.LabelNames.{no_names}
+use Rattle.wasmprinter_spec.specs.Layout.Functions.{locals_place, local_group, local_pieces, header_pieces, body_pieces, function_group}
 use Rattle.wasmprinter_spec.specs.IndexSpaces.{Identifiers, Context}
 use Rattle.wasmprinter_spec.specs.Text.Items.{groups, ids_of}
 use Rattle.wasmprinter_spec.specs.Text.Types.{val_types, variables, signature}
 use Rattle.wasmprinter_spec.specs.Text.Functions.{read_function}
 use Rattle.wasmprinter_spec.specs.Text.Operators.{read_operators}
-use Rattle.wasmprinter_lexical.proofs.Pieces.{Edge, Free, Bound, Ended}
-use Rattle.wasmprinter_lexical.proofs.Writes.{Writes, writing, is_open, both_write, behind_anything, nothing_writes, mark_writes, gap_writes, group_gap_then, group_gap_at_writes, ended_group_gap_at_writes}
+use Rattle.wasmprinter_lexical.proofs.Pieces.{Edge, Bound, Ended}
+use Rattle.wasmprinter_lexical.proofs.Writes.{Writes, writing, is_open, both_write, behind_anything, nothing_writes, group_gap_at_writes, ended_group_gap_at_writes}
 use Rattle.wasmprinter_reading.specs.Listed.{IsSignatureInRange, AreSignaturesInRange, IsListed}
-use Rattle.wasmprinter_reading.specs.OperatorLaws.{AreNames, HaveSameTypes}
+use Rattle.wasmprinter_reading.specs.OperatorLaws.{HaveSameTypes}
 use Rattle.wasmprinter_reading.proofs.Ranged.{IsRangedFunction}
 use Rattle.wasmprinter_reading.proofs.Items.{unnamed, types_of-unnamed, unnamed_spaces, index-decimal}
 use Rattle.wasmprinter_reading.proofs.Types.Ranged.{IsRangedVal, IsRangedFunc}
-use Rattle.wasmprinter_reading.proofs.Types.Trees.{group_items, signature_items, signature_if_items, type_list_writes, signature_writes}
+use Rattle.wasmprinter_reading.proofs.Types.Trees.{group_items, signature_items, type_list_writes}
 use Rattle.wasmprinter_reading.proofs.Types.Back.{reads_variables, groups_take, groups_leave, IsBehindSignature, printed_signature, signature-items, own_parameters}
+use Rattle.wasmprinter_reading.proofs.Fields.Headers.{header_items, header_writes}
+use Rattle.wasmprinter_reading.proofs.Operators.LabelNames.{no_names_are_names, no_names_are_apart}
 use Rattle.wasmprinter_reading.proofs.Operators.Lists.{expression_items, chunks_of, unfolded-operators, expression_writes, expression_reads}
 
 -- ---- what functions are written as
-
--- what a function holds behind its word, before the rest of it
-abbrev pub header_items : Option FuncType → ℕ → Forest → Forest
-header_items t type_index rest = Group (Word (codes "type") (Word (decimal type_index) End)) (onto (signature_if_items t) rest)
 
 abbrev pub body_items : List SubType → List ValType → List (Placed Operator) → Forest
 body_items ts ls os = onto (group_items (codes "local") ls) (expression_items (signature_at ts) no_names (without_places os))
@@ -64,29 +62,6 @@ locals_ranged (e ∷ es) r = replicated_ranged e.value.count e.value.type (local
 local_writes : (es : List (Placed LocalEntry)) → AllByRecursion (λ e. IsRangedVal e.value.type) es → Writes Bound (local_pieces es) Bound (group_items (codes "local") (locals_of es))
 unfolding local_pieces
 local_writes es r = local_group_writes (locals_place es) (locals_of es) (locals_ranged es r)
-
-signature_if_writes : (t : Option FuncType) → IsSignatureInRange t → Writes Bound (signature_if t) Bound (signature_if_items t)
-unfolding signature_if
-signature_if_writes None r = nothing_writes
-signature_if_writes (Some t) r = signature_writes t r
-
--- a function's number, type and signature before the rest of it
-header_writes : {b : Edge} (t : Option FuncType) (i : ℕ) (f : PlacedFunction) (qs : List Piece) (rest : Forest) → i < 2 ^ 64 → IsSignatureInRange t → IsRangedFunction f → Writes Bound qs b rest →
-    Writes Free (header_pieces i f.type_index t ++ qs) b (header_items t f.type_index rest)
-unfolding header_pieces class
-header_writes {b = b} t i f qs rest h s r w =
-    let small : f.type_index < 2 ^ 64 = omega (arith, r.type_index) in
-    let signature : Writes Bound (signature_if t ++ qs) b (onto (signature_if_items t) rest) = both_write (signature_if_writes t s) w in
-    let joined : Writes Free (Mark i ∷ (Gap ∷ (group_gap 2 (codes "type") (Number f.type_index ∷ []) ++ (signature_if t ++ qs)))) b (header_items t f.type_index rest) =
-    mark_writes refl h (gap_writes refl (group_gap_then 2 (codes "type") (Number f.type_index ∷ []) (signature_if t ++ qs) refl refl (search writing) signature)) in
-    rw (append_assoc (group_gap 2 (codes "type") (Number f.type_index ∷ [])) (signature_if t) qs) joined
-
--- no label has a name
-no_names_are_names : AreNames no_names
-no_names_are_names i d n e = absurd cc
-
-pub no_names_are_apart : AreApart no_names
-no_names_are_apart i j d e outer inner lt small f g same = absurd cc
 
 has_break-behind : (hs ps : List Piece) → has_break ps ≡ true → has_break (hs ++ ps) ≡ true
 has_break-behind [] ps h = h
@@ -120,18 +95,20 @@ pub function_writes : {a : Edge} → is_open a ≡ true → (skeleton offsets : 
 unfolding function_group class
 function_writes e true offsets ts s t i f h k r =
     let rest : Writes Bound (Gap ∷ (piece.Word (codes "...") ∷ [])) Bound (Word (codes "...") End) = search writing in
-    let held = header_writes t i f _ _ h k r rest in
+    let held = header_writes t i f.type_index _ _ h k r.type_index rest in
     search (writing, held)
 function_writes {a = a} e false offsets ts s t i f h k r = by f.body.value.operators r.body.listed
   where
     by : (os : List (Placed Operator)) → AllByRecursion IsListed (without_places os) →
         Writes a (group_gap_at offsets f.body.value.end 1 (codes "func") (header_pieces i f.type_index t ++ (local_pieces f.body.value.locals ++ body_pieces ts os))) Bound
         (Group (Word (codes "func") (header_items t f.type_index (body_items ts (locals_of f.body.value.locals) os))) End)
-    by [] l = group_gap_at_writes offsets f.body.value.end 1 (codes "func") _ e refl (header_writes t i f _ _ h k r (empty_body_writes ts f.body.value.locals r.body.locals))
+    by [] l =
+        group_gap_at_writes offsets f.body.value.end 1 (codes "func") _ e refl
+        (header_writes t i f.type_index _ _ h k r.type_index (empty_body_writes ts f.body.value.locals r.body.locals))
     by (o ∷ os) l =
         ended_group_gap_at_writes offsets f.body.value.end 1 (codes "func") _ e refl
         (has_break-behind (header_pieces i f.type_index t) _ (has_break-behind (local_pieces f.body.value.locals) (body_pieces ts (o ∷ os)) (body_breaks ts o os)))
-        (header_writes t i f _ _ h k r (body_writes ts s f.body.value.locals (o ∷ os) r.body.locals l))
+        (header_writes t i f.type_index _ _ h k r.type_index (body_writes ts s f.body.value.locals (o ∷ os) r.body.locals l))
 
 -- ---- they read back
 

@@ -13,7 +13,8 @@ AreArguments (Group (Word w g) f) = (head w ≡ PartHead) × AreArguments f
 AreArguments _ = ⊥
 
 -- they are the front of the code that they stand before
-pub arguments_front : (a : Forest) → AreArguments a → (f : Forest) (is : List Instruction) → code f ≡ Some (code_of End is) → code (onto a f) ≡ Some (code_of a is)
+pub arguments_front : (a : Forest) → AreArguments a → (f : Forest) (is : List Instruction) → code f ≡ Some (code_of End is) →
+    code (onto a f) ≡ Some (code_of a is)
 arguments_front End h f is e = e
 arguments_front (Word w a) h f is e = rw (h.0, arguments_front a h.1 f is e)
 arguments_front (Name s a) h f is e = rw (arguments_front a h f is e)

@@ -71,13 +71,15 @@ pub record IsBehindBlock (c : Context) (f : Forest) : Type 0 where
 pub end_behind_block : (c : Context) → IsBehindBlock c End
 end_behind_block c = record { no_id = refl; all_behind_id = refl; no_type = refl; no_signature = end_behind_signature c.spaces.types }
 
-pub behind_id-block : (signature : ℕ → Option FuncType) (own : Label) (t : BlockType) (f : Forest) → behind_id f ≡ f → behind_id (onto (id_items own) (onto (block_items signature t) f)) ≡ onto (block_items signature t) f
+pub behind_id-block : (signature : ℕ → Option FuncType) (own : Label) (t : BlockType) (f : Forest) → behind_id f ≡ f →
+    behind_id (onto (id_items own) (onto (block_items signature t) f)) ≡ onto (block_items signature t) f
 behind_id-block signature (Some n) t f e = refl
 behind_id-block signature None Empty f e = e
 behind_id-block signature None (Value t) f e = refl
 behind_id-block signature None (OfType n) f e = refl
 
-pub id_of-block : (signature : ℕ → Option FuncType) (own : Label) (t : BlockType) (f : Forest) → id_of f ≡ None → id_of (onto (id_items own) (onto (block_items signature t) f)) ≡ id own
+pub id_of-block : (signature : ℕ → Option FuncType) (own : Label) (t : BlockType) (f : Forest) → id_of f ≡ None →
+    id_of (onto (id_items own) (onto (block_items signature t) f)) ≡ id own
 id_of-block signature (Some n) t f e = refl
 id_of-block signature None Empty f e = e
 id_of-block signature None (Value t) f e = refl
@@ -93,7 +95,8 @@ type_reads : (c : Context) (n : ℕ) (x : Option FuncType) (f : Forest) → IsFu
 type_reads c n None f k r h = absurd k
 type_reads c n (Some t) f k r h = rw (signature-items c.spaces.types t f r h, printed_agrees t, unnamed_are_unnamed t.params)
 
-pub block_reads : (c : Context) (signature : ℕ → Option FuncType) → ((i : ℕ) → c.signature i ≡ signature i) → (n : Counts) → ((i : ℕ) → n.signature i ≡ signature i) → AreSignaturesInRange signature →
+pub block_reads : (c : Context) (signature : ℕ → Option FuncType) → ((i : ℕ) → c.signature i ≡ signature i) → (n : Counts) →
+    ((i : ℕ) → n.signature i ≡ signature i) → AreSignaturesInRange signature →
     (t : BlockType) (f : Forest) → IsBlockInRange t → IsBlockType n t → IsBehindBlock c f → block_type c (onto (block_items signature t) f) ≡ Some (t, f)
 block_reads c signature same n counted ranged Empty f r k h = h.no_type
 block_reads c signature same n counted ranged (Value t) f r k h = rw (val_types-one c.spaces.types t r)
@@ -112,7 +115,8 @@ behind_writes : (t : Option FuncType) → IsSignatureInRange t → Writes Bound 
 behind_writes None r = nothing_writes
 behind_writes (Some t) r = signature_writes t r
 
-pub block_writes : (signature : ℕ → Option FuncType) → AreSignaturesInRange signature → (t : BlockType) → IsBlockInRange t → Writes Bound (block_pieces signature t) Bound (block_items signature t)
+pub block_writes : (signature : ℕ → Option FuncType) → AreSignaturesInRange signature → (t : BlockType) → IsBlockInRange t →
+    Writes Bound (block_pieces signature t) Bound (block_items signature t)
 unfolding block_pieces class
 block_writes signature ranged Empty h = search writing
 block_writes signature ranged (Value t) h = gap_writes refl (line_group_gap_writes (codes "result") _ refl refl (val_writes t h))

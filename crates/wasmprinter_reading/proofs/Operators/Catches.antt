@@ -50,7 +50,8 @@ catches_no_type c inner xs (OneRef t l ∷ cs) = refl
 catches_no_type c inner xs (All l ∷ cs) = refl
 catches_no_type c inner xs (AllRef l ∷ cs) = refl
 
-catches_no_params : (types : Identifiers) (inner xs : List Label) (cs : List Catch) → groups (variables types) (codes "param") (catches_items inner xs cs) ≡ Some ([], catches_items inner xs cs)
+catches_no_params : (types : Identifiers) (inner xs : List Label) (cs : List Catch) →
+    groups (variables types) (codes "param") (catches_items inner xs cs) ≡ Some ([], catches_items inner xs cs)
 unfolding groups
 catches_no_params types inner xs [] = refl
 catches_no_params types inner xs (One t l ∷ cs) = refl
@@ -58,7 +59,8 @@ catches_no_params types inner xs (OneRef t l ∷ cs) = refl
 catches_no_params types inner xs (All l ∷ cs) = refl
 catches_no_params types inner xs (AllRef l ∷ cs) = refl
 
-catches_no_results : (types : Identifiers) (inner xs : List Label) (cs : List Catch) → groups (val_types types) (codes "result") (catches_items inner xs cs) ≡ Some ([], catches_items inner xs cs)
+catches_no_results : (types : Identifiers) (inner xs : List Label) (cs : List Catch) →
+    groups (val_types types) (codes "result") (catches_items inner xs cs) ≡ Some ([], catches_items inner xs cs)
 unfolding groups
 catches_no_results types inner xs [] = refl
 catches_no_results types inner xs (One t l ∷ cs) = refl
@@ -92,17 +94,20 @@ module _ (c : Context) (naming : Naming) (apart : AreApart naming) (inner xs : L
 
 -- ---- their pieces write them
 
-tag_writes : (inner xs : List Label) (t l : ℕ) → AllByRecursion IsLabel xs → IsU32 t → IsU32 l → Writes Bound (Gap ∷ (Number t ∷ label_pieces inner xs l)) Bound (Word (decimal t) (label_items inner xs l))
+tag_writes : (inner xs : List Label) (t l : ℕ) → AllByRecursion IsLabel xs → IsU32 t → IsU32 l →
+    Writes Bound (Gap ∷ (Number t ∷ label_pieces inner xs l)) Bound (Word (decimal t) (label_items inner xs l))
 tag_writes inner xs t l h small k = gap_writes refl (number_writes (omega arith) (label_writes inner xs l h k))
 
-catch_writes : (inner xs : List Label) (c : Catch) → AllByRecursion IsLabel xs → IsCatchInRange c → Writes Free (catch_pieces inner xs c) Bound (Group (catch_items inner xs c) End)
+catch_writes : (inner xs : List Label) (c : Catch) → AllByRecursion IsLabel xs → IsCatchInRange c →
+    Writes Free (catch_pieces inner xs c) Bound (Group (catch_items inner xs c) End)
 unfolding catch_pieces class
 catch_writes inner xs (One t l) h k = line_group_writes (codes "catch") (Gap ∷ (Number t ∷ label_pieces inner xs l)) refl refl (tag_writes inner xs t l h k.0 k.1)
 catch_writes inner xs (OneRef t l) h k = line_group_writes (codes "catch_ref") (Gap ∷ (Number t ∷ label_pieces inner xs l)) refl refl (tag_writes inner xs t l h k.0 k.1)
 catch_writes inner xs (All l) h k = line_group_writes (codes "catch_all") (label_pieces inner xs l) refl refl (label_writes inner xs l h k)
 catch_writes inner xs (AllRef l) h k = line_group_writes (codes "catch_all_ref") (label_pieces inner xs l) refl refl (label_writes inner xs l h k)
 
-pub catches_write : (inner xs : List Label) (cs : List Catch) → AllByRecursion IsLabel xs → AllByRecursion IsCatchInRange cs → Writes Bound (catches_pieces inner xs cs) Bound (catches_items inner xs cs)
+pub catches_write : (inner xs : List Label) (cs : List Catch) → AllByRecursion IsLabel xs → AllByRecursion IsCatchInRange cs →
+    Writes Bound (catches_pieces inner xs cs) Bound (catches_items inner xs cs)
 unfolding catches_pieces
 catches_write inner xs [] h ks = search writing
 catches_write inner xs (c ∷ cs) h ks =

@@ -25,7 +25,8 @@ ahead OverLines first = Ended
 ahead InLine true = Free
 ahead InLine false = Bound
 
-pub before_writes : {ps : List Piece} {b : Edge} {f : Forest} (form : Form) (first : Bool) (place nesting : ℕ) → Writes Free ps b f → Writes (ahead form first) (before_word form first place nesting ++ ps) b f
+pub before_writes : {ps : List Piece} {b : Edge} {f : Forest} (form : Form) (first : Bool) (place nesting : ℕ) → Writes Free ps b f →
+    Writes (ahead form first) (before_word form first place nesting ++ ps) b f
 before_writes OverLines first place nesting w = break_writes w
 before_writes InLine true place nesting w = w
 before_writes InLine false place nesting w = gap_writes refl w

@@ -8,7 +8,7 @@ use Rattle.std.proofs.lemmas.Str.{IsUtf8-append}
 use Rattle.wasmprinter_lexical.proofs.Printed.{all_printed, remark, is_remark-decimal}
 use Rattle.wasmprinter_lexical.proofs.Plain.{plain_text, plain_is_utf8}
 use Rattle.wasmprinter_spec.specs.Labels.{Named, same_name, AreApart}
-use Rattle.wasmprinter_spec.specs.LabelNames.{is_clean, label_content, label_named, label_naming}
+use Rattle.wasmprinter_spec.specs.LabelNames.{is_clean, label_content, label_named, label_naming, no_names}
 use Rattle.wasmprinter_reading.specs.OperatorLaws.{IsNamed, AreNames}
 use Rattle.wasmprinter_reading.proofs.Bytes.{same_bytes}
 
@@ -116,7 +116,8 @@ printed_is_utf8 text h = plain_is_utf8 text (plain_text text h)
 utf8-decimal : (n : ℕ) → IsUtf8 (decimal n)
 utf8-decimal n = printed_is_utf8 (decimal n) (remark (decimal n) (is_remark-decimal n)).printed
 
-label_is_named : (invents : Bool) (n d : ℕ) (x : Option (List ℕ)) (m : Named) → ((s : List ℕ) → x ≡ Some s → IsUtf8 s) → label_named invents n d x ≡ Some m → IsNamed m
+label_is_named : (invents : Bool) (n d : ℕ) (x : Option (List ℕ)) (m : Named) → ((s : List ℕ) → x ≡ Some s → IsUtf8 s) → label_named invents n d x ≡ Some m →
+    IsNamed m
 label_is_named invents n d (Some s) m utf8 e =
     let same : record { given = Some s; content = label_content n s } ≡ m = cc in
     subst IsNamed same (by (is_clean s) refl)
@@ -143,5 +144,14 @@ label_is_named true n d None m utf8 e =
     subst IsNamed same (record { given = tt; content = IsUtf8-append (codes "#label") (decimal d) (printed_is_utf8 (codes "#label") refl) (utf8-decimal d); some = omega arith })
 label_is_named false n d None m utf8 e = absurd cc
 
-pub label_naming_names : (invents : Bool) (names : ℕ → Option (List ℕ)) → ((n : ℕ) (s : List ℕ) → names n ≡ Some s → IsUtf8 s) → AreNames (label_naming invents names)
+pub label_naming_names : (invents : Bool) (names : ℕ → Option (List ℕ)) → ((n : ℕ) (s : List ℕ) → names n ≡ Some s → IsUtf8 s) →
+    AreNames (label_naming invents names)
 label_naming_names invents names utf8 i d m e = label_is_named invents i d (names i) m (utf8 i) e
+
+-- ---- no label has a name
+
+pub no_names_are_names : AreNames no_names
+no_names_are_names i d n e = absurd cc
+
+pub no_names_are_apart : AreApart no_names
+no_names_are_apart i j d e outer inner lt small f g same = absurd cc

@@ -60,14 +60,16 @@ module _ (naming : Naming) (apart : AreApart naming) where
       by Nothing same g more = absurd cc
 
   -- an identifier that is not hidden is not that of a label further in
-  not_declared : (x : Label) (xs : List Label) (n : Named) (i j d : ℕ) → d < length xs → length xs < 2 ^ 64 → naming i d ≡ Some n → naming j (length xs) ≡ x → hides n x ≡ false → declares n.content (id x) ≡ false
+  not_declared : (x : Label) (xs : List Label) (n : Named) (i j d : ℕ) → d < length xs → length xs < 2 ^ 64 → naming i d ≡ Some n → naming j (length xs) ≡ x →
+      hides n x ≡ false → declares n.content (id x) ≡ false
   not_declared None xs n i j d lt small outer inner h = refl
   not_declared (Some m) xs n i j d lt small outer inner h =
       false_from_ne_true (bytes_eq m.content n.content)
       (λ e. both_ways (same_name m.given n.given) h (apart i j d (length xs) n m lt small outer inner (bytes_same m.content n.content e)))
 
   -- an identifier that nothing hides is found at the number of its label
-  depth-target : (l : ℕ) (xs : List Label) (n : Named) (further : List Label) → Opened naming xs → target l xs ≡ Around (Some n) further → is_hidden n further ≡ false →
+  depth-target : (l : ℕ) (xs : List Label) (n : Named) (further : List Label) → Opened naming xs → target l xs ≡ Around (Some n) further →
+      is_hidden n further ≡ false →
       depth n.content (ids xs) ≡ Some l
   depth-target zero [] n further o e h = absurd cc
   depth-target (suc l) [] n further o e h = absurd cc
@@ -132,7 +134,8 @@ labels_arguments inner xs (m ∷ ms) l hs h = arguments_onto (label_items inner 
 
 -- ---- they read back
 
-number_first : (is : Identifiers) (l : ℕ) (f : Forest) (ls : List ℕ) → IsU32 l → labels is f ≡ Some ls → labels is (onto (Word (decimal l) End) f) ≡ Some (l ∷ ls)
+number_first : (is : Identifiers) (l : ℕ) (f : Forest) (ls : List ℕ) → IsU32 l → labels is f ≡ Some ls →
+    labels is (onto (Word (decimal l) End) f) ≡ Some (l ∷ ls)
 number_first is l f ls small e = rw (natural-decimal l (omega arith), lt-ltb l (2 ^ 32) small, e)
 
 abbrev pub targets : List ℕ → ℕ → List ℕ
@@ -244,7 +247,8 @@ label_writes inner xs l h small =
     let held = target_writes inner (length xs) l (target l xs) (omega arith) (λ n f e. is_label-target l xs (Some n) f h e) in
     search (writing, held)
 
-pub labels_write : (inner xs : List Label) (ls : List ℕ) (l : ℕ) → AllByRecursion IsLabel xs → AllByRecursion IsU32 ls → IsU32 l → Writes Bound (labels_pieces inner xs ls l) Bound (labels_items inner xs ls l)
+pub labels_write : (inner xs : List Label) (ls : List ℕ) (l : ℕ) → AllByRecursion IsLabel xs → AllByRecursion IsU32 ls → IsU32 l →
+    Writes Bound (labels_pieces inner xs ls l) Bound (labels_items inner xs ls l)
 unfolding labels_pieces
 labels_write inner xs [] l h hs small = label_writes inner xs l h small
 labels_write inner xs (m ∷ ms) l h hs small = then (label_writes inner xs m h hs.0) (labels_write inner xs ms l h hs.1 small)

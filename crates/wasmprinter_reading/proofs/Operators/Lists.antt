@@ -6,7 +6,7 @@ use Rattle.wasmprinter_spec.specs.Forest.{Forest, End, Word, onto}
 use Rattle.wasmprinter_spec.specs.Types.{FuncType}
 use Rattle.wasmprinter_spec.specs.Operator.{Operator}
 use Rattle.wasmprinter_spec.specs.Row.{Row, Role, Ends}
-use Rattle.wasmprinter_spec.specs.Table.{table, rows_of, by_opcode, word_of_row, word_of, role_of_row, role_of, is_label_shape, takes_label_by, takes_label}
+use Rattle.wasmprinter_spec.specs.Table.{table, rows_of, by_opcode, word_of_row, word_of, role_of_row, role_of, shape_of_row, shape_of}
 use Rattle.wasmprinter_spec.specs.Labels.{Label, Naming, AreApart, labels_after, count_after, outside, inside}
 use Rattle.wasmprinter_spec.specs.Stepped.{stops}
 use Rattle.wasmprinter_spec.specs.Nesting.{Nests, Sequence, advance, at_start}
@@ -26,7 +26,7 @@ use Rattle.wasmprinter_reading.proofs.Tabled.{In, refuses, HasRow, row_for, fits
 use Rattle.wasmprinter_reading.proofs.Operators.Labels.{ids, Opened, IsLabel, is_label-naming}
 use Rattle.wasmprinter_reading.proofs.Operators.Arguments.{arguments_front}
 use Rattle.wasmprinter_reading.proofs.Operators.Forms.{behind, ahead, before_writes, no_operators_write, goes_on}
-use Rattle.wasmprinter_reading.proofs.Operators.Immediates.{immediate_items, immediate_arguments, immediates_read, immediates_refused, immediate_writes}
+use Rattle.wasmprinter_reading.proofs.Operators.Immediates.{immediate_items, items_by, arguments_by, immediates_read, immediates_refused, writes_by}
 use Rattle.wasmprinter_reading.proofs.Operators.Rows.{IsSome, rows_of-row, first_reading-row}
 use Rattle.wasmprinter_reading.proofs.Operators.Open.{outside_ids, outside_opened, outside_labels, after_opened, after_labels, after_length, after_ids}
 
@@ -34,7 +34,7 @@ use Rattle.wasmprinter_reading.proofs.Operators.Open.{outside_ids, outside_opene
 
 abbrev pub arguments_items : (ℕ → Option FuncType) → Label → List Label → Operator → Forest
 arguments_items signature own xs o =
-    immediate_items signature (takes_label o.opcode) (inside (role_of o.opcode) xs) (outside (role_of o.opcode) xs) own o.immediates
+    items_by signature (inside (role_of o.opcode) xs) (outside (role_of o.opcode) xs) own (shape_of o.opcode) o.immediates
 
 -- n blocks were opened before, and these labels are open
 abbrev pub operators_items : (ℕ → Option FuncType) → Naming → ℕ → List Label → List Operator → Forest
@@ -59,7 +59,8 @@ row_word : (o : Operator) (r : HasRow o) → word_of o.opcode ≡ r.row.word
 row_word o r = ap word_of_row r.found
 
 -- an operator's word takes what stands behind it
-word_takes : (r : Row) → In r table → (w : List ℕ) → w ≡ r.word → (f : Forest) (is : List Instruction) → with_word (rows_of w) w (Some (code_of f is)) ≡ Some (code_of End (Flat (chunk (rows_of w) f) ∷ is))
+word_takes : (r : Row) → In r table → (w : List ℕ) → w ≡ r.word → (f : Forest) (is : List Instruction) →
+    with_word (rows_of w) w (Some (code_of f is)) ≡ Some (code_of End (Flat (chunk (rows_of w) f) ∷ is))
 word_takes r at w e f is =
     let rows : IsSome (rows_of r.word) = rows_of-row r at in
     let same : rows_of w ≡ rows.first ∷ rows.others = ap rows_of e ∙ rows.is in
@@ -76,9 +77,10 @@ code-operators signature naming n xs (o ∷ os) h =
     let ys : List Label = labels_after role own xs in
     let m : ℕ = count_after role n in
     let e : code (onto a (operators_items signature naming m ys os)) ≡ Some (code_of a (map Flat (chunks_of signature naming m ys os))) =
-    arguments_front a (immediate_arguments signature (takes_label o.opcode) (inside role xs) (outside role xs) own o.immediates h.0.range)
+    arguments_front a (arguments_by signature (inside role xs) (outside role xs) own (shape_of o.opcode) o.immediates h.0.range)
     (operators_items signature naming m ys os) (map Flat (chunks_of signature naming m ys os)) (code-operators signature naming m ys os h.1) in
-    ap (with_word (rows_of (word_of o.opcode)) (word_of o.opcode)) e ∙ word_takes r.row r.in_table (word_of o.opcode) (row_word o r) a (map Flat (chunks_of signature naming m ys os))
+    ap (with_word (rows_of (word_of o.opcode)) (word_of o.opcode)) e
+    ∙ word_takes r.row r.in_table (word_of o.opcode) (row_word o r) a (map Flat (chunks_of signature naming m ys os))
 
 flattened-Flat : (cs : List Chunk) → flattened (map Flat cs) ≡ Some cs
 flattened-Flat [] = refl
@@ -102,7 +104,8 @@ nested-roles : (os : List (Placed Operator)) → Nests Sequence (roles os) → a
 nested-roles os h = ap (λ rs. stops advance at_start rs Ends) (same_roles os) ∙ stops_at_end (roles os) h
 
 module _ (s : Setting) (c : Context) (k : Counts) (same : HaveSameTypes s c k) (naming : Naming) (apart : AreApart naming) where
-  operators-read : (n : ℕ) (xs : List Label) (os : List Operator) → Opened naming xs → length xs + length os ≤ 2 ^ 64 → AllByRecursion IsListed os → AllByRecursion (IsIndexedOperator k) os →
+  operators-read : (n : ℕ) (xs : List Label) (os : List Operator) → Opened naming xs → length xs + length os ≤ 2 ^ 64 → AllByRecursion IsListed os →
+      AllByRecursion (IsIndexedOperator k) os →
       operators c (ids xs) (chunks_of s.signature naming n xs os) ≡ Some os
   operators-read n xs [] o small h d = refl
   operators-read n xs (p ∷ ps) o small h d =
@@ -115,18 +118,22 @@ module _ (s : Setting) (c : Context) (k : Counts) (same : HaveSameTypes s c k) (
       let fewer : length xs < 2 ^ 64 = omega (arith, small) in
       let more : length ys + length ps ≤ 2 ^ 64 = omega (arith, small, after_length is own xs) in
       let role : is ≡ r.row.role = ap role_of_row r.found in
-      let label : takes_label p.opcode ≡ is_label_shape r.row.shape = ap takes_label_by r.found in
+      let written : a ≡ immediate_items s.signature (inside is xs) (outside is xs) own r.row.shape p.immediates =
+      ap (λ x. items_by s.signature (inside is xs) (outside is xs) own (shape_of_row x) p.immediates) r.found in
       let i : immediates c (seen r.row.role (ids xs)) r.row.shape a ≡ Some p.immediates =
       ap (λ x. immediates c (seen x (ids xs)) r.row.shape a) (sym role)
       ∙ ap (λ x. immediates c x r.row.shape a) (outside_ids is xs)
-      ∙ ap (λ x. immediates c (ids (outside is xs)) r.row.shape (immediate_items s.signature x (inside is xs) (outside is xs) own p.immediates)) label
-      ∙ immediates_read c s.signature same.read k same.counted same.in_range naming apart (inside is xs) (outside is xs) (outside_opened naming is xs o) own r.row.shape p.immediates r.shape h.0.range (declared_by_row k p r.row r.found d.0) in
+      ∙ ap (immediates c (ids (outside is xs)) r.row.shape) written
+      ∙ immediates_read c s.signature same.read k same.counted same.in_range naming apart (inside is xs) (outside is xs) (outside_opened naming is xs o) own
+      r.row.shape p.immediates r.shape h.0.range (declared_by_row k p r.row r.found d.0) in
       let fit : fits is r.row.shape ≡ true = ap (λ x. fits x r.row.shape) role ∙ r.fit in
       let after : open_behind r.row.role (id_of a) (ids xs) ≡ ids ys =
       ap (λ x. open_behind x (id_of a) (ids xs)) (sym role)
-      ∙ after_ids c s.signature (takes_label p.opcode) (inside is xs) (outside is xs) is r.row.shape own xs p.immediates fit r.shape in
+      ∙ ap (λ x. open_behind is (id_of x) (ids xs)) written
+      ∙ after_ids c s.signature (inside is xs) (outside is xs) is r.row.shape own xs p.immediates fit r.shape in
       let refused : (x : Row) → refuses x.shape r.row.shape ≡ true → immediates c (seen x.role (ids xs)) x.shape a ≡ None =
-      λ x no. immediates_refused c (seen x.role (ids xs)) s.signature (takes_label p.opcode) (inside is xs) (outside is xs) own x.shape r.row.shape p.immediates no r.shape in
+      λ x no. ap (immediates c (seen x.role (ids xs)) x.shape) written
+      ∙ immediates_refused c (seen x.role (ids xs)) s.signature (inside is xs) (outside is xs) own x.shape r.row.shape p.immediates no r.shape h.0.range in
       rw (
         row_word p r,
         first_reading-row c (ids xs) a p.immediates r.row r.in_table i refused,
@@ -137,12 +144,14 @@ module _ (s : Setting) (c : Context) (k : Counts) (same : HaveSameTypes s c k) (
       )
 
   -- operators that are well nested read as themselves
-  pub expression_reads : (os : List (Placed Operator)) → AreOperators k os → read_operators c (chunks_of s.signature naming 0 [] (without_places os)) ≡ Some (without_places os)
+  pub expression_reads : (os : List (Placed Operator)) → AreOperators k os →
+      read_operators c (chunks_of s.signature naming 0 [] (without_places os)) ≡ Some (without_places os)
   expression_reads os h = rw (operators-read 0 [] (without_places os) tt (omega (arith, h.count)) h.listed h.indexed, nested-roles os h.nested)
 
 -- ---- their pieces write them
 
-operator_writes : (s : Setting) → AreSignaturesInRange s.signature → (first : Bool) (own : Label) (xs : List Label) (o : Placed Operator) → AllByRecursion IsLabel xs → IsLabel own → IsListed o.value →
+operator_writes : (s : Setting) → AreSignaturesInRange s.signature → (first : Bool) (own : Label) (xs : List Label) (o : Placed Operator) →
+    AllByRecursion IsLabel xs → IsLabel own → IsListed o.value →
     Writes (ahead s.form first) (operator_pieces s first own xs o) (behind s.form) (Word (word_of o.value.opcode) (arguments_items s.signature own xs o.value))
 unfolding operator_pieces
 operator_writes s ranged first own xs o h k l =
@@ -150,9 +159,11 @@ operator_writes s ranged first own xs o h k l =
     let role : Role = role_of o.value.opcode in
     let is : is_word (word_of o.value.opcode) ≡ true = ap is_word (ap word_of_row r.found) ∙ r.is_its_word in
     before_writes s.form first o.place (s.nesting + level role (length xs))
-    (word_writes is (immediate_writes s ranged (takes_label o.value.opcode) (inside role xs) (outside role xs) own o.value.immediates (outside_labels role xs h) k l.range))
+    (word_writes is
+    (writes_by s ranged (inside role xs) (outside role xs) own (outside_labels role xs h) k (shape_of o.value.opcode) o.value.immediates l.range))
 
-operators_write : (s : Setting) → AreSignaturesInRange s.signature → (naming : Naming) → AreNames naming → (first : Bool) (n : ℕ) (xs : List Label) (os : List (Placed Operator)) → AllByRecursion IsLabel xs → AllByRecursion IsListed (without_places os) →
+operators_write : (s : Setting) → AreSignaturesInRange s.signature → (naming : Naming) → AreNames naming →
+    (first : Bool) (n : ℕ) (xs : List Label) (os : List (Placed Operator)) → AllByRecursion IsLabel xs → AllByRecursion IsListed (without_places os) →
     Writes (ahead s.form first) (operators_pieces s naming first n xs os) (behind s.form) (operators_items s.signature naming n xs (without_places os))
 unfolding operators_pieces
 operators_write s ranged naming names first n xs [] h l = no_operators_write s.form first
@@ -163,7 +174,8 @@ operators_write s ranged naming names first n xs (o ∷ os) h l =
     both_write (operator_writes s ranged first own xs o h k l.0)
     (goes_on s.form (operators_write s ranged naming names false (count_after role n) (labels_after role own xs) os (after_labels role own xs k h) l.1))
 
-pub expression_writes : (s : Setting) → AreSignaturesInRange s.signature → (naming : Naming) → AreNames naming → (os : List (Placed Operator)) → AllByRecursion IsListed (without_places os) →
+pub expression_writes : (s : Setting) → AreSignaturesInRange s.signature → (naming : Naming) → AreNames naming → (os : List (Placed Operator)) →
+    AllByRecursion IsListed (without_places os) →
     Writes (ahead s.form true) (expression_pieces s naming os) (behind s.form) (expression_items s.signature naming (without_places os))
 unfolding expression_pieces
 expression_writes s ranged naming names os l = operators_write s ranged naming names true 0 [] os tt l

@@ -1,18 +1,31 @@
 -- Numbers in operators: they read back, and none is an operator's word.
 use Rattle.std.proofs.Common.{◌≡◌, ℕ, ℤ, pos, negsuc, ◌<◌, ◌^◌, [], Some, decimal, arith, lit≤}
+use Rattle.std.proofs.lemmas.Bool.{lt-ltb}
 use Rattle.std.proofs.lemmas.Int.{ints}
 use Rattle.std.specs.Fmt.{signed_decimal}
 use Rattle.std.specs.Int.Signed.{mag}
-use Rattle.wasmprinter_spec.specs.Numeral.{integer}
+use Rattle.wasmprinter_spec.specs.Numeral.{u8, u32, u64, integer}
 use Rattle.wasmprinter_spec.specs.Table.{rows_of}
-use Rattle.wasmprinter_lexical.proofs.Numbers.{integer-positive, integer-negative}
-use Rattle.wasmprinter_reading.specs.Listed.{IsSigned, IsU32}
+use Rattle.wasmprinter_lexical.proofs.Numbers.{natural-decimal, integer-positive, integer-negative}
+use Rattle.wasmprinter_reading.specs.Listed.{IsSigned, IsU32, IsByte}
 use Rattle.wasmprinter_reading.proofs.Tabled.{no_rows-decimal, no_rows-signed_decimal}
 
--- ---- indices
+-- ---- numbers without a sign
 
 pub index_is_no_word : (n : ℕ) → IsU32 n → rows_of (decimal n) ≡ []
 index_is_no_word n h = no_rows-decimal n (omega arith)
+
+pub byte_is_no_word : (k : ℕ) → IsByte k → rows_of (decimal k) ≡ []
+byte_is_no_word k h = no_rows-decimal k (omega arith)
+
+pub u8-decimal : (k : ℕ) → IsByte k → u8 (decimal k) ≡ Some k
+u8-decimal k h = rw (natural-decimal k (omega arith), lt-ltb k (2 ^ 8) h)
+
+pub u32-decimal : (n : ℕ) → IsU32 n → u32 (decimal n) ≡ Some n
+u32-decimal n h = rw (natural-decimal n (omega arith), lt-ltb n (2 ^ 32) h)
+
+pub u64-decimal : (n : ℕ) → n < 2 ^ 64 → u64 (decimal n) ≡ Some n
+u64-decimal n h = rw (natural-decimal n h, lt-ltb n (2 ^ 64) h)
 
 -- ---- constants
 

@@ -1,5 +1,5 @@
 -- What is open behind an operator: the labels of the layout and those of the reader go together.
-use Rattle.std.proofs.Common.{◌≡◌, ℕ, suc, ◌<◌, ◌≤◌, ◌^◌, Bool, true, List, [], ◌∷◌, length, Option, refl, ap, arith}
+use Rattle.std.proofs.Common.{◌≡◌, ℕ, suc, ◌<◌, ◌≤◌, ◌^◌, true, List, [], ◌∷◌, length, Option, refl, ap, arith}
 use Rattle.std.specs.List.{AllByRecursion}
 use Rattle.wasmprinter_spec.specs.Types.{FuncType}
 use Rattle.wasmprinter_spec.specs.Operator.{Immediates}
@@ -31,7 +31,8 @@ outside_labels _ xs h = h
 
 -- ---- the labels behind an operator
 
-pub after_opened : (naming : Naming) (n : ℕ) (r : Role) (xs : List Label) → length xs < 2 ^ 64 → Opened naming xs → Opened naming (labels_after r (naming n (length xs)) xs)
+pub after_opened : (naming : Naming) (n : ℕ) (r : Role) (xs : List Label) → length xs < 2 ^ 64 → Opened naming xs →
+    Opened naming (labels_after r (naming n (length xs)) xs)
 after_opened naming n Opens xs small o = ((n, refl), small, o)
 after_opened naming n OpensIf xs small o = ((n, refl), small, o)
 after_opened naming n OpensTry xs small o = ((n, refl), small, o)
@@ -62,13 +63,14 @@ after_length Ends own [] = omega arith
 after_length Ends own (x ∷ xs) = omega arith
 after_length _ own xs = omega arith
 
-pub after_ids : (c : Context) (signature : ℕ → Option FuncType) (label : Bool) (inner ys : List Label) (r : Role) (s : Shape) (own : Label) (xs : List Label) (i : Immediates) → fits r s ≡ true → has_shape s i ≡ true →
-    open_behind r (id_of (immediate_items signature label inner ys own i)) (ids xs) ≡ ids (labels_after r own xs)
-after_ids c signature label inner ys Opens s own xs i f k = ap (λ t. t ∷ ids xs) (id_of-opening c signature label inner ys own s i f k)
-after_ids c signature label inner ys OpensIf s own xs i f k = ap (λ t. t ∷ ids xs) (id_of-opening c signature label inner ys own s i f k)
-after_ids c signature label inner ys OpensTry s own xs i f k = ap (λ t. t ∷ ids xs) (id_of-opening c signature label inner ys own s i f k)
-after_ids c signature label inner ys Delegates s own [] i f k = refl
-after_ids c signature label inner ys Delegates s own (x ∷ xs) i f k = refl
-after_ids c signature label inner ys Ends s own [] i f k = refl
-after_ids c signature label inner ys Ends s own (x ∷ xs) i f k = refl
-after_ids c signature label inner ys _ s own xs i f k = refl
+pub after_ids : (c : Context) (signature : ℕ → Option FuncType) (inner ys : List Label) (r : Role) (s : Shape) (own : Label) (xs : List Label) (i : Immediates) →
+    fits r s ≡ true → has_shape s i ≡ true →
+    open_behind r (id_of (immediate_items signature inner ys own s i)) (ids xs) ≡ ids (labels_after r own xs)
+after_ids c signature inner ys Opens s own xs i f k = ap (λ t. t ∷ ids xs) (id_of-opening c signature inner ys own s i f k)
+after_ids c signature inner ys OpensIf s own xs i f k = ap (λ t. t ∷ ids xs) (id_of-opening c signature inner ys own s i f k)
+after_ids c signature inner ys OpensTry s own xs i f k = ap (λ t. t ∷ ids xs) (id_of-opening c signature inner ys own s i f k)
+after_ids c signature inner ys Delegates s own [] i f k = refl
+after_ids c signature inner ys Delegates s own (x ∷ xs) i f k = refl
+after_ids c signature inner ys Ends s own [] i f k = refl
+after_ids c signature inner ys Ends s own (x ∷ xs) i f k = refl
+after_ids c signature inner ys _ s own xs i f k = refl

@@ -1,6 +1,5 @@
 -- The rows of a word: of those that share it, the one that was meant is the first that reads what is written.
-use Rattle.std.proofs.Common.{◌≡◌, Bool, true, false, cond, List, [], ◌∷◌, Some, None, refl, ap, ◌∙◌}
-use Rattle.std.proofs.lemmas.Bool.{and_parts}
+use Rattle.std.proofs.Common.{◌≡◌, ℕ, Bool, true, false, cond, List, [], ◌∷◌, Some, None, refl, sym, ap, ◌∙◌, subst, map}
 use Rattle.std.specs.List.{filter}
 use Rattle.wasmprinter_spec.specs.Forest.{Forest}
 use Rattle.wasmprinter_spec.specs.Operator.{Immediates}
@@ -8,8 +7,8 @@ use Rattle.wasmprinter_spec.specs.Row.{Row}
 use Rattle.wasmprinter_spec.specs.Table.{table, has_word, rows_of}
 use Rattle.wasmprinter_spec.specs.IndexSpaces.{Identifiers, Context}
 use Rattle.wasmprinter_spec.specs.Text.Operators.{immediates, seen, first_reading}
-use Rattle.wasmprinter_reading.proofs.Bytes.{same_bytes}
-use Rattle.wasmprinter_reading.proofs.Tabled.{In, here, there, refuses, are_told_apart, refuses_later, table_tells_apart}
+use Rattle.wasmprinter_reading.proofs.Bytes.{same_bytes, bytes_same}
+use Rattle.wasmprinter_reading.proofs.Tabled.{In, here, there, refuses, keyed, are_told_apart, told_apart_later, refuses_later, table_tells_apart}
 
 -- the first of the rows and those behind it
 pub record IsSome (rs : List Row) : Type 0 where
@@ -26,6 +25,16 @@ some_of_word (s ∷ rs) r (there i) = by (has_word r.word s) (some_of_word rs r 
     by true more = record { first = s; others = filter (has_word r.word) rs; is = refl }
     by false more = more
 
+-- rows that have a word are rows of it
+pub first_of_rows : (w : List ℕ) (rs : List Row) (r : Row) (others : List Row) → filter (has_word w) rs ≡ r ∷ others → In r rs × (r.word ≡ w)
+first_of_rows w [] r others e = absurd cc
+first_of_rows w (s ∷ rs) r others e = by (has_word w s) refl e (first_of_rows w rs r others)
+  where
+    by : (t : Bool) → has_word w s ≡ t → cond t (s ∷ filter (has_word w) rs) (filter (has_word w) rs) ≡ r ∷ others →
+        (filter (has_word w) rs ≡ r ∷ others → In r rs × (r.word ≡ w)) → In r (s ∷ rs) × (r.word ≡ w)
+    by true h k more = let same : s ≡ r = cc in (subst (λ x. In x (s ∷ rs)) same here, ap (λ x. x.word) (sym same) ∙ bytes_same s.word w h)
+    by false h k more = (there (more k).0, (more k).1)
+
 pub rows_of-row : (r : Row) → In r table → IsSome (rows_of r.word)
 rows_of-row r i = some_of_word table r i
 
@@ -37,12 +46,13 @@ module _ (c : Context) (is : Identifiers) (f : Forest) (i : Immediates) where
   passed_over : (s : Row) (rs : List Row) → immediates c (seen s.role is) s.shape f ≡ None → first_reading c is (s ∷ rs) f ≡ first_reading c is rs f
   passed_over s rs e = rw e
 
-  first_of_word : (rs : List Row) (r : Row) → are_told_apart rs ≡ true → In r rs → immediates c (seen r.role is) r.shape f ≡ Some i →
-      ((s : Row) → refuses s.shape r.shape ≡ true → immediates c (seen s.role is) s.shape f ≡ None) → first_reading c is (filter (has_word r.word) rs) f ≡ Some (r, i)
+  first_of_word : (rs : List Row) (r : Row) → are_told_apart (map keyed rs) ≡ true → In r rs → immediates c (seen r.role is) r.shape f ≡ Some i →
+      ((s : Row) → refuses s.shape r.shape ≡ true → immediates c (seen s.role is) s.shape f ≡ None) →
+      first_reading c is (filter (has_word r.word) rs) f ≡ Some (r, i)
   first_of_word [] r t at e refused = elim at [ ]
   first_of_word (s ∷ rs) r t here e refused =
       ap (λ b. first_reading c is (cond b (r ∷ filter (has_word r.word) rs) (filter (has_word r.word) rs)) f) (same_bytes r.word) ∙ first_reads r (filter (has_word r.word) rs) e
-  first_of_word (s ∷ rs) r t (there at) e refused = by (has_word r.word s) refl (first_of_word rs r (and_parts _ (are_told_apart rs) t).1 at e refused)
+  first_of_word (s ∷ rs) r t (there at) e refused = by (has_word r.word s) refl (first_of_word rs r (told_apart_later s rs t) at e refused)
     where
       by : (b : Bool) → has_word r.word s ≡ b → first_reading c is (filter (has_word r.word) rs) f ≡ Some (r, i) →
           first_reading c is (cond b (s ∷ filter (has_word r.word) rs) (filter (has_word r.word) rs)) f ≡ Some (r, i)

@@ -1,22 +1,33 @@
 -- Operators that bytes spell are listed, in range and well nested.
-use Rattle.std.proofs.Common.{◌≡◌, ℕ, ◌<◌, ◌≤◌, ◌+◌, ◌==◌, true, List, [], ◌∷◌, length, Option, Some, None, refl, ap, subst, arith}
+use Rattle.std.proofs.Common.{◌≡◌, ℕ, ◌<◌, ◌≤◌, ◌+◌, ◌^◌, ◌==◌, ltb, true, List, [], ◌∷◌, length, Option, Some, None, refl, ap, subst, arith}
+use Rattle.std.proofs.lemmas.Bool.{ltb-true}
 use Rattle.std.proofs.lemmas.List.{length-append}
+use Rattle.std.proofs.Math.Nat.{pow-suc}
 use Rattle.std.specs.List.{AllByRecursion}
-use Rattle.wasmprinter_spec.specs.Grammar.{byte, Placed, placed}
+use Rattle.wasmprinter_spec.specs.Grammar.{byte, try_map, map_value, Placed, placed}
 use Rattle.wasmprinter_spec.specs.Repeated.{Items}
+use Rattle.wasmprinter_spec.specs.Sized.{take_bytes}
+use Rattle.wasmprinter_spec.specs.FirstByte.{only}
 use Rattle.wasmprinter_spec.specs.Binary.ValTypes.{begins_val_type}
-use Rattle.wasmprinter_spec.specs.Operator.{Catch, One, OneRef, Immediates, Operator}
-use Rattle.wasmprinter_spec.specs.Row.{Row, Shape, NoneShape, BlockShape, TryTableShape, IndexShape, BranchTableShape, I32Shape, I64Shape}
+use Rattle.wasmprinter_spec.specs.Operator.{Catch, One, OneRef, Immediates, Bytes, Operator}
+use Rattle.wasmprinter_spec.specs.Row.{Row, Shape, NoneShape, FenceShape, BlockShape, TryTableShape, IndexShape, DefaultIndexShape, PairShape, FieldShape, CountShape, CallShape, SegmentShape, CopyShape, BranchTableShape, SelectShape, HeapShape, RefShape, CastShape, MemoryShape, MemoryLaneShape, LaneShape, I32Shape, I64Shape, F32Shape, F64Shape, VectorShape, LanesShape}
 use Rattle.wasmprinter_spec.specs.Table.{by_opcode}
 use Rattle.wasmprinter_spec.specs.Nesting.{Nests, Sequence}
-use Rattle.wasmprinter_spec.specs.Instructions.{opcode_grammar, block_type, tag_and_label, catch_by, catch, immediates, listed, operator, end_byte, Closed, expression, operator_takes, roles}
+use Rattle.wasmprinter_spec.specs.Instructions.{opcode_grammar, block_type, tag_and_label, catch_by, catch, u64, mem_arg_by, mem_arg, indices, cast_nulls, cast, little_endian, float_bits, immediates, listed, operator, end_byte, Closed, expression, operator_takes, roles}
 use Rattle.wasmprinter_spec.specs.Module.{without_places}
 use Rattle.wasmprinter_spec.specs.Binary.{AreBytes}
-use Rattle.wasmprinter_reading.specs.Listed.{IsU32, IsBlockInRange, IsCatchInRange, AreInRange, has_shape, has_row_shape, IsListed}
-use Rattle.wasmprinter_reading.proofs.AllSpelled.{AllSpelled, split_bytes, items_have, AllSpelled-any, AllSpelled-seq, AllSpelled-map_value, AllSpelled-succeed, AllSpelled-fail, AllSpelled-choose, AllSpelled-announced, AllSpelled-peeked, AllSpelled-placed}
-use Rattle.wasmprinter_reading.proofs.LebRange.{AllSpelled-signed}
+use Rattle.wasmprinter_reading.specs.Listed.{IsU32, IsByte, IsBlockInRange, IsCatchInRange, IsMemArgInRange, AreInRange, has_shape, has_row_shape, IsListed}
+use Rattle.wasmprinter_reading.proofs.AllSpelled.{AllSpelled, split_bytes, items_have, AllSpelled-any, AllSpelled-seq, AllSpelled-map_value, AllSpelled-succeed, AllSpelled-fail, AllSpelled-choose, AllSpelled-choose_by, AllSpelled-byte, AllSpelled-take_bytes, AllSpelled-announced, AllSpelled-peeked, AllSpelled-placed}
+use Rattle.wasmprinter_reading.proofs.LebRange.{AllSpelled-unsigned, AllSpelled-signed}
 use Rattle.wasmprinter_reading.proofs.Vectors.{AllSpelled-u32, AllSpelled-vec}
-use Rattle.wasmprinter_reading.proofs.Types.Ranges.{AllSpelled-signed_index, AllSpelled-val_type}
+use Rattle.wasmprinter_reading.proofs.Types.Ranges.{AllSpelled-signed_index, AllSpelled-heap_type, AllSpelled-val_type}
+
+-- of this shape, and in range
+abbrev HasShape : Shape → Immediates → Type 0
+HasShape s i = (has_shape s i ≡ true) × AreInRange i
+
+abbrev HasRowShape : Option Row → Immediates → Type 0
+HasRowShape r i = (has_row_shape r i ≡ true) × AreInRange i
 
 -- ---- immediates
 
@@ -40,24 +51,75 @@ AllSpelled-catch_by k =
 AllSpelled-catch : AllSpelled catch IsCatchInRange
 AllSpelled-catch = AllSpelled-announced AllSpelled-catch_by
 
--- of this shape, and in range
-abbrev HasShape : Shape → Immediates → Type 0
-HasShape s i = (has_shape s i ≡ true) × AreInRange i
+-- A memory operand: its first number says whether a memory stands behind it.
+AllSpelled-u64 : AllSpelled u64 (λ n. n < 2 ^ 64)
+AllSpelled-u64 = AllSpelled-unsigned 64
 
-abbrev HasRowShape : Option Row → Immediates → Type 0
-HasRowShape r i = (has_row_shape r i ≡ true) × AreInRange i
+AllSpelled-mem_arg : AllSpelled mem_arg IsMemArgInRange
+AllSpelled-mem_arg =
+    AllSpelled-map_value (AllSpelled-seq AllSpelled-u32 (λ n. by n)) (λ x h. h.1)
+  where
+    by : (n : ℕ) → AllSpelled (mem_arg_by n) IsMemArgInRange
+    by n =
+        AllSpelled-choose_by (ltb n 64)
+        (λ small. AllSpelled-map_value AllSpelled-u64 (λ offset h. record { exponent = ltb-true n 64 small; memory = omega arith; offset = h }))
+        (λ _. AllSpelled-choose_by (ltb n 128)
+        (λ small. AllSpelled-map_value (AllSpelled-seq AllSpelled-u32 (λ _. AllSpelled-u64))
+        (λ x h. record { exponent = omega (arith, ltb-true n 128 small); memory = h.0; offset = h.1 }))
+        (λ _. AllSpelled-fail))
+
+-- Two indices, or an index and a number.
+AllSpelled-indices : AllSpelled indices (HasShape FieldShape)
+AllSpelled-indices = AllSpelled-map_value (AllSpelled-seq AllSpelled-u32 (λ _. AllSpelled-u32)) (λ x h. (refl, h))
+
+-- A cast: a label, and two heap types.
+AllSpelled-cast : AllSpelled cast (HasShape CastShape)
+AllSpelled-cast =
+    AllSpelled-map_value (AllSpelled-seq (AllSpelled-any (try_map cast_nulls byte))
+    (λ _. AllSpelled-seq AllSpelled-u32 (λ _. AllSpelled-seq AllSpelled-heap_type (λ _. AllSpelled-heap_type))))
+    (λ x h. (refl, (h.1.0, h.1.1.0, h.1.1.1)))
+
+-- The number of so many bytes.
+little_endian-below : (bs : List ℕ) → AllByRecursion IsByte bs → little_endian bs < 256 ^ length bs
+little_endian-below [] h = omega arith
+little_endian-below (b ∷ bs) h = omega (arith, h.0, little_endian-below bs h.1, pow-suc 256 (length bs))
+
+AllSpelled-float_bits : (n : ℕ) → AllSpelled (float_bits n) (λ bits. bits < 256 ^ n)
+AllSpelled-float_bits n = AllSpelled-map_value (AllSpelled-take_bytes n) (λ bs h. subst (λ k. little_endian bs < 256 ^ k) h.0 (little_endian-below bs h.1))
+
+AllSpelled-sixteen : AllSpelled (map_value Bytes (take_bytes 16)) (HasShape VectorShape)
+AllSpelled-sixteen = AllSpelled-map_value (AllSpelled-take_bytes 16) (λ bs h. (refl, record { count = h.0; each = h.1 }))
 
 -- The immediates of each shape.
 AllSpelled-immediates : (s : Shape) → AllSpelled (immediates s) (HasShape s)
 AllSpelled-immediates NoneShape = AllSpelled-succeed (refl, tt)
+AllSpelled-immediates FenceShape = AllSpelled-map_value (AllSpelled-any (only 0x00)) (λ _ h. (refl, tt))
 AllSpelled-immediates BlockShape = AllSpelled-map_value AllSpelled-block_type (λ t h. (refl, h))
 AllSpelled-immediates TryTableShape =
     AllSpelled-map_value (AllSpelled-seq AllSpelled-block_type (λ _. AllSpelled-vec AllSpelled-catch)) (λ x h. (refl, (h.0, h.1.each)))
 AllSpelled-immediates (IndexShape space) = AllSpelled-map_value AllSpelled-u32 (λ n h. (refl, h))
+AllSpelled-immediates (DefaultIndexShape space) = AllSpelled-map_value AllSpelled-u32 (λ n h. (refl, h))
+AllSpelled-immediates (PairShape first second) = AllSpelled-indices
+AllSpelled-immediates FieldShape = AllSpelled-indices
+AllSpelled-immediates CountShape = AllSpelled-indices
+AllSpelled-immediates CallShape = AllSpelled-indices
+AllSpelled-immediates (SegmentShape segments space) = AllSpelled-indices
+AllSpelled-immediates (CopyShape space) = AllSpelled-indices
 AllSpelled-immediates BranchTableShape =
     AllSpelled-map_value (AllSpelled-seq (AllSpelled-vec AllSpelled-u32) (λ _. AllSpelled-u32)) (λ x h. (refl, (h.0.each, h.1)))
+AllSpelled-immediates SelectShape = AllSpelled-map_value (AllSpelled-vec AllSpelled-val_type) (λ ts h. (refl, h.each))
+AllSpelled-immediates HeapShape = AllSpelled-map_value AllSpelled-heap_type (λ t h. (refl, h))
+AllSpelled-immediates (RefShape null) = AllSpelled-map_value AllSpelled-heap_type (λ t h. (refl, h))
+AllSpelled-immediates CastShape = AllSpelled-cast
+AllSpelled-immediates (MemoryShape natural) = AllSpelled-map_value AllSpelled-mem_arg (λ m h. (refl, h))
+AllSpelled-immediates (MemoryLaneShape natural) = AllSpelled-map_value (AllSpelled-seq AllSpelled-mem_arg (λ _. AllSpelled-byte)) (λ x h. (refl, h))
+AllSpelled-immediates LaneShape = AllSpelled-map_value AllSpelled-byte (λ k h. (refl, h))
 AllSpelled-immediates I32Shape = AllSpelled-map_value (AllSpelled-signed 32) (λ z h. (refl, h))
 AllSpelled-immediates I64Shape = AllSpelled-map_value (AllSpelled-signed 64) (λ z h. (refl, h))
+AllSpelled-immediates F32Shape = AllSpelled-map_value (AllSpelled-float_bits 4) (λ bits h. (refl, h))
+AllSpelled-immediates F64Shape = AllSpelled-map_value (AllSpelled-float_bits 8) (λ bits h. (refl, h))
+AllSpelled-immediates VectorShape = AllSpelled-sixteen
+AllSpelled-immediates LanesShape = AllSpelled-sixteen
 
 -- The immediates of an opcode that the table lists; there are none of another.
 AllSpelled-listed : (r : Option Row) → AllSpelled (listed r) (HasRowShape r)

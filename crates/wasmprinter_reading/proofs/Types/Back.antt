@@ -6,8 +6,8 @@ use Rattle.wasmprinter_spec.specs.Numeral.{natural, numeral}
 use Rattle.wasmprinter_spec.specs.Forest.{Forest, End, Word, Group, onto}
 use Rattle.wasmprinter_spec.specs.Types.{HeapType, Index, ref_type, ValType, Ref, StorageType, Val, I8, I16, FieldType, field_type, FuncType, CompositeType, FuncComposite, ArrayComposite, StructComposite, SubType, sub_type}
 use Rattle.wasmprinter_spec.specs.IndexSpaces.{Identifiers}
-use Rattle.wasmprinter_spec.specs.Text.Items.{groups, declaration, declarations, ids_of}
-use Rattle.wasmprinter_spec.specs.Text.Types.{heap_of_word, ref_of_word, number_of_word, packed_of_word, val_named, storage_named, field_named, heap_type, ref_parts, val_group, val_types, storage_group, storage_type, field_group, field, fields, variables, Signature, signature, composite, supertypes, subtype, read_type, read_group, group_members}
+use Rattle.wasmprinter_spec.specs.Text.Items.{identified, groups, declaration, declarations, ids_of}
+use Rattle.wasmprinter_spec.specs.Text.Types.{heap_of_word, ref_of_word, number_of_word, packed_of_word, val_named, storage_named, field_named, heap_type, ref_named, ref_parts, ref_group, val_group, val_types, storage_group, storage_type, field_group, field, fields, variables, Signature, signature, composite, supertypes, subtype, read_type, read_group, group_members}
 use Rattle.wasmprinter_spec.specs.Text.TypeUses.{heap_number, same_heap, same_flag, same_type, same_types, same_func_type, agrees, parameters}
 use Rattle.wasmprinter_lexical.proofs.Grown.{onto-End, onto_assoc}
 use Rattle.wasmprinter_reading.proofs.Items.{ReadsItem, one_item-reads, all_items-reads, unnamed, declarations-items, types_of-unnamed, unnamed_space, index-decimal, no_groups}
@@ -19,26 +19,32 @@ use Rattle.wasmprinter_reading.proofs.Numbered.{rows}
 -- ---- value types
 
 -- the word of a value type, which is no packed type's
-record IsValWord (f : Forest) (t : ValType) : Type 0 where
-  name : List ℕ
-  is : f ≡ Word name End
-  reads : val_named name ≡ Some t
-  unpacked : packed_of_word name ≡ None
+pub record IsValWord (f : Forest) (t : ValType) : Type 0 where
+  pub name : List ℕ
+  pub is : f ≡ Word name End
+  pub reads : val_named name ≡ Some t
+  pub unpacked : packed_of_word name ≡ None
 
 -- a group of the keyword `ref`
-record IsRefGroup (ids : Identifiers) (f : Forest) (t : ValType) : Type 0 where
-  held : Forest
-  is : f ≡ Group (Word (codes "ref") held) End
-  reads : option_map Ref (ref_parts ids held) ≡ Some t
+pub record IsRefGroup (ids : Identifiers) (f : Forest) (t : ValType) : Type 0 where
+  pub held : Forest
+  pub is : f ≡ Group (Word (codes "ref") held) End
+  pub reads : option_map Ref (ref_parts ids held) ≡ Some t
 
 module _ (ids : Identifiers) where
-  heap_type-items : (h : HeapType) → IsRangedHeap h → heap_type ids (heap_items h) ≡ Some h
+  pub heap_type-items : (h : HeapType) → IsRangedHeap h → heap_type ids (heap_items h) ≡ Some h
   unfolding natural numeral heap_of_word
   heap_type-items (Index n) r = rw (index-decimal ids n r)
   heap_type-items _ r = refl
 
+  pub ref_item : (null : Bool) (h : HeapType) → IsRangedHeap h → ReadsItem ref_named (ref_group ids) (ref_items_by null h) (ref_type null h)
+  unfolding ref_of_word
+  ref_item true (Index n) r = inr (record { held = Word (codes "ref") (Word (codes "null") (heap_items (Index n))); is = refl; reads = rw (heap_type-items (Index n) r) })
+  ref_item true _ r = inl (record { name = _; is = refl; reads = refl })
+  ref_item false h r = inr (record { held = Word (codes "ref") (heap_items h); is = refl; reads = rw (heap_type-items h r) })
+
   -- A value type: a word that no packed type has, or a group of the keyword `ref`.
-  abbrev IsValItem : Forest → ValType → Type 0
+  abbrev pub IsValItem : Forest → ValType → Type 0
   IsValItem f t = IsValWord f t ⊎ IsRefGroup ids f t
 
   ref_is_item : (null : Bool) (h : HeapType) → IsRangedHeap h → IsValItem (ref_items_by null h) (Ref (ref_type null h))
@@ -47,7 +53,7 @@ module _ (ids : Identifiers) where
   ref_is_item true _ r = inl (record { name = _; is = refl; reads = refl; unpacked = refl })
   ref_is_item false h r = inr (record { held = _; is = refl; reads = rw (heap_type-items h r) })
 
-  val_is_item : (t : ValType) → IsRangedVal t → IsValItem (val_items t) t
+  pub val_is_item : (t : ValType) → IsRangedVal t → IsValItem (val_items t) t
   unfolding number_of_word packed_of_word
   val_is_item (Ref t) r = ref_is_item t.nullable t.heap r
   val_is_item _ r = inl (record { name = _; is = refl; reads = refl; unpacked = refl })
@@ -64,7 +70,7 @@ module _ (ids : Identifiers) where
   as_field f t (inl w) = inl (record { name = w.name; is = w.is; reads = rw (w.unpacked, w.reads) })
   as_field f t (inr g) = inr (record { held = Word (codes "ref") g.held; is = g.is; reads = rw g.reads })
 
-  val_item : (t : ValType) → IsRangedVal t → ReadsItem val_named (val_group ids) (val_items t) t
+  pub val_item : (t : ValType) → IsRangedVal t → ReadsItem val_named (val_group ids) (val_items t) t
   val_item t r = as_val (val_items t) t (val_is_item t r)
 
   pub val_types-items : (ts : List ValType) → AllByRecursion IsRangedVal ts → val_types ids (types_items ts) ≡ Some ts
@@ -75,6 +81,17 @@ module _ (ids : Identifiers) where
   variables-items [] r = refl
   variables-items (t ∷ ts) r =
       declarations-items (val_types ids) val_named (val_group ids) (val_items t) t (types_items ts) (t ∷ ts) (val_item t r.0) (val_types-items (t ∷ ts) r)
+
+-- ---- no identifier stands before a type
+
+pub identified-ref : (null : Bool) (h : HeapType) (f : Forest) → identified (onto (ref_items_by null h) f) ≡ (None, onto (ref_items_by null h) f)
+identified-ref true (Index n) f = refl
+identified-ref true _ f = refl
+identified-ref false h f = refl
+
+pub identified-val : (t : ValType) (f : Forest) → identified (onto (val_items t) f) ≡ (None, onto (val_items t) f)
+identified-val (Ref r) f = identified-ref r.nullable r.heap f
+identified-val _ f = refl
 
 -- ---- groups of types: parameters, results and locals
 

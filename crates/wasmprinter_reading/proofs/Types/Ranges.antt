@@ -6,7 +6,7 @@ use Rattle.wasmprinter_spec.specs.Grammar.{some_is, byte, Placed}
 use Rattle.wasmprinter_spec.specs.Types.{HeapType, Index, ValType, Ref, StorageType, Val, CompositeType, FuncComposite, SubType, all_types, func_type_of, signature_at}
 use Rattle.wasmprinter_spec.specs.Placed.{TypeGroup}
 use Rattle.wasmprinter_spec.specs.Module.{groups_of}
-use Rattle.wasmprinter_spec.specs.Binary.ValTypes.{number_type_of, abstract_heap_of, non_negative, signed_index, heap_type, ref_type_behind, val_type_behind, val_type}
+use Rattle.wasmprinter_spec.specs.Binary.ValTypes.{number_type_of, abstract_heap_of, non_negative, signed_index, heap_type, ref_type_behind, reference_type, val_type_behind, val_type}
 use Rattle.wasmprinter_spec.specs.Binary.Types.{packed_type_of, storage_type, mutability, field, signature, composite_behind, sub_type_parts, sub_type_behind, group}
 use Rattle.wasmprinter_reading.specs.Listed.{IsSigned, IsU32, IsSignatureInRange}
 use Rattle.wasmprinter_reading.proofs.AllSpelled.{AllSpelled, AllSpelled-any, AllSpelled-seq, AllSpelled-try_map, AllSpelled-map_value, AllSpelled-fail, AllSpelled-choose, AllSpelled-given, AllSpelled-announced, AllSpelled-peeked}
@@ -32,7 +32,7 @@ index_ranged (negsuc m) n e h = absurd cc
 pub AllSpelled-signed_index : AllSpelled signed_index IsU32
 AllSpelled-signed_index = AllSpelled-try_map (AllSpelled-signed 33) index_ranged
 
-AllSpelled-heap_type : AllSpelled heap_type IsRangedHeap
+pub AllSpelled-heap_type : AllSpelled heap_type IsRangedHeap
 AllSpelled-heap_type =
     AllSpelled-peeked (λ b. AllSpelled-choose (is_some (abstract_heap_of b))
     (AllSpelled-try_map (AllSpelled-any byte) (λ c h e _. abstract_ranged c h e))
@@ -43,6 +43,9 @@ AllSpelled-ref_type_behind b =
     AllSpelled-choose (b == 0x64) (AllSpelled-map_value AllSpelled-heap_type (λ t h. h))
     (AllSpelled-choose (b == 0x63) (AllSpelled-map_value AllSpelled-heap_type (λ t h. h))
     (AllSpelled-map_value (AllSpelled-given (abstract_heap_of b) (abstract_ranged b)) (λ t h. h)))
+
+pub AllSpelled-reference_type : AllSpelled reference_type (λ r. IsRangedHeap r.heap)
+AllSpelled-reference_type = AllSpelled-announced AllSpelled-ref_type_behind
 
 AllSpelled-val_type_behind : (b : ℕ) → AllSpelled (val_type_behind b) IsRangedVal
 AllSpelled-val_type_behind b =

@@ -3,7 +3,7 @@ use Rattle.std.proofs.Common.{◌≡◌, ℕ, ◌<◌, ◌^◌, ◌+◌, ◌≤�
 use Rattle.std.specs.List.{AllByRecursion}
 use Rattle.wasmprinter_spec.specs.Character.{class}
 use Rattle.wasmprinter_spec.specs.Forest.{Forest, End, Word, Group, onto}
-use Rattle.wasmprinter_spec.specs.Types.{HeapType, Index, ValType, I32, I64, F32, F64, V128, Ref, StorageType, Val, I8, I16, FieldType, FuncType, CompositeType, FuncComposite, ArrayComposite, StructComposite, SubType}
+use Rattle.wasmprinter_spec.specs.Types.{HeapType, Index, RefType, ValType, I32, I64, F32, F64, V128, Ref, StorageType, Val, I8, I16, FieldType, FuncType, CompositeType, FuncComposite, ArrayComposite, StructComposite, SubType}
 use Rattle.wasmprinter_spec.specs.Grammar.{Placed}
 use Rattle.wasmprinter_spec.specs.Placed.{TypeGroup}
 use Rattle.wasmprinter_spec.specs.Piece.{Gap}
@@ -33,13 +33,16 @@ abbrev pub ref_items_by : Bool → HeapType → Forest
 ref_items_by true h = null_ref_items h
 ref_items_by false h = Group (Word (codes "ref") (heap_items h)) End
 
+abbrev pub ref_items : RefType → Forest
+ref_items r = ref_items_by r.nullable r.heap
+
 abbrev pub val_items : ValType → Forest
 val_items I32 = Word (codes "i32") End
 val_items I64 = Word (codes "i64") End
 val_items F32 = Word (codes "f32") End
 val_items F64 = Word (codes "f64") End
 val_items V128 = Word (codes "v128") End
-val_items (Ref r) = ref_items_by r.nullable r.heap
+val_items (Ref r) = ref_items r
 
 abbrev pub types_items : List ValType → Forest
 types_items [] = End
@@ -72,9 +75,13 @@ unfolding class
 ref_by_writes true h r = null_ref_writes h r
 ref_by_writes false h r = search (writing, heap_writes h r)
 
+pub ref_writes : (r : RefType) → IsRangedHeap r.heap → Writes Free (ref_pieces r) Bound (ref_items r)
+unfolding ref_pieces
+ref_writes r h = ref_by_writes r.nullable r.heap h
+
 pub val_writes : (t : ValType) → IsRangedVal t → Writes Free (val_pieces t) Bound (val_items t)
-unfolding val_pieces ref_pieces class
-val_writes (Ref t) r = ref_by_writes t.nullable t.heap r
+unfolding val_pieces class
+val_writes (Ref t) r = ref_writes t r
 val_writes _ r = search writing
 
 pub type_list_writes : (ts : List ValType) → AllByRecursion IsRangedVal ts → Writes Bound (type_list ts) Bound (types_items ts)

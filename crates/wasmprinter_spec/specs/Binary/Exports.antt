@@ -1,14 +1,21 @@
--- The export section (section 5.5 of the standard, "Export Section"): a list of exports. The grammar so far has those of functions.
-use Rattle.std.specs.Prelude.{List}
-use Rattle.wasmprinter_spec.specs.Grammar.{Grammar, Remainder, seq, map_value, Placed, placed}
+-- The export section (section 5.5 of the standard, "Export Section"): a list of exports.
+use Rattle.std.specs.Prelude.{ℕ, List, [], ◌∷◌, Option}
+use Rattle.wasmprinter_spec.specs.Grammar.{Grammar, Remainder, byte, seq, try_map, map_value, Placed, placed}
 use Rattle.wasmprinter_spec.specs.Sized.{alone}
 use Rattle.wasmprinter_spec.specs.Name.{name, u32, vec}
-use Rattle.wasmprinter_spec.specs.FirstByte.{only}
+use Rattle.wasmprinter_spec.specs.Types.{ExternKind, FuncKind, TableKind, MemoryKind, GlobalKind, TagKind}
+use Rattle.wasmprinter_spec.specs.Binary.ValTypes.{lookup}
 use Rattle.wasmprinter_spec.specs.Placed.{Export}
 
--- a name, the kind 00 of functions, an index
+abbrev pub extern_kind_of : ℕ → Option ExternKind
+extern_kind_of b = lookup ((0x00, FuncKind) ∷ (0x01, TableKind) ∷ (0x02, MemoryKind) ∷ (0x03, GlobalKind) ∷ (0x04, TagKind) ∷ []) b
+
+abbrev pub extern_kind : Grammar ExternKind
+extern_kind = try_map extern_kind_of byte
+
+-- a name, a kind, an index
 abbrev pub export : Grammar Export
-export = map_value (λ x. record { name = x.0; function = x.1.1 }) (seq name (λ _. seq (only 0x00) (λ _. u32)))
+export = map_value (λ x. record { name = x.0; kind = x.1.0; index = x.1.1 }) (seq name (λ _. seq extern_kind (λ _. u32)))
 
 abbrev pub export_section : Remainder (List (Placed Export))
 export_section = alone (vec (placed export))

@@ -1,16 +1,18 @@
 -- Operators, as they are printed: over lines, as in a body, or in one line, as in a field. Labels go by their identifiers where these mean
 -- the block that is meant, else by their numbers with a comment that names the block.
-use Rattle.std.specs.Prelude.{ℕ, suc, ◌+◌, ◌-◌, List, [], ◌∷◌, ◌++◌, Bool, true, false, ◌||◌, cond, codes, chars, decimal, bytes_eq, length, Option, Some, None}
+use Rattle.std.specs.Prelude.{ℕ, suc, ◌+◌, ◌-◌, ◌/◌, ◌%◌, ◌^◌, ◌==◌, ◌&&◌, reverse, List, [], ◌∷◌, ◌++◌, Bool, true, false, ◌||◌, cond, codes, chars, decimal, bytes_eq, length, Option, Some, None}
+use Rattle.std.specs.Fmt.{digit_glyph}
 use Rattle.wasmprinter_spec.specs.Grammar.{Placed}
-use Rattle.wasmprinter_spec.specs.Types.{FuncType}
-use Rattle.wasmprinter_spec.specs.Operator.{BlockType, Empty, Value, OfType, Catch, One, OneRef, All, AllRef, Immediates, NoImmediates, Block, TryTable, Index, BranchTable, I32, I64, Operator}
-use Rattle.wasmprinter_spec.specs.Row.{Role, Turns, Catches, CatchesAll, Delegates, Ends}
-use Rattle.wasmprinter_spec.specs.Table.{word_of, role_of, takes_label}
+use Rattle.wasmprinter_spec.specs.Types.{FuncType, ref_type, ValType}
+use Rattle.wasmprinter_spec.specs.Operator.{BlockType, Empty, Value, OfType, Catch, One, OneRef, All, AllRef, MemArg, Immediates, NoImmediates, Block, TryTable, Index, Indices, BranchTable, Types, Heap, Cast, Memory, MemoryLane, Lane, I32, I64, F32, F64, Bytes, Operator}
+use Rattle.wasmprinter_spec.specs.Float.{single, double}
+use Rattle.wasmprinter_spec.specs.Row.{Space, Label, Shape, NoneShape, FenceShape, BlockShape, TryTableShape, IndexShape, DefaultIndexShape, PairShape, FieldShape, CountShape, CallShape, SegmentShape, CopyShape, BranchTableShape, SelectShape, HeapShape, RefShape, CastShape, MemoryShape, MemoryLaneShape, LaneShape, I32Shape, I64Shape, F32Shape, F64Shape, VectorShape, LanesShape, Role, Turns, Catches, CatchesAll, Delegates, Ends}
+use Rattle.wasmprinter_spec.specs.Table.{word_of, role_of, shape_of}
 use Rattle.wasmprinter_spec.specs.Labels as labels
 use Rattle.wasmprinter_spec.specs.Labels.{Named, Naming, is_hidden, Target, Around, Own, Nothing, target, labels_after, count_after, outside, inside}
-use Rattle.wasmprinter_spec.specs.Piece.{Piece, Break, Gap, Word, Number, Constant, Identifier, NameNote, Remark, Ending}
+use Rattle.wasmprinter_spec.specs.Piece.{Piece, Break, Gap, Word, GapTypeWord, Number, Constant, GapLiterals, Float, Identifier, NameNote, Remark, Ending}
 use Rattle.wasmprinter_spec.specs.Layout.Groups.{line_group, line_group_gap}
-use Rattle.wasmprinter_spec.specs.Layout.Types.{val_pieces, signature_pieces}
+use Rattle.wasmprinter_spec.specs.Layout.Types.{heap_pieces, ref_pieces, val_pieces, type_list, signature_pieces}
 
 -- how operators stand: each on a line of its own, nested so deep, or all in one line
 pub data Form : Type 0 where
@@ -86,20 +88,97 @@ catches_pieces inner xs (c ∷ cs) = Gap ∷ (catch_pieces inner xs c ++ catches
 -- ---- operators
 
 -- an index: a label, or one of another space
-unfoldable pub index_pieces : Bool → List labels.Label → List labels.Label → ℕ → List Piece
-index_pieces true inner xs n = label_pieces inner xs n
-index_pieces false inner xs n = Gap ∷ (Number n ∷ [])
+unfoldable pub index_pieces : List labels.Label → List labels.Label → Space → ℕ → List Piece
+index_pieces inner xs Label n = label_pieces inner xs n
+index_pieces inner xs space n = Gap ∷ (Number n ∷ [])
 
-unfoldable pub immediate_pieces : Setting → Bool → List labels.Label → List labels.Label → labels.Label → Immediates → List Piece
-immediate_pieces s label inner xs own NoImmediates = []
-immediate_pieces s label inner xs own (Index n) = index_pieces label inner xs n
-immediate_pieces s label inner xs own (BranchTable ls l) = labels_pieces inner xs ls l
-immediate_pieces s label inner xs own (I32 z) = Constant z ∷ []
-immediate_pieces s label inner xs own (I64 z) = Constant z ∷ []
-immediate_pieces s label inner xs own (Block t) =
+-- an index that is left out where it is 0
+unfoldable pub default_index_pieces : ℕ → List Piece
+default_index_pieces n = cond (n == 0) [] (Gap ∷ (Number n ∷ []))
+
+unfoldable pub two_index_pieces : ℕ → ℕ → List Piece
+two_index_pieces m n = Gap ∷ (Number m ∷ (Gap ∷ (Number n ∷ [])))
+
+-- the types that `select` names: one stands otherwise than several
+unfoldable pub select_pieces : List ValType → List Piece
+select_pieces (t ∷ []) = Gap ∷ line_group_gap (codes "result") (val_pieces t)
+select_pieces ts = Gap ∷ line_group (codes "result") (type_list ts)
+
+-- ---- memory operands
+
+-- an offset of 0 and the natural alignment are left out
+unfoldable pub offset_pieces : ℕ → List Piece
+offset_pieces n = cond (n == 0) [] (Gap ∷ (Word (codes "offset=" ++ decimal n) ∷ []))
+
+unfoldable pub align_pieces : ℕ → ℕ → List Piece
+align_pieces natural exponent = cond (exponent == natural) [] (Gap ∷ (Word (codes "align=" ++ decimal (2 ^ exponent)) ∷ []))
+
+unfoldable pub mem_arg_pieces : ℕ → MemArg → List Piece
+mem_arg_pieces natural m = default_index_pieces m.memory ++ (offset_pieces m.offset ++ align_pieces natural m.exponent)
+
+-- ---- vectors
+
+-- a number without a sign, in decimal
+unfoldable pub lane_pieces : ℕ → List Piece
+lane_pieces k = Gap ∷ (Word (decimal k) ∷ [])
+
+unfoldable pub lanes_pieces : List ℕ → List Piece
+lanes_pieces [] = []
+lanes_pieces (k ∷ ks) = lane_pieces k ++ lanes_pieces ks
+
+-- two hexadecimal digits of each byte
+abbrev pub hex_digits : List ℕ → List ℕ
+hex_digits [] = []
+hex_digits (b ∷ bs) = digit_glyph false (b / 16) ∷ (digit_glyph false (b % 16) ∷ hex_digits bs)
+
+-- a number of 32 bits in hexadecimal, from its bytes, the lowest first
+abbrev pub hex_word : List ℕ → List ℕ
+hex_word bs = codes "0x" ++ hex_digits (reverse bs)
+
+-- four bytes each
+unfoldable pub hex_words : List ℕ → List (List ℕ)
+hex_words (a ∷ b ∷ c ∷ d ∷ bs) = hex_word (a ∷ (b ∷ (c ∷ (d ∷ [])))) ∷ hex_words bs
+hex_words _ = []
+
+unfoldable pub vector_pieces : List ℕ → List Piece
+vector_pieces bs = GapTypeWord (codes "i32x4") ∷ (GapLiterals (hex_words bs) ∷ [])
+
+-- ---- immediates
+
+-- A line for each shape, with the immediates that fit it.
+unfoldable pub immediate_pieces : Setting → List labels.Label → List labels.Label → labels.Label → Shape → Immediates → List Piece
+immediate_pieces s inner xs own BlockShape (Block t) =
     id_pieces own ++ (block_pieces s.signature t ++ ending_pieces s.form own (suc (length xs)))
-immediate_pieces s label inner xs own (TryTable t cs) =
+immediate_pieces s inner xs own TryTableShape (TryTable t cs) =
     id_pieces own ++ (block_pieces s.signature t ++ (catches_pieces inner xs cs ++ ending_pieces s.form own (suc (length xs))))
+immediate_pieces s inner xs own (IndexShape space) (Index n) = index_pieces inner xs space n
+immediate_pieces s inner xs own (DefaultIndexShape space) (Index n) = default_index_pieces n
+immediate_pieces s inner xs own (PairShape first second) (Indices m n) = two_index_pieces m n
+immediate_pieces s inner xs own FieldShape (Indices t n) = two_index_pieces t n
+immediate_pieces s inner xs own CountShape (Indices t n) = Gap ∷ (Number t ∷ lane_pieces n)
+immediate_pieces s inner xs own CallShape (Indices t n) = default_index_pieces n ++ (Gap ∷ line_group_gap (codes "type") (Number t ∷ []))
+immediate_pieces s inner xs own (SegmentShape segments space) (Indices m n) = default_index_pieces n ++ (Gap ∷ (Number m ∷ []))
+immediate_pieces s inner xs own (CopyShape space) (Indices m n) = cond ((m == 0) && (n == 0)) [] (two_index_pieces m n)
+immediate_pieces s inner xs own BranchTableShape (BranchTable ls l) = labels_pieces inner xs ls l
+immediate_pieces s inner xs own SelectShape (Types ts) = select_pieces ts
+immediate_pieces s inner xs own HeapShape (Heap h) = Gap ∷ heap_pieces h
+immediate_pieces s inner xs own (RefShape null) (Heap h) = Gap ∷ ref_pieces (ref_type null h)
+immediate_pieces s inner xs own CastShape (Cast l r t) = label_pieces inner xs l ++ (Gap ∷ (ref_pieces r ++ (Gap ∷ ref_pieces t)))
+immediate_pieces s inner xs own (MemoryShape natural) (Memory m) = mem_arg_pieces natural m
+immediate_pieces s inner xs own (MemoryLaneShape natural) (MemoryLane m k) = mem_arg_pieces natural m ++ lane_pieces k
+immediate_pieces s inner xs own LaneShape (Lane k) = lane_pieces k
+immediate_pieces s inner xs own I32Shape (I32 z) = Constant z ∷ []
+immediate_pieces s inner xs own I64Shape (I64 z) = Constant z ∷ []
+immediate_pieces s inner xs own F32Shape (F32 bits) = Gap ∷ (Float single bits ∷ [])
+immediate_pieces s inner xs own F64Shape (F64 bits) = Gap ∷ (Float double bits ∷ [])
+immediate_pieces s inner xs own VectorShape (Bytes bs) = vector_pieces bs
+immediate_pieces s inner xs own LanesShape (Bytes bs) = lanes_pieces bs
+immediate_pieces s inner xs own _ _ = []
+
+-- an opcode that isn't listed has no immediates
+abbrev pub pieces_by : Setting → List labels.Label → List labels.Label → labels.Label → Option Shape → Immediates → List Piece
+pieces_by s inner xs own None i = []
+pieces_by s inner xs own (Some shape) i = immediate_pieces s inner xs own shape i
 
 -- how deep an operator stands in so many blocks: what ends a block or a part of it stands further out
 abbrev pub level : Role → ℕ → ℕ
@@ -121,7 +200,7 @@ operator_pieces s first own xs o =
     let role : Role = role_of o.value.opcode in
     before_word s.form first o.place (s.nesting + level role (length xs))
     ++ (Word (word_of o.value.opcode)
-    ∷ immediate_pieces s (takes_label o.value.opcode) (inside role xs) (outside role xs) own o.value.immediates)
+    ∷ pieces_by s (inside role xs) (outside role xs) own (shape_of o.value.opcode) o.value.immediates)
 
 -- n blocks were opened before, and these labels are open
 unfoldable pub operators_pieces : Setting → Naming → Bool → ℕ → List labels.Label → List (Placed Operator) → List Piece

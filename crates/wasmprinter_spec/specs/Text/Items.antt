@@ -36,6 +36,12 @@ module _ {A : Type 0} (word : List ℕ → Option A) (group : Forest → Option 
   all_items (Group g f) = group g >>= λ x. all_items f >>= λ xs. Some (x ∷ xs)
   all_items _ = None
 
+-- the first item, read so, and what stands behind it
+abbrev pub leading_item : {A : Type 0} → (List ℕ → Option A) → (Forest → Option A) → Forest → Option (A × Forest)
+leading_item word group (Word w f) = word w >>= λ x. Some (x, f)
+leading_item word group (Group g f) = group g >>= λ x. Some (x, f)
+leading_item word group _ = None
+
 -- an identifier, if one stands in front, and what stands behind it
 abbrev pub identified : Forest → Option (List ℕ) × Forest
 identified (Name s f) = (Some s, f)

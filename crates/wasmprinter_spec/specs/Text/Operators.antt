@@ -1,21 +1,22 @@
 -- Operators in the text format (section 6.5 of the standard): the immediates of each are read by the shape that the table gives its word. Of
 -- several operators with one word it is the first whose shape reads what stands behind the word. Labels go by one scan over the flat list,
 -- with the labels that are open, the innermost first: an identifier means the innermost label that has it.
-use Rattle.std.specs.Prelude.{ℕ, suc, List, [], ◌∷◌, Bool, true, false, cond, codes, bytes_eq, Option, Some, None, option_map, if◌then◌else◌, map}
+use Rattle.std.specs.Prelude.{ℕ, zero, suc, ℤ, pos, negsuc, ◌-◌, ◌*◌, ◌/◌, ◌%◌, ◌^◌, ◌==◌, ◌||◌, is_some, length, List, [], ◌∷◌, Bool, true, false, cond, codes, bytes_eq, Option, Some, None, option_map, if◌then◌else◌, map}
 use Rattle.wasmprinter_spec.specs.Grammar.{◌>>=◌}
-use Rattle.wasmprinter_spec.specs.Numeral.{natural, below, integer}
+use Rattle.wasmprinter_spec.specs.Numeral.{u8, u32, u64, exponent_of, integer}
+use Rattle.wasmprinter_spec.specs.Float.{single, double, float}
 use Rattle.wasmprinter_spec.specs.Forest.{Forest, End, Word, Name, Group}
-use Rattle.wasmprinter_spec.specs.Types.{FuncType}
-use Rattle.wasmprinter_spec.specs.Operator.{opcode, BlockType, Empty, Value, OfType, Catch, One, OneRef, All, AllRef, Immediates, NoImmediates, Block, TryTable, Index, BranchTable, I32, I64, Operator}
-use Rattle.wasmprinter_spec.specs.Row.{Row, Shape, NoneShape, BlockShape, TryTableShape, IndexShape, BranchTableShape, I32Shape, I64Shape, Space, Label, Role, Opens, OpensIf, OpensTry, Delegates, Ends}
+use Rattle.wasmprinter_spec.specs.Types.{FuncType, RefType, concat}
+use Rattle.wasmprinter_spec.specs.Operator.{opcode, BlockType, Empty, Value, OfType, Catch, One, OneRef, All, AllRef, MemArg, mem_arg_of, Immediates, NoImmediates, Block, TryTable, Index, Indices, BranchTable, Types, Heap, Cast, Memory, MemoryLane, Lane, I32, I64, F32, F64, Bytes, Operator}
+use Rattle.wasmprinter_spec.specs.Row.{Row, Shape, NoneShape, FenceShape, BlockShape, TryTableShape, IndexShape, DefaultIndexShape, PairShape, FieldShape, CountShape, CallShape, SegmentShape, CopyShape, BranchTableShape, SelectShape, HeapShape, RefShape, CastShape, MemoryShape, MemoryLaneShape, LaneShape, I32Shape, I64Shape, F32Shape, F64Shape, VectorShape, LanesShape, Space, Label, Role, Opens, OpensIf, OpensTry, Delegates, Ends}
 use Rattle.wasmprinter_spec.specs.Table.{role_of}
 use Rattle.wasmprinter_spec.specs.Stepped.{stops}
 use Rattle.wasmprinter_spec.specs.Nesting.{advance, at_start}
-use Rattle.wasmprinter_spec.specs.IndexSpaces.{Identifiers, declares, space_in, index as index_in, Context}
+use Rattle.wasmprinter_spec.specs.IndexSpaces.{Identifiers, declares, space_in, index as index_in, leading_index, Context}
 use Rattle.wasmprinter_spec.specs.Code.{Chunk}
-use Rattle.wasmprinter_spec.specs.Text.Items.{or_else, one_word, the_only, identified, ids_of}
-use Rattle.wasmprinter_spec.specs.Text.Types.{Signature, signature, val_types}
-use Rattle.wasmprinter_spec.specs.Text.TypeUses.{agrees}
+use Rattle.wasmprinter_spec.specs.Text.Items.{or_else, lookup, one_word, all_items, the_only, identified, ended, groups, ids_of}
+use Rattle.wasmprinter_spec.specs.Text.Types.{Signature, signature, heap_type, reference_type, ref_named, ref_group, val_types}
+use Rattle.wasmprinter_spec.specs.Text.TypeUses.{agrees, same_flag}
 
 -- ---- labels
 
@@ -24,13 +25,10 @@ abbrev pub depth : List ℕ → Identifiers → Option ℕ
 depth s [] = None
 depth s (i ∷ is) = cond (declares s i) (Some 0) (option_map suc (depth s is))
 
-abbrev pub number : List ℕ → Option ℕ
-number w = natural w >>= below 32
-
 -- labels, one behind another
 abbrev pub labels : Identifiers → Forest → Option (List ℕ)
 labels ids End = Some []
-labels ids (Word w f) = number w >>= λ l. labels ids f >>= λ ls. Some (l ∷ ls)
+labels ids (Word w f) = u32 w >>= λ l. labels ids f >>= λ ls. Some (l ∷ ls)
 labels ids (Name s f) = depth s ids >>= λ l. labels ids f >>= λ ls. Some (l ∷ ls)
 labels ids _ = None
 
@@ -116,14 +114,185 @@ abbrev pub index : Context → Identifiers → Space → Forest → Option ℕ
 index c ids Label f = label ids f
 index c ids space f = index_in (space_in c.spaces space) f
 
+-- an index that is 0 where none stands
+abbrev pub default_index : Context → Space → Forest → Option ℕ
+default_index c space End = Some 0
+default_index c space f = index_in (space_in c.spaces space) f
+
+-- an index of each of two spaces
+abbrev pub two_indices : Context → Space → Space → Forest → Option (ℕ × ℕ)
+two_indices c first second f = do
+  m ← leading_index (space_in c.spaces first) f
+  n ← index_in (space_in c.spaces second) m.1
+  Some (m.0, n)
+
+abbrev pub pair : ℕ × ℕ → Immediates
+pair x = Indices x.0 x.1
+
+-- the other way round
+abbrev pub turned_pair : ℕ × ℕ → Immediates
+turned_pair x = Indices x.1 x.0
+
+-- a type and a field of it (by its number; a field's identifier is not read)
+abbrev pub type_and_field : Context → Forest → Option Immediates
+type_and_field c f = leading_index c.spaces.types f >>= λ t. one_word u32 t.1 >>= λ n. Some (Indices t.0 n)
+
+-- two indices, both 0 where none stands
+abbrev pub copied : Context → Space → Forest → Option (ℕ × ℕ)
+copied c space End = Some (0, 0)
+copied c space f = two_indices c space space f
+
+-- a segment; before it may stand an index of the table or memory
+abbrev pub with_segment : Context → Space → Space → Forest → Option Immediates
+with_segment c segments space f =
+    or_else (option_map (λ m. Indices m 0) (index_in (space_in c.spaces segments) f)) (option_map turned_pair (two_indices c space segments f))
+
+-- a type use, and nothing behind it
+abbrev pub called : ℕ → BlockType × Forest → Option Immediates
+called table (OfType t, End) = Some (Indices t table)
+called table _ = None
+
+-- a table, 0 where none stands, and a type use
+abbrev pub call_parts : Context → Forest → Option Immediates
+call_parts c (Group g f) = block_type c (Group g f) >>= called 0
+call_parts c f = leading_index c.spaces.tables f >>= λ t. block_type c t.1 >>= called t.0
+
+-- groups of results, at least one
+abbrev pub select_types : Context → Forest → Option Immediates
+select_types c End = None
+select_types c f = groups (val_types c.spaces.types) (codes "result") f >>= ended >>= λ ts. Some (Types ts)
+
+-- a reference type that may be null or not
+abbrev pub heap_with : Bool → RefType → Option Immediates
+heap_with null r = if same_flag r.nullable null then Some (Heap r.heap) else None
+
+-- ---- casts
+
+abbrev pub two_types : ℕ → List RefType → Option Immediates
+two_types l (r ∷ t ∷ []) = Some (Cast l r t)
+two_types l _ = None
+
+-- a label and two reference types
+abbrev pub cast_parts : Context → Identifiers → Forest → Option Immediates
+cast_parts c ids f =
+    label ids (first_alone f) >>= λ l. all_items ref_named (ref_group c.spaces.types) (behind_first f) >>= λ rs. two_types l rs
+
+-- ---- memory operands (section 6.5 of the standard, "Memory Instructions")
+
+-- what stands behind these characters
+abbrev pub behind_prefix : List ℕ → List ℕ → Option (List ℕ)
+behind_prefix [] w = Some w
+behind_prefix (p ∷ ps) [] = None
+behind_prefix (p ∷ ps) (b ∷ w) = if b == p then behind_prefix ps w else None
+
+abbrev pub offset_word : List ℕ → Option (List ℕ)
+offset_word w = behind_prefix (codes "offset=") w
+
+abbrev pub align_word : List ℕ → Option (List ℕ)
+align_word w = behind_prefix (codes "align=") w
+
+-- the alignment, the natural one where none stands
+abbrev pub alignment : ℕ → Forest → Option ℕ
+alignment natural End = Some natural
+alignment natural (Word w End) = align_word w >>= exponent_of
+alignment natural _ = None
+
+-- an offset, 0 where none stands, and an alignment
+abbrev pub offset_by : ℕ → ℕ → Option (List ℕ) → Forest → Forest → Option MemArg
+offset_by natural memory (Some digits) f rest = u64 digits >>= λ offset. alignment natural rest >>= λ e. Some (mem_arg_of e memory offset)
+offset_by natural memory None f rest = alignment natural f >>= λ e. Some (mem_arg_of e memory 0)
+
+abbrev pub with_memory : ℕ → ℕ → Forest → Option MemArg
+with_memory natural memory (Word w f) = offset_by natural memory (offset_word w) (Word w f) f
+with_memory natural memory f = offset_by natural memory None f f
+
+-- the word is not an index
+abbrev pub is_option : List ℕ → Bool
+is_option w = is_some (offset_word w) || is_some (align_word w)
+
+-- an index of a memory, 0 where none stands, an offset and an alignment
+abbrev pub mem_arg : Context → ℕ → Forest → Option MemArg
+mem_arg c natural (Word w f) =
+    if is_option w then with_memory natural 0 (Word w f)
+    else index_in c.spaces.memories (Word w End) >>= λ m. with_memory natural m f
+mem_arg c natural (Name s f) = index_in c.spaces.memories (Name s End) >>= λ m. with_memory natural m f
+mem_arg c natural f = with_memory natural 0 f
+
+-- the last item is a word: the items before it, and it
+abbrev pub but_last : Forest → Option (Forest × List ℕ)
+but_last (Word w End) = Some (End, w)
+but_last (Word w f) = option_map (λ x. (Word w x.0, x.1)) (but_last f)
+but_last (Name s f) = option_map (λ x. (Name s x.0, x.1)) (but_last f)
+but_last _ = None
+
+-- a memory operand, and a lane behind it
+abbrev pub mem_arg_and_lane : Context → ℕ → Forest → Option Immediates
+mem_arg_and_lane c natural f = but_last f >>= λ x. mem_arg c natural x.0 >>= λ m. u8 x.1 >>= λ k. Some (MemoryLane m k)
+
+-- ---- vectors
+
+-- so many bytes of a number, the lowest first
+abbrev pub bytes_of : ℕ → ℕ → List ℕ
+bytes_of zero n = []
+bytes_of (suc count) n = n % 256 ∷ bytes_of count (n / 256)
+
+-- a whole number of so many bits as one without a sign
+abbrev pub as_unsigned : ℕ → ℤ → ℕ
+as_unsigned bits (pos n) = n
+as_unsigned bits (negsuc n) = 2 ^ bits - suc n
+
+-- lanes of so many bytes
+abbrev pub vector_lane : ℕ → List ℕ → Option (List ℕ)
+vector_lane size w = option_map (λ z. bytes_of size (as_unsigned (8 * size) z)) (integer (8 * size) w)
+
+-- no lane is a group
+abbrev pub no_group : {A : Type 0} → Forest → Option A
+no_group f = None
+
+-- sixteen bytes
+abbrev pub sixteen : List ℕ → Option Immediates
+sixteen bs = if length bs == 16 then Some (Bytes bs) else None
+
+-- how many bytes a lane has of the shapes of whole numbers (vectors of floating point numbers are not read)
+unfoldable pub lane_size : List ℕ → Option ℕ
+lane_size w = lookup ((codes "i8x16", 1) ∷ (codes "i16x8", 2) ∷ (codes "i32x4", 4) ∷ (codes "i64x2", 8) ∷ []) w
+
+abbrev pub vector : Forest → Option Immediates
+vector (Word w f) = lane_size w >>= λ size. all_items (vector_lane size) no_group f >>= λ ls. sixteen (concat ls)
+vector _ = None
+
+abbrev pub lanes : Forest → Option Immediates
+lanes f = all_items u8 no_group f >>= sixteen
+
+-- ---- immediates by their shape
+
 abbrev pub immediates : Context → Identifiers → Shape → Forest → Option Immediates
 immediates c ids NoneShape f = no_immediates f
+immediates c ids FenceShape f = no_immediates f
 immediates c ids BlockShape f = block_type c (behind_id f) >>= block_alone
 immediates c ids TryTableShape f = block_type c (behind_id f) >>= λ x. clauses c ids x.1 >>= λ cs. Some (TryTable x.0 cs)
 immediates c ids (IndexShape space) f = option_map Index (index c ids space f)
+immediates c ids (DefaultIndexShape space) f = option_map Index (default_index c space f)
+immediates c ids (PairShape first second) f = option_map pair (two_indices c first second f)
+immediates c ids FieldShape f = type_and_field c f
+immediates c ids CountShape f = type_and_field c f
+immediates c ids CallShape f = call_parts c f
+immediates c ids (SegmentShape segments space) f = with_segment c segments space f
+immediates c ids (CopyShape space) f = option_map pair (copied c space f)
 immediates c ids BranchTableShape f = labels ids f >>= last_apart >>= λ x. Some (BranchTable x.0 x.1)
+immediates c ids SelectShape f = select_types c f
+immediates c ids HeapShape f = option_map Heap (heap_type c.spaces.types f)
+immediates c ids (RefShape null) f = reference_type c.spaces.types f >>= heap_with null
+immediates c ids CastShape f = cast_parts c ids f
+immediates c ids (MemoryShape natural) f = option_map Memory (mem_arg c natural f)
+immediates c ids (MemoryLaneShape natural) f = mem_arg_and_lane c natural f
+immediates c ids LaneShape f = option_map Lane (one_word u8 f)
 immediates c ids I32Shape f = option_map I32 (one_word (integer 32) f)
 immediates c ids I64Shape f = option_map I64 (one_word (integer 64) f)
+immediates c ids F32Shape f = option_map F32 (one_word (float single) f)
+immediates c ids F64Shape f = option_map F64 (one_word (float double) f)
+immediates c ids VectorShape f = vector f
+immediates c ids LanesShape f = lanes f
 
 -- the labels that an operator's immediates see: `delegate` those outside its block; a block that is opened doesn't see its own
 abbrev pub seen : Role → Identifiers → Identifiers

@@ -2,7 +2,8 @@
 ghost use Rattle.std.specs.Prelude.{◌≡◌, [], ◌∷◌, ◌++◌, true, ◌&&◌, ◌==◌, length};
 ghost use Rattle.wasmprinter_spec.specs.Options.{Options};
 ghost use Rattle.wasmprinter_spec.specs.Types.{FuncComposite, ArrayComposite, StructComposite};
-ghost use Rattle.wasmprinter_spec.specs.Layout.Types.{storage_pieces, field_pieces_by, field_pieces, struct_pieces, composite_pieces, final_pieces, supertype_pieces, sub_group, sub_pieces, type_pieces};
+ghost use Rattle.wasmprinter_spec.specs.Layout.Types.{storage_pieces, field_pieces_by, field_pieces, struct_pieces, composite_pieces};
+ghost use Rattle.wasmprinter_spec.specs.Layout.Types.{final_pieces, supertype_pieces, sub_group, sub_pieces, type_pieces};
 ghost use Rattle.wasmprinter_print.specs.Prints.{Prints};
 ghost use Rattle.wasmprinter_ops.specs.Types.{storage_view, field_view, fields_view, composite_view};
 
@@ -152,7 +153,8 @@ fn write_supertypes<P: Print>(p: &mut P, supertypes: &TypeIndices<'_>) -> io::Re
 /// Writes a subtype as a group.
 #[tactic(auto, unfolding(wasmprinter_spec::specs::Layout::Types::sub_group, wasmprinter_spec::specs::Layout::Groups::line_group))]
 fn write_sub_group<P: Print>(p: &mut P, sub_type: &SubType<'_>) -> io::Result<()>
-    ensures { (o : Options) → Prints P.meaning o p.old p.new result (sub_group sub_type.now.final sub_type.now.supertypes sub_type.now.composite) }
+    ensures { (o : Options) → Prints P.meaning o p.old p.new result
+        (sub_group sub_type.now.final sub_type.now.supertypes sub_type.now.composite) }
 {
     open(p, "sub")?;
     gap(p)?;

@@ -1,8 +1,8 @@
 use Rattle.std.proofs.Common.{refl}
-use Rattle.wasmprinter_spec.specs.Table.{table, control_rows, variable_rows, number_rows}
+use Rattle.wasmprinter_spec.specs.Table.{table}
 use Rattle.wasmprinter_ops.specs.ByNumber.{each_role}
 use Rattle.wasmprinter_ops.proofs.opcode.one_byte_roles.Goals as goal
 
 pub returns : goal.returns
-unfolding table control_rows variable_rows number_rows each_role
+unfolding table each_role
 returns c = refl

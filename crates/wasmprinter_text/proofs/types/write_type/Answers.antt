@@ -1,5 +1,3 @@
-use Rattle.std.proofs.Common.{◌∷◌, []}
-use Rattle.wasmprinter_spec.specs.Piece.{Gap}
 use Rattle.wasmprinter_print.specs.PrintsLaws.{both_pieces, pieces_end}
 use Rattle.wasmprinter_ops.specs.ValTypes.{type_view}
 use Rattle.wasmprinter_text.proofs.TypeLists.{one_type}

@@ -1,4 +1,4 @@
-use Rattle.std.proofs.Common.{rules, ◌≡◌, Bool, true, false, ◌&&◌, ◌==◌, length}
+use Rattle.std.proofs.Common.{rules, ◌≡◌, true, false, ◌&&◌, ◌==◌, length}
 use Rattle.wasmprinter_text.proofs.Composites.{sub-plain, sub-grouped}
 use Rattle.wasmprinter_text.proofs.types.composite.write_sub_type.Goals as goal
 

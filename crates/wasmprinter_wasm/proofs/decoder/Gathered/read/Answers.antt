@@ -1,8 +1,11 @@
 use Rattle.std.proofs.Common.{arith, sym, ◌∙◌}
 use Rattle.std.proofs.lemmas.Result.{err_from_is_err_and}
 use Rattle.wasmprinter_wasm.specs.Contents.{section_view}
-use Rattle.wasmprinter_wasm.proofs.Gathering.{takes_byte, gathering_more, gathering_unordered, gathering_fault}
+use Rattle.wasmprinter_wasm.proofs.Gathering.{takes_byte, gathering_none, gathering_more, gathering_unordered, gathering_fault}
 use Rattle.wasmprinter_wasm.proofs.decoder.Gathered.read.Goals as goal
+
+pub sections-init : goal.sections-init
+sections-init c = gathering_none c.args.cursor.now c.new-gathered.result c.new-gathered.ensures
 
 pub sections-smaller : goal.sections-smaller
 sections-smaller c = takes_byte c.sections.cursor (section_view c.in_ok-section.section, c.read.new.cursor) c.in_ok-section.ensures.reads.0

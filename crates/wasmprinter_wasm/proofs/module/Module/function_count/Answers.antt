@@ -5,5 +5,5 @@ use Rattle.wasmprinter_wasm.proofs.module.Module.function_count.Goals as goal
 
 pub returns : goal.returns
 returns c =
-    c.len.ensures ∙ c.self.inside.bodies.ok.0 ∙ sym (length-functions_of c.self.inside.type_indices.items c.self.inside.bodies.items c.self.invariant.same)
+    c.len.ensures ∙ c.self.inside.bodies.ok.0 ∙ sym (length-functions_of c.self.inside.type_indices.items c.self.inside.bodies.items c.self.invariant.0.same)
     ∙ ap (λ (m : PlacedModule). length m.functions) c.self.view_is

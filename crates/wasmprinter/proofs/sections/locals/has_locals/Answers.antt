@@ -1,6 +1,0 @@
-use Rattle.std.proofs.Common.{sym, ap, ◌∙◌, is_some}
-use Rattle.wasmprinter.proofs.LocalLines.{locals-break}
-use Rattle.wasmprinter.proofs.sections.locals.has_locals.Goals as goal
-
-pub returns : goal.returns
-returns c = c.is_some.ensures ∙ ap is_some c.locals_place.ensures ∙ sym (locals-break c.args.locals.now)

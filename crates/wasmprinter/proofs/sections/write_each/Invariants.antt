@@ -1,8 +1,0 @@
-use Rattle.std.specs.Prelude.{drop}
-use Rattle.wasmprinter_spec.specs.Layout.Groups.{numbered}
-use Rattle.wasmprinter_print.specs.Prints.{Lacks}
-use Rattle.wasmprinter.proofs.sections.write_each.Given as goal
-
-abbrev pub invariant-loop-number : goal.invariant-loop-number
-invariant-loop-number g l =
-    Lacks g.P.Print.meaning l.options l.fn.p l.p (numbered g.F.Field.pieces 0 l.fields) (numbered g.F.Field.pieces l.number (drop l.number l.fields))

@@ -1,0 +1,23 @@
+use Rattle.std.proofs.Common.{arith}
+use Rattle.std.proofs.lemmas.Result.{err_from_is_err_and}
+use Rattle.wasmprinter_bytes.proofs.Fronts.{front_more}
+use Rattle.wasmprinter_bytes.proofs.Grown.{list_fault, counted_some}
+use Rattle.wasmprinter_bytes.proofs.lists.read_grown_list.Goals as goal
+
+pub loop-preserved : goal.loop-preserved
+loop-preserved g c = record {
+  rest = rw c.in_ok-push.ensures.items (front_more g.T.GrownIn.parse c.loop.grown.items c.in_ok-count.count c.loop.counter c.loop.cursor c.in_ok-read.field-0 c.read.new.cursor _ (omega arith) c.in_ok-read.ensures.reads c.loop.invariant.rest);
+  end = omega (arith, c.in_ok-read.ensures.end, c.loop.invariant.end);
+}
+
+pub returns-in_err-read-clause-reads : goal.returns-in_err-read-clause-reads
+returns-in_err-read-clause-reads g c =
+    let p = err_from_is_err_and c.from_residual-in_err-read.result c.from_residual-in_err-read.ensures.1 in
+    rw (p.1, p.2)
+    (list_fault g.T.GrownIn.parse c.args.cursor.now c.u32.new.self c.loop.cursor c.in_ok-count.count c.loop.counter c.loop.grown.items c.in_ok-count.ensures.reads (omega arith) c.loop.invariant.rest
+    (omega (arith, c.loop.invariant.end, c.in_ok-count.ensures.end)) c.in_err-read.field-0.0 c.in_err-read.ensures.reads)
+
+pub returns-in_err-push-clause-reads : goal.returns-in_err-push-clause-reads
+returns-in_err-push-clause-reads g c =
+    let p = err_from_is_err_and c.from_residual-in_err-push.result c.from_residual-in_err-push.ensures.1 in
+    rw (p.1, p.2) (counted_some g.T.GrownIn.parse c.args.cursor.now c.u32.new.self c.loop.cursor c.in_ok-count.count c.loop.counter c.loop.grown.items c.in_ok-count.ensures.reads (omega arith) c.loop.invariant.rest)

@@ -1,0 +1,70 @@
+-- The lines of groups of types, type by type and group by group.
+use Rattle.std.specs.Prelude.{◌≡◌, ℕ, ◌+◌, ◌<◌, ◌≤◌, ◌==◌, not, drop, List, [], ◌∷◌, ◌++◌, Bool, true, false, length, codes, None, refl}
+use Rattle.std.proofs.Common.{sym, ap, ◌∙◌, get_or, length-append}
+use Rattle.std.proofs.Math.Dec.{eqb-suc-zero}
+use Rattle.std.proofs.Math.ListN.{drop_of_length-le}
+use Rattle.std.proofs.lemmas.List.{at_drop_more}
+use Rattle.wasmprinter_spec.specs.Grammar.{Placed}
+use Rattle.wasmprinter_spec.specs.Types.{SubType, all_types}
+use Rattle.wasmprinter_spec.specs.Placed.{TypeGroup}
+use Rattle.wasmprinter_spec.specs.Module.{groups_of}
+use Rattle.wasmprinter_spec.specs.Piece.{Piece, Open}
+use Rattle.wasmprinter_spec.specs.Layout.Groups.{has_break, close, group, numbered}
+use Rattle.wasmprinter_spec.specs.Layout.Types.{member_pieces, group_pieces_by, type_group_pieces, type_section_pieces}
+use Rattle.wasmprinter_fields.specs.TypeLines.{listed_pieces}
+
+-- ---- the types of a group
+
+-- no type is left
+pub types-none : (f : ℕ → SubType → List Piece) (i : ℕ) (ts : List SubType) → ts ≡ [] → numbered f i ts ≡ []
+unfolding numbered
+types-none f i ts e = ap (numbered f i) e
+
+-- the next type, and the others
+pub types-next : (f : ℕ → SubType → List Piece) (i : ℕ) (ts rest : List SubType) (t : SubType) → ts ≡ t ∷ rest → numbered f i ts ≡ f i t ++ numbered f (i + 1) rest
+unfolding numbered
+types-next f i ts rest t e = ap (numbered f i) e
+
+-- each type of a written group begins a line
+members-break : (place i : ℕ) (ts : List SubType) → has_break (numbered (member_pieces place) i ts) ≡ not (length ts == 0)
+unfolding numbered member_pieces
+members-break place i [] = refl
+members-break place i (t ∷ ts) = sym (ap not (eqb-suc-zero (length ts)))
+
+-- a written group
+pub group-written : (written : Bool) (place i : ℕ) (ts : List SubType) → written ≡ true →
+    group_pieces_by written place i ts ≡ Open (codes "rec") ∷ (numbered (listed_pieces written place) i ts ++ close None 1 (not (length ts == 0)))
+unfolding group
+group-written true place i ts e = ap (λ b. Open (codes "rec") ∷ (numbered (member_pieces place) i ts ++ close None 1 b)) (members-break place i ts)
+group-written false place i ts e = absurd cc
+
+-- a type by itself
+pub group-bare : (written : Bool) (place i : ℕ) (ts : List SubType) → written ≡ false → group_pieces_by written place i ts ≡ numbered (listed_pieces written place) i ts
+group-bare true place i ts e = absurd cc
+group-bare false place i ts e = refl
+
+-- ---- groups
+
+-- what is left behind k groups: the next group, and the others
+pub groups-next : (i k : ℕ) (gs : List (Placed TypeGroup)) (g d : Placed TypeGroup) → k < length gs → g ≡ get_or gs k d →
+    type_section_pieces i (drop k gs) ≡ type_group_pieces i g ++ type_section_pieces (i + length g.value.types) (drop (k + 1) gs)
+unfolding type_section_pieces
+groups-next i k gs g d lt is =
+    at_drop_more (type_section_pieces i) gs k d lt
+    ∙ ap (λ (x : Placed TypeGroup). type_group_pieces i x ++ type_section_pieces (i + length x.value.types) (drop (k + 1) gs)) (sym is)
+
+-- nothing is left
+pub groups-none : (i k : ℕ) (gs : List (Placed TypeGroup)) → length gs ≤ k → type_section_pieces i (drop k gs) ≡ []
+unfolding type_section_pieces
+groups-none i k gs le = ap (type_section_pieces i) (drop_of_length-le gs le)
+
+-- how many types there are behind k groups
+abbrev pub types_behind : ℕ → List (Placed TypeGroup) → ℕ
+types_behind k gs = length (all_types (groups_of (drop k gs)))
+
+-- those of the next group, and of the others
+pub behind-next : (k : ℕ) (gs : List (Placed TypeGroup)) (g d : Placed TypeGroup) → k < length gs → g ≡ get_or gs k d →
+    types_behind k gs ≡ length g.value.types + types_behind (k + 1) gs
+behind-next k gs g d lt is =
+    at_drop_more (λ xs. length (all_types (groups_of xs))) gs k d lt ∙ length-append (get_or gs k d).value.types (all_types (groups_of (drop (k + 1) gs)))
+    ∙ ap (λ (x : Placed TypeGroup). length x.value.types + types_behind (k + 1) gs) (sym is)

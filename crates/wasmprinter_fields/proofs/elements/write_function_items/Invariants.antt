@@ -1,0 +1,7 @@
+use Rattle.wasmprinter_spec.specs.Options.{Options}
+use Rattle.wasmprinter_spec.specs.Layout.Elements.{function_items}
+use Rattle.wasmprinter_print.specs.Prints.{Lacks}
+use Rattle.wasmprinter_fields.proofs.elements.write_function_items.Given as goal
+
+abbrev pub invariant-loop-index : goal.invariant-loop-index
+invariant-loop-index g l = (o : Options) → Lacks g.P.Print.meaning o l.fn.p l.p (function_items l.fn.functions) (function_items l.index-iterator)

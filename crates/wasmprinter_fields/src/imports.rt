@@ -1,0 +1,176 @@
+//! Imports (section 6.6 of the WebAssembly Core Specification, "Imports").
+ghost use Rattle.std.specs.Prelude.{◌≡◌, ◌+◌, ◌<◌, ◌^◌, codes};
+ghost use Rattle.wasmprinter_spec.specs.Options.{Options};
+ghost use Rattle.wasmprinter_spec.specs.Layout.Groups.{line_group_gap};
+ghost use Rattle.wasmprinter_spec.specs.Layout.Imports.{number_of, numbers_behind, no_numbers};
+ghost use Rattle.wasmprinter_spec.specs.Layout.Imports.{extern_pieces, import_pieces, imports_pieces};
+ghost use Rattle.wasmprinter_print.specs.Prints.{Prints};
+ghost use Rattle.wasmprinter_wasm.specs.Externs.{extern_view, HasPage};
+ghost use Rattle.wasmprinter_fields.specs.Parts.{types_of, import_parts};
+
+use crate::fields::FIELD_NESTING;
+use crate::globals::write_global_type_group;
+use crate::headers::write_header_group;
+use crate::memories::write_memory_group;
+use crate::tables::write_table_type_group;
+use std::io;
+use std::marker::Model;
+use wasmprinter_lines::lines::break_line;
+use wasmprinter_lines::options::PrintOptions;
+use wasmprinter_print::Print;
+use wasmprinter_wasm::{ExternType, Import, Module};
+use wasmprinter_words::strings::write_string;
+use wasmprinter_words::words::{gap, open_gap, shut};
+
+/// How many imports of each kind stand in front.
+#[derive(Drop)]
+struct Numbers {
+    functions: u64,
+    tables: u64,
+    memories: u64,
+    globals: u64,
+    tags: u64,
+}
+
+impl Model for Numbers {
+    ghost use Rattle.wasmprinter_spec.specs.Layout.Imports.{Numbers as DefinedNumbers};
+
+    ghost Value = { DefinedNumbers };
+
+    ghost view = { λ n. record {
+      functions = n.functions;
+      tables = n.tables;
+      memories = n.memories;
+      globals = n.globals;
+      tags = n.tags;
+    } };
+}
+
+impl Numbers {
+    /// In front of all imports.
+    fn none() -> Numbers
+        ensures { result ≡ no_numbers }
+    {
+        Numbers {
+            functions: 0,
+            tables: 0,
+            memories: 0,
+            globals: 0,
+            tags: 0,
+        }
+    }
+
+    /// The number of an import of this type.
+    fn of(&self, extern_type: ExternType) -> u64
+        ensures { result ≡ number_of (extern_view extern_type) self.now }
+    {
+        match extern_type {
+            ExternType::Func(_) => self.functions,
+            ExternType::Table(_) => self.tables,
+            ExternType::Memory(_) => self.memories,
+            ExternType::Global(_) => self.globals,
+            ExternType::Tag(_) => self.tags,
+        }
+    }
+
+    /// With an import of this type more.
+    fn count(&mut self, extern_type: ExternType)
+        requires { number_of (extern_view extern_type) self.old + 1 < 2 ^ 64 }
+        ensures { self.new ≡ numbers_behind (extern_view extern_type) self.old }
+    {
+        match extern_type {
+            ExternType::Func(_) => self.functions += 1,
+            ExternType::Table(_) => self.tables += 1,
+            ExternType::Memory(_) => self.memories += 1,
+            ExternType::Global(_) => self.globals += 1,
+            ExternType::Tag(_) => self.tags += 1,
+        }
+    }
+}
+
+/// Writes what is imported with its number, as a group.
+#[tactic(auto, unfolding(wasmprinter_spec::specs::Layout::Imports::extern_pieces))]
+fn write_extern_type<P: Print>(
+    p: &mut P,
+    module: &Module<'_>,
+    number: u64,
+    extern_type: ExternType,
+) -> io::Result<()>
+    requires { HasPage extern_type }
+    ensures { (o : Options) → Prints P.meaning o p.old p.new result
+        (extern_pieces (types_of module.now) number (extern_view extern_type)) }
+{
+    match extern_type {
+        ExternType::Func(index) => write_header_group(p, module, "func", number, index),
+        ExternType::Table(table_type) => write_table_type_group(p, number, table_type),
+        ExternType::Memory(memory_type) => write_memory_group(p, number, memory_type),
+        ExternType::Global(global_type) => write_global_type_group(p, number, global_type),
+        ExternType::Tag(index) => write_header_group(p, module, "tag", number, index),
+    }
+}
+
+/// Writes an import's names, and what is imported with its number.
+fn write_import_parts<P: Print>(
+    p: &mut P,
+    module: &Module<'_>,
+    number: u64,
+    import: &Import<'_>,
+) -> io::Result<()>
+    ensures { (o : Options) → Prints P.meaning o p.old p.new result
+        (import_parts (types_of module.now) number import.now.value) }
+{
+    write_string(p, import.module())?;
+    gap(p)?;
+    write_string(p, import.name())?;
+    gap(p)?;
+    write_extern_type(p, module, number, import.ty())
+}
+
+/// Writes the same as a group.
+#[tactic(auto, using(crate::proofs::LineGroups::groups))]
+fn write_import_group<P: Print>(
+    p: &mut P,
+    module: &Module<'_>,
+    number: u64,
+    import: &Import<'_>,
+) -> io::Result<()>
+    ensures { (o : Options) → Prints P.meaning o p.old p.new result
+        (line_group_gap (codes "import") (import_parts (types_of module.now) number import.now.value)) }
+{
+    open_gap(p, "import")?;
+    write_import_parts(p, module, number, import)?;
+    shut(p)
+}
+
+/// Writes an import with its number among those of its kind.
+#[tactic(auto, unfolding(wasmprinter_spec::specs::Layout::Imports::import_pieces))]
+fn write_import<P: Print>(
+    p: &mut P,
+    options: &PrintOptions,
+    module: &Module<'_>,
+    number: u64,
+    import: &Import<'_>,
+) -> io::Result<()>
+    ensures { Prints P.meaning options.now p.old p.new result
+        (import_pieces (types_of module.now) number import.now) }
+{
+    break_line(p, options, Some(import.place()), FIELD_NESTING)?;
+    write_import_group(p, module, number, import)
+}
+
+/// Writes the imports; each kind is numbered apart.
+pub(crate) fn write_imports<P: Print>(
+    p: &mut P,
+    options: &PrintOptions,
+    module: &Module<'_>,
+) -> io::Result<()>
+    ensures { Prints P.meaning options.now p.old p.new result
+        (imports_pieces (types_of module.now) no_numbers module.now.imports) }
+{
+    let mut numbers = Numbers::none();
+    for import in module.imports() {
+        write_import(p, options, module, numbers.of(import.ty()), import)?;
+        numbers.count(import.ty());
+    }
+    Ok(())
+}

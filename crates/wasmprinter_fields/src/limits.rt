@@ -1,0 +1,29 @@
+//! Sizes of tables and memories (section 6.4 of the WebAssembly Core Specification, "Limits").
+ghost use Rattle.wasmprinter_spec.specs.Options.{Options};
+ghost use Rattle.wasmprinter_spec.specs.Layout.Limits.{wide_pieces, limits_pieces};
+ghost use Rattle.wasmprinter_print.specs.Prints.{Prints};
+ghost use Rattle.wasmprinter_wasm.specs.Externs.{limits_view};
+
+use std::io;
+use wasmprinter_print::Print;
+use wasmprinter_wasm::Limits;
+use wasmprinter_words::limits::write_limits;
+use wasmprinter_words::words::type_word_gap;
+
+/// Writes that addresses have 64 bits, if they have.
+pub(crate) fn write_wide<P: Print>(p: &mut P, wide: bool) -> io::Result<()>
+    ensures { (o : Options) → Prints P.meaning o p.old p.new result (wide_pieces wide) }
+{
+    if wide {
+        type_word_gap(p, "i64")
+    } else {
+        Ok(())
+    }
+}
+
+/// Writes the least and, if there is one, the greatest size.
+pub(crate) fn write_sizes<P: Print>(p: &mut P, limits: Limits) -> io::Result<()>
+    ensures { (o : Options) → Prints P.meaning o p.old p.new result (limits_pieces (limits_view limits)) }
+{
+    write_limits(p, limits.min, limits.max)
+}

@@ -1,0 +1,113 @@
+//! Memories (section 6.6 of the WebAssembly Core Specification, "Memories"), and their types
+//! (section 6.4, "Memory Types").
+ghost use Rattle.std.specs.Prelude.{◌<◌, codes};
+ghost use Rattle.wasmprinter_spec.specs.Options.{Options};
+ghost use Rattle.wasmprinter_spec.specs.Layout.Groups.{line_group_gap};
+ghost use Rattle.wasmprinter_spec.specs.Layout.Memories.{shared_pieces, page_pieces, memory_type_pieces, memory_pieces};
+ghost use Rattle.wasmprinter_print.specs.Prints.{Prints};
+ghost use Rattle.wasmprinter_wasm.specs.Externs.{memory_type_view, IsPage};
+ghost use Rattle.wasmprinter_fields.specs.Parts.{page_parts, memory_parts};
+
+use crate::fields::{FIELD_NESTING, Field};
+use crate::limits::{write_sizes, write_wide};
+use std::io;
+use wasmprinter_lines::lines::break_line;
+use wasmprinter_lines::options::PrintOptions;
+use wasmprinter_print::Print;
+use wasmprinter_wasm::{Memory, MemoryType, Module};
+use wasmprinter_words::limits::page_size;
+use wasmprinter_words::numbers::mark;
+use wasmprinter_words::words::{gap, gap_type_word, open_gap, shut};
+
+/// Writes that threads may share a memory, if they may.
+fn write_shared<P: Print>(p: &mut P, shared: bool) -> io::Result<()>
+    ensures { (o : Options) → Prints P.meaning o p.old p.new result (shared_pieces shared) }
+{
+    if shared {
+        gap_type_word(p, "shared")
+    } else {
+        Ok(())
+    }
+}
+
+/// Writes the size of a page as a group, by its exponent.
+#[tactic(auto, using(crate::proofs::LineGroups::groups))]
+fn write_page_group<P: Print>(p: &mut P, exponent: u32) -> io::Result<()>
+    requires { exponent < 64 }
+    ensures { (o : Options) → Prints P.meaning o p.old p.new result
+        (line_group_gap (codes "pagesize") (page_parts exponent)) }
+{
+    open_gap(p, "pagesize")?;
+    page_size(p, exponent)?;
+    shut(p)
+}
+
+/// Writes a blank and the size of a page, if it is given.
+fn write_page<P: Print>(p: &mut P, page: Option<u32>) -> io::Result<()>
+    requires { IsPage page }
+    ensures { (o : Options) → Prints P.meaning o p.old p.new result (page_pieces page) }
+{
+    match page {
+        Some(exponent) => {
+            gap(p)?;
+            write_page_group(p, exponent)
+        }
+        None => Ok(()),
+    }
+}
+
+/// Writes the type of a memory.
+#[tactic(auto, unfolding(wasmprinter_spec::specs::Layout::Memories::memory_type_pieces))]
+fn write_memory_type<P: Print>(p: &mut P, memory_type: MemoryType) -> io::Result<()>
+    requires { IsPage memory_type.page }
+    ensures { (o : Options) → Prints P.meaning o p.old p.new result
+        (memory_type_pieces (memory_type_view memory_type)) }
+{
+    write_wide(p, memory_type.wide)?;
+    write_sizes(p, memory_type.limits)?;
+    write_shared(p, memory_type.shared)?;
+    write_page(p, memory_type.page)
+}
+
+/// Writes a number and the type of a memory.
+fn write_numbered_type<P: Print>(p: &mut P, number: u64, memory_type: MemoryType) -> io::Result<()>
+    requires { IsPage memory_type.page }
+    ensures { (o : Options) → Prints P.meaning o p.old p.new result
+        (memory_parts number (memory_type_view memory_type)) }
+{
+    mark(p, number)?;
+    gap(p)?;
+    write_memory_type(p, memory_type)
+}
+
+/// Writes the same as a group.
+#[tactic(auto, using(crate::proofs::LineGroups::groups))]
+pub(crate) fn write_memory_group<P: Print>(
+    p: &mut P,
+    number: u64,
+    memory_type: MemoryType,
+) -> io::Result<()>
+    requires { IsPage memory_type.page }
+    ensures { (o : Options) → Prints P.meaning o p.old p.new result
+        (line_group_gap (codes "memory") (memory_parts number (memory_type_view memory_type))) }
+{
+    open_gap(p, "memory")?;
+    write_numbered_type(p, number, memory_type)?;
+    shut(p)
+}
+
+impl Field for Memory {
+    ghost pieces = { λ o ts i m. memory_pieces i m };
+
+    #[tactic(auto, unfolding(wasmprinter_spec::specs::Layout::Memories::memory_pieces))]
+    fn write<P: Print>(
+        &self,
+        p: &mut P,
+        options: &PrintOptions,
+        _module: &Module<'_>,
+        number: u64,
+    ) -> io::Result<()> {
+        break_line(p, options, Some(self.place()), FIELD_NESTING)?;
+        write_memory_group(p, number, self.memory_type())
+    }
+}

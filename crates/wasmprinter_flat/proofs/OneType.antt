@@ -1,0 +1,39 @@
+-- The types that `select` names: one, or another number of them.
+use Rattle.std.specs.Prelude.{◌≡◌, List, [], ◌∷◌, length, codes, Option, Some, None, refl}
+use Rattle.std.specs.Iterator.{YieldsFirst}
+use Rattle.std.proofs.Common.{sym, ap, arith}
+use Rattle.wasmprinter_spec.specs.Grammar.{some_is}
+use Rattle.wasmprinter_spec.specs.Piece.{Gap}
+use Rattle.wasmprinter_spec.specs.Layout.Groups.{line_group, line_group_gap}
+use Rattle.wasmprinter_spec.specs.Layout.Types.{val_pieces, type_list}
+use Rattle.wasmprinter_spec.specs.Layout.Operators.{select_pieces}
+use Rattle.wasmprinter_ops.specs.ValTypes.{type_view, types_view}
+use Rattle.wasmprinter_ops.specs.declared.types.ValType.{ValType}
+use Rattle.wasmprinter_flat.specs.Only.{only}
+
+-- the first of one value is that value
+pub only-first : {A : Type 0} (xs rest : List A) (r : Option A) → length xs ≡ 1 → YieldsFirst (λ ys. ys) xs r rest → r ≡ only xs
+only-first xs rest None n y = absurd (omega (arith, n, ap length y.0))
+only-first xs [] (Some x) n y = sym (ap only y)
+only-first xs (z ∷ rest) (Some x) n y = absurd (omega (arith, n, ap length y))
+
+-- where there is another number of values
+pub only-none : {A : Type 0} (xs : List A) → (length xs ≡ 1 → ⊥) → None ≡ only xs
+only-none [] h = refl
+only-none (x ∷ []) h = absurd (h refl)
+only-none (x ∷ (y ∷ xs)) h = refl
+
+-- one type
+pub select-one : (ts : List ValType) (t : ValType) → only ts ≡ Some t →
+    select_pieces (types_view ts) ≡ Gap ∷ line_group_gap (codes "result") (val_pieces (type_view t))
+unfolding select_pieces
+select-one [] t e = absurd cc
+select-one (x ∷ []) t e = ap (λ (y : ValType). Gap ∷ line_group_gap (codes "result") (val_pieces (type_view y))) (some_is x t e)
+select-one (x ∷ (y ∷ ts)) t e = absurd cc
+
+-- another number of types
+pub select-others : (ts : List ValType) → only ts ≡ None → select_pieces (types_view ts) ≡ Gap ∷ line_group (codes "result") (type_list (types_view ts))
+unfolding select_pieces
+select-others [] e = refl
+select-others (x ∷ []) e = absurd cc
+select-others (x ∷ (y ∷ ts)) e = refl

@@ -1,0 +1,10 @@
+use Rattle.wasmprinter_spec.specs.Layout.Operators.{immediate_pieces}
+use Rattle.wasmprinter_flat.proofs.immediates.write_heap_by.Goals as goal
+
+pub returns-in-Heap : goal.returns-in-Heap
+unfolding immediate_pieces
+returns-in-Heap g c o s inner depth = rw c.in-Heap.is (c.write_heap.ensures o)
+
+pub returns-in-Ref : goal.returns-in-Ref
+unfolding immediate_pieces
+returns-in-Ref g c o s inner depth = rw c.in-Ref.is (c.write_ref.ensures o)

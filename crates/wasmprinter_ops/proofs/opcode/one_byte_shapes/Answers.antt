@@ -1,8 +1,0 @@
-use Rattle.std.proofs.Common.{refl}
-use Rattle.wasmprinter_spec.specs.Table.{table, control_rows, variable_rows, number_rows}
-use Rattle.wasmprinter_ops.specs.ByNumber.{each_shape}
-use Rattle.wasmprinter_ops.proofs.opcode.one_byte_shapes.Goals as goal
-
-pub returns : goal.returns
-unfolding table control_rows variable_rows number_rows each_shape
-returns c = refl

@@ -1,6 +1,0 @@
-use Rattle.std.proofs.Common.{arith}
-use Rattle.wasmprinter_ops.proofs.Dense.{no_words}
-use Rattle.wasmprinter_ops.proofs.opcode.words_of.Goals as goal
-
-pub returns-in_default : goal.returns-in_default
-returns-in_default c = no_words c.args.prefix (λ e. omega arith)

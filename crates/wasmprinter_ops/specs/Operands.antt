@@ -1,0 +1,21 @@
+-- The reference types of casts, by their flags.
+use Rattle.std.specs.Prelude.{ℕ, Bool, ◌/◌, ◌%◌, ◌==◌}
+use Rattle.wasmprinter_spec.specs.Types.{RefType, ref_type}
+use Rattle.wasmprinter_ops.specs.ValTypes.{heap_view}
+use Rattle.wasmprinter_ops.specs.declared.types.HeapType.{HeapType}
+
+-- the lowest bit of the flags
+abbrev pub source_null : ℕ → Bool
+source_null flags = flags % 2 == 1
+
+-- the bit above it
+abbrev pub target_null : ℕ → Bool
+target_null flags = flags / 2 % 2 == 1
+
+-- the first reference type of a cast
+abbrev pub source_type : ℕ → HeapType → RefType
+source_type flags heap = ref_type (source_null flags) (heap_view heap)
+
+-- the second
+abbrev pub target_type : ℕ → HeapType → RefType
+target_type flags heap = ref_type (target_null flags) (heap_view heap)

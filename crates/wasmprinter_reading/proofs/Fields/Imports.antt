@@ -1,0 +1,172 @@
+-- Imports among the fields of a module.
+use Rattle.std.proofs.Common.{◌≡◌, ℕ, suc, ◌+◌, ◌<◌, ◌≤◌, ◌^◌, true, List, [], ◌∷◌, length, map, Some, None, refl, sym, ap, ◌∙◌, subst, codes, chars, arith, encode_utf8_all}
+use Rattle.std.specs.List.{AllByRecursion}
+use Rattle.std.proofs.Math.Utf8.{scalars}
+use Rattle.std.proofs.lemmas.Str.{encodes-chars, scalars-chars, is_utf8-from_IsUtf8}
+use Rattle.wasmprinter_spec.specs.Character.{class}
+use Rattle.wasmprinter_spec.specs.Grammar.{Placed}
+use Rattle.wasmprinter_spec.specs.Forest.{Forest, End, Word, String, Group}
+use Rattle.wasmprinter_spec.specs.Types.{FuncType, SubType, signature_at, ExternKind, FuncKind, TableKind, MemoryKind, GlobalKind, TagKind, ExternType, FuncExtern, TableExtern, MemoryExtern, GlobalExtern, TagExtern}
+use Rattle.wasmprinter_spec.specs.Placed.{Import}
+use Rattle.wasmprinter_spec.specs.IndexSpaces.{Context}
+use Rattle.wasmprinter_spec.specs.Layout.Imports.{Numbers, number_of, numbers_behind, extern_pieces, import_pieces, imports_pieces}
+use Rattle.wasmprinter_spec.specs.Text.Items.{identified}
+use Rattle.wasmprinter_spec.specs.Text.Exports.{kind_of_word}
+use Rattle.wasmprinter_spec.specs.Text.TypeIndices.{type_index}
+use Rattle.wasmprinter_spec.specs.Text.Tables.{table_type}
+use Rattle.wasmprinter_spec.specs.Text.Globals.{global_type}
+use Rattle.wasmprinter_spec.specs.Text.Imports.{ImportField, field_of, import_field, extern_type, read_import}
+use Rattle.wasmprinter_lexical.proofs.Grown.{onto-End}
+use Rattle.wasmprinter_lexical.proofs.Pieces.{Edge, Bound}
+use Rattle.wasmprinter_lexical.proofs.Writes.{Writes, is_open, both_write, nothing_writes, gap_writes, mark_writes, break_writes, quoted_writes, line_group_gap_writes}
+use Rattle.wasmprinter_reading.specs.Listed.{IsSignatureInRange, AreSignaturesInRange}
+use Rattle.wasmprinter_reading.proofs.Numbered.{rows}
+use Rattle.wasmprinter_reading.proofs.Ranged.{IsRangedExtern, IsRangedImport}
+use Rattle.wasmprinter_reading.proofs.Fields.Headers.{header_items, header_alone_writes, type_index-items}
+use Rattle.wasmprinter_reading.proofs.Fields.Tables.{table_type_items, table_type_writes, table_type-items, identified-table_type}
+use Rattle.wasmprinter_reading.proofs.Fields.Memories.{memory_items, memory_type_writes, memory_type-items, identified-memory}
+use Rattle.wasmprinter_reading.proofs.Fields.Globals.{global_type_items, global_type_writes, global_type-items, identified-global_type}
+
+-- ---- what imports are written as
+
+abbrev pub kind_of_extern : ExternType → ExternKind
+kind_of_extern (FuncExtern i) = FuncKind
+kind_of_extern (TableExtern t) = TableKind
+kind_of_extern (MemoryExtern t) = MemoryKind
+kind_of_extern (GlobalExtern t) = GlobalKind
+kind_of_extern (TagExtern i) = TagKind
+
+abbrev pub extern_word : ExternType → List ℕ
+extern_word (FuncExtern i) = codes "func"
+extern_word (TableExtern t) = codes "table"
+extern_word (MemoryExtern t) = codes "memory"
+extern_word (GlobalExtern t) = codes "global"
+extern_word (TagExtern i) = codes "tag"
+
+abbrev pub extern_items : List SubType → ExternType → Forest
+extern_items ts (FuncExtern i) = header_items (signature_at ts i) i End
+extern_items ts (TableExtern t) = table_type_items t
+extern_items ts (MemoryExtern t) = memory_items t
+extern_items ts (GlobalExtern t) = global_type_items t
+extern_items ts (TagExtern i) = header_items (signature_at ts i) i End
+
+-- what an import holds behind its word
+abbrev pub import_items : List SubType → Import → Forest
+import_items ts i = String i.source (String i.name (Group (Word (extern_word i.type) (extern_items ts i.type)) End))
+
+-- the field as it is sorted
+abbrev pub import_held : List SubType → Import → ImportField
+import_held ts i = field_of i.source i.name (extern_items ts i.type) (kind_of_extern i.type)
+
+abbrev pub imports_items : List SubType → List (Placed Import) → Forest
+imports_items ts is = rows (map (λ i. Word (codes "import") (import_items ts i.value)) is)
+
+-- ---- their pieces write it
+
+-- there are at most so many of each kind with n more
+pub record LeaveRoom (n : Numbers) (more : ℕ) : Type 0 where
+  pub functions : n.functions + more ≤ 2 ^ 64
+  pub tables : n.tables + more ≤ 2 ^ 64
+  pub memories : n.memories + more ≤ 2 ^ 64
+  pub globals : n.globals + more ≤ 2 ^ 64
+  pub tags : n.tags + more ≤ 2 ^ 64
+
+-- the number of the next import
+number_small : (t : ExternType) (n : Numbers) (more : ℕ) → LeaveRoom n (suc more) → number_of t n < 2 ^ 64
+number_small (FuncExtern i) n more h = omega (arith, h.functions)
+number_small (TableExtern t) n more h = omega (arith, h.tables)
+number_small (MemoryExtern t) n more h = omega (arith, h.memories)
+number_small (GlobalExtern t) n more h = omega (arith, h.globals)
+number_small (TagExtern i) n more h = omega (arith, h.tags)
+
+-- an import takes a place of its kind
+room_behind : (t : ExternType) (n : Numbers) (more : ℕ) → LeaveRoom n (suc more) → LeaveRoom (numbers_behind t n) more
+room_behind t n more h =
+    by t (omega (arith, h.functions)) (omega (arith, h.tables)) (omega (arith, h.memories)) (omega (arith, h.globals)) (omega (arith, h.tags))
+  where
+    by : (t : ExternType) → n.functions + 1 + more ≤ 2 ^ 64 → n.tables + 1 + more ≤ 2 ^ 64 → n.memories + 1 + more ≤ 2 ^ 64 → n.globals + 1 + more ≤ 2 ^ 64 →
+        n.tags + 1 + more ≤ 2 ^ 64 → LeaveRoom (numbers_behind t n) more
+    by (FuncExtern i) f t m g k = record { functions = f; tables = omega arith; memories = omega arith; globals = omega arith; tags = omega arith }
+    by (TableExtern i) f t m g k = record { functions = omega arith; tables = t; memories = omega arith; globals = omega arith; tags = omega arith }
+    by (MemoryExtern i) f t m g k = record { functions = omega arith; tables = omega arith; memories = m; globals = omega arith; tags = omega arith }
+    by (GlobalExtern i) f t m g k = record { functions = omega arith; tables = omega arith; memories = omega arith; globals = g; tags = omega arith }
+    by (TagExtern i) f t m g k = record { functions = omega arith; tables = omega arith; memories = omega arith; globals = omega arith; tags = k }
+
+module _ (ts : List SubType) (s : AreSignaturesInRange (signature_at ts)) where
+  extern_writes : {a : Edge} (n : ℕ) (t : ExternType) → is_open a ≡ true → n < 2 ^ 64 → IsRangedExtern t →
+      Writes a (extern_pieces ts n t) Bound (Group (Word (extern_word t) (extern_items ts t)) End)
+  unfolding extern_pieces class
+  extern_writes n (FuncExtern i) e small h = line_group_gap_writes (codes "func") _ e refl (header_alone_writes (signature_at ts i) n i small (s i) h)
+  extern_writes n (TableExtern t) e small h = line_group_gap_writes (codes "table") _ e refl (mark_writes refl small (gap_writes refl (table_type_writes t h)))
+  extern_writes n (MemoryExtern t) e small h = line_group_gap_writes (codes "memory") _ e refl (mark_writes refl small (gap_writes refl (memory_type_writes t h)))
+  extern_writes n (GlobalExtern t) e small h = line_group_gap_writes (codes "global") _ e refl (mark_writes refl small (gap_writes refl (global_type_writes t h)))
+  extern_writes n (TagExtern i) e small h = line_group_gap_writes (codes "tag") _ e refl (header_alone_writes (signature_at ts i) n i small (s i) h)
+
+  import_writes : (n : ℕ) (i : Placed Import) → n < 2 ^ 64 → IsRangedImport i.value →
+      Writes Bound (import_pieces ts n i) Bound (Group (Word (codes "import") (import_items ts i.value)) End)
+  unfolding import_pieces class
+  import_writes n i small h =
+      let inner : Forest = Group (Word (extern_word i.value.type) (extern_items ts i.value.type)) End in
+      let source : scalars (chars i.value.source) ≡ true = scalars-chars i.value.source h.source in
+      let name : scalars (chars i.value.name) ≡ true = scalars-chars i.value.name h.name in
+      let written : Writes Bound (import_pieces ts n i) Bound
+      (Group (Word (codes "import") (String (encode_utf8_all (chars i.value.source)) (String (encode_utf8_all (chars i.value.name)) inner))) End) =
+      break_writes (line_group_gap_writes (codes "import") _ refl refl
+      (quoted_writes source (gap_writes refl (quoted_writes name (gap_writes refl (extern_writes n i.value.type refl small h.type)))))) in
+      rw (encodes-chars i.value.source h.source, encodes-chars i.value.name h.name) at written
+
+  pub imports_write : (n : Numbers) (is : List (Placed Import)) → LeaveRoom n (length is) → AllByRecursion (λ i. IsRangedImport i.value) is →
+      Writes Bound (imports_pieces ts n is) Bound (imports_items ts is)
+  unfolding imports_pieces rows
+  imports_write n [] room h = nothing_writes
+  imports_write n (i ∷ is) room h =
+      both_write (import_writes (number_of i.value.type n) i (number_small i.value.type n (length is) room) h.0)
+      (imports_write (numbers_behind i.value.type n) is (room_behind i.value.type n (length is) room) h.1)
+
+-- ---- they read back
+
+kind_of_word-extern : (t : ExternType) → kind_of_word (extern_word t) ≡ Some (kind_of_extern t)
+unfolding kind_of_word
+kind_of_word-extern (FuncExtern i) = refl
+kind_of_word-extern (TableExtern t) = refl
+kind_of_word-extern (MemoryExtern t) = refl
+kind_of_word-extern (GlobalExtern t) = refl
+kind_of_word-extern (TagExtern i) = refl
+
+pub import_field-items : (ts : List SubType) (i : Import) → IsRangedImport i → import_field (import_items ts i) ≡ Some (import_held ts i)
+import_field-items ts i h = rw (is_utf8-from_IsUtf8 i.source h.source, is_utf8-from_IsUtf8 i.name h.name, kind_of_word-extern i.type)
+
+-- no identifier stands in front
+pub identified-extern : (ts : List SubType) (t : ExternType) → identified (extern_items ts t) ≡ (None, extern_items ts t)
+identified-extern ts (FuncExtern i) = refl
+identified-extern ts (TableExtern t) = rw onto-End at (identified-table_type t End)
+identified-extern ts (MemoryExtern t) = identified-memory t
+identified-extern ts (GlobalExtern t) = rw onto-End at (identified-global_type t End)
+identified-extern ts (TagExtern i) = refl
+
+-- the type of a function or of a tag is a function type
+abbrev pub HasType : Context → ExternType → Type 0
+HasType c (FuncExtern i) = (t : FuncType) × (c.signature i ≡ Some t)
+HasType c (TagExtern i) = (t : FuncType) × (c.signature i ≡ Some t)
+HasType c _ = Unit {0}
+
+module _ (c : Context) (ts : List SubType) (own : (i : ℕ) → c.signature i ≡ signature_at ts i) (s : AreSignaturesInRange (signature_at ts)) where
+  index-items : (i : ℕ) → i < 2 ^ 32 → (t : FuncType) × (c.signature i ≡ Some t) → type_index c (header_items (signature_at ts i) i End) ≡ Some i
+  index-items i h t =
+      let its : signature_at ts i ≡ Some t.0 = sym (own i) ∙ t.1 in
+      ap (λ x. type_index c (header_items x i End)) its
+      ∙ type_index-items c t.0 i t.1 (subst IsSignatureInRange its (s i)) h
+
+  extern_type-items : (t : ExternType) → IsRangedExtern t → HasType c t → extern_type c (kind_of_extern t) (extern_items ts t) ≡ Some t
+  extern_type-items (FuncExtern i) h t = rw (index-items i h t)
+  extern_type-items (TableExtern t) h _ =
+      let e : table_type c (table_type_items t) ≡ Some (t, End) = rw onto-End at (table_type-items c t End h) in
+      rw e
+  extern_type-items (MemoryExtern t) h _ = rw (memory_type-items t h)
+  extern_type-items (GlobalExtern t) h _ =
+      let e : global_type c (global_type_items t) ≡ Some (t, End) = rw onto-End at (global_type-items c t End h) in
+      rw e
+  extern_type-items (TagExtern i) h t = rw (index-items i h t)
+
+  pub read_import-items : (i : Import) → IsRangedImport i → HasType c i.type → read_import c (import_held ts i) ≡ Some i
+  read_import-items i h t = rw (identified-extern ts i.type, extern_type-items i.type h.type t)

@@ -1,0 +1,124 @@
+-- Memories among the fields of a module.
+use Rattle.std.proofs.Common.{◌≡◌, ◌⊎◌, inl, inr, ◌≤◌, ℕ, zero, suc, ◌<◌, ◌^◌, Bool, true, false, cond, eqb, List, ◌++◌, Option, Some, None, refl, ap, ◌∙◌, codes, arith}
+use Rattle.std.proofs.lemmas.Bool.{cases_lt, lt-ltb, eq-eqb, ne_eqb}
+use Rattle.std.proofs.Math.Pow.{pow-lt}
+use Rattle.std.specs.Fmt.{digits}
+use Rattle.wasmprinter_spec.specs.Character.{class}
+use Rattle.wasmprinter_spec.specs.Forest.{Forest, End, Word, Group, onto}
+use Rattle.wasmprinter_spec.specs.Grammar.{Placed, ◌>>=◌}
+use Rattle.wasmprinter_spec.specs.Numeral.{numeral, natural, below, exponent_below, exponent_of}
+use Rattle.wasmprinter_spec.specs.Types.{MemoryType}
+use Rattle.wasmprinter_spec.specs.Layout.Memories.{shared_pieces, page_pieces, memory_type_pieces, memory_pieces}
+use Rattle.wasmprinter_spec.specs.Text.Items.{identified}
+use Rattle.wasmprinter_spec.specs.Text.Memories.{shared, page, memory_type, read_memory}
+use Rattle.wasmprinter_lexical.proofs.Runs.{is_word}
+use Rattle.wasmprinter_lexical.proofs.Numbers.{natural-hexadecimal, is_word-hexadecimal}
+use Rattle.wasmprinter_lexical.proofs.Pieces.{Free, Bound}
+use Rattle.wasmprinter_lexical.proofs.Writes.{Writes, writing, both_write, nothing_writes}
+use Rattle.wasmprinter_reading.proofs.Ranged.{IsRangedPage, IsRangedMemory}
+use Rattle.wasmprinter_reading.proofs.Fields.Limits.{wide_items, limits_items, wide_writes, limits_write, IsNoNumber, address_type-items, limits-items, identified-limits}
+
+-- ---- what memories are written as
+
+abbrev shared_items : Bool → Forest
+shared_items true = Word (codes "shared") End
+shared_items false = End
+
+-- the size of a page
+abbrev size_text : ℕ → List ℕ
+size_text e = codes "0x" ++ digits 16 false (2 ^ e)
+
+abbrev page_items : Option ℕ → Forest
+page_items None = End
+page_items (Some e) = Group (Word (codes "pagesize") (Word (size_text e) End)) End
+
+-- what a memory holds behind its word
+abbrev pub memory_items : MemoryType → Forest
+memory_items m = onto (wide_items m.wide) (onto (limits_items m.limits) (onto (shared_items m.shared) (page_items m.page)))
+
+-- ---- their pieces write it
+
+shared_writes : (threads : Bool) → Writes Bound (shared_pieces threads) Bound (shared_items threads)
+unfolding class
+shared_writes true = search writing
+shared_writes false = nothing_writes
+
+-- the size of a page fits into 64 bits
+size_fits : (e : ℕ) → e < 64 → 2 ^ e < 2 ^ 64
+size_fits e h = pow-lt h
+
+page_writes : (e : Option ℕ) → IsRangedPage e → Writes Bound (page_pieces e) Bound (page_items e)
+unfolding class
+page_writes None h = nothing_writes
+page_writes (Some e) h =
+    let small : 2 ^ e < 2 ^ 64 = size_fits e h in
+    let word : is_word (size_text e) ≡ true = is_word-hexadecimal (2 ^ e) (omega arith) in
+    search writing
+
+pub memory_type_writes : (m : MemoryType) → IsRangedMemory m → Writes Free (memory_type_pieces m) Bound (memory_items m)
+unfolding memory_type_pieces
+memory_type_writes m h =
+    both_write (wide_writes m.wide) (both_write (limits_write m.limits h.min h.max) (both_write (shared_writes m.shared) (page_writes m.page h.page)))
+
+pub memory_writes : (i : ℕ) (m : Placed MemoryType) → i < 2 ^ 64 → IsRangedMemory m.value →
+    Writes Bound (memory_pieces i m) Bound (Group (Word (codes "memory") (memory_items m.value)) End)
+unfolding memory_pieces class
+memory_writes i m h r =
+    let held = memory_type_writes m.value r in
+    search writing
+
+-- ---- they read back
+
+-- what stands behind the limits
+abbrev behind_items : Bool → Option ℕ → Forest
+behind_items threads e = onto (shared_items threads) (page_items e)
+
+no_number_behind : (threads : Bool) (e : Option ℕ) → IsNoNumber (behind_items threads e)
+unfolding natural numeral
+no_number_behind true e min = refl
+no_number_behind false None min = refl
+no_number_behind false (Some e) min = refl
+
+shared-items : (threads : Bool) (e : Option ℕ) → shared (behind_items threads e) ≡ (threads, page_items e)
+shared-items true e = refl
+shared-items false None = refl
+shared-items false (Some e) = refl
+
+exponent_below-power : (n e : ℕ) → e < n → exponent_below n (2 ^ e) ≡ Some e
+exponent_below-power zero e h = absurd (omega arith)
+exponent_below-power (suc n) e h = by (cases_lt e n) (exponent_below-power n e)
+  where
+    by : (e < n) ⊎ (n ≤ e) → (e < n → exponent_below n (2 ^ e) ≡ Some e) → cond (eqb (2 ^ n) (2 ^ e)) (Some n) (exponent_below n (2 ^ e)) ≡ Some e
+    by (inl less) rest =
+        let more : 2 ^ e < 2 ^ n = pow-lt less in
+        rw (ne_eqb (2 ^ n) (2 ^ e) (λ same. omega arith), rest less)
+    by (inr last) rest =
+        let same : n ≡ e = omega arith in
+        rw (eq-eqb (2 ^ n) (2 ^ e) (ap (λ (k : ℕ). 2 ^ k) same)) (ap (λ k. Some k) same)
+
+exponent_of-size : (e : ℕ) → e < 64 → exponent_of (size_text e) ≡ Some e
+exponent_of-size e h =
+    let small : 2 ^ e < 2 ^ 64 = size_fits e h in
+    ap (λ o. o >>= below 64 >>= exponent_below 64) (natural-hexadecimal (2 ^ e) (omega arith))
+    ∙ ap (λ b. cond b (Some (2 ^ e)) None >>= exponent_below 64) (lt-ltb (2 ^ e) (2 ^ 64) small)
+    ∙ exponent_below-power 64 e h
+
+page-items : (e : Option ℕ) → IsRangedPage e → page (page_items e) ≡ Some e
+page-items None h = refl
+page-items (Some e) h = ap (λ o. o >>= λ n. Some (Some n)) (exponent_of-size e h)
+
+-- no identifier stands in front
+pub identified-memory : (m : MemoryType) → identified (memory_items m) ≡ (None, memory_items m)
+identified-memory m = identified-limits m.wide m.limits (behind_items m.shared m.page)
+
+pub memory_type-items : (m : MemoryType) → IsRangedMemory m → memory_type (memory_items m) ≡ Some m
+memory_type-items m h =
+    rw (
+      address_type-items m.wide m.limits (behind_items m.shared m.page) h.min,
+      limits-items m.limits (behind_items m.shared m.page) h.min h.max (no_number_behind m.shared m.page),
+      shared-items m.shared m.page,
+      page-items m.page h.page,
+    )
+
+pub read_memory-items : (m : MemoryType) → IsRangedMemory m → read_memory (memory_items m) ≡ Some m
+read_memory-items m h = rw (identified-memory m, memory_type-items m h)

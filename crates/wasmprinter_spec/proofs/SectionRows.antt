@@ -1,0 +1,147 @@
+-- Worked rows of the sections of imports, tables, globals, element segments, data segments and the data count (section 5.5 of the standard): what
+-- single lists of bytes spell, and what of it a module is.
+use Rattle.std.specs.Prelude.{◌≡◌, ℕ, List, [], ◌∷◌, ◌++◌, map, Option, Some, None, refl}
+use Rattle.std.specs.List.{AllByRecursion}
+use Rattle.wasmprinter_spec.specs.Grammar.{input}
+use Rattle.wasmprinter_spec.specs.Placed.{PassiveData, data_of, PlacedModule}
+use Rattle.wasmprinter_spec.specs.Module.{module_of}
+use Rattle.wasmprinter_spec.specs.Limits.{IsWithinLimits}
+use Rattle.wasmprinter_spec.specs.Binary.{binary}
+use Rattle.wasmprinter_spec.proofs.Samples.{head_bytes, empty_placed}
+use Rattle.wasmprinter_spec.proofs.SectionSamples.{Sample, with_item, emptied_table, tables, globals, elements, datas, imports}
+use Rattle.wasmprinter_spec.proofs.Computing.{reading}
+
+abbrev parsed : List ℕ → Option PlacedModule
+parsed bytes = binary.parse (input 0 bytes)
+
+-- ---- what the bytes of the samples spell
+
+abbrev Parses : Sample → Type 0
+Parses s = parsed s.bytes ≡ Some s.placed
+
+abbrev IsModule : Sample → Type 0
+IsModule s = module_of s.placed ≡ s.value
+
+tables_parse : AllByRecursion Parses tables
+unfolding reading
+tables_parse = (refl, (refl, (refl, (refl, tt))))
+
+globals_parse : AllByRecursion Parses globals
+unfolding reading
+globals_parse = (refl, (refl, (refl, (refl, (refl, tt)))))
+
+elements_parse : AllByRecursion Parses elements
+unfolding reading
+elements_parse = (refl, (refl, (refl, (refl, (refl, (refl, (refl, (refl, (refl, tt)))))))))
+
+datas_parse : AllByRecursion Parses datas
+unfolding reading
+datas_parse = (refl, (refl, (refl, (refl, (refl, tt)))))
+
+imports_parse : Parses imports
+unfolding reading
+imports_parse = refl
+
+emptied_table_parses : Parses emptied_table
+unfolding reading
+emptied_table_parses = refl
+
+-- a table with an empty initialiser is beyond the limits
+emptied_table_beyond : IsWithinLimits emptied_table.placed → ⊥
+emptied_table_beyond h = h.tables.0
+
+tables_are : AllByRecursion IsModule (emptied_table ∷ tables)
+tables_are = (refl, (refl, (refl, (refl, (refl, tt)))))
+
+globals_are : AllByRecursion IsModule globals
+globals_are = (refl, (refl, (refl, (refl, (refl, tt)))))
+
+elements_are : AllByRecursion IsModule elements
+elements_are = (refl, (refl, (refl, (refl, (refl, (refl, (refl, (refl, (refl, tt)))))))))
+
+datas_are : AllByRecursion IsModule datas
+datas_are = (refl, (refl, (refl, (refl, (refl, tt)))))
+
+imports_are : IsModule imports
+imports_are = refl
+
+-- ---- the data count
+
+-- a data count and one data segment, passive
+abbrev with_count : List ℕ → List ℕ
+with_count count = head_bytes ++ (0x0c ∷ 0x01 ∷ count) ++ (0x0b ∷ 0x04 ∷ 0x01 ∷ 0x01 ∷ 0x01 ∷ 0x61 ∷ [])
+
+right_count : parsed (with_count (0x01 ∷ [])) ≡ Some (record empty_placed { datas = record { place = 0xe; value = data_of PassiveData (0x61 ∷ []) } ∷ []; size = 17 })
+right_count = refl
+
+-- counts that differ; a count without segments, which is right where it is 0; a count behind the segments; two counts
+other_counts : map parsed (
+    with_count (0x00 ∷ [])
+    ∷ with_count (0x02 ∷ [])
+    ∷ (head_bytes ++ (0x0c ∷ 0x01 ∷ 0x01 ∷ []))
+    ∷ (head_bytes ++ (0x0c ∷ 0x01 ∷ 0x00 ∷ []))
+    ∷ (head_bytes ++ (0x0b ∷ 0x04 ∷ 0x01 ∷ 0x01 ∷ 0x01 ∷ 0x61 ∷ 0x0c ∷ 0x01 ∷ 0x01 ∷ []))
+    ∷ (head_bytes ++ (0x0c ∷ 0x01 ∷ 0x00 ∷ 0x0c ∷ 0x01 ∷ 0x00 ∷ []))
+    ∷ [])
+    ≡ None ∷ None ∷ None ∷ Some (record empty_placed { size = 11 }) ∷ None ∷ None ∷ []
+other_counts = refl
+
+-- ---- bytes that spell nothing
+
+abbrev unspelled : ℕ → List (List ℕ) → List (Option PlacedModule)
+unspelled id items = map (λ i. parsed (with_item id i)) items
+
+-- flags of tables other than 0, 1, 4 and 5; a byte other than 0 behind 40; an initialiser without its end; a type that is no reference
+no_tables : unspelled 4 (
+    (0x70 ∷ 0x02 ∷ 0x01 ∷ [])
+    ∷ (0x70 ∷ 0x03 ∷ 0x01 ∷ 0x02 ∷ [])
+    ∷ (0x70 ∷ 0x06 ∷ 0x01 ∷ [])
+    ∷ (0x70 ∷ 0x07 ∷ 0x01 ∷ 0x02 ∷ [])
+    ∷ (0x70 ∷ 0x08 ∷ 0x01 ∷ [])
+    ∷ (0x40 ∷ 0x01 ∷ 0x70 ∷ 0x00 ∷ 0x01 ∷ 0xd0 ∷ 0x70 ∷ 0x0b ∷ [])
+    ∷ (0x40 ∷ 0x00 ∷ 0x70 ∷ 0x00 ∷ 0x01 ∷ 0xd0 ∷ 0x70 ∷ [])
+    ∷ (0x7f ∷ 0x00 ∷ 0x01 ∷ [])
+    ∷ []) ≡ None ∷ None ∷ None ∷ None ∷ None ∷ None ∷ None ∷ None ∷ []
+unfolding reading
+no_tables = refl
+
+-- a mutability of 2, no mutability, no initialiser, and one that leaves a block open
+no_globals : unspelled 6 (
+    (0x7f ∷ 0x02 ∷ 0x41 ∷ 0x00 ∷ 0x0b ∷ [])
+    ∷ (0x7f ∷ 0x41 ∷ 0x00 ∷ 0x0b ∷ [])
+    ∷ (0x7f ∷ 0x00 ∷ [])
+    ∷ (0x7f ∷ 0x00 ∷ 0x02 ∷ 0x40 ∷ 0x0b ∷ [])
+    ∷ []) ≡ None ∷ None ∷ None ∷ None ∷ []
+unfolding reading
+no_globals = refl
+
+-- flags of 8, a kind other than 0, a type in place of a kind, a kind in place of a type, and an item without its end
+no_elements : unspelled 9 (
+    (0x08 ∷ 0x41 ∷ 0x00 ∷ 0x0b ∷ 0x00 ∷ [])
+    ∷ (0x01 ∷ 0x01 ∷ 0x00 ∷ [])
+    ∷ (0x01 ∷ 0x70 ∷ 0x00 ∷ [])
+    ∷ (0x05 ∷ 0x00 ∷ 0x00 ∷ [])
+    ∷ (0x05 ∷ 0x70 ∷ 0x01 ∷ 0xd0 ∷ 0x70 ∷ [])
+    ∷ []) ≡ None ∷ None ∷ None ∷ None ∷ None ∷ []
+unfolding reading
+no_elements = refl
+
+-- flags of 3, more bytes than there are, and fewer
+no_datas : unspelled 11 (
+    (0x03 ∷ 0x00 ∷ [])
+    ∷ (0x01 ∷ 0x02 ∷ 0x61 ∷ [])
+    ∷ (0x01 ∷ 0x00 ∷ 0x61 ∷ [])
+    ∷ []) ≡ None ∷ None ∷ None ∷ []
+unfolding reading
+no_datas = refl
+
+-- a kind of 5, a name that is not UTF-8, one name, a tag whose attribute is not 0, and a table with an initialiser
+no_imports : unspelled 2 (
+    (0x01 ∷ 0x6d ∷ 0x01 ∷ 0x66 ∷ 0x05 ∷ 0x00 ∷ [])
+    ∷ (0x01 ∷ 0xff ∷ 0x01 ∷ 0x66 ∷ 0x00 ∷ 0x00 ∷ [])
+    ∷ (0x01 ∷ 0x6d ∷ 0x00 ∷ [])
+    ∷ (0x01 ∷ 0x6d ∷ 0x01 ∷ 0x66 ∷ 0x04 ∷ 0x01 ∷ 0x00 ∷ [])
+    ∷ (0x01 ∷ 0x6d ∷ 0x01 ∷ 0x66 ∷ 0x01 ∷ 0x40 ∷ 0x00 ∷ 0x70 ∷ 0x00 ∷ 0x01 ∷ 0x0b ∷ [])
+    ∷ []) ≡ None ∷ None ∷ None ∷ None ∷ None ∷ []
+unfolding reading
+no_imports = refl

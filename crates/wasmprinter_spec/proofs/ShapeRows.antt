@@ -1,0 +1,52 @@
+-- Worked rows of operators with immediates of each shape: what their bytes spell, how they are printed, and that the texts read back.
+use Rattle.std.specs.Prelude.{◌≡◌, ℕ, List, [], ◌∷◌, ◌++◌, map, Option, Some, option_map, refl}
+use Rattle.wasmprinter_spec.specs.Grammar.{◌>>=◌, input, Placed}
+use Rattle.wasmprinter_spec.specs.Types.{signature_at}
+use Rattle.wasmprinter_spec.specs.Operator.{Operator}
+use Rattle.wasmprinter_spec.specs.Table.{table}
+use Rattle.wasmprinter_spec.specs.Instructions.{expression}
+use Rattle.wasmprinter_spec.specs.Forest.{forest, cut}
+use Rattle.wasmprinter_spec.specs.Code.{unfolded}
+use Rattle.wasmprinter_spec.specs.IndexSpaces.{Context}
+use Rattle.wasmprinter_spec.specs.Text.Operators.{read_operators}
+use Rattle.wasmprinter_spec.specs.Call.{text_of}
+use Rattle.wasmprinter_spec.specs.Options.{defaults}
+use Rattle.wasmprinter_spec.specs.Piece.{all_calls}
+use Rattle.wasmprinter_spec.specs.Layout.Operators.{InLine, expression_pieces}
+use Rattle.wasmprinter_spec.specs.LabelNames.{no_names}
+use Rattle.wasmprinter_spec.proofs.Computing.{printing, reading}
+use Rattle.wasmprinter_spec.proofs.Samples.{no_spaces}
+use Rattle.wasmprinter_spec.proofs.BlockSamples.{sample_types}
+use Rattle.wasmprinter_spec.proofs.ShapeSamples.{all_samples}
+
+-- ---- what bytes spell
+
+abbrev pub spelled : List ℕ → Option (List Operator)
+spelled bytes = option_map (λ x. map (λ o. o.value) x.0.items) (expression.parse (input 0 (bytes ++ 0x0b ∷ [])))
+
+samples_spelled : map (λ ss. map (λ s. spelled s.bytes) ss) all_samples ≡ map (λ ss. map (λ s. Some (s.operator ∷ [])) ss) all_samples
+unfolding table
+samples_spelled = refl
+
+-- ---- how they are printed
+
+abbrev printed : Operator → List ℕ
+printed o =
+    let placed : Placed Operator = record { place = 0; value = o } in
+    text_of (all_calls defaults (expression_pieces (record { form = InLine; signature = signature_at sample_types; nesting = 0 }) no_names (placed ∷ [])))
+
+samples_printed : map (λ ss. map (λ s. printed s.operator) ss) all_samples ≡ map (λ ss. map (λ s. s.text) ss) all_samples
+unfolding printing
+samples_printed = refl
+
+-- ---- the way back
+
+abbrev pub around : Context
+around = record { spaces = no_spaces; signature = signature_at sample_types }
+
+abbrev pub ops : List ℕ → Option (List Operator)
+ops text = forest text >>= λ f. unfolded (cut f) >>= read_operators around
+
+samples_read : map (λ ss. map (λ s. ops s.text) ss) all_samples ≡ map (λ ss. map (λ s. Some (s.operator ∷ [])) ss) all_samples
+unfolding reading
+samples_read = refl

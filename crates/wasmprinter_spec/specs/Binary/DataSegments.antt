@@ -1,0 +1,28 @@
+-- The data section (section 5.5 of the standard, "Data Section"): a list of data segments; and the data count section, which holds their number.
+use Rattle.std.specs.Prelude.{ℕ, List, ◌==◌, Option, Some}
+use Rattle.wasmprinter_spec.specs.Grammar.{Grammar, Remainder, seq, map_value, succeed, fail, choose, Placed, placed}
+use Rattle.wasmprinter_spec.specs.Sized.{take_bytes, alone}
+use Rattle.wasmprinter_spec.specs.Name.{u32, vec}
+use Rattle.wasmprinter_spec.specs.Operator.{Operator}
+use Rattle.wasmprinter_spec.specs.Placed.{DataMode, PassiveData, ActiveData, Data, data_of}
+use Rattle.wasmprinter_spec.specs.Instructions.{constant}
+
+-- a length and so many bytes
+abbrev pub byte_vec : Grammar (List ℕ)
+byte_vec = map_value (λ x. x.1) (seq u32 (λ n. take_bytes n))
+
+-- behind the flags: 0 active in memory 0, 1 passive, 2 active in a memory that is named
+abbrev pub data_mode : ℕ → Grammar (DataMode (Placed Operator))
+data_mode flags =
+    choose (flags == 0) (map_value (ActiveData 0) constant)
+    (choose (flags == 1) (succeed PassiveData)
+    (choose (flags == 2) (map_value (λ x. ActiveData x.0 x.1) (seq u32 (λ _. constant))) fail))
+
+abbrev pub segment : Grammar (Data (Placed Operator))
+segment = map_value (λ x. data_of x.1.0 x.1.1) (seq u32 (λ flags. seq (data_mode flags) (λ _. byte_vec)))
+
+abbrev pub data_section : Remainder (List (Placed (Data (Placed Operator))))
+data_section = alone (vec (placed segment))
+
+abbrev pub data_count_section : Remainder (Option ℕ)
+data_count_section = alone (map_value Some u32)

@@ -1,0 +1,55 @@
+-- The element section (section 5.5 of the standard, "Element Section"): a list of element segments.
+use Rattle.std.specs.Prelude.{ℕ, List, [], ◌∷◌, Bool, true, false, ◌==◌, Option}
+use Rattle.wasmprinter_spec.specs.Grammar.{Grammar, Remainder, seq, map_value, succeed, fail, choose, Placed, placed}
+use Rattle.wasmprinter_spec.specs.FirstByte.{only}
+use Rattle.wasmprinter_spec.specs.Sized.{alone}
+use Rattle.wasmprinter_spec.specs.Name.{u32, vec}
+use Rattle.wasmprinter_spec.specs.Types.{RefType, ref_type, Func}
+use Rattle.wasmprinter_spec.specs.Operator.{Operator}
+use Rattle.wasmprinter_spec.specs.Placed.{Mode, Passive, Declared, Active, Items, Functions, Expressions, element_of, ElementEntry, entry_of}
+use Rattle.wasmprinter_spec.specs.Instructions.{constant}
+use Rattle.wasmprinter_spec.specs.Binary.ValTypes.{reference_type}
+
+-- table 0, which the bytes don't write, and an offset
+abbrev pub active : Grammar (Mode (Placed Operator))
+active = map_value (λ offset. Active 0 offset) constant
+
+-- a table and an offset
+abbrev pub active_in : Grammar (Mode (Placed Operator))
+active_in = map_value (λ x. Active x.0 x.1) (seq u32 (λ _. constant))
+
+-- indices of functions
+abbrev pub function_items : Grammar (Items (Placed Operator))
+function_items = map_value Functions (vec u32)
+
+-- behind the byte 00, the kind of functions
+abbrev pub items_of_kind : Grammar (Items (Placed Operator))
+items_of_kind = map_value (λ x. x.1) (seq (only 0x00) (λ _. function_items))
+
+abbrev pub expression_items : RefType → Grammar (Items (Placed Operator))
+expression_items t = map_value (Expressions t) (vec constant)
+
+abbrev pub items_of_type : Grammar (Items (Placed Operator))
+items_of_type = map_value (λ x. x.1) (seq reference_type expression_items)
+
+abbrev pub segment : Bool → Grammar (Mode (Placed Operator)) → Grammar (Items (Placed Operator)) → Grammar ElementEntry
+segment names mode items = map_value (λ x. entry_of names (element_of x.0 x.1)) (seq mode (λ _. items))
+
+-- Behind the flags: bit 0 says that the segment is not active, bit 1 that it is declared or that it names its table, bit 2 that its items are
+-- expressions.
+abbrev pub element_behind : ℕ → Grammar ElementEntry
+element_behind flags =
+    choose (flags == 0) (segment false active function_items)
+    (choose (flags == 1) (segment false (succeed Passive) items_of_kind)
+    (choose (flags == 2) (segment true active_in items_of_kind)
+    (choose (flags == 3) (segment false (succeed Declared) items_of_kind)
+    (choose (flags == 4) (segment false active (expression_items (ref_type true Func)))
+    (choose (flags == 5) (segment false (succeed Passive) items_of_type)
+    (choose (flags == 6) (segment true active_in items_of_type)
+    (choose (flags == 7) (segment false (succeed Declared) items_of_type) fail)))))))
+
+abbrev pub element : Grammar ElementEntry
+element = map_value (λ x. x.1) (seq u32 element_behind)
+
+abbrev pub element_section : Remainder (List (Placed ElementEntry))
+element_section = alone (vec (placed element))

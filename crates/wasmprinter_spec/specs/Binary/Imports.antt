@@ -1,0 +1,30 @@
+-- The import section (section 5.5 of the standard, "Import Section"): a list of imports, each two names and what is imported.
+use Rattle.std.specs.Prelude.{ℕ, List, ◌==◌}
+use Rattle.wasmprinter_spec.specs.Grammar.{Grammar, Remainder, seq, map_value, fail, choose, Placed, placed}
+use Rattle.wasmprinter_spec.specs.FirstByte.{announced}
+use Rattle.wasmprinter_spec.specs.Sized.{alone}
+use Rattle.wasmprinter_spec.specs.Name.{name, u32, vec}
+use Rattle.wasmprinter_spec.specs.Types.{ExternType, FuncExtern, TableExtern, MemoryExtern, GlobalExtern, TagExtern}
+use Rattle.wasmprinter_spec.specs.Placed.{Import, import_of}
+use Rattle.wasmprinter_spec.specs.Binary.Memories.{memory_type}
+use Rattle.wasmprinter_spec.specs.Binary.Tables.{table_type}
+use Rattle.wasmprinter_spec.specs.Binary.Globals.{global_type}
+use Rattle.wasmprinter_spec.specs.Binary.Tags.{tag}
+
+-- behind the byte of the kind (section 5.3, "External Types")
+abbrev pub extern_type_behind : ℕ → Grammar ExternType
+extern_type_behind kind =
+    choose (kind == 0) (map_value FuncExtern u32)
+    (choose (kind == 1) (map_value TableExtern table_type)
+    (choose (kind == 2) (map_value MemoryExtern memory_type)
+    (choose (kind == 3) (map_value GlobalExtern global_type)
+    (choose (kind == 4) (map_value TagExtern tag) fail))))
+
+abbrev pub extern_type : Grammar ExternType
+extern_type = announced extern_type_behind
+
+abbrev pub import : Grammar Import
+import = map_value (λ x. import_of x.0 x.1.0 x.1.1) (seq name (λ _. seq name (λ _. extern_type)))
+
+abbrev pub import_section : Remainder (List (Placed Import))
+import_section = alone (vec (placed import))

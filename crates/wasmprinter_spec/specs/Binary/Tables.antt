@@ -1,0 +1,35 @@
+-- How bytes spell the types of tables (section 5.3 of the standard, "Table Types"), and the table section (section 5.5, "Table Section"): a list of
+-- tables, with or without an initialiser.
+use Rattle.std.specs.Prelude.{ℕ, List, Bool, ◌==◌, ◌||◌, Option, Some, None}
+use Rattle.wasmprinter_spec.specs.Grammar.{Grammar, Remainder, seq, map_value, fail, choose, Placed, placed}
+use Rattle.wasmprinter_spec.specs.FirstByte.{only, announced, peeked}
+use Rattle.wasmprinter_spec.specs.Sized.{alone}
+use Rattle.wasmprinter_spec.specs.Name.{vec}
+use Rattle.wasmprinter_spec.specs.Types.{Limits, TableType, table_type_of}
+use Rattle.wasmprinter_spec.specs.Operator.{Operator}
+use Rattle.wasmprinter_spec.specs.Placed.{Table, table_of}
+use Rattle.wasmprinter_spec.specs.Instructions.{constant}
+use Rattle.wasmprinter_spec.specs.Binary.ValTypes.{reference_type}
+use Rattle.wasmprinter_spec.specs.Binary.Limits.{has_bit, limits}
+
+-- behind the flags of limits: bit 0 says that there is a greatest size, bit 2 that indices have 64 bits
+abbrev pub table_limits_behind : ℕ → Grammar (Bool × Limits)
+table_limits_behind flags =
+    choose (flags == 0 || flags == 1 || flags == 4 || flags == 5) (map_value (λ l. (has_bit 2 flags, l)) (limits (has_bit 0 flags))) fail
+
+-- what the table holds, and its limits
+abbrev pub table_type : Grammar TableType
+table_type = map_value (λ x. table_type_of x.1.0 x.1.1 x.0) (seq reference_type (λ _. announced table_limits_behind))
+
+-- 40 00, a type, and an initialiser; or a type alone
+abbrev pub table_by : ℕ → Grammar (Table (Placed Operator))
+table_by b =
+    choose (b == 0x40)
+    (map_value (λ x. table_of x.1.1.0 (Some x.1.1.1)) (seq (only 0x40) (λ _. seq (only 0x00) (λ _. seq table_type (λ _. constant)))))
+    (map_value (λ t. table_of t None) table_type)
+
+abbrev pub table : Grammar (Table (Placed Operator))
+table = peeked table_by
+
+abbrev pub table_section : Remainder (List (Placed (Table (Placed Operator))))
+table_section = alone (vec (placed table))

@@ -1,0 +1,52 @@
+-- The layout of imports (section 6.6 of the standard, "Imports"). Each has its number in its own index space.
+use Rattle.std.specs.Prelude.{ℕ, ◌+◌, List, [], ◌∷◌, ◌++◌, codes, chars, Some}
+use Rattle.wasmprinter_spec.specs.Grammar.{Placed}
+use Rattle.wasmprinter_spec.specs.Types.{SubType, signature_at, ExternType, FuncExtern, TableExtern, MemoryExtern, GlobalExtern, TagExtern}
+use Rattle.wasmprinter_spec.specs.Placed.{Import}
+use Rattle.wasmprinter_spec.specs.Piece.{Piece, Break, Gap, Quoted, Mark}
+use Rattle.wasmprinter_spec.specs.Layout.Groups.{line_group_gap}
+use Rattle.wasmprinter_spec.specs.Layout.Functions.{header_pieces}
+use Rattle.wasmprinter_spec.specs.Layout.Tables.{table_type_pieces}
+use Rattle.wasmprinter_spec.specs.Layout.Memories.{memory_type_pieces}
+use Rattle.wasmprinter_spec.specs.Layout.Globals.{global_type_pieces}
+
+-- how many of each kind stand in front
+pub record Numbers : Type 0 where
+  pub functions : ℕ
+  pub tables : ℕ
+  pub memories : ℕ
+  pub globals : ℕ
+  pub tags : ℕ
+
+abbrev pub no_numbers : Numbers
+no_numbers = record { functions = 0; tables = 0; memories = 0; globals = 0; tags = 0 }
+
+abbrev pub number_of : ExternType → Numbers → ℕ
+number_of (FuncExtern i) n = n.functions
+number_of (TableExtern t) n = n.tables
+number_of (MemoryExtern t) n = n.memories
+number_of (GlobalExtern t) n = n.globals
+number_of (TagExtern i) n = n.tags
+
+abbrev pub numbers_behind : ExternType → Numbers → Numbers
+numbers_behind (FuncExtern i) n = record n { functions = n.functions + 1 }
+numbers_behind (TableExtern t) n = record n { tables = n.tables + 1 }
+numbers_behind (MemoryExtern t) n = record n { memories = n.memories + 1 }
+numbers_behind (GlobalExtern t) n = record n { globals = n.globals + 1 }
+numbers_behind (TagExtern i) n = record n { tags = n.tags + 1 }
+
+unfoldable pub extern_pieces : List SubType → ℕ → ExternType → List Piece
+extern_pieces ts n (FuncExtern i) = line_group_gap (codes "func") (header_pieces n i (signature_at ts i))
+extern_pieces ts n (TableExtern t) = line_group_gap (codes "table") (Mark n ∷ (Gap ∷ table_type_pieces t))
+extern_pieces ts n (MemoryExtern t) = line_group_gap (codes "memory") (Mark n ∷ (Gap ∷ memory_type_pieces t))
+extern_pieces ts n (GlobalExtern t) = line_group_gap (codes "global") (Mark n ∷ (Gap ∷ global_type_pieces t))
+extern_pieces ts n (TagExtern i) = line_group_gap (codes "tag") (header_pieces n i (signature_at ts i))
+
+unfoldable pub import_pieces : List SubType → ℕ → Placed Import → List Piece
+import_pieces ts n i =
+    Break (Some i.place) 1
+    ∷ line_group_gap (codes "import") (Quoted (chars i.value.source) ∷ (Gap ∷ (Quoted (chars i.value.name) ∷ (Gap ∷ extern_pieces ts n i.value.type))))
+
+unfoldable pub imports_pieces : List SubType → Numbers → List (Placed Import) → List Piece
+imports_pieces ts n [] = []
+imports_pieces ts n (i ∷ is) = import_pieces ts (number_of i.value.type n) i ++ imports_pieces ts (numbers_behind i.value.type n) is

@@ -1,0 +1,17 @@
+-- The layout of limits (section 6.4 of the standard, "Limits").
+use Rattle.std.specs.Prelude.{ℕ, List, [], ◌∷◌, codes, decimal, Bool, true, false, Option, Some, None}
+use Rattle.wasmprinter_spec.specs.Types.{Limits}
+use Rattle.wasmprinter_spec.specs.Piece.{Piece, TypeWordGap, Literals}
+
+-- addresses of 64 bits
+abbrev pub wide_pieces : Bool → List Piece
+wide_pieces true = TypeWordGap (codes "i64") ∷ []
+wide_pieces false = []
+
+abbrev pub max_words : Option ℕ → List (List ℕ)
+max_words None = []
+max_words (Some n) = decimal n ∷ []
+
+-- the least and the greatest size in one literal
+unfoldable pub limits_pieces : Limits → List Piece
+limits_pieces l = Literals (decimal l.min) (max_words l.max) ∷ []

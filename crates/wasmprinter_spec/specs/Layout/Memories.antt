@@ -1,0 +1,23 @@
+-- The layout of memories (sections 6.4 and 6.6 of the standard, "Memory Types" and "Memories", with sizes of pages).
+use Rattle.std.specs.Prelude.{ℕ, ◌^◌, List, [], ◌∷◌, ◌++◌, codes, Bool, true, false, Option, Some, None}
+use Rattle.std.specs.Fmt.{digits}
+use Rattle.wasmprinter_spec.specs.Grammar.{Placed}
+use Rattle.wasmprinter_spec.specs.Types.{MemoryType}
+use Rattle.wasmprinter_spec.specs.Piece.{Piece, Break, Gap, Word, GapTypeWord, Mark}
+use Rattle.wasmprinter_spec.specs.Layout.Groups.{line_group_gap}
+use Rattle.wasmprinter_spec.specs.Layout.Limits.{wide_pieces, limits_pieces}
+
+abbrev pub shared_pieces : Bool → List Piece
+shared_pieces true = GapTypeWord (codes "shared") ∷ []
+shared_pieces false = []
+
+-- the size of a page in bytes, in hexadecimal
+abbrev pub page_pieces : Option ℕ → List Piece
+page_pieces None = []
+page_pieces (Some e) = Gap ∷ line_group_gap (codes "pagesize") (Word (codes "0x" ++ digits 16 false (2 ^ e)) ∷ [])
+
+unfoldable pub memory_type_pieces : MemoryType → List Piece
+memory_type_pieces m = wide_pieces m.wide ++ (limits_pieces m.limits ++ (shared_pieces m.shared ++ page_pieces m.page))
+
+unfoldable pub memory_pieces : ℕ → Placed MemoryType → List Piece
+memory_pieces i m = Break (Some m.place) 1 ∷ line_group_gap (codes "memory") (Mark i ∷ (Gap ∷ memory_type_pieces m.value))

@@ -1,0 +1,16 @@
+-- How the parts of the table write a row: the number behind the prefix or the byte itself, the word, the shape, the arity.
+use Prim.Native.String.{String}
+use Rattle.std.specs.Prelude.{ℕ, codes}
+use Rattle.wasmprinter_spec.specs.Row.{Row, Shape, Arity, Role, Plain}
+
+-- an operator without a prefix, which stands so to the blocks around it
+abbrev pub control : ℕ → String → Shape → Arity → Role → Row
+control n w s a r = record { prefix = 0; number = n; word = codes w; shape = s; arity = a; role = r }
+
+-- an operator behind a prefix
+abbrev pub prefixed : ℕ → ℕ → String → Shape → Arity → Row
+prefixed p n w s a = record { prefix = p; number = n; word = codes w; shape = s; arity = a; role = Plain }
+
+-- an operator without one
+abbrev pub plain : ℕ → String → Shape → Arity → Row
+plain n w s a = prefixed 0 n w s a

@@ -1,0 +1,34 @@
+-- Data segments in the text format (section 6.6 of the standard, "Data Segments"). Of the abbreviations an offset that is one instruction is read,
+-- and an active segment without its memory, which is then memory 0.
+use Rattle.std.specs.Prelude.{ℕ, List, [], ◌∷◌, ◌++◌, codes, bytes_eq, Option, Some, None, option_map, if◌then◌else◌}
+use Rattle.wasmprinter_spec.specs.Grammar.{◌>>=◌}
+use Rattle.wasmprinter_spec.specs.Forest.{Forest, End, Word, String, Group}
+use Rattle.wasmprinter_spec.specs.Operator.{Operator}
+use Rattle.wasmprinter_spec.specs.Placed.{DataMode, PassiveData, ActiveData, Data, data_of}
+use Rattle.wasmprinter_spec.specs.IndexSpaces.{index, Context}
+use Rattle.wasmprinter_spec.specs.Text.Items.{identified}
+use Rattle.wasmprinter_spec.specs.Text.Expressions.{expression_group}
+
+-- strings, one behind another
+abbrev pub strings : Forest → Option (List ℕ)
+strings End = Some []
+strings (String s f) = option_map (λ bs. s ++ bs) (strings f)
+strings _ = None
+
+module _ (c : Context) where
+  abbrev pub with_bytes : DataMode Operator → Forest → Option (Data Operator)
+  with_bytes mode f = option_map (data_of mode) (strings f)
+
+  -- an offset in a group, and bytes
+  abbrev pub active_in : ℕ → Forest → Option (Data Operator)
+  active_in m (Group g f) = expression_group c (codes "offset") g >>= λ offset. with_bytes (ActiveData m offset) f
+  active_in m f = None
+
+  abbrev pub segment : Forest → Option (Data Operator)
+  segment (Group (Word w g) f) =
+      if bytes_eq w (codes "memory") then index c.spaces.memories g >>= (λ m. active_in m f) else active_in 0 (Group (Word w g) f)
+  segment f = with_bytes PassiveData f
+
+  -- a segment with its identifier
+  abbrev pub read_data : Forest → Option (Data Operator)
+  read_data f = segment (identified f).1

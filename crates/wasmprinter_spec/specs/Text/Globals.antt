@@ -1,0 +1,31 @@
+-- Globals in the text format (section 6.4 of the standard, "Global Types"; section 6.6, "Globals"). A global with its export inside is an
+-- abbreviation that is not read.
+use Rattle.std.specs.Prelude.{ℕ, true, false, List, codes, bytes_eq, Option, Some, None, option_map, if◌then◌else◌}
+use Rattle.wasmprinter_spec.specs.Grammar.{◌>>=◌}
+use Rattle.wasmprinter_spec.specs.Forest.{Forest, Word}
+use Rattle.wasmprinter_spec.specs.Types.{ValType, GlobalType, global_type_of}
+use Rattle.wasmprinter_spec.specs.Operator.{Operator}
+use Rattle.wasmprinter_spec.specs.Placed.{Global, global_of}
+use Rattle.wasmprinter_spec.specs.IndexSpaces.{Context}
+use Rattle.wasmprinter_spec.specs.Text.Items.{identified, leading_item, ended}
+use Rattle.wasmprinter_spec.specs.Text.Types.{val_named, val_group, val_type}
+use Rattle.wasmprinter_spec.specs.Text.Expressions.{expression}
+
+abbrev pub global_named : List ℕ → Option GlobalType
+global_named w = option_map (global_type_of false) (val_named w)
+
+module _ (c : Context) where
+  -- a type in parentheses: that of a global which can be changed, or a reference type
+  abbrev pub global_group : Forest → Option GlobalType
+  global_group (Word w f) =
+      if bytes_eq w (codes "mut") then option_map (global_type_of true) (val_type c.spaces.types f)
+      else option_map (global_type_of false) (val_group c.spaces.types (Word w f))
+  global_group _ = None
+
+  -- the type of a global, and what stands behind it
+  abbrev pub global_type : Forest → Option (GlobalType × Forest)
+  global_type f = leading_item global_named global_group f
+
+  -- a global with its identifier
+  abbrev pub read_global : Forest → Option (Global Operator)
+  read_global f = global_type (identified f).1 >>= λ t. expression c t.1 >>= λ os. Some (global_of t.0 os)

@@ -1,0 +1,24 @@
+-- Limits in the text format (section 6.4 of the standard, "Limits" and "Address Types").
+use Rattle.std.specs.Prelude.{ℕ, Bool, true, false, codes, bytes_eq, Option, Some, None, if◌then◌else◌}
+use Rattle.wasmprinter_spec.specs.Grammar.{◌>>=◌}
+use Rattle.wasmprinter_spec.specs.Numeral.{u64}
+use Rattle.wasmprinter_spec.specs.Forest.{Forest, Word}
+use Rattle.wasmprinter_spec.specs.Types.{Limits, limits_of}
+
+-- the type of addresses, 32 bits where none stands, and what stands behind it
+abbrev pub address_type : Forest → Bool × Forest
+address_type (Word w f) = if bytes_eq w (codes "i64") then (true, f) else (if bytes_eq w (codes "i32") then (false, f) else (false, Word w f))
+address_type f = (false, f)
+
+abbrev pub with_max : ℕ → Option ℕ → Forest → Forest → Limits × Forest
+with_max min (Some max) f rest = (limits_of min (Some max), rest)
+with_max min None f rest = (limits_of min None, f)
+
+-- the greatest size, if a number stands there
+abbrev pub max_behind : ℕ → Forest → Limits × Forest
+max_behind min (Word w f) = with_max min (u64 w) (Word w f) f
+max_behind min f = (limits_of min None, f)
+
+abbrev pub limits : Forest → Option (Limits × Forest)
+limits (Word w f) = u64 w >>= λ min. Some (max_behind min f)
+limits f = None

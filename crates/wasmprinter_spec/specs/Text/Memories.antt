@@ -1,0 +1,28 @@
+-- Memories in the text format (section 6.4 of the standard, "Memory Types"; section 6.6, "Memories"; with sizes of pages). A memory
+-- with its data or with its export inside is an abbreviation that is not read.
+use Rattle.std.specs.Prelude.{ℕ, Bool, true, false, codes, bytes_eq, Option, Some, None, if◌then◌else◌}
+use Rattle.wasmprinter_spec.specs.Grammar.{◌>>=◌}
+use Rattle.wasmprinter_spec.specs.Forest.{Forest, End, Word, Group}
+use Rattle.wasmprinter_spec.specs.Types.{MemoryType, memory_type_of}
+use Rattle.wasmprinter_spec.specs.Numeral.{exponent_of}
+use Rattle.wasmprinter_spec.specs.Text.Limits.{address_type, limits}
+use Rattle.wasmprinter_spec.specs.Text.Items.{identified, one_word}
+
+abbrev pub shared : Forest → Bool × Forest
+shared (Word w f) = if bytes_eq w (codes "shared") then (true, f) else (false, Word w f)
+shared f = (false, f)
+
+-- the size of a page, which is a power of two, or nothing
+abbrev pub page : Forest → Option (Option ℕ)
+page End = Some None
+page (Group (Word w f) End) = if bytes_eq w (codes "pagesize") then one_word exponent_of f >>= (λ e. Some (Some e)) else None
+page f = None
+
+abbrev pub memory_type : Forest → Option MemoryType
+memory_type f =
+    let wide : Bool × Forest = address_type f in
+    limits wide.1 >>= λ l. page (shared l.1).1 >>= λ e. Some (memory_type_of wide.0 (shared l.1).0 l.0 e)
+
+-- a memory with its identifier
+abbrev pub read_memory : Forest → Option MemoryType
+read_memory f = memory_type (identified f).1

@@ -1,0 +1,101 @@
+//! Imports of each kind, and the numbers of what is defined behind them.
+
+use crate::sections::text_of;
+use std::test::Fail;
+use wasmprinter::wasm::decode;
+use wasmprinter::{Error, print_bytes};
+use wasmprinter_samples::PREAMBLE;
+
+/// The number of the import section.
+const IMPORT: u8 = 2;
+
+/// A function type; imports of two functions, a table, a memory, a global and a tag; and one of each defined.
+const ALL_KINDS: [u8; 93] = [
+    0x00, 0x61, 0x73, 0x6d, 0x01, 0x00, 0x00, 0x00, // preamble
+    0x01, 0x04, 0x01, 0x60, 0x00, 0x00, // types
+    0x02, 0x2b, 0x06, // imports
+    0x01, 0x61, 0x01, 0x66, 0x00, 0x00, // a function
+    0x01, 0x61, 0x01, 0x74, 0x01, 0x70, 0x01, 0x01, 0x02, // a table
+    0x01, 0x61, 0x01, 0x6d, 0x02, 0x00, 0x01, // a memory
+    0x01, 0x61, 0x01, 0x67, 0x03, 0x7f, 0x01, // a global
+    0x01, 0x61, 0x01, 0x65, 0x04, 0x00, 0x00, // a tag
+    0x00, 0x02, 0x22, 0x0a, 0x00, 0x00, // a function with a name of two characters
+    0x03, 0x02, 0x01, 0x00, // functions
+    0x04, 0x04, 0x01, 0x6f, 0x00, 0x00, // tables
+    0x05, 0x03, 0x01, 0x00, 0x02, // memories
+    0x0d, 0x03, 0x01, 0x00, 0x00, // tags
+    0x06, 0x06, 0x01, 0x7e, 0x00, 0x42, 0x05, 0x0b, // globals
+    0x0a, 0x04, 0x01, 0x02, 0x00, 0x0b, // bodies
+];
+
+#[test]
+fn numbers_definitions_behind_imports(rt: HostRuntime) -> Result<(), Fail> {
+    let text = print_bytes(rt.alloc(), &ALL_KINDS)?;
+    assert_eq!(rt;
+        text.as_str(),
+        r#"(module
+  (type (;0;) (func))
+  (import "a" "f" (func (;0;) (type 0)))
+  (import "a" "t" (table (;0;) 1 2 funcref))
+  (import "a" "m" (memory (;0;) 1))
+  (import "a" "g" (global (;0;) (mut i32)))
+  (import "a" "e" (tag (;0;) (type 0)))
+  (import "" "\u{22}\u{a}" (func (;1;) (type 0)))
+  (table (;1;) 0 externref)
+  (memory (;1;) 2)
+  (tag (;1;) (type 0))
+  (global (;1;) i64 i64.const 5)
+  (func (;2;) (type 0))
+)
+"#
+    );
+    Ok(())
+}
+
+#[test]
+fn counts_defined_functions_alone(rt: HostRuntime) -> Result<(), Fail> {
+    let module = decode(rt.alloc(), &ALL_KINDS)?;
+    assert_eq!(rt; module.function_count(), 1);
+    assert!(rt; module.body(0).is_some());
+    assert!(rt; module.body(1).is_none());
+    Ok(())
+}
+
+#[test]
+fn prints_signatures_of_imports(rt: HostRuntime) -> Result<(), Fail> {
+    let mut wasm = Vec::from_slice(rt.alloc(), &PREAMBLE)?;
+    wasm.extend_from_slice(&[0x01, 0x06, 0x01, 0x60, 0x01, 0x7f, 0x01, 0x7e])?;
+    wasm.extend_from_slice(&[
+        0x02, 0x0a, 0x02, 0x00, 0x00, 0x00, 0x00, 0x00, 0x00, 0x04, 0x00, 0x00,
+    ])?;
+    let text = print_bytes(rt.alloc(), &wasm)?;
+    assert_eq!(rt;
+        text.as_str(),
+        r#"(module
+  (type (;0;) (func (param i32) (result i64)))
+  (import "" "" (func (;0;) (type 0) (param i32) (result i64)))
+  (import "" "" (tag (;0;) (type 0) (param i32) (result i64)))
+)
+"#
+    );
+    Ok(())
+}
+
+#[test]
+fn refuses_other_imports(rt: HostRuntime) -> Result<(), Fail> {
+    let contents: [&[u8]; 4] = [
+        // a kind that there isn't
+        &[0x01, 0x00, 0x00, 0x05, 0x00],
+        // a tag with another attribute
+        &[0x01, 0x00, 0x00, 0x04, 0x01, 0x00],
+        // a name that isn't UTF-8
+        &[0x01, 0x01, 0xff, 0x00, 0x00, 0x00],
+        // a table of numbers
+        &[0x01, 0x00, 0x00, 0x01, 0x7f, 0x00, 0x00],
+    ];
+    for content in contents {
+        let refused = text_of(rt.alloc(), IMPORT, content);
+        assert!(rt; matches!(refused, Err(Error::Malformed { .. })));
+    }
+    Ok(())
+}

@@ -1,0 +1,308 @@
+//! All opcodes: the line of each operator, and the numbers that no operator has, which are malformed.
+
+use crate::control::text_of;
+use crate::opcode_words::{Group, INDICES, LANES, MEMORIES, OTHERS, PLAIN};
+use std::alloc::{AllocError, Global};
+use std::num::ParseIntError;
+use std::test::Fail;
+use wasmprinter::Error;
+
+/// The text of a module whose function has these lines.
+fn expected(alloc: Global, lines: &[&str]) -> Result<String, AllocError> {
+    let mut text = String::from_str(
+        alloc,
+        "(module\n  (type (;0;) (func))\n  (func (;0;) (type 0)\n",
+    )?;
+    for line in lines {
+        text.push_str("    ")?;
+        text.push_str(line)?;
+        text.push('\n')?;
+    }
+    text.push_str("  )\n)\n")?;
+    Ok(text)
+}
+
+/// The bytes of an opcode: its number alone where it has no prefix, else the prefix and the number. Numbers are below 2^14.
+fn opcode(alloc: Global, prefix: u8, number: u32) -> Result<Vec<u8>, AllocError> {
+    let mut bytes = Vec::new(alloc);
+    if prefix != 0 {
+        bytes.push(prefix)?;
+    }
+    if prefix == 0 || number < 0x80 {
+        bytes.push((number % 0x100) as u8)?;
+    } else {
+        bytes.push((number % 0x80) as u8 + 0x80)?;
+        bytes.push((number / 0x80 % 0x80) as u8)?;
+    }
+    Ok(bytes)
+}
+
+/// An operator and the line that it is printed on.
+#[derive(Drop)]
+struct Sample {
+    bytes: Vec<u8>,
+    line: String,
+}
+
+/// The operators of a group.
+fn samples_of(alloc: Global, group: &Group) -> Result<Vec<Sample>, Fail> {
+    let mut samples = Vec::new(alloc);
+    let mut number = 0;
+    for item in group.words.split_ascii_whitespace() {
+        match item.strip_prefix('@') {
+            Some(digits) => number = number_of(group.prefix, digits)?,
+            None => {
+                let mut bytes = opcode(alloc, group.prefix, number)?;
+                bytes.extend_from_slice(group.immediates)?;
+                let line = format!(in alloc; "{item}{}", group.text)?;
+                samples.push(Sample { bytes, line })?;
+                number = number.saturating_add(1);
+            }
+        }
+    }
+    Ok(samples)
+}
+
+/// A number as a group writes it.
+fn number_of(prefix: u8, digits: &str) -> Result<u32, ParseIntError> {
+    match prefix {
+        0 | 0xfe => u32::from_str_radix(digits, 16),
+        _ => u32::from_str_radix(digits, 10),
+    }
+}
+
+/// The first operator of some groups that isn't printed on its line, by the text that is printed.
+fn first_fault(alloc: Global, groups: &[Group]) -> Result<Option<String>, Fail> {
+    for group in groups {
+        for sample in &samples_of(alloc, group)? {
+            let text = text_of(alloc, &sample.bytes)?;
+            if text != expected(alloc, &[sample.line.as_str()])? {
+                return Ok(Some(text));
+            }
+        }
+    }
+    Ok(None)
+}
+
+#[test]
+fn prints_operators_without_immediates(rt: HostRuntime) -> Result<(), Fail> {
+    assert_eq!(rt; first_fault(rt.alloc(), &PLAIN)?, None);
+    Ok(())
+}
+
+#[test]
+fn prints_operators_on_memories(rt: HostRuntime) -> Result<(), Fail> {
+    assert_eq!(rt; first_fault(rt.alloc(), &MEMORIES)?, None);
+    Ok(())
+}
+
+#[test]
+fn prints_operators_with_lanes(rt: HostRuntime) -> Result<(), Fail> {
+    assert_eq!(rt; first_fault(rt.alloc(), &LANES)?, None);
+    Ok(())
+}
+
+#[test]
+fn prints_operators_with_indices(rt: HostRuntime) -> Result<(), Fail> {
+    assert_eq!(rt; first_fault(rt.alloc(), &INDICES)?, None);
+    Ok(())
+}
+
+#[test]
+fn prints_operators_with_types_and_numbers(rt: HostRuntime) -> Result<(), Fail> {
+    assert_eq!(rt; first_fault(rt.alloc(), &OTHERS)?, None);
+    Ok(())
+}
+
+/// Operators that open, part and end blocks, and the lines that they are printed on.
+const BLOCKS: [(&[u8], &[&str]); 6] = [
+    (&[0x02, 0x40, 0x0b], &["block ;; label = @1", "end"]),
+    (&[0x03, 0x40, 0x0b], &["loop ;; label = @1", "end"]),
+    (
+        &[0x04, 0x40, 0x05, 0x0b],
+        &["if ;; label = @1", "else", "end"],
+    ),
+    (
+        &[0x06, 0x40, 0x07, 0x00, 0x19, 0x0b],
+        &["try ;; label = @1", "catch 0", "catch_all", "end"],
+    ),
+    (
+        &[0x06, 0x40, 0x18, 0x00],
+        &["try ;; label = @1", "delegate 0"],
+    ),
+    (
+        &[0x1f, 0x40, 0x00, 0x0b],
+        &["try_table ;; label = @1", "end"],
+    ),
+];
+
+/// How many opcodes these are.
+const BLOCK_OPCODES: u32 = 10;
+
+#[test]
+fn prints_operators_of_blocks(rt: HostRuntime) -> Result<(), Fail> {
+    for (operators, lines) in BLOCKS {
+        let text = text_of(rt.alloc(), operators)?;
+        assert_eq!(rt; text.as_str(), expected(rt.alloc(), lines)?.as_str());
+    }
+    Ok(())
+}
+
+/// Other immediates: what is left out, what isn't, and longer spellings.
+const SPECIAL: [(&[u8], &str); 20] = [
+    (&[0x11, 0x00, 0x00], "call_indirect (type 0)"),
+    (&[0x3f, 0x00], "memory.size"),
+    (&[0x40, 0x00], "memory.grow"),
+    (&[0xfc, 0x0b, 0x00], "memory.fill"),
+    (&[0xfc, 0x08, 0x05, 0x00], "memory.init 5"),
+    (&[0xfc, 0x0c, 0x00, 0x00], "table.init 0"),
+    (&[0xfc, 0x0e, 0x00, 0x00], "table.copy"),
+    (&[0xfc, 0x0e, 0x00, 0x01], "table.copy 0 1"),
+    (&[0xfc, 0x0a, 0x01, 0x00], "memory.copy 1 0"),
+    (&[0x1c, 0x00], "select (result)"),
+    (&[0x1c, 0x02, 0x7f, 0x70], "select (result i32 funcref)"),
+    (&[0x28, 0x41, 0x01, 0x04], "i32.load 1 offset=4 align=2"),
+    (&[0x28, 0x42, 0x00, 0x00], "i32.load"),
+    (
+        &[0x28, 0xff, 0x00, 0x02, 0x00],
+        "i32.load 2 align=9223372036854775808",
+    ),
+    (
+        &[
+            0x36, 0x02, 0xff, 0xff, 0xff, 0xff, 0xff, 0xff, 0xff, 0xff, 0xff, 0x01,
+        ],
+        "i32.store offset=18446744073709551615",
+    ),
+    (
+        &[0xfd, 0x54, 0x41, 0x01, 0x02, 0x0f],
+        "v128.load8_lane 1 offset=2 align=2 15",
+    ),
+    (
+        &[0xfb, 0x18, 0x01, 0x00, 0x6e, 0x00],
+        "br_on_cast 0 anyref (ref 0)",
+    ),
+    (&[0xfb, 0x17, 0x00], "ref.cast (ref null 0)"),
+    (&[0xfd, 0x8e, 0x80, 0x80, 0x80, 0x00], "i8x16.swizzle"),
+    (
+        &[0x43, 0x01, 0x00, 0x80, 0xff],
+        "f32.const -nan:0x1 (;=NaN;)",
+    ),
+];
+
+#[test]
+fn prints_other_immediates(rt: HostRuntime) -> Result<(), Fail> {
+    for (operator, line) in SPECIAL {
+        let text = text_of(rt.alloc(), operator)?;
+        assert_eq!(rt; text.as_str(), expected(rt.alloc(), &[line])?.as_str());
+    }
+    Ok(())
+}
+
+/// Immediates that are no operator's: the flags of a cast, the first number of a memory operand, the byte of a fence, a type, a lane that
+/// is cut off.
+const MISSPELLED: [&[u8]; 7] = [
+    &[0xfb, 0x18, 0x04, 0x00, 0x6e, 0x6e],
+    &[0xfb, 0x19, 0xff, 0x00, 0x6e, 0x6e],
+    &[0x28, 0x80, 0x01, 0x00, 0x00],
+    &[0xfe, 0x03, 0x01],
+    &[0x1c, 0x01, 0x78],
+    &[0xd0, 0x7f],
+    &[0xfd, 0x54, 0x00, 0x00],
+];
+
+#[test]
+fn refuses_immediates_of_no_operator(rt: HostRuntime) -> Result<(), Fail> {
+    for operator in MISSPELLED {
+        let refused = text_of(rt.alloc(), operator);
+        assert!(rt; matches!(refused, Err(Error::Malformed { .. })));
+    }
+    Ok(())
+}
+
+/// Numbers below these bounds that no operator has: the prefix, 0 for none; the first and the last of a run.
+const UNLISTED: [(u8, u32, u32); 23] = [
+    (0, 0x16, 0x17),
+    (0, 0x1d, 0x1e),
+    (0, 0x27, 0x27),
+    (0, 0xc5, 0xcf),
+    (0, 0xd7, 0xfa),
+    (0xfb, 31, 63),
+    (0xfc, 18, 18),
+    (0xfc, 23, 63),
+    (0xfd, 154, 154),
+    (0xfd, 162, 162),
+    (0xfd, 165, 166),
+    (0xfd, 175, 176),
+    (0xfd, 178, 180),
+    (0xfd, 187, 187),
+    (0xfd, 194, 194),
+    (0xfd, 197, 198),
+    (0xfd, 207, 208),
+    (0xfd, 210, 212),
+    (0xfd, 226, 226),
+    (0xfd, 238, 238),
+    (0xfd, 276, 511),
+    (0xfe, 0x04, 0x0f),
+    (0xfe, 0x4f, 0x7f),
+];
+
+/// How many numbers there are: of one byte up to FA, behind FB and FC up to 63, behind FD up to 511 and behind FE up to 7F.
+const NUMBERS: u32 = 251 + 64 + 64 + 512 + 128;
+
+/// Zeros, which could be the immediates of an operator of any shape, or operators.
+const ZEROS: [u8; 20] = [0x00; 20];
+
+#[test]
+fn refuses_each_other_number(rt: HostRuntime) -> Result<(), Fail> {
+    let alloc = rt.alloc();
+    for (prefix, first, last) in UNLISTED {
+        for number in first..=last {
+            let mut bytes = opcode(alloc, prefix, number)?;
+            bytes.extend_from_slice(&ZEROS)?;
+            let refused = text_of(alloc, &bytes);
+            assert!(rt; matches!(refused, Err(Error::Malformed { .. })));
+            // the same where it would open a block
+            bytes.push(0x0b)?;
+            let refused = text_of(alloc, &bytes);
+            assert!(rt; matches!(refused, Err(Error::Malformed { .. })));
+        }
+    }
+    Ok(())
+}
+
+/// How many operators are in some groups.
+fn count_of(alloc: Global, groups: &[Group]) -> Result<u32, Fail> {
+    let mut count = 0u32;
+    for group in groups {
+        for _ in &samples_of(alloc, group)? {
+            count = count.saturating_add(1);
+        }
+    }
+    Ok(count)
+}
+
+/// Each number is printed or refused by a test above.
+#[test]
+fn leaves_out_no_number(rt: HostRuntime) -> Result<(), Fail> {
+    let alloc = rt.alloc();
+    let mut refused = 0u32;
+    for (_, first, last) in UNLISTED {
+        for _ in first..=last {
+            refused = refused.saturating_add(1);
+        }
+    }
+    let printed = [
+        BLOCK_OPCODES,
+        count_of(alloc, &PLAIN)?,
+        count_of(alloc, &MEMORIES)?,
+        count_of(alloc, &LANES)?,
+        count_of(alloc, &INDICES)?,
+        count_of(alloc, &OTHERS)?,
+    ];
+    let mut numbers = refused;
+    for count in printed {
+        numbers = numbers.saturating_add(count);
+    }
+    assert_eq!(rt; numbers, NUMBERS);
+    Ok(())
+}

@@ -1,0 +1,161 @@
+//! Memories, tags and the start function: texts of modules with one section, or with types and one section.
+
+use std::alloc::{AllocError, Global};
+use std::test::Fail;
+use wasmprinter::{Error, print_bytes};
+use wasmprinter_samples::PREAMBLE;
+
+/// The number of the type section.
+pub const TYPE: u8 = 1;
+
+/// The number of the memory section.
+const MEMORY: u8 = 5;
+
+/// The number of the start section.
+const START: u8 = 8;
+
+/// The number of the tag section.
+const TAG: u8 = 13;
+
+/// Adds a section with this number and content, of which there are fewer than 100 bytes.
+pub fn add_section(wasm: &mut Vec<u8>, id: u8, content: &[u8]) -> Result<(), AllocError> {
+    wasm.extend_from_slice(&[id, content.len().min(100) as u8])?;
+    wasm.extend_from_slice(content)
+}
+
+/// The text of a module with one section.
+pub fn text_of(alloc: Global, id: u8, content: &[u8]) -> Result<String, Error> {
+    let mut wasm = Vec::from_slice(alloc, &PREAMBLE)?;
+    add_section(&mut wasm, id, content)?;
+    print_bytes(alloc, &wasm)
+}
+
+/// Memory sections of one memory each, and its text.
+const MEMORIES: [(&[u8], &str); 5] = [
+    // pages of one byte
+    (
+        &[0x01, 0x08, 0x01, 0x00],
+        "(module\n  (memory (;0;) 1 (pagesize 0x1))\n)\n",
+    ),
+    (
+        &[0x01, 0x0f, 0x01, 0x02, 0x10],
+        "(module\n  (memory (;0;) i64 1 2 shared (pagesize 0x10000))\n)\n",
+    ),
+    // the largest pages, and none of them
+    (
+        &[0x01, 0x0c, 0x00, 0x3f],
+        "(module\n  (memory (;0;) i64 0 (pagesize 0x8000000000000000))\n)\n",
+    ),
+    // the greatest size
+    (
+        &[
+            0x01, 0x05, 0x7f, 0xff, 0xff, 0xff, 0xff, 0xff, 0xff, 0xff, 0xff, 0xff, 0x01,
+        ],
+        "(module\n  (memory (;0;) i64 127 18446744073709551615)\n)\n",
+    ),
+    // no memories
+    (&[0x00], "(module)\n"),
+];
+
+#[test]
+fn prints_each_memory(rt: HostRuntime) -> Result<(), Fail> {
+    for (content, expected) in MEMORIES {
+        let text = text_of(rt.alloc(), MEMORY, content)?;
+        assert_eq!(rt; text.as_str(), expected);
+    }
+    Ok(())
+}
+
+/// A memory of each flags without the size of a page.
+const FLAGS: [u8; 21] = [
+    0x08, // memories
+    0x00, 0x01, 0x01, 0x01, 0x02, 0x02, 0x01, 0x03, 0x01, 0x02, // with addresses of 32 bits
+    0x04, 0x01, 0x05, 0x01, 0x02, 0x06, 0x01, 0x07, 0x01, 0x02, // of 64 bits
+];
+
+#[test]
+fn prints_memories_by_their_flags(rt: HostRuntime) -> Result<(), Fail> {
+    let text = text_of(rt.alloc(), MEMORY, &FLAGS)?;
+    assert_eq!(rt;
+        text.as_str(),
+        r#"(module
+  (memory (;0;) 1)
+  (memory (;1;) 1 2)
+  (memory (;2;) 1 shared)
+  (memory (;3;) 1 2 shared)
+  (memory (;4;) i64 1)
+  (memory (;5;) i64 1 2)
+  (memory (;6;) i64 1 shared)
+  (memory (;7;) i64 1 2 shared)
+)
+"#
+    );
+    Ok(())
+}
+
+#[test]
+fn refuses_other_memories(rt: HostRuntime) -> Result<(), Fail> {
+    let contents: [&[u8]; 3] = [
+        // flags that mean nothing
+        &[0x01, 0x10, 0x01],
+        // pages of 2^64 bytes
+        &[0x01, 0x08, 0x01, 0x40],
+        // no greatest size
+        &[0x01, 0x01, 0x01],
+    ];
+    for content in contents {
+        let refused = text_of(rt.alloc(), MEMORY, content);
+        assert!(rt; matches!(refused, Err(Error::Malformed { .. })));
+    }
+    Ok(())
+}
+
+/// Two function types and a structure.
+const TYPES: [u8; 12] = [
+    0x03, 0x60, 0x02, 0x7f, 0x63, 0x00, 0x00, 0x60, 0x00, 0x00, 0x5f, 0x00,
+];
+
+#[test]
+fn prints_tags_with_their_signatures(rt: HostRuntime) -> Result<(), Fail> {
+    let mut wasm = Vec::from_slice(rt.alloc(), &PREAMBLE)?;
+    add_section(&mut wasm, TYPE, &TYPES)?;
+    add_section(
+        &mut wasm,
+        TAG,
+        &[0x04, 0x00, 0x01, 0x00, 0x00, 0x00, 0x02, 0x00, 0x07],
+    )?;
+    let text = print_bytes(rt.alloc(), &wasm)?;
+    assert_eq!(rt;
+        text.as_str(),
+        r#"(module
+  (type (;0;) (func (param i32 (ref null 0))))
+  (type (;1;) (func))
+  (type (;2;) (struct))
+  (tag (;0;) (type 1))
+  (tag (;1;) (type 0) (param i32 (ref null 0)))
+  (tag (;2;) (type 2))
+  (tag (;3;) (type 7))
+)
+"#
+    );
+    Ok(())
+}
+
+#[test]
+fn prints_the_start_function(rt: HostRuntime) -> Result<(), Fail> {
+    let text = text_of(rt.alloc(), START, &[0x05])?;
+    assert_eq!(rt; text.as_str(), "(module\n  (start 5)\n)\n");
+    Ok(())
+}
+
+#[test]
+fn refuses_two_start_functions(rt: HostRuntime) -> Result<(), Fail> {
+    let behind_another = text_of(rt.alloc(), START, &[0x05, 0x06]);
+    assert!(rt; matches!(behind_another, Err(Error::Malformed { .. })));
+    let mut wasm = Vec::from_slice(rt.alloc(), &PREAMBLE)?;
+    add_section(&mut wasm, START, &[0x05])?;
+    add_section(&mut wasm, START, &[0x05])?;
+    let in_another_section = print_bytes(rt.alloc(), &wasm);
+    assert!(rt; matches!(in_another_section, Err(Error::Malformed { .. })));
+    Ok(())
+}

@@ -1,0 +1,146 @@
+//! Element and data segments: texts of modules with one section, and what is refused.
+
+use crate::sections::{add_section, text_of};
+use std::alloc::Global;
+use std::test::Fail;
+use wasmprinter::{Error, print_bytes};
+use wasmprinter_samples::PREAMBLE;
+
+/// The number of the element section.
+const ELEMENT: u8 = 9;
+
+/// The number of the data section.
+const DATA: u8 = 11;
+
+/// The number of the data count section.
+const DATA_COUNT: u8 = 12;
+
+/// Element segments of each flags.
+const ELEMENTS: [u8; 58] = [
+    0x08, // segments
+    0x00, 0x41, 0x01, 0x0b, 0x02, 0x00, 0x01, // active, of functions
+    0x01, 0x00, 0x01, 0x00, // passive
+    0x02, 0x01, 0x41, 0x00, 0x0b, 0x00, 0x01, 0x00, // active, with a table
+    0x03, 0x00, 0x02, 0x00, 0x07, // declared
+    0x04, 0x41, 0x00, 0x0b, 0x01, 0xd2, 0x00, 0x0b, // active, of expressions
+    0x05, 0x64, 0x70, 0x01, 0xd2, 0x01, 0x0b, // passive
+    0x06, 0x00, 0x41, 0x00, 0x0b, 0x6f, 0x01, 0xd0, 0x6f, 0x0b, // active, with a table
+    0x07, 0x70, 0x02, 0x0b, 0x41, 0x00, 0x1a, 0x0b, // declared, with items of no operator and of two
+];
+
+#[test]
+fn prints_each_element_segment(rt: HostRuntime) -> Result<(), Fail> {
+    let text = text_of(rt.alloc(), ELEMENT, &ELEMENTS)?;
+    assert_eq!(rt;
+        text.as_str(),
+        r#"(module
+  (elem (;0;) (i32.const 1) func 0 1)
+  (elem (;1;) func 0)
+  (elem (;2;) (table 1) (i32.const 0) func 0)
+  (elem (;3;) declare func 0 7)
+  (elem (;4;) (i32.const 0) funcref (ref.func 0))
+  (elem (;5;) (ref func) (ref.func 1))
+  (elem (;6;) (table 0) (i32.const 0) externref (ref.null extern))
+  (elem (;7;) declare funcref (item ) (item i32.const 0 drop))
+)
+"#
+    );
+    Ok(())
+}
+
+#[test]
+fn prints_a_segment_of_no_functions_with_its_table(rt: HostRuntime) -> Result<(), Fail> {
+    let content = [0x01, 0x02, 0x00, 0x41, 0x00, 0x0b, 0x00, 0x00];
+    let text = text_of(rt.alloc(), ELEMENT, &content)?;
+    assert_eq!(rt;
+        text.as_str(),
+        "(module\n  (elem (;0;) (table 0) (i32.const 0) func)\n)\n"
+    );
+    Ok(())
+}
+
+#[test]
+fn refuses_other_element_segments(rt: HostRuntime) -> Result<(), Fail> {
+    let contents: [&[u8]; 3] = [
+        // flags above 7
+        &[0x01, 0x08, 0x00, 0x00],
+        // items of another kind than functions
+        &[0x01, 0x01, 0x01, 0x00],
+        // items of a type of numbers
+        &[0x01, 0x05, 0x7f, 0x00],
+    ];
+    for content in contents {
+        let refused = text_of(rt.alloc(), ELEMENT, content);
+        assert!(rt; matches!(refused, Err(Error::Malformed { .. })));
+    }
+    Ok(())
+}
+
+/// Data segments of each flags, and three more that are active.
+const DATAS: [u8; 42] = [
+    0x06, // segments
+    0x00, 0x41, 0x08, 0x0b, 0x05, 0x61, 0x22, 0x5c, 0x00, 0xff, // active
+    0x01, 0x00, // passive
+    0x02, 0x01, 0x41, 0x00, 0x0b, 0x01, 0x7e, // active, with a memory
+    0x02, 0x00, 0x41, 0x00, 0x0b, 0x01, 0x7f, // with memory 0
+    0x00, 0x23, 0x00, 0x41, 0x02, 0x6a, 0x0b, 0x04, 0xc3, 0xa4, 0x0a, 0x20, // at a sum
+    0x00, 0x0b, 0x00, // at an offset without operators
+];
+
+#[test]
+fn prints_each_data_segment(rt: HostRuntime) -> Result<(), Fail> {
+    let text = text_of(rt.alloc(), DATA, &DATAS)?;
+    assert_eq!(rt;
+        text.as_str(),
+        r#"(module
+  (data (;0;) (i32.const 8) "a\22\5c\00\ff")
+  (data (;1;) "")
+  (data (;2;) (memory 1) (i32.const 0) "~")
+  (data (;3;) (i32.const 0) "\7f")
+  (data (;4;) (offset global.get 0 i32.const 2 i32.add) "\c3\a4\0a ")
+  (data (;5;) (offset ) "")
+)
+"#
+    );
+    Ok(())
+}
+
+#[test]
+fn refuses_other_data_segments(rt: HostRuntime) -> Result<(), Fail> {
+    let contents: [&[u8]; 2] = [
+        // flags above 2
+        &[0x01, 0x03, 0x00],
+        // more bytes than there are
+        &[0x01, 0x01, 0x02, 0x00],
+    ];
+    for content in contents {
+        let refused = text_of(rt.alloc(), DATA, content);
+        assert!(rt; matches!(refused, Err(Error::Malformed { .. })));
+    }
+    Ok(())
+}
+
+/// The text of a module with a count of data segments and these segments.
+fn counted(alloc: Global, count: u8, content: &[u8]) -> Result<String, Error> {
+    let mut wasm = Vec::from_slice(alloc, &PREAMBLE)?;
+    add_section(&mut wasm, DATA_COUNT, &[count])?;
+    add_section(&mut wasm, DATA, content)?;
+    print_bytes(alloc, &wasm)
+}
+
+#[test]
+fn compares_the_count_of_data_segments(rt: HostRuntime) -> Result<(), Fail> {
+    let one = [0x01, 0x01, 0x00];
+    let text = counted(rt.alloc(), 1, &one)?;
+    assert_eq!(rt; text.as_str(), "(module\n  (data (;0;) \"\")\n)\n");
+    let more = counted(rt.alloc(), 2, &one);
+    assert!(rt; matches!(more, Err(Error::Malformed { .. })));
+    let none = counted(rt.alloc(), 0, &one);
+    assert!(rt; matches!(none, Err(Error::Malformed { .. })));
+    // none are counted and none stand there
+    let empty = text_of(rt.alloc(), DATA_COUNT, &[0x00])?;
+    assert_eq!(rt; empty.as_str(), "(module)\n");
+    let missing = text_of(rt.alloc(), DATA_COUNT, &[0x01]);
+    assert!(rt; matches!(missing, Err(Error::Malformed { .. })));
+    Ok(())
+}

@@ -1,0 +1,133 @@
+//! Tables and globals: texts of modules with one section, and what is refused.
+
+use crate::sections::text_of;
+use std::test::Fail;
+use wasmprinter::Error;
+
+/// The number of the table section.
+const TABLE: u8 = 4;
+
+/// The number of the global section.
+const GLOBAL: u8 = 6;
+
+/// Tables of each flags, and one with an initialiser.
+const TABLES: [u8; 26] = [
+    0x05, // tables
+    0x70, 0x00, 0x01, // of no greatest size
+    0x6f, 0x01, 0x01, 0x02, // of one
+    0x70, 0x04, 0x01, // with indices of 64 bits
+    0x64, 0x00, 0x05, 0x00, 0x80, 0x80, 0x01, // of both, and of references to a type that aren't null
+    0x40, 0x00, 0x70, 0x00, 0x03, 0xd0, 0x70, 0x0b, // with an initialiser
+];
+
+#[test]
+fn prints_each_table(rt: HostRuntime) -> Result<(), Fail> {
+    let text = text_of(rt.alloc(), TABLE, &TABLES)?;
+    assert_eq!(rt;
+        text.as_str(),
+        r#"(module
+  (table (;0;) 1 funcref)
+  (table (;1;) 1 2 externref)
+  (table (;2;) i64 1 funcref)
+  (table (;3;) i64 0 16384 (ref 0))
+  (table (;4;) 3 funcref ref.null func)
+)
+"#
+    );
+    Ok(())
+}
+
+#[test]
+fn refuses_an_initialiser_without_operators(rt: HostRuntime) -> Result<(), Fail> {
+    let first = text_of(
+        rt.alloc(),
+        TABLE,
+        &[0x01, 0x40, 0x00, 0x70, 0x00, 0x01, 0x0b],
+    );
+    assert!(rt; matches!(first, Err(Error::EmptyTableInit { place: 11 })));
+    let content = [0x02, 0x70, 0x00, 0x01, 0x40, 0x00, 0x70, 0x00, 0x03, 0x0b];
+    let second = text_of(rt.alloc(), TABLE, &content);
+    assert!(rt; matches!(second, Err(Error::EmptyTableInit { place: 14 })));
+    Ok(())
+}
+
+#[test]
+fn refuses_other_tables(rt: HostRuntime) -> Result<(), Fail> {
+    let contents: [&[u8]; 4] = [
+        // shared
+        &[0x01, 0x70, 0x03, 0x01, 0x02],
+        // with a page size
+        &[0x01, 0x70, 0x08, 0x01, 0x00],
+        // with another reserved byte
+        &[0x01, 0x40, 0x01, 0x70, 0x00, 0x03, 0xd0, 0x70, 0x0b],
+        // of numbers
+        &[0x01, 0x7f, 0x00, 0x01],
+    ];
+    for content in contents {
+        let refused = text_of(rt.alloc(), TABLE, content);
+        assert!(rt; matches!(refused, Err(Error::Malformed { .. })));
+    }
+    Ok(())
+}
+
+/// Globals that may change or not, with one and several operators.
+const GLOBALS: [u8; 28] = [
+    0x04, // globals
+    0x7f, 0x00, 0x41, 0x7f, 0x0b, // one operator
+    0x7e, 0x01, 0x42, 0x01, 0x42, 0x02, 0x7c, 0x0b, // three
+    0x64, 0x70, 0x01, 0xd2, 0x03, 0x0b, // of references that aren't null
+    0x7d, 0x00, 0x43, 0x00, 0x00, 0xc0, 0x3f, 0x0b, // a float
+];
+
+#[test]
+fn prints_each_global(rt: HostRuntime) -> Result<(), Fail> {
+    let text = text_of(rt.alloc(), GLOBAL, &GLOBALS)?;
+    assert_eq!(rt;
+        text.as_str(),
+        r#"(module
+  (global (;0;) i32 i32.const -1)
+  (global (;1;) (mut i64) i64.const 1 i64.const 2 i64.add)
+  (global (;2;) (mut (ref func)) ref.func 3)
+  (global (;3;) f32 f32.const 0x1.8p+0)
+)
+"#
+    );
+    Ok(())
+}
+
+#[test]
+fn prints_an_initialiser_of_no_operators(rt: HostRuntime) -> Result<(), Fail> {
+    let text = text_of(rt.alloc(), GLOBAL, &[0x01, 0x7f, 0x00, 0x0b])?;
+    assert_eq!(rt; text.as_str(), "(module\n  (global (;0;) i32 )\n)\n");
+    Ok(())
+}
+
+#[test]
+fn prints_blocks_of_an_initialiser_in_its_line(rt: HostRuntime) -> Result<(), Fail> {
+    let content = [
+        0x01, 0x7f, 0x00, 0x02, 0x7f, 0x41, 0x01, 0x0c, 0x00, 0x0b, 0x0b,
+    ];
+    let text = text_of(rt.alloc(), GLOBAL, &content)?;
+    assert_eq!(rt;
+        text.as_str(),
+        "(module\n  (global (;0;) i32 block (result i32)  (; label = @1 ;) i32.const 1 br 0 (;@1;) end)\n)\n"
+    );
+    Ok(())
+}
+
+#[test]
+fn refuses_other_globals(rt: HostRuntime) -> Result<(), Fail> {
+    let contents: [&[u8]; 3] = [
+        // shared
+        &[0x01, 0x7f, 0x02, 0x41, 0x00, 0x0b],
+        // without an end
+        &[0x01, 0x7f, 0x00, 0x41, 0x00],
+        // with a block that doesn't end
+        &[0x01, 0x7f, 0x00, 0x02, 0x40, 0x0b],
+    ];
+    for content in contents {
+        let refused = text_of(rt.alloc(), GLOBAL, content);
+        assert!(rt; matches!(refused, Err(Error::Malformed { .. })));
+    }
+    Ok(())
+}

@@ -1,0 +1,43 @@
+//! Limits and sizes of pages (section 6.4 of the WebAssembly Core Specification, "Limits", with the sizes of pages of a proposal).
+ghost use Rattle.std.specs.Prelude.{◌<◌, ◌^◌, false, [], ◌∷◌, ◌++◌, codes};
+ghost use Rattle.std.specs.Fmt.{digits};
+ghost use Rattle.wasmprinter_spec.specs.Call.{Text};
+ghost use Rattle.wasmprinter_spec.specs.Options.{Options};
+ghost use Rattle.wasmprinter_spec.specs.Types.{limits_of};
+ghost use Rattle.wasmprinter_spec.specs.Piece.{Word, behind_blanks};
+ghost use Rattle.wasmprinter_spec.specs.Layout.Limits.{max_words, limits_pieces};
+ghost use Rattle.wasmprinter_print.specs.Emits.{Emits};
+ghost use Rattle.wasmprinter_print.specs.Prints.{Prints};
+
+use crate::numbers::{DECIMAL, HEXADECIMAL, power, write_digits, write_digits_between};
+use std::io;
+use wasmprinter_print::{Print, Style, reset, start};
+
+/// Writes a blank and the greatest size, and nothing where there is none.
+fn write_max<P: Print>(p: &mut P, max: Option<u64>) -> io::Result<()>
+    ensures { Emits P.meaning p.old p.new result (Text (behind_blanks (max_words max)) ∷ []) }
+{
+    match max {
+        None => Ok(()),
+        Some(max) => write_digits_between(p, " ", DECIMAL, max, ""),
+    }
+}
+
+/// Writes the least and, if there is one, the greatest size, in one literal.
+#[tactic(auto, unfolding(wasmprinter_spec::specs::Layout::Limits::limits_pieces))]
+pub fn write_limits<P: Print>(p: &mut P, min: u64, max: Option<u64>) -> io::Result<()>
+    ensures { (o : Options) → Prints P.meaning o p.old p.new result (limits_pieces (limits_of min max)) }
+{
+    start(p, Style::Literal)?;
+    write_digits(p, DECIMAL, min)?;
+    write_max(p, max)?;
+    reset(p)
+}
+
+/// Writes the size of a page in bytes, a power of two by its exponent, in hexadecimal.
+pub fn page_size<P: Print>(p: &mut P, exponent: u32) -> io::Result<()>
+    requires { exponent < 64 }
+    ensures { (o : Options) → Prints P.meaning o p.old p.new result (Word (codes "0x" ++ digits 16 false (2 ^ exponent)) ∷ []) }
+{
+    write_digits_between(p, "0x", HEXADECIMAL, power(exponent), "")
+}

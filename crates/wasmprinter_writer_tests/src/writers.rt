@@ -1,0 +1,122 @@
+//! `PrintFmtWrite` over a string, and over a writer that refuses a piece.
+
+use std::fmt;
+use std::io::ErrorKind;
+use std::test::Fail;
+use wasmprinter::{Config, Error, Print, PrintFmtWrite, print};
+use wasmprinter_samples::{EMPTY_TEXT, IDENTITY, IDENTITY_TEXT, PREAMBLE};
+
+/// A writer that refuses one piece, and takes all others.
+#[derive(Drop)]
+struct Refusing {
+    text: String,
+    /// How many pieces it was given.
+    given: u32,
+    /// Which of them it refuses; the first is 1.
+    refused: u32,
+}
+
+impl Refusing {
+    fn new(text: String, refused: u32) -> Refusing {
+        Refusing {
+            text,
+            given: 0,
+            refused,
+        }
+    }
+}
+
+impl fmt::Write for Refusing {
+    fn write_str(&mut self, s: &str) -> fmt::Result {
+        self.given = self.given.saturating_add(1);
+        if self.given == self.refused {
+            return Err(fmt::Error);
+        }
+        self.text.push_str(s)?;
+        Ok(())
+    }
+}
+
+#[test]
+fn writes_nothing_behind_a_piece_that_was_refused(rt: HostRuntime) -> Result<(), Fail> {
+    let alloc = rt.alloc();
+    let mut whole = PrintFmtWrite(Refusing::new(String::new(alloc), 0));
+    Config::new().print(alloc, &IDENTITY, &mut whole)?;
+    assert_eq!(rt; whole.0.text.as_str(), IDENTITY_TEXT);
+    let pieces = whole.0.given;
+    let one_more = pieces.saturating_add(1);
+    for piece in 1..one_more {
+        let mut printer = PrintFmtWrite(Refusing::new(String::new(alloc), piece));
+        let refused = Config::new().print(alloc, &IDENTITY, &mut printer);
+        assert!(rt;
+            matches!(refused, Err(Error::Printer(e)) if e.kind() == ErrorKind::Other),
+            "at piece {piece}"
+        );
+        // no piece was given behind the one that was refused, and none before it failed
+        assert_eq!(rt; printer.0.given, piece);
+        assert!(rt;
+            IDENTITY_TEXT.starts_with(printer.0.text.as_str()),
+            "at piece {piece}"
+        );
+    }
+    let mut printer = PrintFmtWrite(Refusing::new(String::new(alloc), one_more));
+    Config::new().print(alloc, &IDENTITY, &mut printer)?;
+    assert_eq!(rt; printer.0.given, pieces);
+    assert_eq!(rt; printer.0.text.as_str(), IDENTITY_TEXT);
+    Ok(())
+}
+
+#[test]
+fn gives_each_piece_and_line_feed_to_the_writer(rt: HostRuntime) -> Result<(), Fail> {
+    let mut printer = PrintFmtWrite(Refusing::new(String::from_str(rt.alloc(), "old ")?, 3));
+    printer.start_line(Some(8));
+    printer.write_str("(a")?;
+    printer.start_literal()?;
+    printer.start_name()?;
+    printer.start_keyword()?;
+    printer.start_type()?;
+    printer.start_comment()?;
+    printer.reset_color()?;
+    assert_eq!(rt; printer.print_custom_section("name", 8, &[0])?, false);
+    assert_eq!(rt; printer.supports_async_color(), false);
+    printer.newline()?;
+    let refused = printer.write_str("b");
+    assert!(rt; matches!(refused, Err(e) if e.kind() == ErrorKind::Other));
+    printer.write_str("c")?;
+    assert_eq!(rt; printer.0.given, 4);
+    assert_eq!(rt; printer.0.text.as_str(), "old (a\nc");
+    let refused = PrintFmtWrite(Refusing::new(String::new(rt.alloc()), 1)).newline();
+    assert!(rt; matches!(refused, Err(e) if e.kind() == ErrorKind::Other));
+    Ok(())
+}
+
+#[test]
+fn keeps_the_text_that_a_string_begins_with(rt: HostRuntime) -> Result<(), Fail> {
+    let alloc = rt.alloc();
+    let mut printer = print::PrintFmtWrite(String::from_str(alloc, "first ")?);
+    Config::default().print(alloc, &PREAMBLE, &mut printer)?;
+    Config::default().print(alloc, &PREAMBLE, &mut printer)?;
+    let refused = Config::default().print(alloc, &PREAMBLE[..7], &mut printer);
+    assert!(rt; matches!(refused, Err(Error::Malformed { .. })));
+    let text = printer
+        .0
+        .as_str()
+        .strip_prefix("first ")
+        .ok_or("the old text is gone")?;
+    let second = text.strip_prefix(EMPTY_TEXT).ok_or("not the first module")?;
+    assert_eq!(rt; second, EMPTY_TEXT);
+    Ok(())
+}
+
+#[test]
+fn gives_a_long_piece_to_the_writer(rt: HostRuntime) -> Result<(), Fail> {
+    let mut piece = String::new(rt.alloc());
+    for _ in 0..1_000 {
+        piece.push_str("0123456789")?;
+    }
+    let mut printer = PrintFmtWrite(Refusing::new(String::new(rt.alloc()), 0));
+    printer.write_str(piece.as_str())?;
+    assert_eq!(rt; printer.0.given, 1);
+    assert_eq!(rt; printer.0.text.as_str(), piece.as_str());
+    Ok(())
+}
