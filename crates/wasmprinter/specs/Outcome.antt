@@ -13,7 +13,7 @@ use Rattle.wasmprinter_error.specs.Reasons.{Reasons, HasReason}
 use Rattle.wasmprinter_error.specs.declared.error.Error.{Error}
 use Rattle.wasmprinter_error.specs.declared.error.Error.TheVariants.{Malformed, Component, TooManyLocals, TooManyFunctions, EmptyTableInit, FoldLegacy, FoldHint, DylinkSubsection, Unreadable, Printer, Memory}
 use Rattle.wasmprinter_wasm.specs.Modules.{bodies_of}
-use Rattle.wasmprinter_wasm.specs.Refusals.{AnyIsOver, AnyIsEmpty}
+use Rattle.wasmprinter_entries.specs.Refusals.{AnyIsOver, FirstIsEmpty}
 use Rattle.wasmprinter_wasm.specs.Decoding.{HoldsSome, module_reasons}
 
 -- The reason for an error of printing: a call on the printer failed, and this is so of the printer's error; or one for which decoding may be
@@ -48,7 +48,7 @@ causes growth placed = record {
   component = ⊥;
   locals = λ place. AnyIsOver place (bodies_of placed.functions);
   functions = λ count. (length placed.functions ≡ count) × (most_functions < count);
-  tables = λ place. AnyIsEmpty place placed.tables;
+  tables = λ place. FirstIsEmpty place placed.tables;
   memory = growth;
 }
 

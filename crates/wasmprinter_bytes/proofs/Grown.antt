@@ -1,6 +1,5 @@
 -- Values whose readers may want memory: a fault of one is a fault of what it is part of.
-use Rattle.std.proofs.Common.{◌≡◌, ℕ, suc, ◌+◌, ◌-◌, ◌<◌, ◌≤◌, List, Option, Some, None, refl, sym, ap, ◌∙◌, arith}
-use Rattle.std.specs.Prelude.{Result, Ok, Err}
+use Rattle.std.proofs.Common.{◌≡◌, ℕ, suc, ◌+◌, ◌-◌, ◌<◌, List, Option, Some, None, refl, sym, ◌∙◌, arith}
 use Rattle.wasmprinter_spec.specs.Grammar.{Input}
 use Rattle.wasmprinter_spec.specs.Name.{u32}
 use Rattle.wasmprinter_spec.specs.Repeated.{items_at}
@@ -8,7 +7,7 @@ use Rattle.wasmprinter_error.specs.declared.error.Error.{Error}
 use Rattle.wasmprinter_error.specs.Reasons.{HasReason}
 use Rattle.wasmprinter_error.proofs.Reasons.{reason_implied}
 use Rattle.wasmprinter_bytes.specs.Reads.{end_of}
-use Rattle.wasmprinter_bytes.specs.Lists.{CountsItems, Anywhere, Takes, reader_reasons, vec_at}
+use Rattle.wasmprinter_bytes.specs.Lists.{CountsItems, reader_reasons, vec_at}
 use Rattle.wasmprinter_bytes.proofs.Fronts.{with_front}
 
 -- a fault of a part, which ends where the whole does, is one of the whole
@@ -22,12 +21,6 @@ part_fault nothing grows whole grows_whole at old none more ends = reason_implie
   tables = λ place h. h;
   memory = more;
 })
-
--- a reader that says where memory may be wanted is one that wants it anywhere
-pub takes_anywhere : {X A : Type 0} (view : X → A) (parse : Input → Option (A × Input)) (grows : Input → Type 0) (old : Input) (r : Result X Error) (new : Input)
-    → Takes view parse grows old r new → Takes view parse Anywhere old r new
-takes_anywhere view parse grows old (Ok x) new h = h
-takes_anywhere view parse grows old (Err f) new h = part_fault (parse old ≡ None) (grows old) (parse old ≡ None) (Unit {0}) old old (λ none. none) (λ more. tt) refl f h
 
 module _ {A : Type 0} (parse : Input → Option (A × Input)) (old start at : Input) (count i : ℕ) (front : List A) (counted : u32.parse old ≡ Some (count, start)) (lt : i < count)
     (so_far : with_front front (items_at parse (count - i) at) ≡ items_at parse count start) where
@@ -44,5 +37,6 @@ module _ {A : Type 0} (parse : Input → Option (A × Input)) (old start at : In
   counted_some = record { count = count; after = start; counted = counted; some = omega arith }
 
   -- a fault of an item is one of the list
-  pub list_fault : end_of at ≡ end_of old → (f : Error) → HasReason (reader_reasons (parse at ≡ None) (Unit {0}) at) f → HasReason (reader_reasons (vec_at parse old ≡ None) (CountsItems old) old) f
-  list_fault ends = part_fault (parse at ≡ None) (Unit {0}) (vec_at parse old ≡ None) (CountsItems old) at old none_behind (λ h. counted_some) ends
+  pub list_fault : (grows : Type 0) → end_of at ≡ end_of old → (f : Error) → HasReason (reader_reasons (parse at ≡ None) grows at) f
+      → HasReason (reader_reasons (vec_at parse old ≡ None) (CountsItems old) old) f
+  list_fault grows ends = part_fault (parse at ≡ None) grows (vec_at parse old ≡ None) (CountsItems old) at old none_behind (λ h. counted_some) ends

@@ -38,10 +38,6 @@ reader_reasons nothing grows at = record {
   memory = grows;
 }
 
--- a growth may be refused wherever reading stands
-abbrev pub Anywhere : Input → Type 0
-Anywhere at = Unit {0}
-
 -- The value stands there, and reading goes on behind it; or nothing of the kind stands there; or a growth was refused, and then `Grows` holds
 -- of where reading stood.
 abbrev pub Takes : {X A : Type 0} → (X → A) → (Input → Option (A × Input)) → (Input → Type 0) → Input → Result X Error → Input → Type 0

@@ -1,7 +1,7 @@
 //! Vectors (section 5.1 of the WebAssembly Core Specification, "Lists"): a count, and so many items one after the other.
 ghost use Rattle.std.specs.Prelude.{◌≡◌, [], length};
 ghost use Rattle.wasmprinter_bytes.specs.Reads.{Reads, IsWithin, end_of};
-ghost use Rattle.wasmprinter_bytes.specs.Lists.{Takes, Anywhere, CountsItems, BeginsList, vec_at};
+ghost use Rattle.wasmprinter_bytes.specs.Lists.{Takes, CountsItems, BeginsList, vec_at};
 
 use crate::bytes::Cursor;
 use std::alloc::Global;
@@ -72,9 +72,12 @@ pub trait GrownIn<'a>: Drop {
     /// How it is read.
     ghost parse: { Input → Option (Self × Input) };
 
+    /// What is so of where reading stands, if memory is wanted for the value.
+    ghost grows: { Input → Type 0 };
+
     /// Reads the value at the cursor.
     fn read(alloc: Global, cursor: &mut Cursor<'a>) -> Result<Self, Error>
-        ensures reads { Takes (λ x. x) parse Anywhere cursor.old result cursor.new }
+        ensures reads { Takes (λ x. x) parse grows cursor.old result cursor.new }
         ensures end { end_of cursor.new ≡ end_of cursor.old };
 }
 

@@ -9,7 +9,9 @@ use thiserror::Error;
 /// Why printing stopped. Places are bytes from the module's first byte on.
 #[derive(Debug, Drop, Error)]
 pub enum Error {
-    /// The bytes aren't in the binary format.
+    /// The bytes aren't in the binary format. The place is where that begins which may not stand there: a byte, a number, an entry, or
+    /// bytes whose length reaches too far; where the section, the body or the module ends, if something is missing in it; where the module
+    /// ends, if two sections disagree about a count.
     #[error("malformed module at byte {place:#x}")]
     Malformed { place: u64 },
     /// The bytes are marked as a component.
@@ -21,7 +23,7 @@ pub enum Error {
     /// The module defines too many functions.
     #[error("module has {count} functions, more than 1000000")]
     TooManyFunctions { count: u32 },
-    /// The initialiser of the table at the place has no operators.
+    /// The initialiser of the table at the place, the first such table, has no operators.
     #[error("table at byte {place:#x} has an empty initialiser")]
     EmptyTableInit { place: u64 },
     /// A `try`, `catch`, `catch_all` or `delegate` is to be folded.

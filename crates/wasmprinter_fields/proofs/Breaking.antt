@@ -20,7 +20,7 @@ use Rattle.wasmprinter_spec.specs.Layout.Elements.{element_pieces}
 use Rattle.wasmprinter_spec.specs.Layout.Functions.{function_pieces}
 use Rattle.wasmprinter_spec.specs.Layout.DataSegments.{data_pieces}
 use Rattle.wasmprinter_lines.proofs.Groups.{has_break-append}
-use Rattle.wasmprinter_wasm.specs.Externs.{imported_count}
+use Rattle.wasmprinter_entries.specs.Externs.{imported_count}
 use Rattle.wasmprinter_fields.specs.Parts.{types_of}
 use Rattle.wasmprinter_fields.proofs.Numbering.{numbered-break}
 

@@ -10,7 +10,7 @@ use Rattle.wasmprinter_spec.specs.Instructions.{Closed}
 use Rattle.wasmprinter_spec.specs.Piece.{Gap, Number}
 use Rattle.wasmprinter_spec.specs.Layout.Expressions.{constant_group}
 use Rattle.wasmprinter_spec.specs.Layout.Elements.{function_items, expression_items}
-use Rattle.wasmprinter_wasm.specs.Segments.{constant_of, constants_of}
+use Rattle.wasmprinter_segments.specs.Segments.{constant_of, constants_of}
 
 -- no function is left
 pub functions-none : (is : List ℕ) → is ≡ [] → function_items is ≡ []

@@ -6,3 +6,4 @@ pub mod TypeFields
 pub mod LineGroups
 pub mod Constants
 pub mod ImportLines
+pub mod FieldGroups

@@ -4,28 +4,21 @@ use Rattle.std.proofs.Common.{ap, ◌∙◌}
 use Rattle.wasmprinter_spec.specs.Types.{FuncType, SubType, signature_at}
 use Rattle.wasmprinter_spec.specs.Placed.{PlacedFunction}
 use Rattle.wasmprinter_spec.specs.Piece.{Piece, Number}
-use Rattle.wasmprinter_spec.specs.Layout.Functions.{signature_if, header_pieces, local_pieces, body_pieces, function_group}
+use Rattle.wasmprinter_spec.specs.Layout.Types.{signature_if_any}
+use Rattle.wasmprinter_spec.specs.Layout.Functions.{header_pieces, local_pieces, body_pieces, function_group}
 use Rattle.wasmprinter_spec.specs.Layout.Groups.{has_break, group_gap_at, line_group_gap}
-use Rattle.wasmprinter_spec.specs.Layout.Operators.{signature_behind}
 use Rattle.wasmprinter_lines.proofs.Groups.{has_break-append, line-append}
 use Rattle.wasmprinter_text.proofs.Signatures.{signature-line}
 use Rattle.wasmprinter_fields.specs.Parts.{header_parts, outline_parts, definition_parts}
 
--- the two names of a signature
-pub signature-behind : (t : Option FuncType) → signature_behind t ≡ signature_if t
-unfolding signature_if
-signature-behind None = refl
-signature-behind (Some t) = refl
-
-signature_if-line : (t : Option FuncType) → has_break (signature_if t) ≡ false
-unfolding signature_if
-signature_if-line None = refl
-signature_if-line (Some t) = signature-line t
+signature-line_if_any : (t : Option FuncType) → has_break (signature_if_any t) ≡ false
+signature-line_if_any None = refl
+signature-line_if_any (Some t) = signature-line t
 
 header-line : (ts : List SubType) (i n : ℕ) → has_break (header_parts ts i n) ≡ false
 unfolding header_pieces line_group_gap
 header-line ts i n =
-    line-append (line_group_gap (codes "type") (Number n ∷ [])) (signature_if (signature_at ts n)) refl (signature_if-line (signature_at ts n))
+    line-append (line_group_gap (codes "type") (Number n ∷ [])) (signature_if_any (signature_at ts n)) refl (signature-line_if_any (signature_at ts n))
 
 -- a function without its body stands on one line
 outline-out : (offsets : Bool) (ts : List SubType) (i : ℕ) (f : PlacedFunction) →

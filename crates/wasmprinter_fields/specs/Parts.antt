@@ -1,12 +1,12 @@
 -- What stands in the groups of a module's fields.
-use Rattle.std.specs.Prelude.{ℕ, ◌^◌, Bool, true, false, List, [], ◌∷◌, ◌++◌, codes, chars}
+use Rattle.std.specs.Prelude.{ℕ, ◌^◌, Bool, true, false, List, [], ◌∷◌, ◌++◌, codes, chars, Some}
 use Rattle.std.specs.Fmt.{digits}
 use Rattle.wasmprinter_spec.specs.Grammar.{Placed}
-use Rattle.wasmprinter_spec.specs.Types.{SubType, MemoryType, all_types, signature_at}
+use Rattle.wasmprinter_spec.specs.Types.{SubType, MemoryType, ExternType, FuncExtern, TableExtern, MemoryExtern, GlobalExtern, TagExtern, all_types, signature_at}
 use Rattle.wasmprinter_spec.specs.Operator.{Operator}
 use Rattle.wasmprinter_spec.specs.Placed.{Import, Table, Global, Export, ElementEntry, Data, PlacedFunction, PlacedModule}
 use Rattle.wasmprinter_spec.specs.Module.{groups_of}
-use Rattle.wasmprinter_spec.specs.Piece.{Piece, Gap, Word, Mark, Quoted}
+use Rattle.wasmprinter_spec.specs.Piece.{Piece, Break, Gap, Word, Mark, Quoted}
 use Rattle.wasmprinter_spec.specs.Layout.Groups.{line_group_gap}
 use Rattle.wasmprinter_spec.specs.Layout.Functions.{header_pieces, local_pieces, body_pieces}
 use Rattle.wasmprinter_spec.specs.Layout.Imports.{extern_pieces}
@@ -22,6 +22,10 @@ use Rattle.wasmprinter_spec.specs.Layout.DataSegments.{data_mode_pieces, shown_b
 abbrev pub types_of : PlacedModule → List SubType
 types_of m = all_types (groups_of m.types)
 
+-- a field that is a group on one line, with its number
+abbrev pub field_line : {A : Type 0} → List ℕ → (A → ℕ) → (ℕ → A → List Piece) → ℕ → A → List Piece
+field_line keyword place parts i x = Break (Some (place x)) 1 ∷ line_group_gap keyword (parts i x)
+
 -- the size of a page in bytes, by its exponent
 abbrev pub page_parts : ℕ → List Piece
 page_parts e = Word (codes "0x" ++ digits 16 false (2 ^ e)) ∷ []
@@ -33,6 +37,14 @@ memory_parts i m = Mark i ∷ (Gap ∷ memory_type_pieces m)
 -- a function's or a tag's number, its type's index and its signature
 abbrev pub header_parts : List SubType → ℕ → ℕ → List Piece
 header_parts ts i type_index = header_pieces i type_index (signature_at ts type_index)
+
+-- what is imported, with its number
+abbrev pub extern_parts : List SubType → ℕ → ExternType → List Piece
+extern_parts ts n (FuncExtern i) = header_parts ts n i
+extern_parts ts n (TableExtern t) = Mark n ∷ (Gap ∷ table_type_pieces t)
+extern_parts ts n (MemoryExtern m) = memory_parts n m
+extern_parts ts n (GlobalExtern g) = Mark n ∷ (Gap ∷ global_type_pieces g)
+extern_parts ts n (TagExtern i) = header_parts ts n i
 
 -- an import with its number among those of its kind
 abbrev pub import_parts : List SubType → ℕ → Import → List Piece

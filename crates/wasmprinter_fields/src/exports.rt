@@ -1,15 +1,14 @@
 //! Exports (section 6.6 of the WebAssembly Core Specification, "Exports").
 ghost use Rattle.std.specs.Prelude.{◌≡◌, codes};
 ghost use Rattle.wasmprinter_spec.specs.Options.{Options};
-ghost use Rattle.wasmprinter_spec.specs.Layout.Exports.{kind_word, extern_index_pieces, export_pieces};
+ghost use Rattle.wasmprinter_spec.specs.Layout.Exports.{kind_word, extern_index_pieces};
 ghost use Rattle.wasmprinter_spec.specs.Layout.Groups.{line_group_gap};
 ghost use Rattle.wasmprinter_print.specs.Prints.{Prints};
-ghost use Rattle.wasmprinter_wasm.specs.Externs.{kind_view};
+ghost use Rattle.wasmprinter_entries.specs.Externs.{kind_view};
 ghost use Rattle.wasmprinter_fields.specs.Parts.{export_parts};
 
-use crate::fields::{FIELD_NESTING, Field};
+use crate::fields::Field;
 use std::io;
-use wasmprinter_lines::lines::break_line;
 use wasmprinter_lines::options::PrintOptions;
 use wasmprinter_print::Print;
 use wasmprinter_wasm::{Export, ExternKind, Module};
@@ -19,7 +18,7 @@ use wasmprinter_words::words::{gap, open_gap, shut};
 
 /// The keyword of a kind.
 #[tactic(auto, unfolding(wasmprinter_spec::specs::Layout::Exports::kind_word))]
-fn kind_word(kind: ExternKind) -> &'static str
+pub(crate) fn kind_word(kind: ExternKind) -> &'static str
     ensures { result.now ≡ kind_word (kind_view kind) }
 {
     match kind {
@@ -54,38 +53,30 @@ fn write_extern<P: Print>(p: &mut P, kind: ExternKind, index: u32) -> io::Result
     shut(p)
 }
 
-/// Writes an export's name, and what is given out.
-fn write_export_parts<P: Print>(p: &mut P, export: &Export<'_>) -> io::Result<()>
-    ensures { (o : Options) → Prints P.meaning o p.old p.new result (export_parts export.now.value) }
-{
-    write_string(p, export.name())?;
-    gap(p)?;
-    write_extern(p, export.kind(), export.index())
-}
-
-/// Writes the same as a group.
-#[tactic(auto, using(crate::proofs::LineGroups::groups))]
-fn write_export_group<P: Print>(p: &mut P, export: &Export<'_>) -> io::Result<()>
-    ensures { (o : Options) → Prints P.meaning o p.old p.new result
-        (line_group_gap (codes "export") (export_parts export.now.value)) }
-{
-    open_gap(p, "export")?;
-    write_export_parts(p, export)?;
-    shut(p)
-}
-
 impl<'a> Field for Export<'a> {
-    ghost pieces = { λ o ts i e. export_pieces e };
+    ghost keyword = { codes "export" };
 
-    #[tactic(auto, unfolding(wasmprinter_spec::specs::Layout::Exports::export_pieces))]
-    fn write<P: Print>(
+    ghost line_place = { λ e. e.place };
+
+    ghost parts = { λ o ts i e. export_parts e.value };
+
+    fn keyword(&self) -> &'static str {
+        "export"
+    }
+
+    fn line_place(&self) -> u64 {
+        self.place()
+    }
+
+    fn write_parts<P: Print>(
         &self,
         p: &mut P,
-        options: &PrintOptions,
+        _options: &PrintOptions,
         _module: &Module<'_>,
         _number: u64,
     ) -> io::Result<()> {
-        break_line(p, options, Some(self.place()), FIELD_NESTING)?;
-        write_export_group(p, self)
+        write_string(p, self.name())?;
+        gap(p)?;
+        write_extern(p, self.kind(), self.index())
     }
 }

@@ -2,29 +2,43 @@
 ghost use Rattle.std.specs.Prelude.{◌≡◌, ◌+◌, ◌<◌, ◌^◌, length};
 ghost use Rattle.wasmprinter_spec.specs.Layout.Groups.{numbered};
 ghost use Rattle.wasmprinter_print.specs.Prints.{Prints};
-ghost use Rattle.wasmprinter_wasm.specs.Externs.{kind_view, imported_count};
-ghost use Rattle.wasmprinter_fields.specs.Parts.{types_of};
+ghost use Rattle.wasmprinter_entries.specs.Externs.{kind_view, imported_count};
+ghost use Rattle.wasmprinter_fields.specs.Parts.{types_of, field_line};
 
 use std::io;
+use wasmprinter_lines::lines::break_line;
 use wasmprinter_lines::options::PrintOptions;
 use wasmprinter_print::Print;
 use wasmprinter_wasm::{ExternKind, Module};
+use wasmprinter_words::words::{open_gap, shut};
 
 /// How deep the fields of a module are nested.
 pub(crate) const FIELD_NESTING: u64 = 1;
 
-/// A field of a module.
+/// A field of a module that is a group on one line.
 pub(crate) trait Field {
     ghost use Rattle.std.specs.Prelude.{ℕ, List};
     ghost use Rattle.wasmprinter_spec.specs.Types.{SubType};
     ghost use Rattle.wasmprinter_spec.specs.Piece.{Piece};
     ghost use Rattle.wasmprinter_spec.specs.Options.{Options};
 
-    /// Its pieces, by the options, the types of the module and its number among the fields of its kind.
-    ghost pieces: { Options → List SubType → ℕ → Self → List Piece };
+    ghost keyword: { List ℕ };
 
-    /// Writes the field of the module with the number.
-    fn write<P: Print>(
+    ghost line_place: { Self → ℕ };
+
+    /// What stands in the group, by the options, the types of the module and the field's number among those of its kind.
+    ghost parts: { Options → List SubType → ℕ → Self → List Piece };
+
+    /// The keyword of the group.
+    fn keyword(&self) -> &'static str
+        ensures { result.now ≡ keyword };
+
+    /// The place of the line in the module's bytes.
+    fn line_place(&self) -> u64
+        ensures { result ≡ line_place self.now };
+
+    /// Writes what stands in the group of the field with the number.
+    fn write_parts<P: Print>(
         &self,
         p: &mut P,
         options: &PrintOptions,
@@ -32,7 +46,25 @@ pub(crate) trait Field {
         number: u64,
     ) -> io::Result<()>
         ensures { Prints P.meaning options.now p.old p.new result
-            (pieces options.now (types_of module.now) number self.now) };
+            (parts options.now (types_of module.now) number self.now) };
+}
+
+/// Writes the field with the number, on a line of its own.
+#[tactic(auto, unfolding(wasmprinter_spec::specs::Layout::Groups::line_group_gap))]
+pub(crate) fn write_field<P: Print, F: Field>(
+    p: &mut P,
+    options: &PrintOptions,
+    module: &Module<'_>,
+    number: u64,
+    field: &F,
+) -> io::Result<()>
+    ensures { Prints P.meaning options.now p.old p.new result
+        (field_line F.keyword F.line_place (F.parts options.now (types_of module.now)) number field.now) }
+{
+    break_line(p, options, Some(field.line_place()), FIELD_NESTING)?;
+    open_gap(p, field.keyword())?;
+    field.write_parts(p, options, module, number)?;
+    shut(p)
 }
 
 /// Writes the fields of one kind, in order, the first of which has the number.
@@ -45,10 +77,10 @@ pub(crate) fn write_each<P: Print, F: Field>(
 ) -> io::Result<()>
     requires { first + length fields.now < 2 ^ 64 }
     ensures { Prints P.meaning options.now p.old p.new result
-        (numbered (F.pieces options.now (types_of module.now)) first fields.now) }
+        (numbered (field_line F.keyword F.line_place (F.parts options.now (types_of module.now))) first fields.now) }
 {
     for (index, field) in fields.iter().enumerate() {
-        field.write(p, options, module, first + index as u64)?;
+        write_field(p, options, module, first + index as u64, field)?;
     }
     Ok(())
 }
@@ -72,7 +104,8 @@ pub(crate) fn write_behind_imports<P: Print, F: Field>(
 ) -> io::Result<()>
     requires { length fields.now < 2 ^ 32 }
     ensures { Prints P.meaning options.now p.old p.new result
-        (numbered (F.pieces options.now (types_of module.now)) (imported_count (kind_view kind) module.now.imports) fields.now) }
+        (numbered (field_line F.keyword F.line_place (F.parts options.now (types_of module.now)))
+        (imported_count (kind_view kind) module.now.imports) fields.now) }
 {
     write_each(p, options, module, first_number(module, kind), fields)
 }

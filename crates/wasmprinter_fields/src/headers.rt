@@ -1,17 +1,15 @@
 //! What stands at the head of a function and of a tag: its number, the index of its type, and its
 //! signature (section 6.6 of the WebAssembly Core Specification, "Type Uses").
 ghost use Rattle.wasmprinter_spec.specs.Options.{Options};
-ghost use Rattle.wasmprinter_spec.specs.Layout.Groups.{line_group_gap};
 ghost use Rattle.wasmprinter_print.specs.Prints.{Prints};
 ghost use Rattle.wasmprinter_fields.specs.Parts.{types_of, header_parts};
 
 use crate::types::ModuleTypes;
 use std::io;
 use wasmprinter_print::Print;
-use wasmprinter_text::signature::write_signature;
+use wasmprinter_text::signature::write_type_use;
 use wasmprinter_wasm::Module;
-use wasmprinter_words::numbers::{mark, write_index_group};
-use wasmprinter_words::words::{gap, open_gap, shut};
+use wasmprinter_words::numbers::mark;
 
 /// Writes a number, the index of a type of the module, and its signature, which is nothing where
 /// the index is no function type's.
@@ -26,24 +24,5 @@ pub(crate) fn write_header<P: Print>(
         (header_parts (types_of module.now) number type_index) }
 {
     mark(p, number)?;
-    gap(p)?;
-    write_index_group(p, "type", type_index)?;
-    write_signature(p, &ModuleTypes { module }, type_index)
-}
-
-/// Writes the same as a group behind a keyword.
-#[tactic(auto, unfolding(wasmprinter_spec::specs::Layout::Groups::line_group_gap))]
-pub(crate) fn write_header_group<P: Print>(
-    p: &mut P,
-    module: &Module<'_>,
-    keyword: &str,
-    number: u64,
-    type_index: u32,
-) -> io::Result<()>
-    ensures { (o : Options) → Prints P.meaning o p.old p.new result
-        (line_group_gap keyword.now (header_parts (types_of module.now) number type_index)) }
-{
-    open_gap(p, keyword)?;
-    write_header(p, module, number, type_index)?;
-    shut(p)
+    write_type_use(p, &ModuleTypes { module }, type_index)
 }

@@ -1,21 +1,20 @@
 //! Imports (section 6.6 of the WebAssembly Core Specification, "Imports").
 ghost use Rattle.std.specs.Prelude.{◌≡◌, ◌+◌, ◌<◌, ◌^◌, codes};
 ghost use Rattle.wasmprinter_spec.specs.Options.{Options};
-ghost use Rattle.wasmprinter_spec.specs.Layout.Groups.{line_group_gap};
 ghost use Rattle.wasmprinter_spec.specs.Layout.Imports.{number_of, numbers_behind, no_numbers};
-ghost use Rattle.wasmprinter_spec.specs.Layout.Imports.{extern_pieces, import_pieces, imports_pieces};
+ghost use Rattle.wasmprinter_spec.specs.Layout.Imports.{extern_pieces, imports_pieces};
 ghost use Rattle.wasmprinter_print.specs.Prints.{Prints};
-ghost use Rattle.wasmprinter_wasm.specs.Externs.{extern_view, HasPage};
-ghost use Rattle.wasmprinter_fields.specs.Parts.{types_of, import_parts};
+ghost use Rattle.wasmprinter_entries.specs.Externs.{extern_view, HasPage};
+ghost use Rattle.wasmprinter_fields.specs.Parts.{types_of, extern_parts, import_parts};
 
-use crate::fields::FIELD_NESTING;
-use crate::globals::write_global_type_group;
-use crate::headers::write_header_group;
-use crate::memories::write_memory_group;
-use crate::tables::write_table_type_group;
+use crate::exports::kind_word;
+use crate::fields::{Field, write_field};
+use crate::globals::write_numbered_global_type;
+use crate::headers::write_header;
+use crate::memories::write_numbered_memory_type;
+use crate::tables::write_numbered_table_type;
 use std::io;
 use std::marker::Model;
-use wasmprinter_lines::lines::break_line;
 use wasmprinter_lines::options::PrintOptions;
 use wasmprinter_print::Print;
 use wasmprinter_wasm::{ExternType, Import, Module};
@@ -88,8 +87,26 @@ impl Numbers {
     }
 }
 
+/// Writes the number of what is imported, and its type.
+fn write_extern_parts<P: Print>(
+    p: &mut P,
+    module: &Module<'_>,
+    number: u64,
+    extern_type: ExternType,
+) -> io::Result<()>
+    requires { HasPage extern_type }
+    ensures { (o : Options) → Prints P.meaning o p.old p.new result
+        (extern_parts (types_of module.now) number (extern_view extern_type)) }
+{
+    match extern_type {
+        ExternType::Func(index) | ExternType::Tag(index) => write_header(p, module, number, index),
+        ExternType::Table(table_type) => write_numbered_table_type(p, number, table_type),
+        ExternType::Memory(memory_type) => write_numbered_memory_type(p, number, memory_type),
+        ExternType::Global(global_type) => write_numbered_global_type(p, number, global_type),
+    }
+}
+
 /// Writes what is imported with its number, as a group.
-#[tactic(auto, unfolding(wasmprinter_spec::specs::Layout::Imports::extern_pieces))]
 fn write_extern_type<P: Print>(
     p: &mut P,
     module: &Module<'_>,
@@ -100,62 +117,39 @@ fn write_extern_type<P: Print>(
     ensures { (o : Options) → Prints P.meaning o p.old p.new result
         (extern_pieces (types_of module.now) number (extern_view extern_type)) }
 {
-    match extern_type {
-        ExternType::Func(index) => write_header_group(p, module, "func", number, index),
-        ExternType::Table(table_type) => write_table_type_group(p, number, table_type),
-        ExternType::Memory(memory_type) => write_memory_group(p, number, memory_type),
-        ExternType::Global(global_type) => write_global_type_group(p, number, global_type),
-        ExternType::Tag(index) => write_header_group(p, module, "tag", number, index),
-    }
-}
-
-/// Writes an import's names, and what is imported with its number.
-fn write_import_parts<P: Print>(
-    p: &mut P,
-    module: &Module<'_>,
-    number: u64,
-    import: &Import<'_>,
-) -> io::Result<()>
-    ensures { (o : Options) → Prints P.meaning o p.old p.new result
-        (import_parts (types_of module.now) number import.now.value) }
-{
-    write_string(p, import.module())?;
-    gap(p)?;
-    write_string(p, import.name())?;
-    gap(p)?;
-    write_extern_type(p, module, number, import.ty())
-}
-
-/// Writes the same as a group.
-#[tactic(auto, using(crate::proofs::LineGroups::groups))]
-fn write_import_group<P: Print>(
-    p: &mut P,
-    module: &Module<'_>,
-    number: u64,
-    import: &Import<'_>,
-) -> io::Result<()>
-    ensures { (o : Options) → Prints P.meaning o p.old p.new result
-        (line_group_gap (codes "import") (import_parts (types_of module.now) number import.now.value)) }
-{
-    open_gap(p, "import")?;
-    write_import_parts(p, module, number, import)?;
+    open_gap(p, kind_word(extern_type.kind()))?;
+    write_extern_parts(p, module, number, extern_type)?;
     shut(p)
 }
 
-/// Writes an import with its number among those of its kind.
-#[tactic(auto, unfolding(wasmprinter_spec::specs::Layout::Imports::import_pieces))]
-fn write_import<P: Print>(
-    p: &mut P,
-    options: &PrintOptions,
-    module: &Module<'_>,
-    number: u64,
-    import: &Import<'_>,
-) -> io::Result<()>
-    ensures { Prints P.meaning options.now p.old p.new result
-        (import_pieces (types_of module.now) number import.now) }
-{
-    break_line(p, options, Some(import.place()), FIELD_NESTING)?;
-    write_import_group(p, module, number, import)
+impl<'a> Field for Import<'a> {
+    ghost keyword = { codes "import" };
+
+    ghost line_place = { λ i. i.place };
+
+    ghost parts = { λ o ts n i. import_parts ts n i.value };
+
+    fn keyword(&self) -> &'static str {
+        "import"
+    }
+
+    fn line_place(&self) -> u64 {
+        self.place()
+    }
+
+    fn write_parts<P: Print>(
+        &self,
+        p: &mut P,
+        _options: &PrintOptions,
+        module: &Module<'_>,
+        number: u64,
+    ) -> io::Result<()> {
+        write_string(p, self.module())?;
+        gap(p)?;
+        write_string(p, self.name())?;
+        gap(p)?;
+        write_extern_type(p, module, number, self.ty())
+    }
 }
 
 /// Writes the imports; each kind is numbered apart.
@@ -169,7 +163,7 @@ pub(crate) fn write_imports<P: Print>(
 {
     let mut numbers = Numbers::none();
     for import in module.imports() {
-        write_import(p, options, module, numbers.of(import.ty()), import)?;
+        write_field(p, options, module, numbers.of(import.ty()), import)?;
         numbers.count(import.ty());
     }
     Ok(())

@@ -2,7 +2,7 @@
 ghost use Rattle.wasmprinter_spec.specs.Options.{Options};
 ghost use Rattle.wasmprinter_spec.specs.Layout.Limits.{wide_pieces, limits_pieces};
 ghost use Rattle.wasmprinter_print.specs.Prints.{Prints};
-ghost use Rattle.wasmprinter_wasm.specs.Externs.{limits_view};
+ghost use Rattle.wasmprinter_entries.specs.Externs.{limits_view};
 
 use std::io;
 use wasmprinter_print::Print;

@@ -51,6 +51,7 @@ fn write_times<P: Print>(p: &mut P, value_type: ValType, count: u32) -> io::Resu
     Ok(())
 }
 
+/// Writes the types of all locals, a blank before each.
 fn write_entries<P: Print>(p: &mut P, locals: &Locals<'_>) -> io::Result<()>
     ensures { (o : Options) → Prints P.meaning o p.old p.new result (list_of_types (locals_of locals.now)) }
 {
@@ -60,6 +61,7 @@ fn write_entries<P: Print>(p: &mut P, locals: &Locals<'_>) -> io::Result<()>
     Ok(())
 }
 
+/// Writes the line of the locals, which has the place.
 #[tactic(auto, unfolding(wasmprinter_spec::specs::Layout::Groups::line_group))]
 fn write_line<P: Print>(
     p: &mut P,

@@ -3,15 +3,14 @@
 ghost use Rattle.std.specs.Prelude.{◌<◌, codes};
 ghost use Rattle.wasmprinter_spec.specs.Options.{Options};
 ghost use Rattle.wasmprinter_spec.specs.Layout.Groups.{line_group_gap};
-ghost use Rattle.wasmprinter_spec.specs.Layout.Memories.{shared_pieces, page_pieces, memory_type_pieces, memory_pieces};
+ghost use Rattle.wasmprinter_spec.specs.Layout.Memories.{shared_pieces, page_pieces, memory_type_pieces};
 ghost use Rattle.wasmprinter_print.specs.Prints.{Prints};
-ghost use Rattle.wasmprinter_wasm.specs.Externs.{memory_type_view, IsPage};
+ghost use Rattle.wasmprinter_entries.specs.Externs.{memory_type_view, IsPage};
 ghost use Rattle.wasmprinter_fields.specs.Parts.{page_parts, memory_parts};
 
-use crate::fields::{FIELD_NESTING, Field};
+use crate::fields::Field;
 use crate::limits::{write_sizes, write_wide};
 use std::io;
-use wasmprinter_lines::lines::break_line;
 use wasmprinter_lines::options::PrintOptions;
 use wasmprinter_print::Print;
 use wasmprinter_wasm::{Memory, MemoryType, Module};
@@ -70,7 +69,11 @@ fn write_memory_type<P: Print>(p: &mut P, memory_type: MemoryType) -> io::Result
 }
 
 /// Writes a number and the type of a memory.
-fn write_numbered_type<P: Print>(p: &mut P, number: u64, memory_type: MemoryType) -> io::Result<()>
+pub(crate) fn write_numbered_memory_type<P: Print>(
+    p: &mut P,
+    number: u64,
+    memory_type: MemoryType,
+) -> io::Result<()>
     requires { IsPage memory_type.page }
     ensures { (o : Options) → Prints P.meaning o p.old p.new result
         (memory_parts number (memory_type_view memory_type)) }
@@ -80,34 +83,28 @@ fn write_numbered_type<P: Print>(p: &mut P, number: u64, memory_type: MemoryType
     write_memory_type(p, memory_type)
 }
 
-/// Writes the same as a group.
-#[tactic(auto, using(crate::proofs::LineGroups::groups))]
-pub(crate) fn write_memory_group<P: Print>(
-    p: &mut P,
-    number: u64,
-    memory_type: MemoryType,
-) -> io::Result<()>
-    requires { IsPage memory_type.page }
-    ensures { (o : Options) → Prints P.meaning o p.old p.new result
-        (line_group_gap (codes "memory") (memory_parts number (memory_type_view memory_type))) }
-{
-    open_gap(p, "memory")?;
-    write_numbered_type(p, number, memory_type)?;
-    shut(p)
-}
-
 impl Field for Memory {
-    ghost pieces = { λ o ts i m. memory_pieces i m };
+    ghost keyword = { codes "memory" };
 
-    #[tactic(auto, unfolding(wasmprinter_spec::specs::Layout::Memories::memory_pieces))]
-    fn write<P: Print>(
+    ghost line_place = { λ m. m.place };
+
+    ghost parts = { λ o ts i m. memory_parts i m.value };
+
+    fn keyword(&self) -> &'static str {
+        "memory"
+    }
+
+    fn line_place(&self) -> u64 {
+        self.place()
+    }
+
+    fn write_parts<P: Print>(
         &self,
         p: &mut P,
-        options: &PrintOptions,
+        _options: &PrintOptions,
         _module: &Module<'_>,
         number: u64,
     ) -> io::Result<()> {
-        break_line(p, options, Some(self.place()), FIELD_NESTING)?;
-        write_memory_group(p, number, self.memory_type())
+        write_numbered_memory_type(p, number, self.ty())
     }
 }

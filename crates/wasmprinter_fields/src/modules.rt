@@ -6,8 +6,9 @@ ghost use Rattle.wasmprinter_spec.specs.Layout.{module_field_pieces, module_piec
 ghost use Rattle.wasmprinter_spec.specs.Layout.Functions.{function_pieces};
 ghost use Rattle.wasmprinter_spec.specs.Layout.Groups.{has_break, group_at, numbered};
 ghost use Rattle.wasmprinter_print.specs.Prints.{Prints};
-ghost use Rattle.wasmprinter_wasm.specs.Externs.{imported_count};
+ghost use Rattle.wasmprinter_entries.specs.Externs.{imported_count};
 ghost use Rattle.wasmprinter_fields.specs.Parts.{types_of};
+ghost use Rattle.wasmprinter_fields.specs.FieldGroups.{definition_pieces, declaration_pieces, use_pieces, code_and_data_pieces};
 
 use crate::fields::{first_number, write_behind_imports, write_each};
 use crate::functions::write_function;
@@ -38,22 +39,61 @@ fn write_functions<P: Print>(
     Ok(())
 }
 
-/// Writes the fields in the order of their sections.
-#[tactic(auto, unfolding(wasmprinter_spec::specs::Layout::module_field_pieces))]
-fn write_fields<P: Print>(p: &mut P, options: &PrintOptions, module: &Module<'_>) -> io::Result<()>
-    ensures { Prints P.meaning options.now p.old p.new result (module_field_pieces options.now module.now) }
+/// Writes the tables, memories, tags and globals that the module defines.
+fn write_definitions<P: Print>(
+    p: &mut P,
+    options: &PrintOptions,
+    module: &Module<'_>,
+) -> io::Result<()>
+    ensures { Prints P.meaning options.now p.old p.new result (definition_pieces module.now) }
 {
-    write_type_groups(p, options, module.types())?;
-    write_imports(p, options, module)?;
     write_behind_imports(p, options, module, ExternKind::Table, module.tables())?;
     write_behind_imports(p, options, module, ExternKind::Memory, module.memories())?;
     write_behind_imports(p, options, module, ExternKind::Tag, module.tags())?;
-    write_behind_imports(p, options, module, ExternKind::Global, module.globals())?;
+    write_behind_imports(p, options, module, ExternKind::Global, module.globals())
+}
+
+/// Writes the types, the imports, and what the module defines beside functions.
+fn write_declarations<P: Print>(
+    p: &mut P,
+    options: &PrintOptions,
+    module: &Module<'_>,
+) -> io::Result<()>
+    ensures { Prints P.meaning options.now p.old p.new result (declaration_pieces module.now) }
+{
+    write_type_groups(p, options, module.types())?;
+    write_imports(p, options, module)?;
+    write_definitions(p, options, module)
+}
+
+/// Writes the exports, the start function and the element segments.
+fn write_uses<P: Print>(p: &mut P, options: &PrintOptions, module: &Module<'_>) -> io::Result<()>
+    ensures { Prints P.meaning options.now p.old p.new result (use_pieces options.now module.now) }
+{
     write_each(p, options, module, 0, module.exports())?;
-    write_start(p, options, module.start())?;
-    write_each(p, options, module, 0, module.elements())?;
+    write_start(p, options, module, module.start())?;
+    write_each(p, options, module, 0, module.elements())
+}
+
+/// Writes the functions and the data segments.
+fn write_code_and_data<P: Print>(
+    p: &mut P,
+    options: &PrintOptions,
+    module: &Module<'_>,
+) -> io::Result<()>
+    ensures { Prints P.meaning options.now p.old p.new result (code_and_data_pieces options.now module.now) }
+{
     write_functions(p, options, module)?;
     write_each(p, options, module, 0, module.datas())
+}
+
+/// Writes the fields in the order of their sections.
+fn write_fields<P: Print>(p: &mut P, options: &PrintOptions, module: &Module<'_>) -> io::Result<()>
+    ensures { Prints P.meaning options.now p.old p.new result (module_field_pieces options.now module.now) }
+{
+    write_declarations(p, options, module)?;
+    write_uses(p, options, module)?;
+    write_code_and_data(p, options, module)
 }
 
 /// Whether the module has a field, each of which begins a line.

@@ -2,23 +2,21 @@
 ghost use Rattle.std.specs.Prelude.{◌∷◌, codes};
 ghost use Rattle.wasmprinter_spec.specs.Options.{Options};
 ghost use Rattle.wasmprinter_spec.specs.Piece.{Mark, Gap};
-ghost use Rattle.wasmprinter_spec.specs.Layout.Groups.{line_group_gap};
-ghost use Rattle.wasmprinter_spec.specs.Layout.Tables.{table_type_pieces, init_pieces, table_pieces};
+ghost use Rattle.wasmprinter_spec.specs.Layout.Tables.{table_type_pieces, init_pieces};
 ghost use Rattle.wasmprinter_print.specs.Prints.{Prints};
-ghost use Rattle.wasmprinter_wasm.specs.Externs.{table_type_view};
+ghost use Rattle.wasmprinter_entries.specs.Externs.{table_type_view};
 ghost use Rattle.wasmprinter_fields.specs.Parts.{types_of, table_parts};
 
 use crate::expressions::write_constant;
-use crate::fields::{FIELD_NESTING, Field};
+use crate::fields::Field;
 use crate::limits::{write_sizes, write_wide};
 use std::io;
-use wasmprinter_lines::lines::break_line;
 use wasmprinter_lines::options::PrintOptions;
 use wasmprinter_print::Print;
 use wasmprinter_text::types::write_ref_type;
 use wasmprinter_wasm::{Module, Table, TableType};
 use wasmprinter_words::numbers::mark;
-use wasmprinter_words::words::{gap, open_gap, shut};
+use wasmprinter_words::words::gap;
 
 /// Writes the type of a table.
 #[tactic(auto, unfolding(wasmprinter_spec::specs::Layout::Tables::table_type_pieces))]
@@ -32,28 +30,17 @@ fn write_table_type<P: Print>(p: &mut P, table_type: TableType) -> io::Result<()
 }
 
 /// Writes a number and the type of a table.
-fn write_numbered_type<P: Print>(p: &mut P, number: u64, table_type: TableType) -> io::Result<()>
+pub(crate) fn write_numbered_table_type<P: Print>(
+    p: &mut P,
+    number: u64,
+    table_type: TableType,
+) -> io::Result<()>
     ensures { (o : Options) → Prints P.meaning o p.old p.new result
         (Mark number ∷ (Gap ∷ table_type_pieces (table_type_view table_type))) }
 {
     mark(p, number)?;
     gap(p)?;
     write_table_type(p, table_type)
-}
-
-/// Writes a number and the type of a table as a group.
-#[tactic(auto, using(crate::proofs::LineGroups::groups))]
-pub(crate) fn write_table_type_group<P: Print>(
-    p: &mut P,
-    number: u64,
-    table_type: TableType,
-) -> io::Result<()>
-    ensures { (o : Options) → Prints P.meaning o p.old p.new result
-        (line_group_gap (codes "table") (Mark number ∷ (Gap ∷ table_type_pieces (table_type_view table_type)))) }
-{
-    open_gap(p, "table")?;
-    write_numbered_type(p, number, table_type)?;
-    shut(p)
 }
 
 /// Writes a blank and the initialiser, if there is one.
@@ -75,51 +62,29 @@ fn write_init<P: Print>(
     }
 }
 
-/// Writes a table with its number.
-fn write_table_parts<P: Print>(
-    p: &mut P,
-    options: &PrintOptions,
-    module: &Module<'_>,
-    number: u64,
-    table: &Table<'_>,
-) -> io::Result<()>
-    ensures { Prints P.meaning options.now p.old p.new result (table_parts (types_of module.now) number table.now.value) }
-{
-    mark(p, number)?;
-    gap(p)?;
-    write_table_type(p, table.ty())?;
-    write_init(p, options, module, table)
-}
-
-/// Writes the same as a group.
-#[tactic(auto, using(crate::proofs::LineGroups::groups))]
-fn write_table_group<P: Print>(
-    p: &mut P,
-    options: &PrintOptions,
-    module: &Module<'_>,
-    number: u64,
-    table: &Table<'_>,
-) -> io::Result<()>
-    ensures { Prints P.meaning options.now p.old p.new result
-        (line_group_gap (codes "table") (table_parts (types_of module.now) number table.now.value)) }
-{
-    open_gap(p, "table")?;
-    write_table_parts(p, options, module, number, table)?;
-    shut(p)
-}
-
 impl<'a> Field for Table<'a> {
-    ghost pieces = { λ o. table_pieces };
+    ghost keyword = { codes "table" };
 
-    #[tactic(auto, unfolding(wasmprinter_spec::specs::Layout::Tables::table_pieces))]
-    fn write<P: Print>(
+    ghost line_place = { λ t. t.place };
+
+    ghost parts = { λ o ts i t. table_parts ts i t.value };
+
+    fn keyword(&self) -> &'static str {
+        "table"
+    }
+
+    fn line_place(&self) -> u64 {
+        self.place()
+    }
+
+    fn write_parts<P: Print>(
         &self,
         p: &mut P,
         options: &PrintOptions,
         module: &Module<'_>,
         number: u64,
     ) -> io::Result<()> {
-        break_line(p, options, Some(self.place()), FIELD_NESTING)?;
-        write_table_group(p, options, module, number, self)
+        write_numbered_table_type(p, number, self.ty())?;
+        write_init(p, options, module, self)
     }
 }

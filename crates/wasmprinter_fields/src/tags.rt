@@ -1,26 +1,36 @@
 //! Tags (section 6.6 of the WebAssembly Core Specification, "Tags").
-ghost use Rattle.wasmprinter_spec.specs.Layout.{tag_pieces};
+ghost use Rattle.std.specs.Prelude.{codes};
+ghost use Rattle.wasmprinter_fields.specs.Parts.{header_parts};
 
-use crate::fields::{FIELD_NESTING, Field};
-use crate::headers::write_header_group;
+use crate::fields::Field;
+use crate::headers::write_header;
 use std::io;
-use wasmprinter_lines::lines::break_line;
 use wasmprinter_lines::options::PrintOptions;
 use wasmprinter_print::Print;
 use wasmprinter_wasm::{Module, Tag};
 
 impl Field for Tag {
-    ghost pieces = { λ o. tag_pieces };
+    ghost keyword = { codes "tag" };
 
-    #[tactic(auto, unfolding(wasmprinter_spec::specs::Layout::tag_pieces))]
-    fn write<P: Print>(
+    ghost line_place = { λ t. t.place };
+
+    ghost parts = { λ o ts i t. header_parts ts i t.value };
+
+    fn keyword(&self) -> &'static str {
+        "tag"
+    }
+
+    fn line_place(&self) -> u64 {
+        self.place()
+    }
+
+    fn write_parts<P: Print>(
         &self,
         p: &mut P,
-        options: &PrintOptions,
+        _options: &PrintOptions,
         module: &Module<'_>,
         number: u64,
     ) -> io::Result<()> {
-        break_line(p, options, Some(self.place()), FIELD_NESTING)?;
-        write_header_group(p, module, "tag", number, self.type_index())
+        write_header(p, module, number, self.type_index())
     }
 }

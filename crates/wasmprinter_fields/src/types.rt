@@ -92,6 +92,7 @@ fn write_types<P: Print>(
     Ok(())
 }
 
+/// Closes a written group on a line of its own.
 fn close_below<P: Print>(p: &mut P, options: &PrintOptions) -> io::Result<()>
     ensures { Prints P.meaning options.now p.old p.new result (close None 1 true) }
 {

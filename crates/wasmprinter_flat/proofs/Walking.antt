@@ -10,7 +10,7 @@ use Rattle.wasmprinter_spec.specs.Labels.{Label, labels_after, count_after, outs
 use Rattle.wasmprinter_spec.specs.Options.{Options}
 use Rattle.wasmprinter_spec.specs.Piece.{Word}
 use Rattle.wasmprinter_spec.specs.Meaning.{Meaning}
-use Rattle.wasmprinter_spec.specs.LabelNames.{no_names}
+use Rattle.wasmprinter_spec.specs.LabelNames.{no_label_names}
 use Rattle.wasmprinter_spec.specs.Layout.Groups.{has_break}
 use Rattle.wasmprinter_spec.specs.Layout.Operators.{Setting, level, before_word, pieces_by, operator_pieces, operators_pieces, expression_pieces}
 use Rattle.wasmprinter_print.specs.Emits.{Through}
@@ -52,20 +52,20 @@ unfolding operator_pieces
 operator-before s first d place o depth e = rw (unnamed-length d, e) refl
 
 operators-of : (s : Setting) (first : Bool) (n : ℕ) (xs : List Label) (os rest : List (Placed Operator)) (o : Placed Operator) → os ≡ o ∷ rest →
-    operators_pieces s no_names first n xs os
+    operators_pieces s no_label_names first n xs os
     ≡ operator_pieces s first None xs o
-    ++ operators_pieces s no_names false (count_after (role_of o.value.opcode) n) (labels_after (role_of o.value.opcode) None xs) rest
+    ++ operators_pieces s no_label_names false (count_after (role_of o.value.opcode) n) (labels_after (role_of o.value.opcode) None xs) rest
 unfolding operators_pieces
-operators-of s first n xs os rest o e = ap (λ ps. operators_pieces s no_names first n xs ps) e
+operators-of s first n xs os rest o e = ap (λ ps. operators_pieces s no_label_names first n xs ps) e
 
-operators-nil : (s : Setting) (first : Bool) (n : ℕ) (xs : List Label) (os : List (Placed Operator)) → os ≡ [] → operators_pieces s no_names first n xs os ≡ []
+operators-nil : (s : Setting) (first : Bool) (n : ℕ) (xs : List Label) (os : List (Placed Operator)) → os ≡ [] → operators_pieces s no_label_names first n xs os ≡ []
 unfolding operators_pieces
-operators-nil s first n xs os e = ap (λ ps. operators_pieces s no_names first n xs ps) e
+operators-nil s first n xs os e = ap (λ ps. operators_pieces s no_label_names first n xs ps) e
 
 -- So far all operators have been written but for the rest, in so many blocks, with as many still to be counted as there may be.
 pub record Progress {P : Type 0} (m : Meaning P) (o : Options) (old new : P) (s : Setting) (all rest : List (Placed Operator)) (first : Bool) (depth : ℕ) : Type 0 where
   pub count : ℕ
-  pub lacks : Lacks m o old new (expression_pieces s no_names all) (operators_pieces s no_names first count (unnamed depth) rest)
+  pub lacks : Lacks m o old new (expression_pieces s no_label_names all) (operators_pieces s no_label_names first count (unnamed depth) rest)
   pub room : depth + length rest < 2 ^ 64
 
 -- nothing is written yet
@@ -73,7 +73,7 @@ pub starts : {P : Type 0} (m : Meaning P) (o : Options) (a : P) (s : Setting) (a
 unfolding expression_pieces
 starts m o a s all os e h = record {
   count = 0;
-  lacks = record { front = []; written = no_piece m o a; joined = ap (λ ps. operators_pieces s no_names true 0 [] ps) e };
+  lacks = record { front = []; written = no_piece m o a; joined = ap (λ ps. operators_pieces s no_label_names true 0 [] ps) e };
   room = omega (arith, h, ap length e);
 }
 
@@ -84,9 +84,9 @@ module _ {P : Type 0} (m : Meaning P) {o : Options} {a t : P} {s : Setting} {all
 
   -- what is lacking: the next operator, and the others
   pub lacks_next : (rest : List (Placed Operator)) (x : ℕ × Operator) → pairs os ≡ x ∷ pairs rest →
-      Lacks m o a t (expression_pieces s no_names all)
+      Lacks m o a t (expression_pieces s no_label_names all)
       (operator_pieces s first None (unnamed d) (placed_view x)
-      ++ operators_pieces s no_names false (count_after (role_of x.1.opcode) p.count) (labels_after (role_of x.1.opcode) None (unnamed d)) rest)
+      ++ operators_pieces s no_label_names false (count_after (role_of x.1.opcode) p.count) (labels_after (role_of x.1.opcode) None (unnamed d)) rest)
   lacks_next rest x e = rw (operators-of s first p.count (unnamed d) os rest (placed_view x) (first-pair os rest x e)) at p.lacks
 
   -- the next operator was written
@@ -100,7 +100,7 @@ module _ {P : Type 0} (m : Meaning P) {o : Options} {a t : P} {s : Setting} {all
   }
 
   -- no operator is left
-  pub all_written : pairs os ≡ [] → Written m o a t Through (expression_pieces s no_names all)
+  pub all_written : pairs os ≡ [] → Written m o a t Through (expression_pieces s no_label_names all)
   all_written e = lacks_none m _ (rw (operators-nil s first p.count (unnamed d) os (no-pair os e)) at p.lacks)
 
 -- ---- whether there is an operator

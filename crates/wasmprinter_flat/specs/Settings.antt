@@ -4,7 +4,7 @@ use Rattle.wasmprinter_spec.specs.Grammar.{Placed}
 use Rattle.wasmprinter_spec.specs.Types.{FuncType}
 use Rattle.wasmprinter_spec.specs.Operator.{Operator}
 use Rattle.wasmprinter_spec.specs.Piece.{Piece}
-use Rattle.wasmprinter_spec.specs.LabelNames.{no_names}
+use Rattle.wasmprinter_spec.specs.LabelNames.{no_label_names}
 use Rattle.wasmprinter_spec.specs.Layout.Operators as layout
 use Rattle.wasmprinter_flat.specs.declared.operators.Form.{Form}
 use Rattle.wasmprinter_flat.specs.declared.operators.Form.TheVariants as forms
@@ -25,4 +25,4 @@ setting_view signature_at s = setting_of s.form (signature_at s.types.now) s.nes
 
 -- operators that stand over lines
 abbrev pub over_lines : (ℕ → Option FuncType) → ℕ → List (Placed Operator) → List Piece
-over_lines signature nesting os = layout.expression_pieces (setting_of forms.OverLines signature nesting) no_names os
+over_lines signature nesting os = layout.expression_pieces (setting_of forms.OverLines signature nesting) no_label_names os

@@ -1,11 +1,11 @@
 //! What opens a block (section 6.5 of the WebAssembly Core Specification, "Control Instructions"): its type, catch clauses, and the
 //! comment of its label.
-ghost use Rattle.std.specs.Prelude.{[], ◌∷◌, ◌++◌, List, None, codes};
+ghost use Rattle.std.specs.Prelude.{◌∷◌, List, None};
 ghost use Rattle.wasmprinter_spec.specs.Labels.{Label};
 ghost use Rattle.wasmprinter_spec.specs.Options.{Options};
 ghost use Rattle.wasmprinter_spec.specs.Piece.{Gap, Number};
-ghost use Rattle.wasmprinter_spec.specs.Layout.Groups.{line_group, line_group_gap};
-ghost use Rattle.wasmprinter_spec.specs.Layout.Operators.{label_pieces, ending_pieces, signature_behind, block_pieces};
+ghost use Rattle.wasmprinter_spec.specs.Layout.Groups.{line_group};
+ghost use Rattle.wasmprinter_spec.specs.Layout.Operators.{label_pieces, ending_pieces, block_pieces};
 ghost use Rattle.wasmprinter_spec.specs.Layout.Operators.{catch_pieces, catches_pieces};
 ghost use Rattle.wasmprinter_print.specs.Prints.{Prints};
 ghost use Rattle.wasmprinter_ops.specs.Blocks.{block_type_view, catch_view, catches_view};
@@ -18,10 +18,9 @@ use crate::references::write_result;
 use std::io;
 use wasmprinter_ops::blocks::{BlockType, Catch, Catches};
 use wasmprinter_print::Print;
-use wasmprinter_text::signature::Signatures;
-use wasmprinter_text::types::signature;
+use wasmprinter_text::signature::{Signatures, write_type_use};
 use wasmprinter_words::comments::{label_ending, label_remark};
-use wasmprinter_words::numbers::{number, write_index_group};
+use wasmprinter_words::numbers::gap_index;
 use wasmprinter_words::words::{gap, open, shut};
 
 /// Writes a comment that names the label of a block, which is counted from 1.
@@ -40,27 +39,6 @@ pub(crate) fn write_ending<P: Print>(p: &mut P, form: Form, block: u64) -> io::R
             label_remark(p, block)
         }
     }
-}
-
-/// Writes the signature of a function type, and nothing where the index is no function type's.
-fn write_signature<P: Print, S: Signatures>(p: &mut P, types: &S, index: u32) -> io::Result<()>
-    ensures { (o : Options) → Prints P.meaning o p.old p.new result
-        (signature_behind (S.signature_at types.now index)) }
-{
-    match types.signature(index) {
-        Some(found) => signature(p, &found),
-        None => Ok(()),
-    }
-}
-
-/// Writes the index of a type, and its signature.
-fn write_type_use<P: Print, S: Signatures>(p: &mut P, types: &S, index: u32) -> io::Result<()>
-    ensures { (o : Options) → Prints P.meaning o p.old p.new result
-        (Gap ∷ (line_group_gap (codes "type") (Number index ∷ []) ++ signature_behind (S.signature_at types.now index))) }
-{
-    gap(p)?;
-    write_index_group(p, "type", index)?;
-    write_signature(p, types, index)
 }
 
 /// Writes the type of a block, a blank in front: nothing, one result, or a type use.
@@ -93,8 +71,7 @@ fn write_tagged<P: Print>(
         (line_group keyword.now (Gap ∷ (Number tag ∷ label_pieces inner (unnamed depth) label))) }
 {
     open(p, keyword)?;
-    gap(p)?;
-    number(p, u64::from(tag))?;
+    gap_index(p, tag)?;
     write_label(p, depth, label)?;
     shut(p)
 }

@@ -17,8 +17,7 @@ ghost use Rattle.wasmprinter_flat.specs.Settings.{form_view, setting_view};
 use crate::blocks::{write_block_type, write_catches, write_ending};
 use crate::constants::{write_f32, write_f64};
 use crate::indices::{
-    write_call, write_copy, write_default_index, write_index_and_count, write_number,
-    write_segment, write_two,
+    write_call, write_copy, write_default_index, write_index_and_count, write_segment, write_two,
 };
 use crate::labels::{write_label, write_labels};
 use crate::memory::write_mem_arg;
@@ -28,12 +27,12 @@ use crate::vectors::{write_lane, write_lanes, write_vector};
 use std::io;
 use wasmprinter_ops::blocks::{BlockType, Catches};
 use wasmprinter_ops::opcode::{Shape, Space};
-use wasmprinter_ops::operands::{MemArg, cast_source, cast_target};
+use wasmprinter_ops::operands::MemArg;
 use wasmprinter_ops::operator::Immediates;
 use wasmprinter_ops::types::{HeapType, RefType};
 use wasmprinter_print::Print;
 use wasmprinter_text::signature::Signatures;
-use wasmprinter_words::numbers::constant;
+use wasmprinter_words::numbers::{constant, gap_index};
 
 /// Writes what opens a block, with so many blocks open around it.
 fn write_block<P: Print, S: Signatures>(
@@ -78,7 +77,7 @@ fn write_index_of<P: Print>(p: &mut P, space: Space, depth: u64, index: u32) -> 
 {
     match space {
         Space::Label => write_label(p, depth, index),
-        _ => write_number(p, index),
+        _ => gap_index(p, index),
     }
 }
 
@@ -193,13 +192,9 @@ pub(crate) fn write_immediates<P: Print, S: Signatures>(
         Immediates::BrTable(targets, default) => write_labels(p, depth, targets, *default),
         Immediates::Types(types) => write_select(p, types),
         Immediates::Heap(heap) => write_heap_by(p, shape, *heap),
-        Immediates::Cast(flags, label, source, target) => write_cast(
-            p,
-            depth,
-            *label,
-            cast_source(*flags, *source),
-            cast_target(*flags, *target),
-        ),
+        Immediates::Cast(flags, label, source, target) => {
+            write_cast(p, depth, *flags, *label, *source, *target)
+        }
         Immediates::Memory(operand) => write_memory(p, shape, *operand),
         Immediates::MemoryLane(operand, lane) => write_memory_lane(p, shape, *operand, *lane),
         Immediates::Lane(lane) => write_lane(p, *lane),

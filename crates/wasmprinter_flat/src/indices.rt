@@ -9,16 +9,9 @@ ghost use Rattle.wasmprinter_print.specs.Prints.{Prints};
 
 use std::io;
 use wasmprinter_print::Print;
-use wasmprinter_words::numbers::{number, number_word, write_index_group};
+use wasmprinter_text::signature::write_type_index;
+use wasmprinter_words::numbers::{gap_index, number_word};
 use wasmprinter_words::words::gap;
-
-/// Writes an index.
-pub(crate) fn write_number<P: Print>(p: &mut P, index: u32) -> io::Result<()>
-    ensures { (o : Options) → Prints P.meaning o p.old p.new result (Gap ∷ (Number index ∷ [])) }
-{
-    gap(p)?;
-    number(p, u64::from(index))
-}
 
 /// Writes an index, and nothing for 0.
 #[tactic(auto, unfolding(wasmprinter_spec::specs::Layout::Operators::default_index_pieces))]
@@ -28,7 +21,7 @@ pub(crate) fn write_default_index<P: Print>(p: &mut P, index: u32) -> io::Result
     if index == 0 {
         Ok(())
     } else {
-        write_number(p, index)
+        gap_index(p, index)
     }
 }
 
@@ -38,8 +31,8 @@ pub(crate) fn write_two<P: Print>(p: &mut P, first: u32, second: u32) -> io::Res
     ensures { (o : Options) → Prints P.meaning o p.old p.new result
         (two_index_pieces first second) }
 {
-    write_number(p, first)?;
-    write_number(p, second)
+    gap_index(p, first)?;
+    gap_index(p, second)
 }
 
 /// Writes a number that is no index: in decimal, without a style.
@@ -56,17 +49,8 @@ pub(crate) fn write_index_and_count<P: Print>(p: &mut P, index: u32, count: u32)
     ensures { (o : Options) → Prints P.meaning o p.old p.new result
         (Gap ∷ (Number index ∷ lane_pieces count)) }
 {
-    write_number(p, index)?;
+    gap_index(p, index)?;
     write_count(p, count)
-}
-
-/// Writes the index of a function type, as a group.
-fn write_type_group<P: Print>(p: &mut P, index: u32) -> io::Result<()>
-    ensures { (o : Options) → Prints P.meaning o p.old p.new result
-        (Gap ∷ line_group_gap (codes "type") (Number index ∷ [])) }
-{
-    gap(p)?;
-    write_index_group(p, "type", index)
 }
 
 /// Writes what an indirect call names: its table unless that is 0, and the index of its type.
@@ -76,7 +60,7 @@ pub(crate) fn write_call<P: Print>(p: &mut P, type_index: u32, table: u32) -> io
         ++ (Gap ∷ line_group_gap (codes "type") (Number type_index ∷ []))) }
 {
     write_default_index(p, table)?;
-    write_type_group(p, type_index)
+    write_type_index(p, type_index)
 }
 
 /// Writes a segment of elements or data, in front of it the table or memory that it is copied to,
@@ -86,7 +70,7 @@ pub(crate) fn write_segment<P: Print>(p: &mut P, segment: u32, target: u32) -> i
         (default_index_pieces target ++ (Gap ∷ (Number segment ∷ []))) }
 {
     write_default_index(p, target)?;
-    write_number(p, segment)
+    gap_index(p, segment)
 }
 
 /// Writes the tables or memories that are copied to and from, unless both are 0.

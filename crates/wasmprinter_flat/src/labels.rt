@@ -13,7 +13,7 @@ use wasmprinter_ops::blocks::Targets;
 use wasmprinter_ops::opcode::Role;
 use wasmprinter_print::Print;
 use wasmprinter_words::comments::{block_remark, unstyled_remark};
-use wasmprinter_words::numbers::{number, number_word};
+use wasmprinter_words::numbers::{gap_index, number, number_word};
 use wasmprinter_words::words::gap;
 
 /// How many blocks are open behind an operator.
@@ -49,14 +49,6 @@ fn write_around<P: Print>(p: &mut P, depth: u64, label: u64) -> io::Result<()>
     block_remark(p, depth - label)
 }
 
-/// Writes the label of the body itself.
-fn write_own<P: Print>(p: &mut P, label: u64) -> io::Result<()>
-    ensures { (o : Options) → Prints P.meaning o p.old p.new result (Gap ∷ (Number label ∷ [])) }
-{
-    gap(p)?;
-    number(p, label)
-}
-
 /// Writes a number that is no label.
 fn write_invalid<P: Print>(p: &mut P, label: u64) -> io::Result<()>
     ensures { (o : Options) → Prints P.meaning o p.old p.new result
@@ -72,13 +64,13 @@ pub(crate) fn write_label<P: Print>(p: &mut P, depth: u64, label: u32) -> io::Re
     ensures { (o : Options) (inner : List Label) → Prints P.meaning o p.old p.new result
         (label_pieces inner (unnamed depth) label) }
 {
-    let label = u64::from(label);
-    if label < depth {
-        write_around(p, depth, label)
-    } else if label == depth {
-        write_own(p, label)
+    let blocks = u64::from(label);
+    if blocks < depth {
+        write_around(p, depth, blocks)
+    } else if blocks == depth {
+        gap_index(p, label)
     } else {
-        write_invalid(p, label)
+        write_invalid(p, blocks)
     }
 }
 

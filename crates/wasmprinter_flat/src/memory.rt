@@ -10,7 +10,7 @@ use crate::indices::write_default_index;
 use std::io;
 use wasmprinter_ops::operands::MemArg;
 use wasmprinter_print::Print;
-use wasmprinter_words::numbers::numbered_word;
+use wasmprinter_words::numbers::{numbered_word, power};
 use wasmprinter_words::words::gap;
 
 /// Writes a word that ends in a number.
@@ -44,7 +44,7 @@ fn write_align<P: Print>(p: &mut P, natural: u32, exponent: u32) -> io::Result<(
     if exponent == natural {
         Ok(())
     } else {
-        write_numbered(p, "align=", 1 << exponent)
+        write_numbered(p, "align=", power(exponent))
     }
 }
 

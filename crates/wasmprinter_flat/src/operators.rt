@@ -6,7 +6,7 @@ ghost use Rattle.wasmprinter_spec.specs.Options.{Options};
 ghost use Rattle.wasmprinter_spec.specs.Piece.{Break};
 ghost use Rattle.wasmprinter_spec.specs.Table.{shape_of};
 ghost use Rattle.wasmprinter_spec.specs.Types.{FuncType};
-ghost use Rattle.wasmprinter_spec.specs.LabelNames.{no_names};
+ghost use Rattle.wasmprinter_spec.specs.LabelNames.{no_label_names};
 ghost use Rattle.wasmprinter_spec.specs.Layout.Groups.{has_break};
 ghost use Rattle.wasmprinter_spec.specs.Layout.Operators.{pieces_by, level as level_of, before_word, operator_pieces, expression_pieces};
 ghost use Rattle.wasmprinter_print.specs.Prints.{Prints};
@@ -151,7 +151,7 @@ pub fn write_operators<P: Print, S: Signatures>(
     expression: &Expression<'_>,
 ) -> io::Result<()>
     ensures { Prints P.meaning options.now p.old p.new result
-        (expression_pieces (setting_view S.signature_at setting.now) no_names expression.now.items) }
+        (expression_pieces (setting_view S.signature_at setting.now) no_label_names expression.now.items) }
 {
     let mut first = true;
     let mut depth = 0;

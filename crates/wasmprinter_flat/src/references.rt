@@ -8,12 +8,14 @@ ghost use Rattle.wasmprinter_spec.specs.Layout.Groups.{line_group_gap};
 ghost use Rattle.wasmprinter_spec.specs.Layout.Operators.{label_pieces, select_pieces};
 ghost use Rattle.wasmprinter_spec.specs.Layout.Types.{heap_pieces, ref_pieces, val_pieces};
 ghost use Rattle.wasmprinter_print.specs.Prints.{Prints};
+ghost use Rattle.wasmprinter_ops.specs.Operands.{source_type, target_type};
 ghost use Rattle.wasmprinter_ops.specs.ValTypes.{heap_view, ref_view, type_view, types_view};
 ghost use Rattle.wasmprinter_flat.specs.Open.{unnamed};
 ghost use Rattle.wasmprinter_flat.specs.Only.{only};
 
 use crate::labels::write_label;
 use std::io;
+use wasmprinter_ops::operands::{cast_source, cast_target};
 use wasmprinter_ops::types::{HeapType, RefType, ValType, ValTypes};
 use wasmprinter_print::Print;
 use wasmprinter_text::types::{write_group, write_heap_type, write_ref_type, write_val_type};
@@ -80,18 +82,19 @@ fn write_refs<P: Print>(p: &mut P, source: RefType, target: RefType) -> io::Resu
     write_ref(p, target)
 }
 
-/// Writes a label, with so many blocks open, the type of what is cast, and the type that is wanted.
+/// Writes a label, with so many blocks open, the type of what is cast, and the type that is wanted, by the flags of the cast.
 pub(crate) fn write_cast<P: Print>(
     p: &mut P,
     depth: u64,
+    flags: u8,
     label: u32,
-    source: RefType,
-    target: RefType,
+    source: HeapType,
+    target: HeapType,
 ) -> io::Result<()>
     ensures { (o : Options) (inner : List Label) → Prints P.meaning o p.old p.new result
         (label_pieces inner (unnamed depth) label
-        ++ (Gap ∷ (ref_pieces (ref_view source) ++ (Gap ∷ ref_pieces (ref_view target))))) }
+        ++ (Gap ∷ (ref_pieces (source_type flags source) ++ (Gap ∷ ref_pieces (target_type flags target))))) }
 {
     write_label(p, depth, label)?;
-    write_refs(p, source, target)
+    write_refs(p, cast_source(flags, source), cast_target(flags, target))
 }

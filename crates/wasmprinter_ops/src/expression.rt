@@ -146,6 +146,8 @@ impl<'a> Expression<'a> {
 impl<'a> GrownIn<'a> for Expression<'a> {
     ghost parse = { expression.parse };
 
+    ghost grows = { HasBlock };
+
     fn read(alloc: Global, cursor: &mut Cursor<'a>) -> Result<Expression<'a>, Error> {
         Expression::read(alloc, cursor)
     }

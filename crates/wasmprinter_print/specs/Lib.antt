@@ -1,5 +1,7 @@
+pub mod CallLaws
 pub mod Emits
 pub mod EmitsLaws
+pub mod PieceLaws
 pub mod Prints
 pub mod PrintsLaws
 pub mod Styles

@@ -1,14 +1,14 @@
 //! Printers: what a layout hands its text, lines and styles to.
-ghost use Rattle.std.specs.Prelude.{◌≡◌, ℕ, List, [], ◌∷◌, ◌++◌, Bool, false, Result, IsErrAnd, IsTrue, refl};
-ghost use Rattle.std.specs.declared.io.Error.{Error as IoError};
-ghost use Rattle.wasmprinter_spec.specs.Call.{Call, Text, Newline, Line, Start, Literal, Name, Keyword, TypeName, Comment, Reset};
-ghost use Rattle.wasmprinter_spec.specs.Meaning.{Meaning, Succeeded, Failed};
-ghost use Rattle.wasmprinter_print.specs.Emits.{Does, Claims, Emits, Made, Ending, Through, AtCall};
+ghost use Rattle.std.specs.Prelude.{IsTrue};
+ghost use Rattle.wasmprinter_spec.specs.Call.{Text, Newline, Line, Start, Literal, Name, Keyword, TypeName, Comment, Reset};
+ghost use Rattle.wasmprinter_spec.specs.Meaning.{Meaning, Succeeded};
+ghost use Rattle.wasmprinter_print.specs.Emits.{Does, Claims};
 ghost use Rattle.wasmprinter_print.specs.EmitsLaws.{then, ends, fails, called, call_fails, nothing, then_text, ends_text};
-ghost use Rattle.wasmprinter_print.specs.Prints.{Written, Prints};
 ghost use Rattle.wasmprinter_print.specs.PrintsLaws.{no_piece, one_piece, both_pieces, pieces_end, last_pieces_end};
-ghost use Rattle.wasmprinter_spec.specs.Options.{Options};
-ghost use Rattle.wasmprinter_spec.specs.Piece.{Piece, calls};
+ghost use Rattle.wasmprinter_print.specs.CallLaws.{GoesOn, BreaksOff, FailsAtLast, Idle, CallThen, CallBreaksOff, CallDone, CallFailed};
+ghost use Rattle.wasmprinter_print.specs.CallLaws.{TextThen, TextBreaksOff, ByteThen, ByteBreaksOff};
+ghost use Rattle.wasmprinter_print.specs.PieceLaws.{PieceThen, PieceBreaksOff, PieceDone, PiecesThen, PiecesBreakOff};
+ghost use Rattle.wasmprinter_print.specs.PieceLaws.{PiecesFailAtLast, NoPieces};
 
 mod calls;
 mod fmt_write;
@@ -82,58 +82,58 @@ pub trait Print {
     // The laws follow from `meaning` alone. They stand here so that the proofs of generic code find them.
 
     // a part of a layout, and then the rest
-    ghost goes_on: { (a s t : Self) (r : Ending) (l k : List Call) → Made meaning a s Through l → Made meaning s t r k → Made meaning a t r (l ++ k) } = { λ a s t r l k x y. then meaning x y };
+    ghost goes_on: { GoesOn meaning } = { λ a s t r l k x y. then meaning x y };
 
     // a part that failed, whatever would have come after it
-    ghost breaks_off: { (a t : Self) (r : Result (Unit {0}) IoError) (e : IoError) (l k : List Call) → Made meaning a t (AtCall e) l → IsErrAnd r (λ y. y ≡ e) → Emits meaning a t r (l ++ k) } = { λ a t r e l k x f. ends meaning r k f x };
+    ghost breaks_off: { BreaksOff meaning } = { λ a t r e l k x f. ends meaning r k f x };
 
     // the last part failed
-    ghost fails_at_last: { (a t : Self) (r : Result (Unit {0}) IoError) (e : IoError) (l : List Call) → Made meaning a t (AtCall e) l → IsErrAnd r (λ y. y ≡ e) → Emits meaning a t r l } = { λ a t r e l x f. fails meaning r f x };
+    ghost fails_at_last: { FailsAtLast meaning } = { λ a t r e l x f. fails meaning r f x };
 
     // one call, and then the rest
-    ghost call_then: { (a s t : Self) (r : Ending) (c : Call) (k : List Call) → Made meaning a s Through (c ∷ []) → Made meaning s t r k → Made meaning a t r (c ∷ k) } = { λ a s t r c k x y. then meaning x y };
+    ghost call_then: { CallThen meaning } = { λ a s t r c k x y. then meaning x y };
 
     // one call that failed, whatever would have come after it
-    ghost call_breaks_off: { (a t : Self) (r : Result (Unit {0}) IoError) (e : IoError) (c : Call) (k : List Call) → Made meaning a t (AtCall e) (c ∷ []) → IsErrAnd r (λ y. y ≡ e) → Emits meaning a t r (c ∷ k) } = { λ a t r e c k x f. ends meaning r k f x };
+    ghost call_breaks_off: { CallBreaksOff meaning } = { λ a t r e c k x f. ends meaning r k f x };
 
     // the first part of a text, and then the rest
-    ghost text_then: { (a s t : Self) (r : Ending) (x y : List ℕ) (k : List Call) → Made meaning a s Through (Text x ∷ []) → Made meaning s t r (Text y ∷ k) → Made meaning a t r (Text (x ++ y) ∷ k) } = { λ a s t r x y k v w. then_text meaning v w };
+    ghost text_then: { TextThen meaning } = { λ a s t r x y k v w. then_text meaning v w };
 
     // the first part of a text that failed, whatever would have come after it
-    ghost text_breaks_off: { (a t : Self) (r : Result (Unit {0}) IoError) (e : IoError) (x y : List ℕ) (k : List Call) → Made meaning a t (AtCall e) (Text x ∷ []) → IsErrAnd r (λ z. z ≡ e) → Emits meaning a t r (Text (x ++ y) ∷ k) } = { λ a t r e x y k v f. ends_text meaning r y k f v };
+    ghost text_breaks_off: { TextBreaksOff meaning } = { λ a t r e x y k v f. ends_text meaning r y k f v };
 
     // the first byte of a text, and then the rest
-    ghost byte_then: { (a s t : Self) (r : Ending) (x : ℕ) (y : List ℕ) (k : List Call) → Made meaning a s Through (Text (x ∷ []) ∷ []) → Made meaning s t r (Text y ∷ k) → Made meaning a t r (Text (x ∷ y) ∷ k) } = { λ a s t r x y k v w. then_text meaning v w };
+    ghost byte_then: { ByteThen meaning } = { λ a s t r x y k v w. then_text meaning v w };
 
     // the first byte of a text that failed, whatever would have come after it
-    ghost byte_breaks_off: { (a t : Self) (r : Result (Unit {0}) IoError) (e : IoError) (x : ℕ) (y : List ℕ) (k : List Call) → Made meaning a t (AtCall e) (Text (x ∷ []) ∷ []) → IsErrAnd r (λ z. z ≡ e) → Emits meaning a t r (Text (x ∷ y) ∷ k) } = { λ a t r e x y k v f. ends_text meaning r y k f v };
+    ghost byte_breaks_off: { ByteBreaksOff meaning } = { λ a t r e x y k v f. ends_text meaning r y k f v };
 
     // a call on the printer
-    ghost call_done: { (a t : Self) (c : Call) → Succeeded meaning a c t → Made meaning a t Through (c ∷ []) } = { λ a t c s. called meaning s };
+    ghost call_done: { CallDone meaning } = { λ a t c s. called meaning s };
 
-    ghost call_failed: { (a t : Self) (r : Result (Unit {0}) IoError) (e : IoError) (c : Call) → Failed meaning a c e t → IsErrAnd r (λ y. y ≡ e) → Emits meaning a t r (c ∷ []) } = { λ a t r e c v f. call_fails meaning r e f v };
+    ghost call_failed: { CallFailed meaning } = { λ a t r e c v f. call_fails meaning r e f v };
 
     // no call
-    ghost idle: { (a : Self) → Made meaning a a Through [] } = { λ a. nothing meaning a };
+    ghost idle: { Idle meaning } = { λ a. nothing meaning a };
 
     // a piece, and then the rest
-    ghost piece_then: { (o : Options) (a s t : Self) (r : Ending) (x : Piece) (xs : List Piece) → Written meaning o a s Through (x ∷ []) → Written meaning o s t r xs → Written meaning o a t r (x ∷ xs) } = { λ o a s t r x xs v w. both_pieces meaning v w };
+    ghost piece_then: { PieceThen meaning } = { λ o a s t r x xs v w. both_pieces meaning v w };
 
     // a piece that failed, whatever would have come after it
-    ghost piece_breaks_off: { (o : Options) (a t : Self) (r : Result (Unit {0}) IoError) (e : IoError) (x : Piece) (xs : List Piece) → Written meaning o a t (AtCall e) (x ∷ []) → IsErrAnd r (λ y. y ≡ e) → Prints meaning o a t r (x ∷ xs) } = { λ o a t r e x xs v f. pieces_end meaning r xs f v };
+    ghost piece_breaks_off: { PieceBreaksOff meaning } = { λ o a t r e x xs v f. pieces_end meaning r xs f v };
 
     // the last piece
-    ghost piece_done: { (o : Options) (a t : Self) (r : Ending) (x : Piece) → Made meaning a t r (calls o x) → Written meaning o a t r (x ∷ []) } = { λ o a t r x v. one_piece meaning o x v };
+    ghost piece_done: { PieceDone meaning } = { λ o a t r x v. one_piece meaning o x v };
 
     // pieces, and then the rest
-    ghost pieces_then: { (o : Options) (a s t : Self) (r : Ending) (xs ys : List Piece) → Written meaning o a s Through xs → Written meaning o s t r ys → Written meaning o a t r (xs ++ ys) } = { λ o a s t r xs ys v w. both_pieces meaning v w };
+    ghost pieces_then: { PiecesThen meaning } = { λ o a s t r xs ys v w. both_pieces meaning v w };
 
     // pieces of which one failed, whatever would have come after them
-    ghost pieces_break_off: { (o : Options) (a t : Self) (r : Result (Unit {0}) IoError) (e : IoError) (xs ys : List Piece) → Written meaning o a t (AtCall e) xs → IsErrAnd r (λ y. y ≡ e) → Prints meaning o a t r (xs ++ ys) } = { λ o a t r e xs ys v f. pieces_end meaning r ys f v };
+    ghost pieces_break_off: { PiecesBreakOff meaning } = { λ o a t r e xs ys v f. pieces_end meaning r ys f v };
 
     // the last pieces, of which one failed
-    ghost pieces_fail_at_last: { (o : Options) (a t : Self) (r : Result (Unit {0}) IoError) (e : IoError) (xs : List Piece) → Written meaning o a t (AtCall e) xs → IsErrAnd r (λ y. y ≡ e) → Prints meaning o a t r xs } = { λ o a t r e xs v f. last_pieces_end meaning r f v };
+    ghost pieces_fail_at_last: { PiecesFailAtLast meaning } = { λ o a t r e xs v f. last_pieces_end meaning r f v };
 
     // no piece
-    ghost no_pieces: { (o : Options) (a : Self) → Written meaning o a a Through [] } = { λ o a. no_piece meaning o a };
+    ghost no_pieces: { NoPieces meaning } = { λ o a. no_piece meaning o a };
 }

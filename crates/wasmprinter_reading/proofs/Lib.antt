@@ -17,3 +17,4 @@ pub mod Stays
 pub mod Nested
 pub mod Main
 pub mod OperatorRows
+pub mod Names

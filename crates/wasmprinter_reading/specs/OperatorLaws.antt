@@ -1,5 +1,5 @@
 -- The laws of nested operators: their text reads as exactly them.
-use Rattle.std.specs.Prelude.{◌≡◌, ℕ, ◌<◌, ◌≤◌, ◌^◌, List, length, Bool, Option, Some, None, IsUtf8}
+use Rattle.std.specs.Prelude.{◌≡◌, ℕ, ◌≤◌, ◌^◌, List, length, Bool, Option, Some, IsUtf8}
 use Rattle.std.specs.List.{AllByRecursion}
 use Rattle.wasmprinter_spec.specs.Grammar.{Placed, ◌>>=◌}
 use Rattle.wasmprinter_spec.specs.Operator.{Operator}
@@ -11,6 +11,7 @@ use Rattle.wasmprinter_spec.specs.Call.{text_of}
 use Rattle.wasmprinter_spec.specs.Options.{Options, IsBlank}
 use Rattle.wasmprinter_spec.specs.Labels.{Named, Naming, AreApart}
 use Rattle.wasmprinter_spec.specs.LabelNames.{label_naming}
+use Rattle.wasmprinter_spec.specs.Names.{IsNamed}
 use Rattle.wasmprinter_spec.specs.Piece.{all_calls}
 use Rattle.wasmprinter_spec.specs.Layout.Operators.{Setting, expression_pieces}
 use Rattle.wasmprinter_spec.specs.Forest.{forest, cut}
@@ -20,16 +21,6 @@ use Rattle.wasmprinter_spec.specs.Text.Operators.{read_operators}
 use Rattle.wasmprinter_reading.specs.Listed.{IsListed, AreSignaturesInRange}
 
 -- ---- names of labels
-
-abbrev pub IsGiven : Option (List ℕ) → Type 0
-IsGiven None = Unit {0}
-IsGiven (Some s) = IsUtf8 s
-
--- names and identifiers are UTF-8, and an identifier is not empty
-pub record IsNamed (n : Named) : Type 0 where
-  pub given : IsGiven n.given
-  pub content : IsUtf8 n.content
-  pub some : 0 < length n.content
 
 abbrev pub AreNames : Naming → Type 0
 AreNames naming = (i d : ℕ) (n : Named) → naming i d ≡ Some n → IsNamed n

@@ -5,6 +5,8 @@
 ghost use Rattle.wasmprinter_spec.specs.Laws.{SpellsOne, TakesNested, ReadsBack, TokensStay};
 ghost use Rattle.wasmprinter_spec.specs.Laws.{PrintsPlainText, PlainTextIsUtf8, PlainTextHasNoColour, PlainTextsJoin};
 ghost use Rattle.wasmprinter_reading.specs.OperatorLaws.{OperatorsReadBack, NamedLabelsReadBack};
+ghost use Rattle.wasmprinter_reading.specs.NameLaws.{NamesAreOneList, NameMapsAreListed, BytesGiveEntries};
+ghost use Rattle.wasmprinter_reading.specs.NameLaws.{IdentifiersAreApart, IdentifiersAreNamed};
 
 /// Given bytes spell at most one module with its places (section 5.5 of the standard, "Modules").
 pub fn bytes_spell_one_module()
@@ -55,4 +57,29 @@ pub fn printed_operators_read_back()
 /// The same where labels have the names of a name section, and the others identifiers made up for them, or none.
 pub fn named_labels_read_back()
     ensures { NamedLabelsReadBack }
+{}
+
+/// Each data of a name section gives exactly one list of entries (appendix "Name Section" of the standard).
+pub fn name_sections_give_one_list()
+    ensures { NamesAreOneList }
+{}
+
+/// The entries of a name map are spelled one after the other, and then the count is reached or none is spelled behind them.
+pub fn name_maps_are_listed()
+    ensures { NameMapsAreListed }
+{}
+
+/// Each entry that bytes give has an index of 32 bits and a name of UTF-8.
+pub fn name_sections_give_entries()
+    ensures { BytesGiveEntries }
+{}
+
+/// An identifier means one item of its space, with identifiers made up for items without names or without.
+pub fn identifiers_are_apart()
+    ensures { IdentifiersAreApart }
+{}
+
+/// Each identifier is UTF-8 and not empty, and each name is UTF-8.
+pub fn identifiers_are_named()
+    ensures { IdentifiersAreNamed }
 {}

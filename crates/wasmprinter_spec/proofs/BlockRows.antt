@@ -29,8 +29,8 @@ use Rattle.wasmprinter_spec.specs.Layout.{module_field_pieces, module_pieces, la
 use Rattle.wasmprinter_spec.specs.Layout.Memories.{memory_pieces, memory_type_pieces}
 use Rattle.wasmprinter_spec.specs.Layout.Exports.{export_pieces, kind_word, extern_index_pieces}
 use Rattle.wasmprinter_spec.specs.Text.Exports.{kind_of_word}
-use Rattle.wasmprinter_spec.specs.Layout.Functions.{body_pieces, local_group, local_pieces, signature_if, header_pieces, function_group, function_pieces}
-use Rattle.wasmprinter_spec.specs.LabelNames.{no_names}
+use Rattle.wasmprinter_spec.specs.Layout.Functions.{body_pieces, local_group, local_pieces, header_pieces, function_group, function_pieces}
+use Rattle.wasmprinter_spec.specs.LabelNames.{no_label_names}
 use Rattle.wasmprinter_spec.specs.Layout.Limits.{limits_pieces}
 use Rattle.wasmprinter_spec.specs.Layout.Imports.{imports_pieces}
 use Rattle.wasmprinter_spec.proofs.Samples.{head_bytes, lines, to, to_null, func, bare, i32_const, empty, empty_placed}
@@ -74,7 +74,7 @@ abbrev printed : PlacedModule → List ℕ
 printed m = text_of (layout defaults (λ n. false) m)
 
 samples_printed : map (λ ss. map (λ s. printed (placed_module s.operators)) ss) all_samples ≡ map (λ ss. map (λ s. module_lines s.lines) ss) all_samples
-unfolding line_group line_group_gap heap_pieces null_ref_pieces ref_pieces val_pieces list_group composite_pieces sub_pieces type_pieces type_group_pieces type_section_pieces signature_if module_field_pieces numbered group_at group_gap_at type_list signature_pieces label_pieces labels_pieces id_pieces ending_pieces block_pieces catch_pieces catches_pieces index_pieces immediate_pieces operator_pieces operators_pieces expression_pieces body_pieces local_group local_pieces header_pieces function_group function_pieces module_pieces layout repeated digits table memory_pieces memory_type_pieces limits_pieces export_pieces kind_word extern_index_pieces tag_pieces start_pieces imports_pieces
+unfolding line_group line_group_gap heap_pieces null_ref_pieces ref_pieces val_pieces list_group composite_pieces sub_pieces type_pieces type_group_pieces type_section_pieces module_field_pieces numbered group_at group_gap_at type_list signature_pieces label_pieces labels_pieces id_pieces ending_pieces block_pieces catch_pieces catches_pieces index_pieces immediate_pieces operator_pieces operators_pieces expression_pieces body_pieces local_group local_pieces header_pieces function_group function_pieces module_pieces layout repeated digits table memory_pieces memory_type_pieces limits_pieces export_pieces kind_word extern_index_pieces tag_pieces start_pieces imports_pieces
 samples_printed = refl
 
 -- ---- the way back
@@ -93,7 +93,7 @@ abbrev setting : Form → List SubType → Setting
 setting form ts = record { form = form; signature = signature_at ts; nesting = 0 }
 
 abbrev shown : Form → List SubType → List Operator → List ℕ
-shown form ts os = text_of (all_calls defaults (expression_pieces (setting form ts) no_names (map placed os)))
+shown form ts os = text_of (all_calls defaults (expression_pieces (setting form ts) no_label_names (map placed os)))
 
 abbrev in_line : List ℕ
 in_line = codes "block (result i32)  (; label = @1 ;) i32.const 1 end"
@@ -137,7 +137,7 @@ abbrev in_style : Style → List ℕ → List Call
 in_style style s = Start style ∷ Text s ∷ Start Reset ∷ []
 
 abbrev calls_in_line : List SubType → List Operator → List Call
-calls_in_line ts os = all_calls defaults (expression_pieces (setting InLine ts) no_names (map placed os))
+calls_in_line ts os = all_calls defaults (expression_pieces (setting InLine ts) no_label_names (map placed os))
 
 -- the keyword `result` of one result has its blank, that of a signature hasn't
 block_calls : atoms (calls_in_line sample_types (block (Value types.I32) ∷ block (OfType 1) ∷ [])) ≡ atoms (
@@ -172,7 +172,7 @@ clause_calls : atoms (calls_in_line [] (try_table Empty (One 4 0 ∷ All 1 ∷ [
 unfolding line_group line_group_gap val_pieces list_group label_pieces id_pieces ending_pieces block_pieces catch_pieces catches_pieces index_pieces immediate_pieces operator_pieces operators_pieces expression_pieces digits table
 clause_calls = refl
 
-line_calls : atoms (all_calls defaults (expression_pieces (setting OverLines []) no_names (record { place = 9; value = block Empty } ∷ record { place = 11; value = end } ∷ []))) ≡ atoms (
+line_calls : atoms (all_calls defaults (expression_pieces (setting OverLines []) no_label_names (record { place = 9; value = block Empty } ∷ record { place = 11; value = end } ∷ []))) ≡ atoms (
     Newline ∷ Line (Some 9) ∷ plain (codes "block ") ++ in_style Comment (codes ";; label = @1") ++ Newline ∷ Line (Some 11) ∷ plain (codes "end"))
 unfolding id_pieces ending_pieces block_pieces immediate_pieces operator_pieces operators_pieces expression_pieces repeated digits table index_pieces
 line_calls = refl
@@ -197,5 +197,5 @@ with_places : option_map (λ m. text_of (layout (record defaults { offsets = tru
     ∷ codes "(;@1e    ;)  )"
     ∷ codes "(;@1f    ;))"
     ∷ []))
-unfolding line_group line_group_gap val_pieces list_group composite_pieces sub_pieces type_pieces type_group_pieces type_section_pieces signature_if module_field_pieces numbered group_at group_gap_at type_list signature_pieces label_pieces id_pieces ending_pieces block_pieces index_pieces immediate_pieces operator_pieces operators_pieces expression_pieces body_pieces local_group local_pieces header_pieces function_group function_pieces module_pieces layout place_text left_in repeated digits table memory_pieces memory_type_pieces limits_pieces export_pieces kind_word extern_index_pieces tag_pieces start_pieces imports_pieces
+unfolding line_group line_group_gap val_pieces list_group composite_pieces sub_pieces type_pieces type_group_pieces type_section_pieces module_field_pieces numbered group_at group_gap_at type_list signature_pieces label_pieces id_pieces ending_pieces block_pieces index_pieces immediate_pieces operator_pieces operators_pieces expression_pieces body_pieces local_group local_pieces header_pieces function_group function_pieces module_pieces layout place_text left_in repeated digits table memory_pieces memory_type_pieces limits_pieces export_pieces kind_word extern_index_pieces tag_pieces start_pieces imports_pieces
 with_places = refl

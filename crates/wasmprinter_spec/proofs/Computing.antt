@@ -21,7 +21,7 @@ use Rattle.wasmprinter_spec.specs.Quoted.{char_text, byte_text, quoted_text, quo
 use Rattle.wasmprinter_spec.specs.Layout.Groups.{group, line_group_gap, group_at, group_gap_at, numbered}
 use Rattle.wasmprinter_spec.specs.Layout.Types.{composite_pieces, sub_pieces, type_pieces, type_group_pieces, type_section_pieces}
 use Rattle.wasmprinter_spec.specs.Layout.Expressions.{constant_pieces, constant_group}
-use Rattle.wasmprinter_spec.specs.Layout.Functions.{signature_if, header_pieces}
+use Rattle.wasmprinter_spec.specs.Layout.Functions.{header_pieces}
 use Rattle.wasmprinter_spec.specs.Layout.Limits.{limits_pieces}
 use Rattle.wasmprinter_spec.specs.Layout.Tables.{table_type_pieces, init_pieces, table_pieces}
 use Rattle.wasmprinter_spec.specs.Layout.Memories.{memory_type_pieces, memory_pieces}
@@ -39,7 +39,7 @@ printing = tt
 
 -- how a module without functions and exports is printed
 unfoldable pub composing : ⊤
-unfolding printing chars char_text byte_text quoted_text quoted_bytes group line_group_gap group_at group_gap_at numbered composite_pieces sub_pieces type_pieces type_group_pieces type_section_pieces constant_pieces constant_group signature_if header_pieces limits_pieces table_type_pieces init_pieces table_pieces memory_type_pieces memory_pieces global_type_pieces global_pieces extern_pieces import_pieces imports_pieces mode_pieces function_items expression_items items_pieces element_pieces data_mode_pieces data_pieces tag_pieces start_pieces module_field_pieces module_pieces layout
+unfolding printing chars char_text byte_text quoted_text quoted_bytes group line_group_gap group_at group_gap_at numbered composite_pieces sub_pieces type_pieces type_group_pieces type_section_pieces constant_pieces constant_group header_pieces limits_pieces table_type_pieces init_pieces table_pieces memory_type_pieces memory_pieces global_type_pieces global_pieces extern_pieces import_pieces imports_pieces mode_pieces function_items expression_items items_pieces element_pieces data_mode_pieces data_pieces tag_pieces start_pieces module_field_pieces module_pieces layout
 composing = tt
 
 -- how a text is read

@@ -14,7 +14,7 @@ use Rattle.wasmprinter_spec.specs.Layout.Operators.{index_pieces, immediate_piec
 use Rattle.wasmprinter_spec.specs.Layout.{module_field_pieces, module_pieces, layout, tag_pieces, start_pieces}
 use Rattle.wasmprinter_spec.specs.Layout.Exports.{export_pieces, kind_word, extern_index_pieces}
 use Rattle.wasmprinter_spec.specs.Layout.Memories.{memory_pieces, memory_type_pieces}
-use Rattle.wasmprinter_spec.specs.Layout.Functions.{body_pieces, local_group, local_pieces, signature_if, header_pieces, function_group, function_pieces}
+use Rattle.wasmprinter_spec.specs.Layout.Functions.{body_pieces, local_group, local_pieces, header_pieces, function_group, function_pieces}
 use Rattle.wasmprinter_spec.specs.Layout.Limits.{limits_pieces}
 use Rattle.wasmprinter_spec.specs.Layout.Imports.{imports_pieces}
 use Rattle.wasmprinter_spec.proofs.Samples.{lines, empty_placed, identity_placed, identity_text, identity_text_with_offsets, stored_placed, stored_text, mixed_placed, mixed_text}
@@ -57,11 +57,11 @@ empty_calls = refl
 -- ---- a function under a name
 
 identity_plain : printed defaults identity_placed ≡ identity_text
-unfolding group line_group_gap group_at group_gap_at type_list signature_pieces index_pieces immediate_pieces operator_pieces operators_pieces expression_pieces body_pieces type_pieces export_pieces local_group local_pieces header_pieces function_group function_pieces numbered module_pieces layout repeated digits table char_text quoted_text chars line_group val_pieces list_group composite_pieces sub_pieces type_group_pieces signature_if type_section_pieces module_field_pieces memory_pieces memory_type_pieces limits_pieces kind_word extern_index_pieces tag_pieces start_pieces imports_pieces
+unfolding group line_group_gap group_at group_gap_at type_list signature_pieces index_pieces immediate_pieces operator_pieces operators_pieces expression_pieces body_pieces type_pieces export_pieces local_group local_pieces header_pieces function_group function_pieces numbered module_pieces layout repeated digits table char_text quoted_text chars line_group val_pieces list_group composite_pieces sub_pieces type_group_pieces type_section_pieces module_field_pieces memory_pieces memory_type_pieces limits_pieces kind_word extern_index_pieces tag_pieces start_pieces imports_pieces
 identity_plain = refl
 
 identity_with_offsets : printed with_offsets identity_placed ≡ identity_text_with_offsets
-unfolding group line_group_gap group_at group_gap_at type_list signature_pieces index_pieces immediate_pieces operator_pieces operators_pieces expression_pieces body_pieces type_pieces export_pieces local_group local_pieces header_pieces function_group function_pieces numbered module_pieces layout repeated left_in place_text digits table char_text quoted_text chars line_group val_pieces list_group composite_pieces sub_pieces type_group_pieces signature_if type_section_pieces module_field_pieces memory_pieces memory_type_pieces limits_pieces kind_word extern_index_pieces tag_pieces start_pieces imports_pieces
+unfolding group line_group_gap group_at group_gap_at type_list signature_pieces index_pieces immediate_pieces operator_pieces operators_pieces expression_pieces body_pieces type_pieces export_pieces local_group local_pieces header_pieces function_group function_pieces numbered module_pieces layout repeated left_in place_text digits table char_text quoted_text chars line_group val_pieces list_group composite_pieces sub_pieces type_group_pieces type_section_pieces module_field_pieces memory_pieces memory_type_pieces limits_pieces kind_word extern_index_pieces tag_pieces start_pieces imports_pieces
 identity_with_offsets = refl
 
 identity_skeleton : printed skeleton identity_placed ≡ lines (
@@ -71,7 +71,7 @@ identity_skeleton : printed skeleton identity_placed ≡ lines (
     ∷ codes "  (func (;0;) (type 0) (param i32) (result i32) ...)"
     ∷ codes ")"
     ∷ [])
-unfolding line_group_gap line_group group_at group_gap_at val_pieces type_list list_group signature_pieces composite_pieces sub_pieces type_pieces type_group_pieces export_pieces signature_if header_pieces function_group function_pieces numbered type_section_pieces module_field_pieces module_pieces layout repeated digits char_text quoted_text chars memory_pieces memory_type_pieces limits_pieces kind_word extern_index_pieces tag_pieces start_pieces imports_pieces
+unfolding line_group_gap line_group group_at group_gap_at val_pieces type_list list_group signature_pieces composite_pieces sub_pieces type_pieces type_group_pieces export_pieces header_pieces function_group function_pieces numbered type_section_pieces module_field_pieces module_pieces layout repeated digits char_text quoted_text chars memory_pieces memory_type_pieces limits_pieces kind_word extern_index_pieces tag_pieces start_pieces imports_pieces
 identity_skeleton = refl
 
 identity_skeleton_with_offsets : printed (record skeleton { offsets = true }) identity_placed ≡ lines (
@@ -81,7 +81,7 @@ identity_skeleton_with_offsets : printed (record skeleton { offsets = true }) id
     ∷ codes "(;@1f    ;)  (func (;0;) (type 0) (param i32) (result i32) ...)"
     ∷ codes "(;@23    ;))"
     ∷ [])
-unfolding line_group_gap line_group group_at group_gap_at val_pieces type_list list_group signature_pieces composite_pieces sub_pieces type_pieces type_group_pieces export_pieces signature_if header_pieces function_group function_pieces numbered type_section_pieces module_field_pieces module_pieces layout repeated left_in place_text digits char_text quoted_text chars memory_pieces memory_type_pieces limits_pieces kind_word extern_index_pieces tag_pieces start_pieces imports_pieces
+unfolding line_group_gap line_group group_at group_gap_at val_pieces type_list list_group signature_pieces composite_pieces sub_pieces type_pieces type_group_pieces export_pieces header_pieces function_group function_pieces numbered type_section_pieces module_field_pieces module_pieces layout repeated left_in place_text digits char_text quoted_text chars memory_pieces memory_type_pieces limits_pieces kind_word extern_index_pieces tag_pieces start_pieces imports_pieces
 identity_skeleton_with_offsets = refl
 
 identity_without_indent : printed (record defaults { indent = [] }) identity_placed ≡ lines (
@@ -93,21 +93,21 @@ identity_without_indent : printed (record defaults { indent = [] }) identity_pla
     ∷ codes ")"
     ∷ codes ")"
     ∷ [])
-unfolding group line_group_gap group_at group_gap_at type_list signature_pieces index_pieces immediate_pieces operator_pieces operators_pieces expression_pieces body_pieces type_pieces export_pieces local_group local_pieces header_pieces function_group function_pieces numbered module_pieces layout repeated digits table char_text quoted_text chars line_group val_pieces list_group composite_pieces sub_pieces type_group_pieces signature_if type_section_pieces module_field_pieces memory_pieces memory_type_pieces limits_pieces kind_word extern_index_pieces tag_pieces start_pieces imports_pieces
+unfolding group line_group_gap group_at group_gap_at type_list signature_pieces index_pieces immediate_pieces operator_pieces operators_pieces expression_pieces body_pieces type_pieces export_pieces local_group local_pieces header_pieces function_group function_pieces numbered module_pieces layout repeated digits table char_text quoted_text chars line_group val_pieces list_group composite_pieces sub_pieces type_group_pieces type_section_pieces module_field_pieces memory_pieces memory_type_pieces limits_pieces kind_word extern_index_pieces tag_pieces start_pieces imports_pieces
 identity_without_indent = refl
 
 identity_line_places : line_places (all_calls defaults identity_placed) ≡ Some 0 ∷ Some 0xb ∷ Some 0x17 ∷ Some 0x1f ∷ Some 0x20 ∷ Some 0x22 ∷ Some 0x23 ∷ []
-unfolding group line_group_gap group_at group_gap_at type_list signature_pieces index_pieces immediate_pieces operator_pieces operators_pieces expression_pieces body_pieces type_pieces export_pieces local_group local_pieces header_pieces function_group function_pieces numbered module_pieces layout table line_group val_pieces list_group composite_pieces sub_pieces type_group_pieces signature_if type_section_pieces module_field_pieces memory_pieces memory_type_pieces limits_pieces kind_word extern_index_pieces tag_pieces start_pieces imports_pieces
+unfolding group line_group_gap group_at group_gap_at type_list signature_pieces index_pieces immediate_pieces operator_pieces operators_pieces expression_pieces body_pieces type_pieces export_pieces local_group local_pieces header_pieces function_group function_pieces numbered module_pieces layout table line_group val_pieces list_group composite_pieces sub_pieces type_group_pieces type_section_pieces module_field_pieces memory_pieces memory_type_pieces limits_pieces kind_word extern_index_pieces tag_pieces start_pieces imports_pieces
 identity_line_places = refl
 
 -- ---- a function with a local
 
 stored_plain : printed defaults stored_placed ≡ stored_text
-unfolding group line_group_gap group_at group_gap_at type_list signature_pieces index_pieces immediate_pieces operator_pieces operators_pieces expression_pieces body_pieces type_pieces local_group local_pieces header_pieces function_group function_pieces numbered module_pieces layout repeated digits table line_group val_pieces list_group composite_pieces sub_pieces type_group_pieces signature_if type_section_pieces module_field_pieces memory_pieces memory_type_pieces limits_pieces export_pieces kind_word extern_index_pieces tag_pieces start_pieces imports_pieces
+unfolding group line_group_gap group_at group_gap_at type_list signature_pieces index_pieces immediate_pieces operator_pieces operators_pieces expression_pieces body_pieces type_pieces local_group local_pieces header_pieces function_group function_pieces numbered module_pieces layout repeated digits table line_group val_pieces list_group composite_pieces sub_pieces type_group_pieces type_section_pieces module_field_pieces memory_pieces memory_type_pieces limits_pieces export_pieces kind_word extern_index_pieces tag_pieces start_pieces imports_pieces
 stored_plain = refl
 
 stored_line_places : line_places (all_calls defaults stored_placed) ≡ Some 0 ∷ Some 0xb ∷ Some 0x17 ∷ Some 0x18 ∷ Some 0x1a ∷ Some 0x1c ∷ Some 0x1e ∷ Some 0x20 ∷ Some 0x21 ∷ []
-unfolding group line_group_gap group_at group_gap_at type_list signature_pieces index_pieces immediate_pieces operator_pieces operators_pieces expression_pieces body_pieces type_pieces local_group local_pieces header_pieces function_group function_pieces numbered module_pieces layout table line_group val_pieces list_group composite_pieces sub_pieces type_group_pieces signature_if type_section_pieces module_field_pieces memory_pieces memory_type_pieces limits_pieces export_pieces kind_word extern_index_pieces tag_pieces start_pieces imports_pieces
+unfolding group line_group_gap group_at group_gap_at type_list signature_pieces index_pieces immediate_pieces operator_pieces operators_pieces expression_pieces body_pieces type_pieces local_group local_pieces header_pieces function_group function_pieces numbered module_pieces layout table line_group val_pieces list_group composite_pieces sub_pieces type_group_pieces type_section_pieces module_field_pieces memory_pieces memory_type_pieces limits_pieces export_pieces kind_word extern_index_pieces tag_pieces start_pieces imports_pieces
 stored_line_places = refl
 
 -- ---- all calls
@@ -152,18 +152,18 @@ identity_skeleton_calls : atoms (all_calls skeleton identity_placed) ≡ atoms (
     ++ plain (codes " (") ++ in_style Keyword (codes "result") ++ plain (codes " ") ++ in_style TypeName (codes "i32") ++ plain (codes ") ...)")
     ++ Newline ∷ Line (Some 0x23) ∷ plain (codes ")")
     ++ Newline ∷ [])
-unfolding line_group_gap line_group group_at group_gap_at val_pieces type_list list_group signature_pieces composite_pieces sub_pieces type_pieces type_group_pieces export_pieces signature_if header_pieces function_group function_pieces numbered type_section_pieces module_field_pieces module_pieces layout repeated digits char_text quoted_text chars memory_pieces memory_type_pieces limits_pieces kind_word extern_index_pieces tag_pieces start_pieces imports_pieces
+unfolding line_group_gap line_group group_at group_gap_at val_pieces type_list list_group signature_pieces composite_pieces sub_pieces type_pieces type_group_pieces export_pieces header_pieces function_group function_pieces numbered type_section_pieces module_field_pieces module_pieces layout repeated digits char_text quoted_text chars memory_pieces memory_type_pieces limits_pieces kind_word extern_index_pieces tag_pieces start_pieces imports_pieces
 identity_skeleton_calls = refl
 
 stored_all_calls : atoms (all_calls with_offsets stored_placed) ≡ atoms stored_calls
-unfolding group line_group_gap group_at group_gap_at type_list signature_pieces index_pieces immediate_pieces operator_pieces operators_pieces expression_pieces body_pieces type_pieces local_group local_pieces header_pieces function_group function_pieces numbered module_pieces layout repeated left_in place_text digits table line_group val_pieces list_group composite_pieces sub_pieces type_group_pieces signature_if type_section_pieces module_field_pieces memory_pieces memory_type_pieces limits_pieces export_pieces kind_word extern_index_pieces tag_pieces start_pieces imports_pieces
+unfolding group line_group_gap group_at group_gap_at type_list signature_pieces index_pieces immediate_pieces operator_pieces operators_pieces expression_pieces body_pieces type_pieces local_group local_pieces header_pieces function_group function_pieces numbered module_pieces layout repeated left_in place_text digits table line_group val_pieces list_group composite_pieces sub_pieces type_group_pieces type_section_pieces module_field_pieces memory_pieces memory_type_pieces limits_pieces export_pieces kind_word extern_index_pieces tag_pieces start_pieces imports_pieces
 stored_all_calls = refl
 
 -- ---- several types, functions, locals and results
 
 -- locals of all entries on one line, whose place is that of the first entry that declares one; no signature of a type that isn't there
 mixed_plain : printed defaults mixed_placed ≡ mixed_text
-unfolding group line_group_gap group_at group_gap_at type_list signature_pieces index_pieces immediate_pieces operator_pieces operators_pieces expression_pieces body_pieces type_pieces export_pieces local_group local_pieces header_pieces function_group function_pieces numbered module_pieces layout repeated digits table char_text quoted_text chars line_group val_pieces list_group composite_pieces sub_pieces type_group_pieces signature_if type_section_pieces module_field_pieces memory_pieces memory_type_pieces limits_pieces kind_word extern_index_pieces tag_pieces start_pieces imports_pieces
+unfolding group line_group_gap group_at group_gap_at type_list signature_pieces index_pieces immediate_pieces operator_pieces operators_pieces expression_pieces body_pieces type_pieces export_pieces local_group local_pieces header_pieces function_group function_pieces numbered module_pieces layout repeated digits table char_text quoted_text chars line_group val_pieces list_group composite_pieces sub_pieces type_group_pieces type_section_pieces module_field_pieces memory_pieces memory_type_pieces limits_pieces kind_word extern_index_pieces tag_pieces start_pieces imports_pieces
 mixed_plain = refl
 
 -- with offsets the parentheses of functions close on lines of their own
@@ -173,7 +173,7 @@ mixed_line_places : line_places (all_calls with_offsets mixed_placed) ≡
     ∷ Some 0x2e ∷ Some 0x31 ∷ Some 0x37 ∷ Some 0x3d ∷ Some 0x3e ∷ Some 0x49 ∷ Some 0x4f ∷ Some 0x50
     ∷ Some 0x52 ∷ Some 0x55
     ∷ Some 0x56 ∷ []
-unfolding group line_group_gap group_at group_gap_at type_list signature_pieces index_pieces immediate_pieces operator_pieces operators_pieces expression_pieces body_pieces type_pieces export_pieces local_group local_pieces header_pieces function_group function_pieces numbered module_pieces layout table line_group val_pieces list_group composite_pieces sub_pieces type_group_pieces signature_if type_section_pieces module_field_pieces memory_pieces memory_type_pieces limits_pieces kind_word extern_index_pieces tag_pieces start_pieces imports_pieces
+unfolding group line_group_gap group_at group_gap_at type_list signature_pieces index_pieces immediate_pieces operator_pieces operators_pieces expression_pieces body_pieces type_pieces export_pieces local_group local_pieces header_pieces function_group function_pieces numbered module_pieces layout table line_group val_pieces list_group composite_pieces sub_pieces type_group_pieces type_section_pieces module_field_pieces memory_pieces memory_type_pieces limits_pieces kind_word extern_index_pieces tag_pieces start_pieces imports_pieces
 mixed_line_places = refl
 
 -- ---- beginnings of lines

@@ -36,3 +36,6 @@ pub mod SectionSamples
 pub mod SectionRows
 pub mod SectionTextRows
 pub mod SectionIndexedRows
+pub mod NameRows
+pub mod NameSections
+pub mod NameLabels

@@ -13,7 +13,7 @@ use Rattle.wasmprinter_spec.specs.Call.{text_of}
 use Rattle.wasmprinter_spec.specs.Options.{defaults}
 use Rattle.wasmprinter_spec.specs.Piece.{all_calls}
 use Rattle.wasmprinter_spec.specs.Layout.Operators.{InLine, expression_pieces}
-use Rattle.wasmprinter_spec.specs.LabelNames.{no_names}
+use Rattle.wasmprinter_spec.specs.LabelNames.{no_label_names}
 use Rattle.wasmprinter_spec.proofs.Computing.{printing, reading}
 use Rattle.wasmprinter_spec.proofs.Samples.{no_spaces}
 use Rattle.wasmprinter_spec.proofs.BlockSamples.{sample_types}
@@ -33,7 +33,7 @@ samples_spelled = refl
 abbrev printed : Operator → List ℕ
 printed o =
     let placed : Placed Operator = record { place = 0; value = o } in
-    text_of (all_calls defaults (expression_pieces (record { form = InLine; signature = signature_at sample_types; nesting = 0 }) no_names (placed ∷ [])))
+    text_of (all_calls defaults (expression_pieces (record { form = InLine; signature = signature_at sample_types; nesting = 0 }) no_label_names (placed ∷ [])))
 
 samples_printed : map (λ ss. map (λ s. printed s.operator) ss) all_samples ≡ map (λ ss. map (λ s. s.text) ss) all_samples
 unfolding printing

@@ -20,6 +20,6 @@ label_named false n d None = None
 abbrev pub label_naming : Bool → (ℕ → Option (List ℕ)) → Naming
 label_naming invents names n d = label_named invents n d (names n)
 
--- no name section is in the grammar yet, so no label has an identifier
-abbrev pub no_names : Naming
-no_names i d = None
+-- no label has an identifier
+abbrev pub no_label_names : Naming
+no_label_names i d = None

@@ -3,6 +3,7 @@ pub mod Choices
 pub mod FirstByte
 pub mod Repeated
 pub mod Sized
+pub mod Lenient
 pub mod Leb
 pub mod Name
 pub mod Types
@@ -34,6 +35,7 @@ pub mod Forest
 pub mod Piece
 pub mod Labels
 pub mod LabelNames
+pub mod Names
 pub mod Layout
 pub mod IndexSpaces
 pub mod Code

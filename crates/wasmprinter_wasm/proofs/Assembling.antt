@@ -23,13 +23,13 @@ use Rattle.wasmprinter_error.specs.declared.error.Error.{Error}
 use Rattle.wasmprinter_error.specs.declared.error.Error.TheVariants as e
 use Rattle.wasmprinter_error.specs.Reasons.{HasReason}
 use Rattle.wasmprinter_error.proofs.Reasons.{reason_implied, memory_alone}
-use Rattle.wasmprinter_wasm.specs.Refusals.{AnyIsOver, PlacedTable, AnyIsEmpty}
-use Rattle.wasmprinter_wasm.specs.Contents.{HasFew, HasNoEmpty}
+use Rattle.wasmprinter_entries.specs.Refusals.{AnyIsOver, PlacedTable, FirstIsEmpty}
+use Rattle.wasmprinter_entries.specs.Contents.{HasFew, HasNoEmpty}
 use Rattle.wasmprinter_wasm.specs.Gathering.{Gathered, IsWhole, sections_at, item_count_in, HoldsSections, sections_reasons}
 use Rattle.wasmprinter_wasm.specs.Modules.{functions_of, bodies_of, IsPaired, HasFewItems}
 use Rattle.wasmprinter_wasm.specs.Decoding.{HoldsSome, HoldsNothing, module_reasons, IsFaultOf, TakesModule}
-use Rattle.wasmprinter_wasm.proofs.Later.{Later, later_none, later_more, many_later, empty_later, section_later, items_later}
-use Rattle.wasmprinter_wasm.proofs.Emptied.{not_empty}
+use Rattle.wasmprinter_entries.proofs.Later.{Later, later_none, later_more, many_later, empty_later, section_later, items_later}
+use Rattle.wasmprinter_segments.proofs.Emptied.{not_empty}
 use Rattle.wasmprinter_wasm.proofs.Pairing.{Paired, Pairs, paired_of, paired_length, pairs_of}
 use Rattle.wasmprinter_wasm.proofs.Held.{HoldsFew, few_held}
 use Rattle.wasmprinter_wasm.proofs.Listed.{bytes_apart, sections_listed, items_held}
@@ -137,7 +137,7 @@ module _ (bytes pre : List ℕ) (at : Input) (first : preamble.parse (input 0 by
         (section_later (input 0 bytes) at FunctionSection count later h.0, h.1, λ m s. let p = spelled_of m s in (functions_are m p).count ∙ h.2 p.sections p.read p.rise);
     tables = λ place h. (
       empty_later (input 0 bytes) at place later h.0,
-      λ m s. let p = spelled_of m s in subst (AnyIsEmpty place) (tables_are m p) (h.1 p.sections p.read p.rise),
+      λ m s. let p = spelled_of m s in subst (FirstIsEmpty place) (tables_are m p) (h.1 p.sections p.read p.rise),
     );
     memory = λ h. (items_later (input 0 bytes) at later h.0, λ m s. let p = spelled_of m s in holds_some m p (h.1 p.sections p.read p.rise));
   })
@@ -241,10 +241,10 @@ over_few place (f ∷ fs) few (inl here) = absurd (omega (arith, here.1, few.0))
 over_few place (f ∷ fs) few (inr there) = over_few place fs few.1 there
 
 -- nor is a table with an empty initialiser among tables without one
-empty_none : (place : ℕ) (ts : List PlacedTable) → AllByRecursion HasNoEmpty ts → AnyIsEmpty place ts → ⊥
+empty_none : (place : ℕ) (ts : List PlacedTable) → AllByRecursion HasNoEmpty ts → FirstIsEmpty place ts → ⊥
 empty_none place [] none any = any
 empty_none place (t ∷ ts) none (inl here) = not_empty t.value.init none.0 here.1
-empty_none place (t ∷ ts) none (inr there) = empty_none place ts none.1 there
+empty_none place (t ∷ ts) none (inr there) = empty_none place ts none.1 there.1
 
 -- where a module within the limits is spelled, and no component, memory was what was wanting, and it holds something
 pub within_fault : (bytes : List ℕ) (f : Error) → IsFaultOf bytes f → (m : PlacedModule) → Spells bytes m → IsWithinLimits m → (f ≡ e.Memory) × HoldsSome m

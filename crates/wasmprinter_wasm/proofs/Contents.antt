@@ -7,16 +7,15 @@ use Rattle.wasmprinter_spec.specs.Sized.{front_at}
 use Rattle.wasmprinter_spec.specs.Sections.{Kind, kind_of, Content, Section, holds, content, section}
 use Rattle.wasmprinter_bytes.specs.Reads.{end_of}
 use Rattle.wasmprinter_error.specs.declared.error.Error.{Error}
+use Rattle.wasmprinter_error.specs.declared.error.Error.TheVariants.{Malformed as AtPlace}
 use Rattle.wasmprinter_error.specs.Reasons.{HasReason}
-use Rattle.wasmprinter_bytes.specs.Lists.{reader_reasons}
 use Rattle.wasmprinter_error.proofs.Reasons.{reason_implied}
 use Rattle.wasmprinter_wasm.specs.declared.sections.Section.{Section as SectionRead}
-use Rattle.wasmprinter_wasm.specs.Refusals.{BeginsSection}
-use Rattle.wasmprinter_wasm.specs.Contents.{section_view, HasOver, HasEmpty, HasCount, item_count, Counts, content_reasons, section_reasons, TakesContent, TakesSection}
-use Rattle.wasmprinter_wasm.proofs.Parts.{sized, sized_is, sized_none, sized_some, old_parts, part_within}
-use Rattle.wasmprinter_wasm.proofs.Over.{many_in_part}
-use Rattle.wasmprinter_wasm.proofs.Later.{Later, later_none, later_more, many_later, empty_later}
-use Rattle.wasmprinter_wasm.proofs.Emptied.{empty_in_part}
+use Rattle.wasmprinter_entries.specs.Refusals.{BeginsSection}
+use Rattle.wasmprinter_wasm.specs.Sections.{section_view, section_reasons, TakesContent, TakesSection}
+use Rattle.wasmprinter_entries.specs.Contents.{HasOver, HasEmpty, HasCount, item_count, Counts, content_reasons}
+use Rattle.wasmprinter_entries.proofs.Parts.{sized, sized_is, sized_none, sized_some, old_parts, part_within}
+use Rattle.wasmprinter_entries.proofs.Later.{many_in_part, Later, later_none, later_more, many_later, empty_later, empty_in_part}
 
 -- an id and a size were read, and so many bytes cut out
 module _ (old behind mid part new : Input) (id size : ℕ) (id_read : byte.parse old ≡ Some (id, behind)) (size_read : u32.parse behind ≡ Some (size, mid))
@@ -112,18 +111,11 @@ module _ (old behind mid part new : Input) (id size : ℕ) (id_read : byte.parse
     })
 
   -- no section with the id is spelled
-  none_fault : kind_of id ≡ None → (f : Error) → HasReason (reader_reasons (Unit {0}) ⊥ part) f → HasReason (section_reasons old) f
-  none_fault none = reason_implied (reader_reasons (Unit {0}) ⊥ part) (section_reasons old) (record {
-    malformed = λ place h. (no_section none, within place h.1);
-    component = λ h. h;
-    locals = λ place h. absurd h;
-    functions = λ count h. absurd h;
-    tables = λ place h. absurd h;
-    memory = λ h. absurd h;
-  })
+  none_fault : kind_of id ≡ None → (f : Error) → f ≡ AtPlace old.place → HasReason (section_reasons old) f
+  none_fault none f e = rw e (no_section none, omega arith)
 
   -- what was taken of the part is taken of the whole
-  section_taken : (o : Option Kind) → kind_of id ≡ o → (r : Result SectionRead Error) → TakesContent o part r → TakesSection old r new
+  section_taken : (o : Option Kind) → kind_of id ≡ o → (r : Result SectionRead Error) → TakesContent old.place o part r → TakesSection old r new
   section_taken (Some kind) is (Ok s) h =
       let c = bind_some ((content kind).parse part) (λ x. Some (holds kind x)) (section_view s) h.0 in
       (section_read kind is c.0 c.1 ∙ ap (λ (x : Section). Some (x, new)) (some_is (holds kind c.0) (section_view s) c.2), h.1)
@@ -131,5 +123,5 @@ module _ (old behind mid part new : Input) (id size : ℕ) (id_read : byte.parse
   section_taken None none (Ok s) h = absurd h
   section_taken None none (Err f) h = none_fault none f h
 
-  pub section_taken_by : (r : Result SectionRead Error) → TakesContent (kind_of id) part r → TakesSection old r new
-  section_taken_by = section_taken (kind_of id) refl
+  pub section_taken_by : (place : ℕ) → place ≡ old.place → (r : Result SectionRead Error) → TakesContent place (kind_of id) part r → TakesSection old r new
+  section_taken_by place is r h = section_taken (kind_of id) refl r (subst (λ p. TakesContent p (kind_of id) part r) is h)

@@ -9,10 +9,11 @@ use Rattle.wasmprinter_bytes.specs.Reads.{end_of}
 use Rattle.wasmprinter_error.specs.declared.error.Error.{Error}
 use Rattle.wasmprinter_error.specs.Reasons.{HasReason}
 use Rattle.wasmprinter_error.proofs.Reasons.{reason_implied}
-use Rattle.wasmprinter_wasm.specs.Refusals.{AnyIsOver, AnyIsEmpty}
-use Rattle.wasmprinter_wasm.specs.Contents.{IsSmall, HasCount, HasOver, HasEmpty, item_count, section_reasons}
+use Rattle.wasmprinter_entries.specs.Refusals.{AnyIsOver, FirstIsEmpty}
+use Rattle.wasmprinter_entries.specs.Contents.{IsSmall, HasCount, HasOver, HasEmpty, item_count}
+use Rattle.wasmprinter_wasm.specs.Sections.{section_reasons}
 use Rattle.wasmprinter_wasm.specs.Gathering.{Gathered, none_gathered, content_kept, with_section, IsHeld, sections_at, item_count_in, HoldsSections, sections_reasons}
-use Rattle.wasmprinter_wasm.proofs.Later.{Later, later_none, later_more, many_later, empty_later, section_later, items_later}
+use Rattle.wasmprinter_entries.proofs.Later.{Later, later_none, later_more, many_later, empty_later, section_later, items_later}
 use Rattle.wasmprinter_wasm.proofs.Until.{in_front, until_item, until_fault, until_done}
 use Rattle.wasmprinter_wasm.proofs.Held.{rank_added, kept_added, some_midst, count_midst, over_midst, empty_midst}
 
@@ -139,7 +140,7 @@ module _ (start at : Input) (g : Gathered) (some : at.bytes ≡ [] → ⊥) (k :
       h.1,
       of_sections (HasCount count) (λ (ss : List Section). length (type_indices_in ss) ≡ count) (count_midst count) h.2,
     );
-    tables = λ place h. (empty_later start at place k.later h.0, of_sections (HasEmpty place) (λ (ss : List Section). AnyIsEmpty place (tables_in ss)) (empty_midst place) h.1);
+    tables = λ place h. (empty_later start at place k.later h.0, of_sections (HasEmpty place) (λ (ss : List Section). FirstIsEmpty place (tables_in ss)) (empty_midst place) h.1);
     memory = λ h. (items_later start at k.later h.0, of_sections (λ (s : Section). 0 < item_count s) (λ (ss : List Section). 0 < item_count_in ss) some_midst h.1);
   })
 

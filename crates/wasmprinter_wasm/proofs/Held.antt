@@ -7,8 +7,8 @@ use Rattle.wasmprinter_spec.specs.Sections.{Kind, Section, holds, section_kind, 
 use Rattle.wasmprinter_spec.specs.Binary.{type_indices_in, tables_in, bodies_in}
 use Rattle.wasmprinter_spec.specs.Limits.{most_functions}
 use Rattle.wasmprinter_spec.proofs.Ordered.{with_one, held_each, held_midst, held_picked}
-use Rattle.wasmprinter_wasm.specs.Refusals.{AnyIsOver, AnyIsEmpty}
-use Rattle.wasmprinter_wasm.specs.Contents.{HasFew, HasNoEmpty, IsSmall, HasCount, HasOver, HasEmpty, item_count}
+use Rattle.wasmprinter_entries.specs.Refusals.{AnyIsOver, FirstIsEmpty}
+use Rattle.wasmprinter_entries.specs.Contents.{HasFew, HasNoEmpty, IsSmall, HasCount, HasOver, HasEmpty, item_count}
 use Rattle.wasmprinter_wasm.specs.Gathering.{Gathered, content_kept, with_section, IsHeld, item_count_in}
 
 -- ---- of each kind
@@ -74,8 +74,8 @@ over_midst place xs s ys up h = subst (AnyIsOver place) (sym (held_picked CodeSe
 
 -- all tables are those of the one table section
 pub empty_midst : (place : ℕ) (xs : List Section) (s : Section) (ys : List Section) → are_above 0 (xs ++ s ∷ ys) ≡ true → HasEmpty place s
-    → AnyIsEmpty place (tables_in (xs ++ s ∷ ys))
-empty_midst place xs s ys up h = subst (AnyIsEmpty place) (sym (held_picked TableSection 4 refl [] 0 xs s h.0 ys h.1 up)) h.2
+    → FirstIsEmpty place (tables_in (xs ++ s ∷ ys))
+empty_midst place xs s ys up h = subst (FirstIsEmpty place) (sym (held_picked TableSection 4 refl [] 0 xs s h.0 ys h.1 up)) h.2
 
 -- no function has too many locals, there aren't too many functions, and no table has an empty initialiser
 pub record HoldsFew (g : Gathered) : Type 0 where

@@ -7,7 +7,7 @@ use Rattle.wasmprinter_spec.specs.Sections.{FunctionSection}
 use Rattle.wasmprinter_spec.specs.Limits.{IsWithinLimits, most_functions}
 use Rattle.wasmprinter_error.specs.declared.error.Error.{Error}
 use Rattle.wasmprinter_error.specs.Reasons.{Reasons, HasReason}
-use Rattle.wasmprinter_wasm.specs.Refusals.{HasManyLocals, HasEmptyInit, BeginsSection, BeginsItems, AnyIsOver, AnyIsEmpty}
+use Rattle.wasmprinter_entries.specs.Refusals.{HasManyLocals, HasEmptyInit, BeginsSection, BeginsItems, AnyIsOver, FirstIsEmpty}
 use Rattle.wasmprinter_wasm.specs.Modules.{bodies_of}
 
 -- how many groups of types, imports, functions, tables, memories, tags, globals, exports, element segments and data segments it has
@@ -33,7 +33,7 @@ module_reasons bytes component = record {
   component = component;
   locals = λ place. HasManyLocals (input 0 bytes) place × ((m : PlacedModule) → Spells bytes m → AnyIsOver place (bodies_of m.functions));
   functions = λ count. BeginsSection (input 0 bytes) FunctionSection count × (most_functions < count) × ((m : PlacedModule) → Spells bytes m → length m.functions ≡ count);
-  tables = λ place. HasEmptyInit (input 0 bytes) place × ((m : PlacedModule) → Spells bytes m → AnyIsEmpty place m.tables);
+  tables = λ place. HasEmptyInit (input 0 bytes) place × ((m : PlacedModule) → Spells bytes m → FirstIsEmpty place m.tables);
   memory = BeginsItems (input 0 bytes) × ((m : PlacedModule) → Spells bytes m → HoldsSome m);
 }
 

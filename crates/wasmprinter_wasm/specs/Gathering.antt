@@ -14,8 +14,8 @@ use Rattle.wasmprinter_spec.specs.Limits.{most_functions}
 use Rattle.wasmprinter_bytes.specs.Reads.{end_of}
 use Rattle.wasmprinter_error.specs.declared.error.Error.{Error}
 use Rattle.wasmprinter_error.specs.Reasons.{Reasons, HasReason}
-use Rattle.wasmprinter_wasm.specs.Refusals.{HasManyLocals, HasEmptyInit, BeginsSection, BeginsItems, AnyIsOver, AnyIsEmpty}
-use Rattle.wasmprinter_wasm.specs.Contents.{IsSmall}
+use Rattle.wasmprinter_entries.specs.Refusals.{HasManyLocals, HasEmptyInit, BeginsSection, BeginsItems, AnyIsOver, FirstIsEmpty}
+use Rattle.wasmprinter_entries.specs.Contents.{IsSmall}
 
 -- what the sections hold, and the rank of the last
 pub record Gathered : Type 0 where
@@ -121,7 +121,7 @@ sections_reasons at = record {
   functions = λ count.
       BeginsSection at FunctionSection count × (most_functions < count)
       × ((ss : List Section) → sections_at at ≡ Some ss → are_above 0 ss ≡ true → length (type_indices_in ss) ≡ count);
-  tables = λ place. HasEmptyInit at place × ((ss : List Section) → sections_at at ≡ Some ss → are_above 0 ss ≡ true → AnyIsEmpty place (tables_in ss));
+  tables = λ place. HasEmptyInit at place × ((ss : List Section) → sections_at at ≡ Some ss → are_above 0 ss ≡ true → FirstIsEmpty place (tables_in ss));
   memory = BeginsItems at × ((ss : List Section) → sections_at at ≡ Some ss → are_above 0 ss ≡ true → 0 < item_count_in ss);
 }
 

@@ -1,8 +1,4 @@
-pub mod Externs
-pub mod Segments
-pub mod Refusals
-pub mod Bodies
-pub mod Contents
+pub mod Sections
 pub mod Modules
 pub mod Gathering
 pub mod Decoding

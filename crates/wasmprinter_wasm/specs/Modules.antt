@@ -7,7 +7,7 @@ use Rattle.wasmprinter_spec.specs.Operator.{Operator}
 use Rattle.wasmprinter_spec.specs.Placed.{Import, Global, Body, PlacedFunction}
 use Rattle.wasmprinter_spec.specs.Binary.{function_pairs}
 use Rattle.wasmprinter_spec.specs.Limits.{most_functions}
-use Rattle.wasmprinter_wasm.specs.Refusals.{PlacedTable}
+use Rattle.wasmprinter_entries.specs.Refusals.{PlacedTable}
 
 -- each type index with its body, none where the numbers differ
 abbrev pub functions_of : List ℕ → List (Placed Body) → List PlacedFunction

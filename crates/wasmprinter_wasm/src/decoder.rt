@@ -5,27 +5,27 @@ ghost use Rattle.wasmprinter_spec.specs.Binary.{Spells, IsComponent, preamble, p
 ghost use Rattle.wasmprinter_spec.specs.Sections.{section_kind, rank, follows};
 ghost use Rattle.wasmprinter_spec.specs.Limits.{IsWithinLimits};
 ghost use Rattle.wasmprinter_bytes.specs.Reads.{Reads, IsWithin, end_of};
-ghost use Rattle.wasmprinter_wasm.specs.Contents.{section_view};
+ghost use Rattle.wasmprinter_wasm.specs.Sections.{section_view};
 ghost use Rattle.wasmprinter_wasm.specs.Gathering.{none_gathered, with_section, IsWhole, TakesSections};
 ghost use Rattle.wasmprinter_wasm.specs.Decoding.{IsRefusal, HoldsNothing, TakesModule};
 
 use crate::module::Module;
 use crate::sections::Section;
-use crate::sections::code::Body;
-use crate::sections::data::Data;
-use crate::sections::elements::Element;
-use crate::sections::exports::Export;
-use crate::sections::globals::Global as GlobalVariable;
-use crate::sections::imports::Import;
-use crate::sections::memories::Memory;
-use crate::sections::start::Start;
-use crate::sections::tables::Table;
-use crate::sections::tags::Tag;
-use crate::sections::types::Types;
 use std::alloc::Global;
 use std::marker::Model;
 use wasmprinter_bytes::bytes::Cursor;
+use wasmprinter_entries::exports::Export;
+use wasmprinter_entries::imports::Import;
+use wasmprinter_entries::memories::Memory;
+use wasmprinter_entries::start::Start;
+use wasmprinter_entries::tags::Tag;
+use wasmprinter_entries::types::Types;
 use wasmprinter_error::{Error, Malformed};
+use wasmprinter_segments::code::Body;
+use wasmprinter_segments::data::Data;
+use wasmprinter_segments::elements::Element;
+use wasmprinter_segments::globals::Global as GlobalVariable;
+use wasmprinter_segments::tables::Table;
 
 /// The magic and the version.
 const PREAMBLE: [u8; 8] = [0x00, 0x61, 0x73, 0x6d, 0x01, 0x00, 0x00, 0x00];
@@ -218,7 +218,7 @@ fn read_module<'a>(alloc: Global, wasm: &'a [u8]) -> Result<Module<'a>, Error>
 ///
 /// `Component` where the bytes are marked as a component; `Malformed` where they are outside the binary format;
 /// `TooManyLocals` and `TooManyFunctions` where a limit of this printer is passed; `EmptyTableInit` where a
-/// table has an initialiser without operators; `Memory` where a growth is refused, which needs a section of
+/// table has an initialiser without operators, with the place of the first; `Memory` where a growth is refused, which needs a section of
 /// items with a count above zero. `Component` goes before the others; where several of these hold, any may be answered.
 pub fn decode<'a>(alloc: Global, wasm: &'a [u8]) -> Result<Module<'a>, Error>
     ensures ok { IfOk result (λ m. Spells wasm.now m × IsWithinLimits m) }

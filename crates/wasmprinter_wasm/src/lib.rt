@@ -2,26 +2,30 @@
 #![tactic(auto)]
 
 mod decoder;
+mod function;
 mod module;
-mod readers;
 mod sections;
 
 pub use decoder::decode;
+pub use function::Function;
 pub use module::Module;
-pub use readers::Function;
-pub use sections::code::{Body, LocalEntry, Locals};
-pub use sections::data::{Data, DataMode};
-pub use sections::elements::{Element, ElementItems, ElementMode};
-pub use sections::exports::{Export, ExternKind};
-pub use sections::globals::{Global, GlobalType};
-pub use sections::imports::{ExternType, Import};
-pub use sections::limits::Limits;
-pub use sections::memories::{Memory, MemoryType};
-pub use sections::start::Start;
-pub use sections::tables::{Table, TableType};
-pub use sections::tags::Tag;
-pub use sections::types::TypeGroup;
+pub use wasmprinter_entries::exports::{Export, ExternKind};
+pub use wasmprinter_entries::global_types::GlobalType;
+pub use wasmprinter_entries::imports::{ExternType, Import};
+pub use wasmprinter_entries::limits::Limits;
+pub use wasmprinter_entries::memories::{Memory, MemoryType};
+pub use wasmprinter_entries::start::Start;
+pub use wasmprinter_entries::table_types::TableType;
+pub use wasmprinter_entries::tags::Tag;
+pub use wasmprinter_entries::types::TypeGroup;
+pub use wasmprinter_segments::code::{Body, LocalEntry, Locals};
+pub use wasmprinter_segments::data::{Data, DataMode};
+pub use wasmprinter_segments::elements::{Element, ElementItems, ElementMode};
+pub use wasmprinter_segments::globals::Global;
+pub use wasmprinter_segments::tables::Table;
 
+#[cfg(test)]
+mod fault_tests;
 #[cfg(test)]
 mod segment_tests;
 #[cfg(test)]

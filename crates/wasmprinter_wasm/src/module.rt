@@ -1,19 +1,24 @@
-//! A module that was decoded.
-ghost use Rattle.std.specs.Prelude.{◌≡◌, length, slice_get};
+//! A module that was decoded, and what it holds, for those that print it.
+ghost use Rattle.std.specs.Prelude.{◌≡◌, ◌<◌, ◌^◌, length, Some, slice_get};
+ghost use Rattle.wasmprinter_spec.specs.Types.{all_types, signature_at};
+ghost use Rattle.wasmprinter_spec.specs.Module.{groups_of};
+ghost use Rattle.wasmprinter_entries.specs.Externs.{kind_view, imported_count};
 ghost use Rattle.wasmprinter_wasm.specs.Modules.{body_at};
 
-use crate::sections::code::Body;
-use crate::sections::data::Data;
-use crate::sections::elements::Element;
-use crate::sections::exports::Export;
-use crate::sections::globals::Global;
-use crate::sections::imports::Import;
-use crate::sections::memories::Memory;
-use crate::sections::start::Start;
-use crate::sections::tables::Table;
-use crate::sections::tags::Tag;
-use crate::sections::types::Types;
+use crate::function::Function;
 use std::marker::Model;
+use wasmprinter_entries::exports::{Export, ExternKind};
+use wasmprinter_entries::imports::Import;
+use wasmprinter_entries::memories::Memory;
+use wasmprinter_entries::start::Start;
+use wasmprinter_entries::tags::Tag;
+use wasmprinter_entries::types::{TypeGroup, Types};
+use wasmprinter_ops::types::composite::FuncType;
+use wasmprinter_segments::code::Body;
+use wasmprinter_segments::data::Data;
+use wasmprinter_segments::elements::Element;
+use wasmprinter_segments::globals::Global;
+use wasmprinter_segments::tables::Table;
 
 /// A module; names, expressions and data are slices of the bytes that were decoded.
 #[derive(Drop)]
@@ -75,5 +80,122 @@ impl<'a> Module<'a> {
             Some(body) => Some(body.fork()),
             None => None,
         }
+    }
+
+    /// The defined function with the number.
+    pub fn function(&self, number: u32) -> Function<'a>
+        requires { number < length self.now.functions }
+        ensures { slice_get self.now.functions number ≡ Some result }
+    {
+        Function {
+            type_index: self.type_indices[number as usize],
+            body: self.bodies[number as usize].fork(),
+        }
+    }
+
+    /// The types, in their groups.
+    pub fn types(&self) -> &[TypeGroup<'a>]
+        ensures all { result.now ≡ self.now.types }
+        ensures few { length (all_types (groups_of self.now.types)) < 2 ^ 64 }
+    {
+        self.types.groups()
+    }
+
+    /// The function type with the index, `None` where there is no such type or it is of another kind.
+    ///
+    /// Type indices count the types of all groups. It takes the same time for each index.
+    pub fn signature(&self, index: u32) -> Option<FuncType<'a>>
+        ensures { result ≡ signature_at (all_types (groups_of self.now.types)) index }
+    {
+        self.types.signature(index)
+    }
+
+    /// The imports.
+    pub fn imports(&self) -> &[Import<'a>]
+        ensures all { result.now ≡ self.now.imports }
+        ensures few { length self.now.imports < 2 ^ 32 }
+    {
+        &self.imports
+    }
+
+    /// How many imports are of the kind. It takes time in proportion to the number of imports.
+    pub fn imported_count(&self, kind: ExternKind) -> u64
+        ensures is { result ≡ imported_count (kind_view kind) self.now.imports }
+        ensures few { result < 2 ^ 32 }
+    {
+        let mut count = 0;
+        for import in self.imports() {
+            if import.is_of(kind) {
+                count += 1;
+            }
+        }
+        count
+    }
+
+    /// The tables that the module defines.
+    pub fn tables(&self) -> &[Table<'a>]
+        ensures all { result.now ≡ self.now.tables }
+        ensures few { length self.now.tables < 2 ^ 32 }
+    {
+        &self.tables
+    }
+
+    /// The memories that the module defines.
+    pub fn memories(&self) -> &[Memory]
+        ensures all { result.now ≡ self.now.memories }
+        ensures few { length self.now.memories < 2 ^ 32 }
+    {
+        &self.memories
+    }
+
+    /// The tags that the module defines.
+    pub fn tags(&self) -> &[Tag]
+        ensures all { result.now ≡ self.now.tags }
+        ensures few { length self.now.tags < 2 ^ 32 }
+    {
+        &self.tags
+    }
+
+    /// The global variables that the module defines.
+    pub fn globals(&self) -> &[Global<'a>]
+        ensures all { result.now ≡ self.now.globals }
+        ensures few { length self.now.globals < 2 ^ 32 }
+    {
+        &self.globals
+    }
+
+    /// The exports.
+    pub fn exports(&self) -> &[Export<'a>]
+        ensures { result.now ≡ self.now.exports }
+    {
+        &self.exports
+    }
+
+    /// The start function, `None` where there is no start section.
+    pub fn start(&self) -> Option<Start>
+        ensures { result ≡ self.now.start }
+    {
+        self.start
+    }
+
+    /// The element segments.
+    pub fn elements(&self) -> &[Element<'a>]
+        ensures { result.now ≡ self.now.elements }
+    {
+        &self.elements
+    }
+
+    /// The data segments.
+    pub fn datas(&self) -> &[Data<'a>]
+        ensures { result.now ≡ self.now.datas }
+    {
+        &self.datas
+    }
+
+    /// How many bytes the module has.
+    pub fn size(&self) -> u64
+        ensures { result ≡ self.now.size }
+    {
+        self.size
     }
 }

@@ -1,39 +1,24 @@
 //! Sections (section 5.5, "Sections"): an id, a size, and content of exactly so many bytes.
-ghost use Rattle.std.specs.Prelude.{◌≡◌, ◌≤◌, [], MatchResult};
+ghost use Rattle.std.specs.Prelude.{◌≡◌};
 ghost use Rattle.wasmprinter_spec.specs.Sections.{kind_of, section_kind, rank};
-ghost use Rattle.wasmprinter_spec.specs.FirstByte.{only};
-ghost use Rattle.wasmprinter_bytes.specs.Reads.{Reads, IsWithin, end_of};
-ghost use Rattle.wasmprinter_wasm.specs.Contents.{section_view, TakesContent, TakesSection};
+ghost use Rattle.wasmprinter_bytes.specs.Reads.{end_of};
+ghost use Rattle.wasmprinter_wasm.specs.Sections.{section_view, TakesContent, TakesSection};
 
-pub mod code;
-pub mod data;
-pub mod elements;
-pub mod exports;
-mod functions;
-pub mod globals;
-pub mod imports;
-pub mod limits;
-pub mod memories;
-pub mod start;
-pub mod tables;
-pub mod tags;
-pub mod types;
-
-use crate::sections::code::{Body, read_code};
-use crate::sections::data::{Data, read_data, read_data_count};
-use crate::sections::elements::{Element, read_elements};
-use crate::sections::exports::{Export, read_exports};
-use crate::sections::functions::read_functions;
-use crate::sections::globals::{Global as GlobalVariable, read_globals};
-use crate::sections::imports::{Import, read_imports};
-use crate::sections::memories::{Memory, read_memories};
-use crate::sections::start::{Start, read_start};
-use crate::sections::tables::{Table, read_tables};
-use crate::sections::tags::{Tag, read_tags};
-use crate::sections::types::Types;
 use std::alloc::Global;
 use wasmprinter_bytes::bytes::Cursor;
-use wasmprinter_error::{Error, Malformed};
+use wasmprinter_entries::exports::{Export, read_exports};
+use wasmprinter_entries::functions::read_functions;
+use wasmprinter_entries::imports::{Import, read_imports};
+use wasmprinter_entries::memories::{Memory, read_memories};
+use wasmprinter_entries::start::{Start, read_start};
+use wasmprinter_entries::tags::{Tag, read_tags};
+use wasmprinter_entries::types::Types;
+use wasmprinter_error::Error;
+use wasmprinter_segments::code::{Body, read_code};
+use wasmprinter_segments::data::{Data, read_data, read_data_count};
+use wasmprinter_segments::elements::{Element, read_elements};
+use wasmprinter_segments::globals::{Global as GlobalVariable, read_globals};
+use wasmprinter_segments::tables::{Table, read_tables};
 
 const TYPE: u8 = 1;
 
@@ -92,37 +77,14 @@ pub(crate) enum Section<'a> {
     Data(Vec<Data<'a>>),
 }
 
-/// Nothing may be left of what a section holds.
-fn expect_end(cursor: &Cursor) -> Result<(), Malformed>
-    ensures { MatchResult result (λ _. cursor.now.bytes ≡ []) (λ e. (cursor.now.bytes ≡ [] → ⊥) × (e.place ≤ end_of cursor.now)) }
-{
-    if cursor.is_empty() {
-        Ok(())
-    } else {
-        Err(Malformed {
-            place: cursor.place(),
-        })
-    }
-}
-
-/// Reads the byte, and no other.
-fn read_only(cursor: &mut Cursor, wanted: u8) -> Result<u8, Malformed>
-    ensures reads { Reads (λ b. b) (only wanted).parse cursor.old result cursor.new }
-    ensures within { IsWithin cursor.old result }
-    ensures end { end_of cursor.new ≡ end_of cursor.old }
-{
-    let place = cursor.place();
-    let byte = cursor.u8()?;
-    if byte == wanted {
-        Ok(byte)
-    } else {
-        Err(Malformed { place })
-    }
-}
-
-/// Reads what a section with the id holds.
-fn read_content<'a>(alloc: Global, id: u8, cursor: &mut Cursor<'a>) -> Result<Section<'a>, Error>
-    ensures { TakesContent (kind_of id) cursor.old result }
+/// Reads what a section holds whose id stands at the place.
+fn read_content<'a>(
+    alloc: Global,
+    place: u64,
+    id: u8,
+    cursor: &mut Cursor<'a>,
+) -> Result<Section<'a>, Error>
+    ensures { TakesContent place (kind_of id) cursor.old result }
 {
     match id {
         TYPE => Ok(Section::Types(Types::read(alloc, cursor)?)),
@@ -138,9 +100,7 @@ fn read_content<'a>(alloc: Global, id: u8, cursor: &mut Cursor<'a>) -> Result<Se
         DATA_COUNT => Ok(Section::DataCount(read_data_count(cursor)?)),
         CODE => Ok(Section::Code(read_code(alloc, cursor)?)),
         DATA => Ok(Section::Data(read_data(alloc, cursor)?)),
-        _ => Err(Error::Malformed {
-            place: cursor.place(),
-        }),
+        _ => Err(Error::Malformed { place }),
     }
 }
 
@@ -150,10 +110,11 @@ impl<'a> Section<'a> {
         ensures reads { TakesSection cursor.old result cursor.new }
         ensures end { end_of cursor.new ≡ end_of cursor.old }
     {
+        let place = cursor.place();
         let id = cursor.u8()?;
         let size = cursor.u32()?;
         let mut part = cursor.part(size as usize)?;
-        read_content(alloc, id, &mut part)
+        read_content(alloc, place, id, &mut part)
     }
 
     /// Where sections of this kind stand in the order that a module keeps, `None` for those that may stand anywhere.

@@ -2,18 +2,18 @@
 //! expected is typed by hand.
 
 use crate::decoder::decode;
-use crate::sections::data::DataMode;
-use crate::sections::elements::{ElementItems, ElementMode};
-use crate::sections::exports::ExternKind;
-use crate::sections::globals::GlobalType;
-use crate::sections::imports::ExternType;
-use crate::sections::limits::Limits;
-use crate::sections::memories::MemoryType;
-use crate::sections::tables::TableType;
 use crate::tests::{is_accepted, is_malformed, module};
 use std::test::Fail;
+use wasmprinter_entries::exports::ExternKind;
+use wasmprinter_entries::global_types::GlobalType;
+use wasmprinter_entries::imports::ExternType;
+use wasmprinter_entries::limits::Limits;
+use wasmprinter_entries::memories::MemoryType;
+use wasmprinter_entries::table_types::TableType;
 use wasmprinter_error::Error;
 use wasmprinter_ops::types::{HeapType, RefType, ValType};
+use wasmprinter_segments::data::DataMode;
+use wasmprinter_segments::elements::{ElementItems, ElementMode};
 
 /// The place of the first item of the first section.
 const FIRST: u64 = 0x0b;
@@ -75,7 +75,8 @@ fn tables_have_initialisers(rt: HostRuntime) -> Result<(), Fail> {
 #[test]
 fn empty_initialisers_are_refused(rt: HostRuntime) -> Result<(), Fail> {
     let section = [
-        0x04, 0x0a, 0x02, 0x70, 0x00, 0x01, 0x40, 0x00, 0x70, 0x00, 0x01, 0x0b,
+        0x04, 0x10, 0x03, 0x70, 0x00, 0x01, 0x40, 0x00, 0x70, 0x00, 0x01, 0x0b, 0x40, 0x00, 0x70,
+        0x00, 0x01, 0x0b,
     ];
     let bytes = module(rt.alloc(), &[&section])?;
     assert!(rt;

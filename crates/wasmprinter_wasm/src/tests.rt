@@ -1,11 +1,11 @@
 //! Modules that are decoded and modules that are refused. What is expected is typed by hand.
 
 use crate::decoder::decode;
-use crate::sections::exports::ExternKind;
-use crate::sections::limits::Limits;
-use crate::sections::memories::MemoryType;
 use std::alloc::{AllocError, Global};
 use std::test::Fail;
+use wasmprinter_entries::exports::ExternKind;
+use wasmprinter_entries::limits::Limits;
+use wasmprinter_entries::memories::MemoryType;
 use wasmprinter_error::Error;
 use wasmprinter_ops::types::ValType;
 
@@ -430,7 +430,7 @@ fn with_memory(alloc: Global, memory_type: &[u8]) -> Result<Vec<u8>, AllocError>
 fn only_memory(alloc: Global, bytes: &[u8]) -> Option<MemoryType> {
     let decoded = decode(alloc, bytes).ok()?;
     match decoded.memories() {
-        [memory] => Some(memory.memory_type()),
+        [memory] => Some(memory.ty()),
         _ => None,
     }
 }
@@ -510,7 +510,7 @@ fn memories_have_their_places(rt: HostRuntime) -> Result<(), Fail> {
     assert_eq!(rt; decoded.memories().len(), wanted.len());
     for (memory, (place, min)) in decoded.memories().iter().zip(wanted.iter().copied()) {
         assert_eq!(rt; memory.place(), place);
-        assert_eq!(rt; memory.memory_type().limits.min, min);
+        assert_eq!(rt; memory.ty().limits.min, min);
     }
     Ok(())
 }

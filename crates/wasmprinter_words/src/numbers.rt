@@ -3,12 +3,12 @@ ghost use Rattle.std.specs.Prelude.{◌≡◌, ◌<◌, ◌≤◌, ◌/◌, ◌%
 ghost use Rattle.std.specs.Fmt.{digits, digit_glyph, signed_decimal};
 ghost use Rattle.wasmprinter_spec.specs.Call.{Text};
 ghost use Rattle.wasmprinter_spec.specs.Options.{Options};
-ghost use Rattle.wasmprinter_spec.specs.Piece.{Word, Number, Mark, Constant};
+ghost use Rattle.wasmprinter_spec.specs.Piece.{Gap, Word, Number, Mark, Constant};
 ghost use Rattle.wasmprinter_spec.specs.Layout.Groups.{line_group_gap};
 ghost use Rattle.wasmprinter_print.specs.Emits.{Emits};
 ghost use Rattle.wasmprinter_print.specs.Prints.{Prints};
 
-use crate::words::{open_gap, shut};
+use crate::words::{gap, open_gap, shut};
 use std::io;
 use wasmprinter_print::{Print, Style, reset, start, text};
 
@@ -102,6 +102,14 @@ pub fn number<P: Print>(p: &mut P, n: u64) -> io::Result<()>
     start(p, Style::Name)?;
     write_digits(p, DECIMAL, n)?;
     reset(p)
+}
+
+/// Writes a blank and an index.
+pub fn gap_index<P: Print>(p: &mut P, index: u32) -> io::Result<()>
+    ensures { (o : Options) → Prints P.meaning o p.old p.new result (Gap ∷ (Number index ∷ [])) }
+{
+    gap(p)?;
+    number(p, u64::from(index))
 }
 
 /// Writes a number as a word without a style.

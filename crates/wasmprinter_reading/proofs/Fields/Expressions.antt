@@ -13,7 +13,7 @@ use Rattle.wasmprinter_spec.specs.Nesting.{Nests, Sequence, advance, at_start}
 use Rattle.wasmprinter_spec.specs.NestingSteps.{stops_at_end}
 use Rattle.wasmprinter_spec.specs.Module.{without_places}
 use Rattle.wasmprinter_spec.specs.Indexed.{Counts, IsIndexedOperator}
-use Rattle.wasmprinter_spec.specs.LabelNames.{no_names}
+use Rattle.wasmprinter_spec.specs.LabelNames.{no_label_names}
 use Rattle.wasmprinter_spec.specs.Code.{Chunk, chunk, code_of, only_instructions, flattened, folded_as, before, PartHead, ThenHead, ElseHead, OperatorHead, head_by, head, with_group, code, unfolded}
 use Rattle.wasmprinter_spec.specs.IndexSpaces.{Context}
 use Rattle.wasmprinter_spec.specs.Piece as piece
@@ -32,14 +32,14 @@ use Rattle.wasmprinter_reading.proofs.Ranged.{IsRangedExpression}
 use Rattle.wasmprinter_reading.proofs.Operators.Arguments.{AreArguments, arguments_front}
 use Rattle.wasmprinter_reading.proofs.Operators.Immediates.{arguments_by}
 use Rattle.wasmprinter_reading.proofs.Operators.Rows.{IsSome, rows_of-row, first_of_rows}
-use Rattle.wasmprinter_reading.proofs.Operators.LabelNames.{no_names_are_names, no_names_are_apart}
+use Rattle.wasmprinter_reading.proofs.Operators.LabelNames.{no_label_names_are_names, no_label_names_are_apart}
 use Rattle.wasmprinter_reading.proofs.Operators.Lists.{arguments_items, expression_items, chunks_of, unfolded-operators, expression_writes, expression_reads}
 
 -- ---- what they are written as
 
 -- the operators in one line
 abbrev pub constant_items : List SubType → List Operator → Forest
-constant_items ts os = expression_items (signature_at ts) no_names os
+constant_items ts os = expression_items (signature_at ts) no_label_names os
 
 -- what a group of its own holds: one operator alone, else a word and the operators
 abbrev pub constant_held : List SubType → List ℕ → List Operator → Forest
@@ -51,7 +51,7 @@ constant_held ts w os = Word w (constant_items ts os)
 module _ (ts : List SubType) (s : AreSignaturesInRange (signature_at ts)) where
   pub in_line_writes : (os : List (Placed Operator)) → IsRangedExpression os → Writes Free (constant_pieces ts os) Bound (constant_items ts (without_places os))
   unfolding constant_pieces
-  in_line_writes os h = expression_writes (in_line ts) s no_names no_names_are_names os h.listed
+  in_line_writes os h = expression_writes (in_line ts) s no_label_names no_label_names_are_names os h.listed
 
   -- the first operator of a line stands right behind a bare parenthesis
   opened_line_writes : (o : Placed Operator) (os : List (Placed Operator)) → IsRangedExpression (o ∷ os) →
@@ -139,14 +139,14 @@ module _ (c : Context) (ts : List SubType) (k : Counts) (same : HaveSameTypes (i
   AreIndexed os = AllByRecursion (IsIndexedOperator k) (without_places os)
 
   chunks-read : (os : List (Placed Operator)) → IsRangedExpression os → AreIndexed os →
-      read_operators c (chunks_of (signature_at ts) no_names 0 [] (without_places os)) ≡ Some (without_places os)
+      read_operators c (chunks_of (signature_at ts) no_label_names 0 [] (without_places os)) ≡ Some (without_places os)
   chunks-read os h d =
-      expression_reads (in_line ts) c k same no_names no_names_are_apart os (record { listed = h.listed; nested = h.nested; count = h.count; indexed = d })
+      expression_reads (in_line ts) c k same no_label_names no_label_names_are_apart os (record { listed = h.listed; nested = h.nested; count = h.count; indexed = d })
 
   pub expression-items : (os : List (Placed Operator)) → IsRangedExpression os → AreIndexed os →
       expression c (constant_items ts (without_places os)) ≡ Some (without_places os)
   expression-items os h d =
-      ap (λ cs. cs >>= read_operators c) (unfolded-operators (signature_at ts) no_names 0 [] (without_places os) h.listed) ∙ chunks-read os h d
+      ap (λ cs. cs >>= read_operators c) (unfolded-operators (signature_at ts) no_label_names 0 [] (without_places os) h.listed) ∙ chunks-read os h d
 
   -- behind the word of the group
   worded-items : (w : List ℕ) (os : List (Placed Operator)) → IsRangedExpression os → AreIndexed os →

@@ -13,7 +13,7 @@ use Rattle.wasmprinter_spec.specs.Piece as piece
 use Rattle.wasmprinter_spec.specs.Piece.{Piece, Gap}
 use Rattle.wasmprinter_spec.specs.Layout.Groups.{group_gap_at, breaks, has_break}
 use Rattle.wasmprinter_spec.specs.Layout.Operators.{OverLines, Setting, operator_pieces, operators_pieces, expression_pieces}
-use Rattle.wasmprinter_spec.specs.LabelNames.{no_names}
+use Rattle.wasmprinter_spec.specs.LabelNames.{no_label_names}
 use Rattle.wasmprinter_spec.specs.Layout.Functions.{locals_place, local_group, local_pieces, header_pieces, body_pieces, function_group}
 use Rattle.wasmprinter_spec.specs.IndexSpaces.{Identifiers, Context}
 use Rattle.wasmprinter_spec.specs.Text.Items.{groups, ids_of}
@@ -30,13 +30,13 @@ use Rattle.wasmprinter_reading.proofs.Types.Ranged.{IsRangedVal, IsRangedFunc}
 use Rattle.wasmprinter_reading.proofs.Types.Trees.{group_items, signature_items, type_list_writes}
 use Rattle.wasmprinter_reading.proofs.Types.Back.{reads_variables, groups_take, groups_leave, IsBehindSignature, printed_signature, signature-items, own_parameters}
 use Rattle.wasmprinter_reading.proofs.Fields.Headers.{header_items, header_writes}
-use Rattle.wasmprinter_reading.proofs.Operators.LabelNames.{no_names_are_names, no_names_are_apart}
+use Rattle.wasmprinter_reading.proofs.Operators.LabelNames.{no_label_names_are_names, no_label_names_are_apart}
 use Rattle.wasmprinter_reading.proofs.Operators.Lists.{expression_items, chunks_of, unfolded-operators, expression_writes, expression_reads}
 
 -- ---- what functions are written as
 
 abbrev pub body_items : List SubType → List ValType → List (Placed Operator) → Forest
-body_items ts ls os = onto (group_items (codes "local") ls) (expression_items (signature_at ts) no_names (without_places os))
+body_items ts ls os = onto (group_items (codes "local") ls) (expression_items (signature_at ts) no_label_names (without_places os))
 
 -- a function, whole or a skeleton
 abbrev pub function_items : Bool → List SubType → Option FuncType → PlacedFunction → Forest
@@ -83,7 +83,7 @@ body_setting ts = record { form = OverLines; signature = signature_at ts; nestin
 body_writes : (ts : List SubType) → AreSignaturesInRange (signature_at ts) → (es : List (Placed LocalEntry)) (os : List (Placed Operator)) → AllByRecursion (λ e. IsRangedVal e.value.type) es → AllByRecursion IsListed (without_places os) →
     Writes Bound (local_pieces es ++ body_pieces ts os) Ended (body_items ts (locals_of es) os)
 unfolding body_pieces
-body_writes ts s es os r l = both_write (local_writes es r) (behind_anything Bound (expression_writes (body_setting ts) s no_names no_names_are_names os l))
+body_writes ts s es os r l = both_write (local_writes es r) (behind_anything Bound (expression_writes (body_setting ts) s no_label_names no_label_names_are_names os l))
 
 empty_body_writes : (ts : List SubType) (es : List (Placed LocalEntry)) → AllByRecursion (λ e. IsRangedVal e.value.type) es → Writes Bound (local_pieces es ++ body_pieces ts []) Bound (body_items ts (locals_of es) [])
 unfolding body_pieces expression_pieces operators_pieces
@@ -113,7 +113,7 @@ function_writes {a = a} e false offsets ts s t i f h k r = by f.body.value.opera
 -- ---- they read back
 
 groups_operators : {A : Type 0} (read : Forest → Option (List A)) (w : List ℕ) (ts : List SubType) (os : List Operator) →
-    groups read w (expression_items (signature_at ts) no_names os) ≡ Some ([], expression_items (signature_at ts) no_names os)
+    groups read w (expression_items (signature_at ts) no_label_names os) ≡ Some ([], expression_items (signature_at ts) no_label_names os)
 unfolding groups
 groups_operators read w ts [] = refl
 groups_operators read w ts (o ∷ os) = refl
@@ -121,9 +121,9 @@ groups_operators read w ts (o ∷ os) = refl
 module _ (c : Context) (ts : List SubType) (k : Counts) (same : HaveSameTypes (body_setting ts) c k) where
   -- the operators of a body, with any locals
   body_reads : (ls : Identifiers) (f : PlacedFunction) → IsRangedFunction f → AllByRecursion (IsIndexedOperator k) (without_places f.body.value.operators) →
-      read_operators (record c { spaces = record c.spaces { locals = ls } }) (chunks_of (signature_at ts) no_names 0 [] (without_places f.body.value.operators)) ≡ Some (without_places f.body.value.operators)
+      read_operators (record c { spaces = record c.spaces { locals = ls } }) (chunks_of (signature_at ts) no_label_names 0 [] (without_places f.body.value.operators)) ≡ Some (without_places f.body.value.operators)
   body_reads ls f h d =
-      expression_reads (body_setting ts) (record c { spaces = record c.spaces { locals = ls } }) k (record { read = same.read; counted = same.counted; in_range = same.in_range }) no_names no_names_are_apart
+      expression_reads (body_setting ts) (record c { spaces = record c.spaces { locals = ls } }) k (record { read = same.read; counted = same.counted; in_range = same.in_range }) no_label_names no_label_names_are_apart
       f.body.value.operators (record { listed = h.body.listed; nested = h.body.nested; count = h.body.count; indexed = d })
 
   pub read_function-items : (t : FuncType) (f : PlacedFunction) → c.signature f.type_index ≡ Some t → IsRangedFunc t → IsRangedFunction f → AllByRecursion (IsIndexedOperator k) (without_places f.body.value.operators) →
@@ -132,19 +132,19 @@ module _ (c : Context) (ts : List SubType) (k : Counts) (same : HaveSameTypes (b
       let ids : Identifiers = c.spaces.types in
       let os : List Operator = without_places f.body.value.operators in
       let ls : List ValType = locals_of f.body.value.locals in
-      let rest : Forest = onto (group_items (codes "local") ls) (expression_items (signature_at ts) no_names os) in
+      let rest : Forest = onto (group_items (codes "local") ls) (expression_items (signature_at ts) no_label_names os) in
       let behind : IsBehindSignature ids rest = record {
         params = groups_leave (variables ids) (codes "param") (codes "local") ls _ refl (groups_operators (variables ids) (codes "param") ts os);
         results = groups_leave (val_types ids) (codes "result") (codes "local") ls _ refl (groups_operators (val_types ids) (codes "result") ts os);
       } in
       let e : signature ids (onto (signature_items t) rest) ≡ Some (printed_signature t, rest) = signature-items ids t rest s behind in
-      let locals : groups (variables ids) (codes "local") rest ≡ Some (unnamed ls, expression_items (signature_at ts) no_names os) =
+      let locals : groups (variables ids) (codes "local") rest ≡ Some (unnamed ls, expression_items (signature_at ts) no_label_names os) =
       groups_take (reads_variables ids) (codes "local") ls _ (locals_ranged f.body.value.locals h.body.locals) (groups_operators (variables ids) (codes "local") ts os) in
       rw (
         index-decimal ids f.type_index h.type_index,
         e,
         locals,
-        unfolded-operators (signature_at ts) no_names 0 [] os h.body.listed,
+        unfolded-operators (signature_at ts) no_label_names 0 [] os h.body.listed,
         own,
         own_parameters t,
         unnamed_spaces t.params ls,

@@ -6,7 +6,8 @@ use Rattle.wasmprinter_spec.specs.Forest.{Forest, End, Word, Group, onto}
 use Rattle.wasmprinter_spec.specs.Types.{FuncType}
 use Rattle.wasmprinter_spec.specs.Piece.{Piece, Gap, Mark, Number}
 use Rattle.wasmprinter_spec.specs.Layout.Groups.{line_group_gap}
-use Rattle.wasmprinter_spec.specs.Layout.Functions.{signature_if, header_pieces}
+use Rattle.wasmprinter_spec.specs.Layout.Types.{signature_if_any}
+use Rattle.wasmprinter_spec.specs.Layout.Functions.{header_pieces}
 use Rattle.wasmprinter_spec.specs.IndexSpaces.{Context}
 use Rattle.wasmprinter_spec.specs.Text.Types.{signature}
 use Rattle.wasmprinter_spec.specs.Text.TypeIndices.{type_index}
@@ -15,29 +16,24 @@ use Rattle.wasmprinter_lexical.proofs.Writes.{Writes, writing, both_write, nothi
 use Rattle.wasmprinter_reading.specs.Listed.{IsSignatureInRange}
 use Rattle.wasmprinter_reading.proofs.Items.{index-decimal, unnamed_space}
 use Rattle.wasmprinter_reading.proofs.Types.Ranged.{IsRangedFunc}
-use Rattle.wasmprinter_reading.proofs.Types.Trees.{signature_items, signature_if_items, signature_writes}
+use Rattle.wasmprinter_reading.proofs.Types.Trees.{signature_items, signature_if_any_items, signature_if_any_writes}
 use Rattle.wasmprinter_reading.proofs.Types.Back.{end_behind_signature, printed_signature, signature-items, own_parameters}
 
 -- the type and its signature, before the rest
 abbrev pub header_items : Option FuncType → ℕ → Forest → Forest
-header_items t type_index rest = Group (Word (codes "type") (Word (decimal type_index) End)) (onto (signature_if_items t) rest)
-
-signature_if_writes : (t : Option FuncType) → IsSignatureInRange t → Writes Bound (signature_if t) Bound (signature_if_items t)
-unfolding signature_if
-signature_if_writes None r = nothing_writes
-signature_if_writes (Some t) r = signature_writes t r
+header_items t type_index rest = Group (Word (codes "type") (Word (decimal type_index) End)) (onto (signature_if_any_items t) rest)
 
 pub header_writes : {b : Edge} (t : Option FuncType) (i type_index : ℕ) (qs : List Piece) (rest : Forest) →
     i < 2 ^ 64 → IsSignatureInRange t → type_index < 2 ^ 32 → Writes Bound qs b rest → Writes Free (header_pieces i type_index t ++ qs) b (header_items t type_index rest)
 unfolding header_pieces class
 header_writes {b = b} t i type_index qs rest h s r w =
     let small : type_index < 2 ^ 64 = omega (arith, r) in
-    let signature : Writes Bound (signature_if t ++ qs) b (onto (signature_if_items t) rest) = both_write (signature_if_writes t s) w in
+    let signature : Writes Bound (signature_if_any t ++ qs) b (onto (signature_if_any_items t) rest) = both_write (signature_if_any_writes t s) w in
     let type : List Piece = line_group_gap (codes "type") (Number type_index ∷ []) in
-    let joined : Writes Free (Mark i ∷ (Gap ∷ (type ++ (signature_if t ++ qs)))) b (header_items t type_index rest) =
+    let joined : Writes Free (Mark i ∷ (Gap ∷ (type ++ (signature_if_any t ++ qs)))) b (header_items t type_index rest) =
     mark_writes refl h (gap_writes refl
-    (line_group_gap_then (codes "type") (Number type_index ∷ []) (signature_if t ++ qs) refl refl (search writing) signature)) in
-    rw (append_assoc type (signature_if t) qs) joined
+    (line_group_gap_then (codes "type") (Number type_index ∷ []) (signature_if_any t ++ qs) refl refl (search writing) signature)) in
+    rw (append_assoc type (signature_if_any t) qs) joined
 
 -- where nothing stands behind it
 pub header_alone_writes : (t : Option FuncType) (i n : ℕ) → i < 2 ^ 64 → IsSignatureInRange t → n < 2 ^ 32 →

@@ -13,13 +13,14 @@ use Rattle.wasmprinter_spec.specs.Text.Items.{ids_of}
 use Rattle.wasmprinter_spec.specs.Text.Types.{signature}
 use Rattle.wasmprinter_spec.specs.Text.Operators.{id_of, behind_id, are_unnamed, type_with, block_type}
 use Rattle.wasmprinter_spec.specs.Piece.{Number}
-use Rattle.wasmprinter_spec.specs.Layout.Operators.{Form, OverLines, InLine, id_pieces, ending_pieces, signature_behind, block_pieces}
+use Rattle.wasmprinter_spec.specs.Layout.Types.{signature_if_any}
+use Rattle.wasmprinter_spec.specs.Layout.Operators.{Form, OverLines, InLine, id_pieces, ending_pieces, block_pieces}
 use Rattle.wasmprinter_lexical.proofs.Printed.{is_remark, is_remark-decimal, is_remark-append}
 use Rattle.wasmprinter_lexical.proofs.Pieces.{Bound}
 use Rattle.wasmprinter_lexical.proofs.Writes.{Writes, writing, nothing_writes, gap_writes, line_group_gap_writes, line_group_gap_then}
 use Rattle.wasmprinter_reading.specs.Listed.{IsBlockInRange, IsSignatureInRange, AreSignaturesInRange}
 use Rattle.wasmprinter_reading.proofs.Items.{unnamed, index-decimal}
-use Rattle.wasmprinter_reading.proofs.Types.Trees.{val_items, group_items, signature_if_items, val_writes, signature_writes}
+use Rattle.wasmprinter_reading.proofs.Types.Trees.{val_items, group_items, signature_if_any_items, val_writes, signature_if_any_writes}
 use Rattle.wasmprinter_reading.proofs.Types.Back.{IsBehindSignature, end_behind_signature, val_types-one, signature-items, printed_agrees}
 use Rattle.wasmprinter_reading.proofs.Operators.Labels.{id, IsLabel, mark_writes}
 use Rattle.wasmprinter_reading.proofs.Operators.Arguments.{AreArguments, arguments_onto}
@@ -34,7 +35,7 @@ id_items (Some n) = Name n.content End
 abbrev pub block_items : (ℕ → Option FuncType) → BlockType → Forest
 block_items signature Empty = End
 block_items signature (Value t) = Group (Word (codes "result") (val_items t)) End
-block_items signature (OfType n) = Group (Word (codes "type") (Word (decimal n) End)) (signature_if_items (signature n))
+block_items signature (OfType n) = Group (Word (codes "type") (Word (decimal n) End)) (signature_if_any_items (signature n))
 
 -- ---- arguments
 
@@ -46,7 +47,7 @@ group_arguments : (w : List ℕ) (ts : List ValType) → head w ≡ PartHead →
 group_arguments w [] h = tt
 group_arguments w (t ∷ ts) h = (h, tt)
 
-behind_arguments : (t : Option FuncType) → AreArguments (signature_if_items t)
+behind_arguments : (t : Option FuncType) → AreArguments (signature_if_any_items t)
 unfolding head
 behind_arguments None = tt
 behind_arguments (Some t) =
@@ -91,7 +92,7 @@ unnamed_are_unnamed (t ∷ ts) = unnamed_are_unnamed ts
 
 -- a signature behind the index of its type
 type_reads : (c : Context) (n : ℕ) (x : Option FuncType) (f : Forest) → IsFunctionType x → IsSignatureInRange x → IsBehindSignature c.spaces.types f →
-    (signature c.spaces.types (onto (signature_if_items x) f) >>= type_with n x) ≡ Some (OfType n, f)
+    (signature c.spaces.types (onto (signature_if_any_items x) f) >>= type_with n x) ≡ Some (OfType n, f)
 type_reads c n None f k r h = absurd k
 type_reads c n (Some t) f k r h = rw (signature-items c.spaces.types t f r h, printed_agrees t, unnamed_are_unnamed t.params)
 
@@ -111,10 +112,6 @@ unfolding id_pieces
 id_writes None h = search writing
 id_writes (Some n) h = let held = mark_writes n h in search (writing, held)
 
-behind_writes : (t : Option FuncType) → IsSignatureInRange t → Writes Bound (signature_behind t) Bound (signature_if_items t)
-behind_writes None r = nothing_writes
-behind_writes (Some t) r = signature_writes t r
-
 pub block_writes : (signature : ℕ → Option FuncType) → AreSignaturesInRange signature → (t : BlockType) → IsBlockInRange t →
     Writes Bound (block_pieces signature t) Bound (block_items signature t)
 unfolding block_pieces class
@@ -122,7 +119,7 @@ block_writes signature ranged Empty h = search writing
 block_writes signature ranged (Value t) h = gap_writes refl (line_group_gap_writes (codes "result") _ refl refl (val_writes t h))
 block_writes signature ranged (OfType n) h =
     let small : n < 2 ^ 64 = omega arith in
-    gap_writes refl (line_group_gap_then (codes "type") (Number n ∷ []) (signature_behind (signature n)) refl refl (search writing) (behind_writes (signature n) (ranged n)))
+    gap_writes refl (line_group_gap_then (codes "type") (Number n ∷ []) (signature_if_any (signature n)) refl refl (search writing) (signature_if_any_writes (signature n) (ranged n)))
 
 pub comment_writes : (form : Form) (own : Label) (d : ℕ) → Writes Bound (ending_pieces form own d) (behind form) End
 unfolding ending_pieces class

@@ -8,13 +8,14 @@ use Rattle.std.proofs.lemmas.Str.{IsUtf8-append}
 use Rattle.wasmprinter_lexical.proofs.Printed.{all_printed, remark, is_remark-decimal}
 use Rattle.wasmprinter_lexical.proofs.Plain.{plain_text, plain_is_utf8}
 use Rattle.wasmprinter_spec.specs.Labels.{Named, same_name, AreApart}
-use Rattle.wasmprinter_spec.specs.LabelNames.{is_clean, label_content, label_named, label_naming, no_names}
-use Rattle.wasmprinter_reading.specs.OperatorLaws.{IsNamed, AreNames}
+use Rattle.wasmprinter_spec.specs.LabelNames.{is_clean, label_content, label_named, label_naming, no_label_names}
+use Rattle.wasmprinter_spec.specs.Names.{IsNamed}
+use Rattle.wasmprinter_reading.specs.OperatorLaws.{AreNames}
 use Rattle.wasmprinter_reading.proofs.Bytes.{same_bytes}
 
 -- ---- no blank stands in a number
 
-abbrev no_blank : List ℕ → Bool
+abbrev pub no_blank : List ℕ → Bool
 no_blank [] = true
 no_blank (b ∷ bs) = not (eqb b 32) && no_blank bs
 
@@ -38,20 +39,23 @@ no_blank-digits (suc k) n bs g =
     by a b true x y = x
     by a b false x y = y
 
-no_blank-decimal : (n : ℕ) → no_blank (decimal n) ≡ true
+pub no_blank-decimal : (n : ℕ) → no_blank (decimal n) ≡ true
 unfolding digits
 no_blank-decimal n = no_blank-digits 64 n [] refl
 
--- what stands behind the first blank
-behind_blank : (a b s t : List ℕ) → no_blank a ≡ true → no_blank b ≡ true → a ++ (32 ∷ s) ≡ b ++ (32 ∷ t) → s ≡ t
-behind_blank [] [] s t ha hb e = cc
-behind_blank [] (y ∷ ys) s t ha hb e = let same : 32 ≡ y = cc in absurd (true≢false (sym hb ∙ ap (λ c. not (eqb c 32) && no_blank ys) (sym same)))
-behind_blank (x ∷ xs) [] s t ha hb e = let same : x ≡ 32 = cc in absurd (true≢false (sym ha ∙ ap (λ c. not (eqb c 32) && no_blank xs) same))
-behind_blank (x ∷ xs) (y ∷ ys) s t ha hb e =
+-- what stands in front of the first blank, and behind it
+pub around_blank : (a b s t : List ℕ) → no_blank a ≡ true → no_blank b ≡ true → a ++ (32 ∷ s) ≡ b ++ (32 ∷ t) → (a ≡ b) × (s ≡ t)
+around_blank [] [] s t ha hb e = (refl, cc)
+around_blank [] (y ∷ ys) s t ha hb e = let same : 32 ≡ y = cc in absurd (true≢false (sym hb ∙ ap (λ c. not (eqb c 32) && no_blank ys) (sym same)))
+around_blank (x ∷ xs) [] s t ha hb e = let same : x ≡ 32 = cc in absurd (true≢false (sym ha ∙ ap (λ c. not (eqb c 32) && no_blank xs) same))
+around_blank (x ∷ xs) (y ∷ ys) s t ha hb e =
     let more : xs ++ (32 ∷ s) ≡ ys ++ (32 ∷ t) = cc in
-    behind_blank xs ys s t (and_parts (not (eqb x 32)) (no_blank xs) ha).1 (and_parts (not (eqb y 32)) (no_blank ys) hb).1 more
+    let first : x ≡ y = cc in
+    let parts = around_blank xs ys s t (and_parts (not (eqb x 32)) (no_blank xs) ha).1 (and_parts (not (eqb y 32)) (no_blank ys) hb).1 more in
+    let rest : xs ≡ ys = parts.0 in
+    (cc, parts.1)
 
-has_blank : (a b s : List ℕ) → no_blank b ≡ true → a ++ (32 ∷ s) ≡ b → ⊥
+pub has_blank : (a b s : List ℕ) → no_blank b ≡ true → a ++ (32 ∷ s) ≡ b → ⊥
 has_blank [] [] s h e = absurd cc
 has_blank [] (y ∷ ys) s h e = let same : 32 ≡ y = cc in absurd (true≢false (sym h ∙ ap (λ c. not (eqb c 32) && no_blank ys) (sym same)))
 has_blank (x ∷ xs) [] s h e = absurd cc
@@ -70,7 +74,7 @@ one_content m n s t e = by (is_clean s) refl (is_clean t) refl e
     by false f true g e = absurd (true≢false (sym g ∙ ap is_clean (sym e)))
     by false f false g e =
         let rest : decimal m ++ (32 ∷ s) ≡ decimal n ++ (32 ∷ t) = cc in
-        behind_blank (decimal m) (decimal n) s t (no_blank-decimal m) (no_blank-decimal n) rest
+        (around_blank (decimal m) (decimal n) s t (no_blank-decimal m) (no_blank-decimal n) rest).1
 
 -- no name gives an invented content
 not_invented : (m d : ℕ) (s : List ℕ) → label_content m s ≡ codes "#label" ++ decimal d → ⊥
@@ -110,10 +114,10 @@ label_naming_apart invents names i j d e outer inner lt small f g same = named_a
 
 -- ---- contents are UTF-8
 
-printed_is_utf8 : (text : List ℕ) → all_printed text ≡ true → IsUtf8 text
+pub printed_is_utf8 : (text : List ℕ) → all_printed text ≡ true → IsUtf8 text
 printed_is_utf8 text h = plain_is_utf8 text (plain_text text h)
 
-utf8-decimal : (n : ℕ) → IsUtf8 (decimal n)
+pub utf8-decimal : (n : ℕ) → IsUtf8 (decimal n)
 utf8-decimal n = printed_is_utf8 (decimal n) (remark (decimal n) (is_remark-decimal n)).printed
 
 label_is_named : (invents : Bool) (n d : ℕ) (x : Option (List ℕ)) (m : Named) → ((s : List ℕ) → x ≡ Some s → IsUtf8 s) → label_named invents n d x ≡ Some m →
@@ -150,8 +154,8 @@ label_naming_names invents names utf8 i d m e = label_is_named invents i d (name
 
 -- ---- no label has a name
 
-pub no_names_are_names : AreNames no_names
-no_names_are_names i d n e = absurd cc
+pub no_label_names_are_names : AreNames no_label_names
+no_label_names_are_names i d n e = absurd cc
 
-pub no_names_are_apart : AreApart no_names
-no_names_are_apart i j d e outer inner lt small f g same = absurd cc
+pub no_label_names_are_apart : AreApart no_label_names
+no_label_names_are_apart i j d e outer inner lt small f g same = absurd cc

@@ -20,7 +20,8 @@ use Rattle.wasmprinter_lexical.proofs.Printed.{is_remark, is_remark-decimal}
 use Rattle.wasmprinter_lexical.proofs.Pieces.{Free, Bound}
 use Rattle.wasmprinter_lexical.proofs.Writes.{Writes, writing, then, identifier_writes}
 use Rattle.wasmprinter_reading.specs.Listed.{IsU32}
-use Rattle.wasmprinter_reading.specs.OperatorLaws.{IsGiven, IsNamed, AreNames}
+use Rattle.wasmprinter_spec.specs.Names.{IsGiven, IsNamed}
+use Rattle.wasmprinter_reading.specs.OperatorLaws.{AreNames}
 use Rattle.wasmprinter_reading.proofs.Bytes.{bytes_same, same_bytes}
 use Rattle.wasmprinter_reading.proofs.Operators.Arguments.{AreArguments, arguments_onto}
 use Rattle.wasmprinter_reading.proofs.Operators.Numbers.{index_is_no_word}

@@ -8,10 +8,11 @@ use Rattle.wasmprinter_spec.specs.Grammar.{Placed}
 use Rattle.wasmprinter_spec.specs.Placed.{TypeGroup}
 use Rattle.wasmprinter_spec.specs.Piece.{Gap}
 use Rattle.wasmprinter_spec.specs.Layout.Groups.{numbered}
-use Rattle.wasmprinter_spec.specs.Layout.Types.{heap_word, ref_word, heap_pieces, null_ref_pieces, ref_pieces_by, ref_pieces, val_pieces, type_list, list_group, signature_pieces, storage_pieces, field_pieces_by, field_pieces, struct_pieces, composite_pieces, final_pieces, supertype_pieces, sub_group, sub_pieces_by, sub_pieces, type_pieces, member_pieces, group_pieces_by, type_group_pieces, type_section_pieces}
+use Rattle.wasmprinter_spec.specs.Layout.Types.{heap_word, ref_word, heap_pieces, null_ref_pieces, ref_pieces_by, ref_pieces, val_pieces, type_list, list_group, signature_pieces, signature_if_any, storage_pieces, field_pieces_by, field_pieces, struct_pieces, composite_pieces, final_pieces, supertype_pieces, sub_group, sub_pieces_by, sub_pieces, type_pieces, member_pieces, group_pieces_by, type_group_pieces, type_section_pieces}
 use Rattle.wasmprinter_lexical.proofs.Runs.{is_word}
 use Rattle.wasmprinter_lexical.proofs.Pieces.{Edge, Free, Bound}
 use Rattle.wasmprinter_lexical.proofs.Writes.{Writes, is_open, writing, both_write, nothing_writes, loosened, gap_writes, break_writes, mark_writes, word_writes, group_writes, line_group_writes, line_group_gap_writes, plain_group_then, then}
+use Rattle.wasmprinter_reading.specs.Listed.{IsSignatureInRange}
 use Rattle.wasmprinter_reading.proofs.Types.Ranged.{IsRangedHeap, IsRangedVal, IsRangedStorage, IsRangedField, IsRangedFunc, IsRangedComposite, IsRangedSub, IsRangedGroup}
 use Rattle.wasmprinter_reading.proofs.Numbered.{rows, numbered_writes}
 
@@ -56,9 +57,9 @@ abbrev pub signature_items : FuncType → Forest
 signature_items t = onto (group_items (codes "param") t.params) (group_items (codes "result") t.results)
 
 -- nothing where a type is no function type
-abbrev pub signature_if_items : Option FuncType → Forest
-signature_if_items None = End
-signature_if_items (Some t) = signature_items t
+abbrev pub signature_if_any_items : Option FuncType → Forest
+signature_if_any_items None = End
+signature_if_any_items (Some t) = signature_items t
 
 pub heap_writes : (h : HeapType) → IsRangedHeap h → Writes Free (heap_pieces h) Bound (heap_items h)
 unfolding heap_pieces class
@@ -97,6 +98,10 @@ list_group_writes w (t ∷ ts) h r = search (writing, type_list_writes (t ∷ ts
 pub signature_writes : (t : FuncType) → IsRangedFunc t → Writes Bound (signature_pieces t) Bound (signature_items t)
 unfolding signature_pieces class
 signature_writes t r = search (writing, list_group_writes, r.params, r.results)
+
+pub signature_if_any_writes : (t : Option FuncType) → IsSignatureInRange t → Writes Bound (signature_if_any t) Bound (signature_if_any_items t)
+signature_if_any_writes None r = nothing_writes
+signature_if_any_writes (Some t) r = signature_writes t r
 
 -- ---- composite types
 

@@ -3,14 +3,14 @@ use Rattle.std.specs.Prelude.{ℕ, List, [], ◌∷◌, ◌++◌, codes, Option,
 use Rattle.wasmprinter_spec.specs.Grammar.{Placed}
 use Rattle.wasmprinter_spec.specs.Types.{ValType, FuncType, SubType, signature_at}
 use Rattle.wasmprinter_spec.specs.Operator.{Operator}
-use Rattle.wasmprinter_spec.specs.LabelNames.{no_names}
+use Rattle.wasmprinter_spec.specs.LabelNames.{no_label_names}
 use Rattle.wasmprinter_spec.specs.Placed.{LocalEntry, PlacedFunction}
 use Rattle.wasmprinter_spec.specs.Module.{locals_of}
 use Rattle.wasmprinter_spec.specs.Options.{Options}
 use Rattle.wasmprinter_spec.specs.Piece.{Piece, Break, Gap, Word, Number, Mark}
 use Rattle.wasmprinter_spec.specs.Layout.Groups.{line_group_gap, group_gap_at, line_group}
-use Rattle.wasmprinter_spec.specs.Layout.Types.{type_list, signature_pieces}
-use Rattle.wasmprinter_spec.specs.Layout.Operators.{OverLines, Setting, expression_pieces}
+use Rattle.wasmprinter_spec.specs.Layout.Types.{type_list, signature_if_any}
+use Rattle.wasmprinter_spec.specs.Layout.Operators.{OverLines, expression_pieces}
 
 -- the place of the first entry that declares a local, if one does
 abbrev pub locals_place : List (Placed LocalEntry) → Option ℕ
@@ -25,18 +25,13 @@ local_group place (t ∷ ts) = Break place 2 ∷ line_group (codes "local") (typ
 unfoldable pub local_pieces : List (Placed LocalEntry) → List Piece
 local_pieces es = local_group (locals_place es) (locals_of es)
 
--- nothing where the type is no function type
-unfoldable pub signature_if : Option FuncType → List Piece
-signature_if None = []
-signature_if (Some t) = signature_pieces t
-
 -- a function's number, the index of its type, and its signature
 unfoldable pub header_pieces : ℕ → ℕ → Option FuncType → List Piece
-header_pieces i type_index t = Mark i ∷ (Gap ∷ (line_group_gap (codes "type") (Number type_index ∷ []) ++ signature_if t))
+header_pieces i type_index t = Mark i ∷ (Gap ∷ (line_group_gap (codes "type") (Number type_index ∷ []) ++ signature_if_any t))
 
 -- the operators of a body, each on a line
 unfoldable pub body_pieces : List SubType → List (Placed Operator) → List Piece
-body_pieces ts os = expression_pieces (record { form = OverLines; signature = signature_at ts; nesting = 2 }) no_names os
+body_pieces ts os = expression_pieces (record { form = OverLines; signature = signature_at ts; nesting = 2 }) no_label_names os
 
 -- a function, whole or without its locals and operators
 unfoldable pub function_group : Bool → Bool → List SubType → Option FuncType → ℕ → PlacedFunction → List Piece

@@ -12,7 +12,7 @@ use Rattle.wasmprinter_spec.specs.Labels as labels
 use Rattle.wasmprinter_spec.specs.Labels.{Named, Naming, is_hidden, Target, Around, Own, Nothing, target, labels_after, count_after, outside, inside}
 use Rattle.wasmprinter_spec.specs.Piece.{Piece, Break, Gap, Word, GapTypeWord, Number, Constant, GapLiterals, Float, Identifier, NameNote, Remark, Ending}
 use Rattle.wasmprinter_spec.specs.Layout.Groups.{line_group, line_group_gap}
-use Rattle.wasmprinter_spec.specs.Layout.Types.{heap_pieces, ref_pieces, val_pieces, type_list, signature_pieces}
+use Rattle.wasmprinter_spec.specs.Layout.Types.{heap_pieces, ref_pieces, val_pieces, type_list, signature_if_any}
 
 -- how operators stand: each on a line of its own, nested so deep, or all in one line
 pub data Form : Type 0 where
@@ -65,15 +65,10 @@ ending_pieces form (Some n) d = []
 ending_pieces OverLines None d = Gap ∷ (Ending (codes "label = @" ++ decimal d) ∷ [])
 ending_pieces InLine None d = Gap ∷ (Remark true (codes " label = @" ++ (decimal d ++ codes " ")) ∷ [])
 
--- the signature of a type, nothing where it is no function type
-abbrev pub signature_behind : Option FuncType → List Piece
-signature_behind None = []
-signature_behind (Some t) = signature_pieces t
-
 unfoldable pub block_pieces : (ℕ → Option FuncType) → BlockType → List Piece
 block_pieces signature Empty = []
 block_pieces signature (Value t) = Gap ∷ line_group_gap (codes "result") (val_pieces t)
-block_pieces signature (OfType n) = Gap ∷ (line_group_gap (codes "type") (Number n ∷ []) ++ signature_behind (signature n))
+block_pieces signature (OfType n) = Gap ∷ (line_group_gap (codes "type") (Number n ∷ []) ++ signature_if_any (signature n))
 
 unfoldable pub catch_pieces : List labels.Label → List labels.Label → Catch → List Piece
 catch_pieces inner xs (One t l) = line_group (codes "catch") (Gap ∷ (Number t ∷ label_pieces inner xs l))

@@ -1,5 +1,5 @@
 -- The layout of types (section 6.4 of the standard). But for groups of types, each stands on one line.
-use Rattle.std.specs.Prelude.{ℕ, ◌+◌, List, [], ◌∷◌, ◌++◌, codes, Some, length, Bool, true, false}
+use Rattle.std.specs.Prelude.{ℕ, ◌+◌, List, [], ◌∷◌, ◌++◌, codes, Option, Some, None, length, Bool, true, false}
 use Rattle.wasmprinter_spec.specs.Grammar.{Placed}
 use Rattle.wasmprinter_spec.specs.Types.{HeapType, Exn, Array, Struct, I31, Eq, Any, Extern, Func, NoAny, NoExtern, NoFunc, NoExn, Index, RefType, ValType, I32, I64, F32, F64, V128, Ref, StorageType, Val, I8, I16, FieldType, FuncType, CompositeType, FuncComposite, ArrayComposite, StructComposite, SubType}
 use Rattle.wasmprinter_spec.specs.Placed.{TypeGroup}
@@ -76,6 +76,11 @@ list_group w (t ∷ ts) = Gap ∷ line_group w (type_list (t ∷ ts))
 
 unfoldable pub signature_pieces : FuncType → List Piece
 signature_pieces t = list_group (codes "param") t.params ++ list_group (codes "result") t.results
+
+-- the signature of a type, nothing where it is no function type
+abbrev pub signature_if_any : Option FuncType → List Piece
+signature_if_any None = []
+signature_if_any (Some t) = signature_pieces t
 
 -- ---- composite types
 

@@ -28,6 +28,7 @@ fn write_storage<P: Print>(p: &mut P, storage: StorageType) -> io::Result<()>
     }
 }
 
+/// Writes the storage type of a field that may change, as a group.
 fn write_mutable<P: Print>(p: &mut P, storage: StorageType) -> io::Result<()>
     ensures { (o : Options) → Prints P.meaning o p.old p.new result (field_pieces_by true (storage_view storage)) }
 {
@@ -37,6 +38,7 @@ fn write_mutable<P: Print>(p: &mut P, storage: StorageType) -> io::Result<()>
     shut(p)
 }
 
+/// Writes a field type.
 fn write_field_behind<P: Print>(p: &mut P, field: FieldType) -> io::Result<()>
     ensures { (o : Options) → Prints P.meaning o p.old p.new result (field_pieces_by field.mutable (storage_view field.storage)) }
 {
@@ -118,6 +120,7 @@ fn write_composite_type<P: Print>(p: &mut P, composite: &CompositeType<'_>) -> i
     }
 }
 
+/// Writes that a subtype is final, and a blank.
 fn write_final<P: Print>(p: &mut P) -> io::Result<()>
     ensures { (o : Options) → Prints P.meaning o p.old p.new result (final_pieces true) }
 {
@@ -125,6 +128,7 @@ fn write_final<P: Print>(p: &mut P) -> io::Result<()>
     gap(p)
 }
 
+/// Writes that a subtype is final, if it is, and a blank.
 fn write_final_if<P: Print>(p: &mut P, is_final: bool) -> io::Result<()>
     ensures { (o : Options) → Prints P.meaning o p.old p.new result (final_pieces is_final) }
 {

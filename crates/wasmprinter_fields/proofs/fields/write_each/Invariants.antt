@@ -1,11 +1,11 @@
 use Rattle.std.specs.Prelude.{◌+◌, drop}
 use Rattle.wasmprinter_spec.specs.Layout.Groups.{numbered}
 use Rattle.wasmprinter_print.specs.Prints.{Lacks}
-use Rattle.wasmprinter_fields.specs.Parts.{types_of}
+use Rattle.wasmprinter_fields.specs.Parts.{types_of, field_line}
 use Rattle.wasmprinter_fields.proofs.fields.write_each.Given as goal
 
 abbrev pub invariant-loop-index : goal.invariant-loop-index
 invariant-loop-index g l =
     Lacks g.P.Print.meaning l.options l.fn.p l.p
-    (numbered (g.F.Field.pieces l.options (types_of l.module)) l.first l.fields)
-    (numbered (g.F.Field.pieces l.options (types_of l.module)) (l.first + l.index) (drop l.index l.fields))
+    (numbered (field_line g.F.Field.keyword g.F.Field.line_place (g.F.Field.parts l.options (types_of l.module))) l.first l.fields)
+    (numbered (field_line g.F.Field.keyword g.F.Field.line_place (g.F.Field.parts l.options (types_of l.module))) (l.first + l.index) (drop l.index l.fields))

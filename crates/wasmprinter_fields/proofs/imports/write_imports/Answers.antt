@@ -2,7 +2,7 @@ use Rattle.std.specs.Prelude.{◌≡◌, refl, [], length}
 use Rattle.std.proofs.Common.{arith, ap}
 use Rattle.wasmprinter_spec.specs.Layout.Imports.{number_of, numbers_behind}
 use Rattle.wasmprinter_print.specs.PrintsLaws.{no_piece, lacks_none, next_written, next_fails}
-use Rattle.wasmprinter_wasm.specs.Externs.{extern_view}
+use Rattle.wasmprinter_entries.specs.Externs.{extern_view}
 use Rattle.wasmprinter_fields.specs.Parts.{types_of}
 use Rattle.wasmprinter_fields.proofs.ImportLines.{imports-none, imports-next, total, total-behind, number-total}
 use Rattle.wasmprinter_fields.proofs.imports.write_imports.Goals as goal
@@ -14,13 +14,13 @@ loop-import-init g c =
       count = refl;
     })
 
-pub returns-in_err-write_import : goal.returns-in_err-write_import
-returns-in_err-write_import g c =
+pub returns-in_err-write_field : goal.returns-in_err-write_field
+returns-in_err-write_field g c =
     let item = c.import-item.result in
     let step = imports-next (types_of c.args.module.now) c.loop-import.numbers c.loop-import.import-index c.imports-import-items.result.now item item c.loop-import-test.true c.import-item.is in
     let number : c.of.result ≡ number_of item.value.type c.loop-import.numbers = rw c.ty.ensures.is at c.of.ensures in
     rw (← c.imports-import-items.ensures.all)
-    (next_fails g.P.Print.meaning _ _ c.from_residual.result (rw step at c.loop-import.invariant.lacks) (rw number at c.in_err-write_import.ensures) c.from_residual.ensures.1)
+    (next_fails g.P.Print.meaning _ _ c.from_residual.result (rw step at c.loop-import.invariant.lacks) (rw number at c.in_err-write_field.ensures) c.from_residual.ensures.1)
 
 pub count-requires : goal.count-requires
 count-requires g c =
@@ -33,7 +33,7 @@ loop-import-preserved g c =
     let number : c.of.result ≡ number_of item.value.type c.loop-import.numbers = rw c.ty.ensures.is at c.of.ensures in
     let behind : c.count.new.self ≡ numbers_behind item.value.type c.loop-import.numbers = rw c.ty-in-loop-import.ensures.is at c.count.ensures in
     record {
-      lacks = rw behind (next_written g.P.Print.meaning _ _ (rw step at c.loop-import.invariant.lacks) (rw number at c.in_ok-write_import.ensures));
+      lacks = rw behind (next_written g.P.Print.meaning _ _ (rw step at c.loop-import.invariant.lacks) (rw number at c.in_ok-write_field.ensures));
       count = omega (arith, ap total behind, total-behind item.value.type c.loop-import.numbers, c.loop-import.invariant.count);
     }
 

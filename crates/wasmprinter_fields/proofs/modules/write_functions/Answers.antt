@@ -2,7 +2,7 @@ use Rattle.std.proofs.Common.{◌+◌, ◌≤◌, length, arith}
 use Rattle.wasmprinter_spec.specs.Types.{FuncKind}
 use Rattle.wasmprinter_spec.specs.Layout.Functions.{function_pieces}
 use Rattle.wasmprinter_print.specs.PrintsLaws.{lacks_none, next_written, next_fails}
-use Rattle.wasmprinter_wasm.specs.Externs.{imported_count}
+use Rattle.wasmprinter_entries.specs.Externs.{imported_count}
 use Rattle.wasmprinter_fields.specs.Parts.{types_of}
 use Rattle.wasmprinter_fields.proofs.Numbering.{numbered-found, numbered-none}
 use Rattle.wasmprinter_fields.proofs.modules.write_functions.Goals as goal

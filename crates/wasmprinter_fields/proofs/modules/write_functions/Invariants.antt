@@ -3,7 +3,7 @@ use Rattle.wasmprinter_spec.specs.Types.{FuncKind}
 use Rattle.wasmprinter_spec.specs.Layout.Functions.{function_pieces}
 use Rattle.wasmprinter_spec.specs.Layout.Groups.{numbered}
 use Rattle.wasmprinter_print.specs.Prints.{Lacks}
-use Rattle.wasmprinter_wasm.specs.Externs.{imported_count}
+use Rattle.wasmprinter_entries.specs.Externs.{imported_count}
 use Rattle.wasmprinter_fields.specs.Parts.{types_of}
 use Rattle.wasmprinter_fields.proofs.modules.write_functions.Given as goal
 

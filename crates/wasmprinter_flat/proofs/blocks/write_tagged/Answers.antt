@@ -2,18 +2,22 @@ use Rattle.wasmprinter_spec.specs.Layout.Groups.{line_group}
 use Rattle.wasmprinter_print.specs.PrintsLaws.{both_pieces, pieces_end}
 use Rattle.wasmprinter_flat.proofs.blocks.write_tagged.Goals as goal
 
+pub returns-in_err-gap_index : goal.returns-in_err-gap_index
+unfolding line_group
+returns-in_err-gap_index g c o inner =
+    both_pieces g.P.Print.meaning (c.in_ok-open.ensures o)
+    (pieces_end g.P.Print.meaning c.from_residual-in_err-gap_index.result _ c.from_residual-in_err-gap_index.ensures.1 (c.in_err-gap_index.ensures o))
+
 pub returns-in_err-write_label : goal.returns-in_err-write_label
 unfolding line_group
 returns-in_err-write_label g c o inner =
     both_pieces g.P.Print.meaning (c.in_ok-open.ensures o)
-    (both_pieces g.P.Print.meaning (c.in_ok-gap.ensures o)
-    (both_pieces g.P.Print.meaning (rw c.from.ensures at (c.in_ok-number.ensures o))
-    (pieces_end g.P.Print.meaning c.from_residual-in_err-write_label.result _ c.from_residual-in_err-write_label.ensures.1 (c.in_err-write_label.ensures o inner))))
+    (both_pieces g.P.Print.meaning (c.in_ok-gap_index.ensures o)
+    (pieces_end g.P.Print.meaning c.from_residual-in_err-write_label.result _ c.from_residual-in_err-write_label.ensures.1 (c.in_err-write_label.ensures o inner)))
 
 pub returns : goal.returns
 unfolding line_group
 returns g c o inner =
     both_pieces g.P.Print.meaning (c.in_ok-open.ensures o)
-    (both_pieces g.P.Print.meaning (c.in_ok-gap.ensures o)
-    (both_pieces g.P.Print.meaning (rw c.from.ensures at (c.in_ok-number.ensures o))
-    (both_pieces g.P.Print.meaning (c.in_ok-write_label.ensures o inner) (c.shut.ensures o))))
+    (both_pieces g.P.Print.meaning (c.in_ok-gap_index.ensures o)
+    (both_pieces g.P.Print.meaning (c.in_ok-write_label.ensures o inner) (c.shut.ensures o)))

@@ -33,7 +33,7 @@ returns-in-Types g c o inner =
 pub returns-in-Cast : goal.returns-in-Cast
 returns-in-Cast g c o inner =
     let s = setting_view g.S.Signatures.signature_at c.args.setting.now in
-    rw (c.in-Cast.is, cast-out s inner c.args.depth _ _ _ _ (rw c.in-Cast.is at c.requires.shape)) (rw (c.cast_source.ensures, c.cast_target.ensures) at (c.write_cast.ensures o inner))
+    rw (c.in-Cast.is, cast-out s inner c.args.depth _ _ _ _ (rw c.in-Cast.is at c.requires.shape)) (c.write_cast.ensures o inner)
 
 pub returns-in-Lane : goal.returns-in-Lane
 returns-in-Lane g c o inner =

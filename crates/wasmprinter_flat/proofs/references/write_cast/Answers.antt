@@ -6,4 +6,5 @@ returns-in_err-write_label g c o inner =
     pieces_end g.P.Print.meaning c.from_residual.result _ c.from_residual.ensures.1 (c.in_err-write_label.ensures o inner)
 
 pub returns : goal.returns
-returns g c o inner = both_pieces g.P.Print.meaning (c.in_ok-write_label.ensures o inner) (c.write_refs.ensures o)
+returns g c o inner =
+    both_pieces g.P.Print.meaning (c.in_ok-write_label.ensures o inner) (rw (c.cast_source.ensures, c.cast_target.ensures) at (c.write_refs.ensures o))

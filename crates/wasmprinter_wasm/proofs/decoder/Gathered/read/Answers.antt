@@ -1,6 +1,6 @@
 use Rattle.std.proofs.Common.{arith, sym, ◌∙◌}
 use Rattle.std.proofs.lemmas.Result.{err_from_is_err_and}
-use Rattle.wasmprinter_wasm.specs.Contents.{section_view}
+use Rattle.wasmprinter_wasm.specs.Sections.{section_view}
 use Rattle.wasmprinter_wasm.proofs.Gathering.{takes_byte, gathering_none, gathering_more, gathering_unordered, gathering_fault}
 use Rattle.wasmprinter_wasm.proofs.decoder.Gathered.read.Goals as goal
 

@@ -1,0 +1,8 @@
+use Rattle.std.proofs.lemmas.Result.{err_from_is_err_and}
+use Rattle.wasmprinter_entries.proofs.Wholes.{functions_fault}
+use Rattle.wasmprinter_entries.proofs.functions.read_functions.Goals as goal
+
+pub returns-in_err-indices : goal.returns-in_err-indices
+returns-in_err-indices c =
+    let p = err_from_is_err_and c.from_residual.result c.from_residual.ensures.1 in
+    rw (p.1, p.2) (functions_fault c.args.cursor.now c.in_err-indices.field-0.0 c.in_err-indices.ensures.reads)

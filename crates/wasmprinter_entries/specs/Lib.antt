@@ -1,0 +1,3 @@
+pub mod Externs
+pub mod Refusals
+pub mod Contents

@@ -1,0 +1,40 @@
+//! The function section (section 5.5, "Function Section").
+ghost use Rattle.std.specs.Prelude.{◌≡◌};
+ghost use Rattle.wasmprinter_spec.specs.Sections.{FunctionSection};
+ghost use Rattle.wasmprinter_bytes.specs.Reads.{end_of};
+ghost use Rattle.wasmprinter_entries.specs.Contents.{TakesIndices, TakesHeld};
+
+use crate::expected::expect_end;
+use std::alloc::Global;
+use wasmprinter_bytes::bytes::Cursor;
+use wasmprinter_bytes::lists::Items;
+use wasmprinter_error::Error;
+
+/// The most functions that a module may define.
+const MOST_FUNCTIONS: u32 = 1_000_000;
+
+/// Reads the type indices of a function section, a count in front, which may not be too large.
+fn read_type_indices(alloc: Global, cursor: &mut Cursor) -> Result<Vec<u32>, Error>
+    ensures reads { TakesIndices (λ v. v.items) cursor.old result cursor.new }
+    ensures end { end_of cursor.new ≡ end_of cursor.old }
+{
+    let indices = Items::<u32>::read(cursor)?;
+    let count = indices.len();
+    if count > MOST_FUNCTIONS {
+        return Err(Error::TooManyFunctions { count });
+    }
+    let mut kept = Vec::new(alloc);
+    for index in indices.iter() {
+        kept.push(index)?;
+    }
+    Ok(kept)
+}
+
+/// Reads what a function section holds.
+pub fn read_functions(alloc: Global, cursor: &mut Cursor) -> Result<Vec<u32>, Error>
+    ensures { TakesHeld FunctionSection (λ v. v.items) cursor.old result }
+{
+    let indices = read_type_indices(alloc, cursor)?;
+    expect_end(cursor)?;
+    Ok(indices)
+}

@@ -1,0 +1,32 @@
+//! Types of globals (section 5.3, "Global Types").
+ghost use Rattle.std.specs.Prelude.{◌≡◌};
+ghost use Rattle.wasmprinter_spec.specs.Binary.Globals.{global_type as global_type_grammar};
+ghost use Rattle.wasmprinter_bytes.specs.Reads.{Reads, IsWithin, end_of};
+ghost use Rattle.wasmprinter_entries.specs.Externs.{global_type_view};
+
+use wasmprinter_bytes::bytes::Cursor;
+use wasmprinter_error::Malformed;
+use wasmprinter_ops::types::composite::read_mutability;
+use wasmprinter_ops::types::{ValType, read_type};
+
+/// The type of a global variable (section 2.3, "Global Types").
+#[derive(Clone, Copy, Debug, PartialEq, Eq)]
+pub struct GlobalType {
+    /// Whether it can be changed.
+    pub mutable: bool,
+    /// What it holds.
+    pub ty: ValType,
+}
+
+impl GlobalType {
+    /// Reads what it holds, and whether it can be changed.
+    pub fn read(cursor: &mut Cursor) -> Result<GlobalType, Malformed>
+        ensures reads { Reads global_type_view global_type_grammar.parse cursor.old result cursor.new }
+        ensures within { IsWithin cursor.old result }
+        ensures end { end_of cursor.new ≡ end_of cursor.old }
+    {
+        let ty = read_type(cursor)?;
+        let mutable = read_mutability(cursor)?;
+        Ok(GlobalType { mutable, ty })
+    }
+}

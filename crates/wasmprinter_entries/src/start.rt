@@ -1,0 +1,54 @@
+//! The start section (section 5.5, "Start Section").
+ghost use Rattle.std.specs.Prelude.{◌≡◌, Some};
+ghost use Rattle.wasmprinter_spec.specs.Binary.Start.{start_section};
+ghost use Rattle.wasmprinter_entries.specs.Contents.{ReadsAll};
+
+use crate::expected::expect_end;
+use std::marker::Model;
+use wasmprinter_bytes::bytes::Cursor;
+use wasmprinter_error::Malformed;
+
+/// The function that is called when the module is instantiated (section 2.5, "Start Function"),
+/// with the place of its index.
+#[derive(Clone, Copy)]
+pub struct Start {
+    place: u64,
+    function: u32,
+}
+
+impl Model for Start {
+    ghost use Rattle.std.specs.Prelude.{ℕ};
+    ghost use Rattle.wasmprinter_spec.specs.Grammar.{Placed};
+
+    ghost Value = { Placed ℕ };
+
+    ghost view = { λ s. record { place = s.place; value = s.function } };
+
+    ghost inverse = { λ s. record { place = s.place; function = s.value } };
+}
+
+impl Start {
+    /// The place of the function's index.
+    pub fn place(&self) -> u64
+        ensures { result ≡ self.now.place }
+    {
+        self.place
+    }
+
+    /// The index of the function.
+    pub fn function(&self) -> u32
+        ensures { result ≡ self.now.value }
+    {
+        self.function
+    }
+}
+
+/// Reads what a start section holds.
+pub fn read_start(cursor: &mut Cursor) -> Result<Start, Malformed>
+    ensures { ReadsAll (λ s. Some s) start_section.parse cursor.old result }
+{
+    let place = cursor.place();
+    let function = cursor.u32()?;
+    expect_end(cursor)?;
+    Ok(Start { place, function })
+}

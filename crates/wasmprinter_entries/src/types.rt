@@ -1,0 +1,183 @@
+//! The type section (section 5.5, "Type Section"): groups of types.
+ghost use Rattle.std.specs.Prelude.{◌≡◌, ◌+◌, ◌++◌, ◌<◌, ◌^◌, [], length, true, IfOk, OnOk, OnErr};
+ghost use Rattle.wasmprinter_spec.specs.Grammar.{placed};
+ghost use Rattle.wasmprinter_spec.specs.Types.{all_types, signature_at};
+ghost use Rattle.wasmprinter_spec.specs.Binary.Types.{group as group_grammar};
+ghost use Rattle.wasmprinter_spec.specs.Module.{groups_of};
+ghost use Rattle.wasmprinter_spec.specs.Sections.{TypeSection};
+ghost use Rattle.wasmprinter_entries.specs.Contents.{TakesHeld};
+
+use crate::expected::expect_end;
+use std::alloc::{AllocError, Global};
+use std::marker::Model;
+use wasmprinter_bytes::bytes::Cursor;
+use wasmprinter_bytes::lists::{SpelledIn, read_list};
+use wasmprinter_error::{Error, Malformed};
+use wasmprinter_ops::types::composite::{FuncType, SubType, SubTypes};
+
+/// In front of types that are written as a group.
+const REC: u8 = 0x4e;
+
+/// A group of types, which may refer to one another, with the group's place (section 2.3, "Recursive Types").
+#[derive(Drop)]
+pub struct TypeGroup<'a> {
+    place: u64,
+    is_written: bool,
+    types: SubTypes<'a>,
+}
+
+impl<'a> Model for TypeGroup<'a> {
+    ghost use Rattle.wasmprinter_spec.specs.Grammar.{Placed};
+    ghost use Rattle.std.specs.Prelude.{◌≡◌, ◌+◌, ◌<◌, ◌^◌, true};
+    ghost use Rattle.wasmprinter_spec.specs.Placed.{TypeGroup as TypeGroupValue, type_group};
+
+    ghost Value = { Placed TypeGroupValue };
+
+    ghost view = { λ g. record { place = g.place; value = type_group g.is_written g.types } };
+
+    ghost invariant = { λ g. g.is_written ≡ true → g.place + 2 < 2 ^ 64 };
+}
+
+impl<'a> SpelledIn<'a> for TypeGroup<'a> {
+    ghost parse = { (placed group_grammar).parse };
+
+    fn read(cursor: &mut Cursor<'a>) -> Result<TypeGroup<'a>, Malformed> {
+        let start = cursor.fork();
+        let is_written = start.peek() == Some(REC);
+        let types = if is_written {
+            cursor.u8()?;
+            SubTypes::read(cursor)?
+        } else {
+            SubTypes::read_one(cursor)?
+        };
+        Ok(TypeGroup {
+            place: start.place(),
+            is_written,
+            types,
+        })
+    }
+}
+
+impl<'a> TypeGroup<'a> {
+    /// The place of the group's first byte.
+    pub fn place(&self) -> u64
+        ensures { result ≡ self.now.place }
+    {
+        self.place
+    }
+
+    /// Whether the types are written as a group; if not, there is one type, which stands by itself.
+    pub fn is_written(&self) -> bool
+        ensures { result ≡ self.now.value.written }
+    {
+        self.is_written
+    }
+
+    /// The place behind the first two bytes of a written group.
+    pub fn types_place(&self) -> u64
+        requires { self.now.value.written ≡ true }
+        ensures { result ≡ self.now.place + 2 }
+    {
+        self.place + 2
+    }
+
+    /// The types of the group.
+    pub fn types(&self) -> SubTypes<'a>
+        ensures { result ≡ self.now.value.types }
+    {
+        self.types.iter()
+    }
+}
+
+/// Adds the types of a group to others.
+fn add_types<'a>(types: &mut Vec<SubType<'a>>, group: &TypeGroup<'a>) -> Result<(), AllocError>
+    ensures { OnOk result (types.new.items ≡ types.old.items ++ group.now.value.types) }
+{
+    for sub_type in group.types() {
+        types.push(sub_type)?;
+    }
+    Ok(())
+}
+
+/// The types of all groups, by their indices.
+fn flattened<'a>(alloc: Global, groups: &[TypeGroup<'a>]) -> Result<Vec<SubType<'a>>, AllocError>
+    ensures ok { IfOk result (λ v. v.items ≡ all_types (groups_of groups.now)) }
+    ensures memory { OnErr result (0 < length groups.now) }
+{
+    let mut types = Vec::new(alloc);
+    for group in groups {
+        add_types(&mut types, group)?;
+    }
+    Ok(types)
+}
+
+/// What a type section holds.
+#[derive(Drop)]
+pub struct Types<'a> {
+    groups: Vec<TypeGroup<'a>>,
+    /// The types of all groups, by their indices.
+    types: Vec<SubType<'a>>,
+}
+
+impl<'a> Model for Types<'a> {
+    ghost use Rattle.std.specs.Prelude.{◌≡◌, List};
+    ghost use Rattle.wasmprinter_spec.specs.Grammar.{Placed};
+    ghost use Rattle.wasmprinter_spec.specs.Types.{all_types};
+    ghost use Rattle.wasmprinter_spec.specs.Placed.{TypeGroup as TypeGroupValue};
+    ghost use Rattle.wasmprinter_spec.specs.Module.{groups_of};
+
+    ghost Value = { List (Placed TypeGroupValue) };
+
+    ghost view = { λ t. t.groups.items };
+
+    ghost invariant = { λ t. t.types.items ≡ all_types (groups_of t.groups.items) };
+}
+
+impl<'a> Types<'a> {
+    /// No types.
+    pub fn new(alloc: Global) -> Self
+        ensures { result ≡ [] }
+    {
+        Types {
+            groups: Vec::new(alloc),
+            types: Vec::new(alloc),
+        }
+    }
+
+    /// Reads what a type section holds.
+    pub fn read(alloc: Global, cursor: &mut Cursor<'a>) -> Result<Self, Error>
+        ensures { TakesHeld TypeSection (λ t. t) cursor.old result }
+    {
+        let groups = read_list(alloc, cursor)?;
+        expect_end(cursor)?;
+        let types = flattened(alloc, &groups)?;
+        Ok(Types { groups, types })
+    }
+
+    /// Keeps others in place of these.
+    pub fn replace(&mut self, others: Types<'a>)
+        ensures { self.new ≡ others.entry }
+    {
+        let Types { groups, types } = others;
+        self.groups = groups;
+        self.types = types;
+    }
+
+    /// The groups in order.
+    pub fn groups(&self) -> &[TypeGroup<'a>]
+        ensures all { result.now ≡ self.now }
+        ensures few { length (all_types (groups_of self.now)) < 2 ^ 64 }
+    {
+        &self.groups
+    }
+
+    /// The function type with the index, `None` where there is no such type or it is of another kind.
+    pub fn signature(&self, index: u32) -> Option<FuncType<'a>>
+        ensures { result ≡ signature_at (all_types (groups_of self.now)) index }
+    {
+        match self.types.get(index as usize) {
+            Some(sub_type) => sub_type.func_type(),
+            None => None,
+        }
+    }
+}

@@ -1,0 +1,4 @@
+pub mod Spaces
+pub mod Views
+pub mod Holds
+pub mod Adds

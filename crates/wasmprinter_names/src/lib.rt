@@ -1,0 +1,15 @@
+//! The names that name sections give to the items of a module (appendix "Name Section" of the WebAssembly Core Specification, and the
+//! extended name section proposal).
+#![tactic(auto)]
+
+mod read;
+mod space;
+mod store;
+mod subsection;
+
+pub use read::read_names;
+pub use space::Space;
+pub use store::{Name, Names, NamesBuilder};
+
+#[cfg(test)]
+mod tests;

@@ -1,0 +1,206 @@
+//! The names of a module, by the items that they are given for.
+ghost use Rattle.std.specs.Prelude.{◌≡◌, ◌++◌, ◌∷◌, [], ℕ, List, not, IfOk, OnOk, option_map, option_copied};
+ghost use Rattle.wasmprinter_spec.specs.LabelNames.{is_clean};
+ghost use Rattle.wasmprinter_spec.specs.Names.Section.{Entry, entry_of, module_subsection};
+ghost use Rattle.wasmprinter_spec.specs.Names.Content.{is_among, content, name_of};
+ghost use Rattle.wasmprinter_names.specs.Spaces.{id_of, outer_of};
+ghost use Rattle.wasmprinter_names.specs.Views.{content_or, stored_view, name_view, NamedItem, items_view, name_at};
+ghost use Rattle.wasmprinter_names.specs.Holds.{Holds};
+
+use crate::space::Space;
+use crate::subsection;
+use std::alloc::{AllocError, Global};
+use std::collections::{BTreeMap, BTreeSet};
+use std::marker::Model;
+
+/// A name, and the identifier that the text has for what it names.
+#[derive(Clone, Copy, Debug, PartialEq, Eq)]
+pub struct Name<'a> {
+    /// The name as a name section gives it.
+    pub given: &'a str,
+    /// What stands behind the dollar sign. It begins with `#` where it isn't the name itself.
+    pub content: &'a str,
+}
+
+/// A name that was given in a space.
+#[derive(Clone, Copy, PartialEq, Eq, PartialOrd, Ord)]
+pub struct Given<'a> {
+    subsection: u8,
+    outer: u32,
+    name: &'a str,
+}
+
+/// An item of a space.
+#[derive(Clone, Copy, PartialEq, Eq, PartialOrd, Ord)]
+pub struct Place {
+    subsection: u8,
+    outer: u32,
+    index: u32,
+}
+
+/// A name as it is kept.
+#[derive(Drop)]
+pub struct StoredName<'a> {
+    given: &'a str,
+    /// What stands behind the dollar sign where it isn't the name itself.
+    marked: Option<String>,
+}
+
+impl StoredName<'_> {
+    fn name(&self) -> Name<'_>
+        ensures { name_view result ≡ stored_view self.now }
+    {
+        let content = match &self.marked {
+            Some(text) => text.as_str(),
+            None => self.given,
+        };
+        Name {
+            given: self.given,
+            content,
+        }
+    }
+}
+
+/// Whether a name isn't empty and begins with another character than `#`.
+fn is_clean(name: &str) -> bool
+    ensures { result ≡ is_clean name.now }
+{
+    !name.is_empty() && name.as_bytes()[0] != b'#'
+}
+
+/// What stands behind the dollar sign for a name, unless it is the name itself. `is_new` says that the name wasn't given in its space
+/// before.
+fn marked_content(
+    alloc: Global,
+    subsection: u8,
+    index: u32,
+    name: &str,
+    is_new: bool,
+) -> Result<Option<String>, AllocError>
+    ensures { IfOk result (λ x. (outer : ℕ) (given : List (List ℕ)) → is_new ≡ not (is_among name.now given)
+        → content_or x name.now ≡ content subsection given (entry_of subsection outer (index, name.now))) }
+{
+    if is_clean(name) && (is_new || !subsection::is_counted(subsection)) {
+        Ok(None)
+    } else {
+        let group = subsection::group(subsection);
+        Ok(Some(format!(in alloc; "#{group}{index} {name}")?))
+    }
+}
+
+/// The names of a module while its name sections are read.
+#[derive(Drop)]
+pub struct NamesBuilder<'a> {
+    /// The names that were given so far, replaced ones too.
+    given: BTreeSet<Given<'a>>,
+    names: BTreeMap<Place, StoredName<'a>>,
+}
+
+impl<'a> NamesBuilder<'a> {
+    /// No name.
+    pub fn new(alloc: Global) -> Self
+        ensures { Holds [] result }
+    {
+        NamesBuilder {
+            given: BTreeSet::new(alloc),
+            names: BTreeMap::new(alloc),
+        }
+    }
+
+    /// Gives an item a name, in place of one that it has.
+    pub(crate) fn add(
+        &mut self,
+        alloc: Global,
+        subsection: u8,
+        outer: u32,
+        index: u32,
+        name: &'a str,
+    ) -> Result<(), AllocError>
+        ensures { OnOk result ((entries : List Entry) → Holds entries self.old
+            → Holds (entries ++ entry_of subsection outer (index, name.now) ∷ []) self.new) }
+    {
+        let is_new = self.given.insert(Given {
+            subsection,
+            outer,
+            name,
+        })?;
+        let marked = marked_content(alloc, subsection, index, name, is_new)?;
+        let place = Place {
+            subsection,
+            outer,
+            index,
+        };
+        let stored = StoredName {
+            given: name,
+            marked,
+        };
+        self.names.insert(place, stored)?;
+        Ok(())
+    }
+
+    /// The names, when all sections are read.
+    pub fn finish(self) -> Names<'a>
+        ensures { (entries : List Entry) → Holds entries self.entry
+            → (s outer index : ℕ) → name_at result s outer index ≡ name_of entries s outer index }
+    {
+        Names { names: self.names }
+    }
+}
+
+/// The names of a module. They borrow from its bytes.
+#[derive(Drop)]
+pub struct Names<'a> {
+    names: BTreeMap<Place, StoredName<'a>>,
+}
+
+impl<'a> Model for Names<'a> {
+    ghost Value = { List NamedItem };
+
+    ghost view = { λ n. items_view n.names };
+}
+
+impl Names<'_> {
+    /// The name at a place.
+    fn get(&self, place: Place) -> Option<Name<'_>>
+        ensures { option_map name_view result ≡ name_at self.now place.subsection place.outer place.index }
+    {
+        self.names.get(&place).map(|stored| stored.name())
+    }
+
+    /// The name of an item, `None` where none is given. `outer` is the function of a local or a label and the type of a field, and else
+    /// ignored.
+    pub fn name(&self, space: Space, outer: u32, index: u32) -> Option<Name<'_>>
+        ensures { option_map name_view result ≡ name_at self.now (id_of space) (outer_of space outer) index }
+    {
+        self.get(Place {
+            subsection: space.subsection(),
+            outer: if space.is_indirect() { outer } else { 0 },
+            index,
+        })
+    }
+
+    /// What stands behind the dollar sign for an item, `None` where no name is given for it. `outer` is as for [`Names::name`].
+    pub fn identifier(&self, space: Space, outer: u32, index: u32) -> Option<&str>
+        ensures { option_copied result ≡ option_map (λ n. n.content) (name_at self.now (id_of space) (outer_of space outer) index) }
+    {
+        self.name(space, outer, index).map(|name| name.content)
+    }
+
+    /// The name of the module.
+    pub fn module_name(&self) -> Option<Name<'_>>
+        ensures { option_map name_view result ≡ name_at self.now module_subsection 0 0 }
+    {
+        self.get(Place {
+            subsection: subsection::MODULE,
+            outer: 0,
+            index: 0,
+        })
+    }
+
+    /// What stands behind the dollar sign for the module.
+    pub fn module(&self) -> Option<&str>
+        ensures { option_copied result ≡ option_map (λ n. n.content) (name_at self.now module_subsection 0 0) }
+    {
+        self.module_name().map(|name| name.content)
+    }
+}

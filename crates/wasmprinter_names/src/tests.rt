@@ -1,0 +1,135 @@
+//! Names of a few name sections. The bytes and what is expected are typed by hand.
+
+use crate::{Name, Names, NamesBuilder, Space, read_names};
+use std::alloc::Global;
+use std::test::Fail;
+use wasmprinter_bytes::bytes::Cursor;
+use wasmprinter_error::Error;
+
+/// The names by these sections.
+fn names_of<'a>(alloc: Global, sections: &[&'a [u8]]) -> Result<Names<'a>, Error> {
+    let mut builder = NamesBuilder::new(alloc);
+    for section in sections {
+        read_names(alloc, &mut builder, Cursor::new(0, *section))?;
+    }
+    Ok(builder.finish())
+}
+
+#[test]
+fn names_are_marked(rt: HostRuntime) -> Result<(), Fail> {
+    // functions: 0 `a`, 1 `a`, 2 empty, 3 `#x`, 0 again, now `b`, 4 `a`; a byte is left over
+    let bytes = b"\x01\x14\x06\x00\x01a\x01\x01a\x02\x00\x03\x02#x\x00\x01b\x04\x01a\x07";
+    let names = names_of(rt.alloc(), &[bytes])?;
+    let identifiers = [
+        Some("b"),
+        Some("#func1 a"),
+        Some("#func2 "),
+        Some("#func3 #x"),
+        Some("#func4 a"),
+        None,
+    ];
+    for (index, identifier) in (0..).zip(identifiers) {
+        assert_eq!(rt; names.identifier(Space::Func, 0, index), identifier);
+    }
+    assert_eq!(rt;
+        names.name(Space::Func, 0, 1),
+        Some(Name {
+            given: "a",
+            content: "#func1 a",
+        })
+    );
+    // the outer number means nothing here
+    assert_eq!(rt; names.identifier(Space::Func, 7, 0), Some("b"));
+    assert_eq!(rt; names.identifier(Space::Table, 0, 0), None);
+    assert_eq!(rt; names.module(), None);
+    Ok(())
+}
+
+#[test]
+fn a_local_has_a_name(rt: HostRuntime) -> Result<(), Fail> {
+    let names = names_of(rt.alloc(), &[b"\x02\x06\x01\x00\x01\x00\x01x"])?;
+    assert_eq!(rt; names.identifier(Space::Local, 0, 0), Some("x"));
+    assert_eq!(rt; names.identifier(Space::Func, 0, 0), None);
+    assert_eq!(rt; names.module(), None);
+    Ok(())
+}
+
+#[test]
+fn a_cut_name_is_none(rt: HostRuntime) -> Result<(), Fail> {
+    let names = names_of(rt.alloc(), &[b"\x01\x04\x01\x00\x05a"])?;
+    assert_eq!(rt; names.name(Space::Func, 0, 0), None);
+    Ok(())
+}
+
+#[test]
+fn reading_stops_at_the_first_fault(rt: HostRuntime) -> Result<(), Fail> {
+    // the module is `m`; an unknown subsection; locals of function 1: 0 `x`, then a cut name; functions that aren't reached
+    let first =
+        b"\x00\x02\x01m\x0c\x01\xff\x02\x09\x01\x01\x02\x00\x01x\x01\x05y\x01\x04\x01\x00\x01z";
+    // a second section: function 0 `f`, 1 `f`
+    let second = b"\x01\x07\x02\x00\x01f\x01\x01f";
+    let names = names_of(rt.alloc(), &[first, second])?;
+    assert_eq!(rt; names.module(), Some("m"));
+    assert_eq!(rt; names.identifier(Space::Local, 1, 0), Some("x"));
+    assert_eq!(rt; names.identifier(Space::Local, 0, 0), None);
+    assert_eq!(rt; names.identifier(Space::Local, 1, 1), None);
+    assert_eq!(rt; names.identifier(Space::Func, 0, 0), Some("f"));
+    assert_eq!(rt; names.identifier(Space::Func, 0, 1), Some("#func1 f"));
+    Ok(())
+}
+
+#[test]
+fn names_count_in_their_space(rt: HostRuntime) -> Result<(), Fail> {
+    // item 0 and item 1 of each space are `a`, in one function or type
+    let groups = [
+        (Space::Func, 1, "#func1 a"),
+        (Space::Local, 2, "#local1 a"),
+        (Space::Types, 4, "#type1 a"),
+        (Space::Table, 5, "#table1 a"),
+        (Space::Memory, 6, "#memory1 a"),
+        (Space::Global, 7, "#global1 a"),
+        (Space::Elem, 8, "#elem1 a"),
+        (Space::Data, 9, "#data1 a"),
+        (Space::Field, 10, "#field1 a"),
+        (Space::Tag, 11, "#tag1 a"),
+    ];
+    for (space, id, second) in groups {
+        let direct = [id, 7, 2, 0, 1, b'a', 1, 1, b'a'];
+        let indirect = [id, 9, 1, 5, 2, 0, 1, b'a', 1, 1, b'a'];
+        let is_indirect = matches!(space, Space::Local | Space::Field);
+        let bytes: &[u8] = if is_indirect { &indirect } else { &direct };
+        let names = names_of(rt.alloc(), &[bytes])?;
+        assert_eq!(rt; names.identifier(space, 5, 0), Some("a"));
+        assert_eq!(rt; names.identifier(space, 5, 1), Some(second));
+        let elsewhere = names.identifier(space, 4, 0);
+        assert_eq!(rt; elsewhere.is_none(), is_indirect);
+    }
+    Ok(())
+}
+
+#[test]
+fn names_of_labels_and_the_module_never_count(rt: HostRuntime) -> Result<(), Fail> {
+    // labels 0 and 1 of function 0 are `a`, label 2 is empty; the module is `m`, and again `m`
+    let labels = b"\x03\x0b\x01\x00\x03\x00\x01a\x01\x01a\x02\x00";
+    let module = b"\x00\x02\x01m\x00\x02\x01m";
+    let names = names_of(rt.alloc(), &[labels, module])?;
+    assert_eq!(rt; names.identifier(Space::Label, 0, 0), Some("a"));
+    assert_eq!(rt; names.identifier(Space::Label, 0, 1), Some("a"));
+    assert_eq!(rt; names.identifier(Space::Label, 0, 2), Some("#label2 "));
+    assert_eq!(rt;
+        names.module_name(),
+        Some(Name {
+            given: "m",
+            content: "m",
+        })
+    );
+    let nameless = names_of(rt.alloc(), &[b"\x00\x01\x00"])?;
+    assert_eq!(rt;
+        nameless.module_name(),
+        Some(Name {
+            given: "",
+            content: "#module0 ",
+        })
+    );
+    Ok(())
+}

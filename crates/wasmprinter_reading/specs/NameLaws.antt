@@ -1,0 +1,48 @@
+-- Laws of name sections and of the identifiers that they give.
+use Rattle.std.specs.Prelude.{◌≡◌, ◌⊎◌, ℕ, List, map, length, ◌<◌, Bool, Option, Some, None, IsUtf8}
+use Rattle.std.specs.List.{AllByRecursion}
+use Rattle.wasmprinter_spec.specs.Grammar.{Input, Spans, Grammar}
+use Rattle.wasmprinter_spec.specs.Repeated.{Items}
+use Rattle.wasmprinter_spec.specs.Lenient.{Lacks, repeat}
+use Rattle.wasmprinter_spec.specs.Binary.{AreBytes}
+use Rattle.wasmprinter_spec.specs.Names.Section.{Entry, entry, entry_of, association, GivesNames}
+use Rattle.wasmprinter_spec.specs.Names.{names_of, AreApart, AreNamed}
+use Rattle.wasmprinter_reading.specs.Listed.{IsU32}
+
+-- ---- name sections
+
+-- Each data of a name section gives exactly one list of entries.
+abbrev pub NamesAreOneList : Type 0
+NamesAreOneList = (at : Input) → (xs : List Entry) × GivesNames at xs × ((ys : List Entry) → GivesNames at ys → ys ≡ xs)
+
+-- Items that are counted, read as far as they stand: these are spelled one after the other, and then either the count is reached or no more is
+-- spelled behind them.
+abbrev pub Listed : {A : Type 0} → Grammar A → ℕ → Input → List A → Option Input → Type 0
+Listed g n at xs end = (behind : Input) × Spans (Items g) at (xs, behind)
+    × (((length xs ≡ n) × (end ≡ Some behind)) ⊎ ((length xs < n) × Lacks g behind × (end ≡ None)))
+
+-- The entries of a name map are listed so.
+abbrev pub NameMapsAreListed : Type 0
+NameMapsAreListed = (s outer n : ℕ) (at : Input) (entries : List Entry) (end : Option Input) → (repeat (entry s outer) n).gives at entries end
+    → (xs : List (ℕ × List ℕ)) × Listed association n at xs end × (entries ≡ map (λ x. entry_of s outer x) xs)
+
+-- indices are numbers of 32 bits, and names UTF-8
+pub record IsEntry (e : Entry) : Type 0 where
+  pub index : IsU32 e.index
+  pub name : IsUtf8 e.name
+
+abbrev pub AreEntries : List Entry → Type 0
+AreEntries entries = AllByRecursion IsEntry entries
+
+abbrev pub BytesGiveEntries : Type 0
+BytesGiveEntries = (at : Input) (entries : List Entry) → AreBytes at.bytes → GivesNames at entries → AreEntries entries
+
+-- ---- identifiers
+
+-- No identifier means two items of one space, with identifiers made up for items without names or without.
+abbrev pub IdentifiersAreApart : Type 0
+IdentifiersAreApart = (invents : Bool) (entries : List Entry) → AreEntries entries → AreApart (names_of invents entries)
+
+-- Each identifier is UTF-8 and not empty, and each name is UTF-8.
+abbrev pub IdentifiersAreNamed : Type 0
+IdentifiersAreNamed = (invents : Bool) (entries : List Entry) → AreEntries entries → AreNamed (names_of invents entries)

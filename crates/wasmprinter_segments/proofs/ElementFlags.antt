@@ -1,0 +1,63 @@
+-- Element segments behind their flags.
+use Rattle.std.proofs.Common.{◌≡◌, ℕ, zero, suc, ◌<◌, ◌≤◌, Some, None, refl, ◌∙◌, arith}
+use Rattle.std.proofs.lemmas.Bool.{ne_eqb}
+use Rattle.wasmprinter_spec.specs.Grammar.{Input, Placed, placed}
+use Rattle.wasmprinter_spec.specs.Name.{u32}
+use Rattle.wasmprinter_spec.specs.Operator.{Operator}
+use Rattle.wasmprinter_spec.specs.Placed.{Mode, Items, element_of, entry_of}
+use Rattle.wasmprinter_spec.specs.Binary.Elements.{segment, element_behind, element}
+use Rattle.wasmprinter_segments.specs.Segments.{names_table, mode_by, items_by}
+
+-- the mode and the items apart
+in_parts : (flags : ℕ) (at : Input) → flags < 8 → (element_behind flags).parse at ≡ (segment (names_table flags) (mode_by flags) (items_by flags)).parse at
+in_parts zero at lt = refl
+in_parts (suc zero) at lt = refl
+in_parts (suc (suc zero)) at lt = refl
+in_parts (suc (suc (suc zero))) at lt = refl
+in_parts (suc (suc (suc (suc zero)))) at lt = refl
+in_parts (suc (suc (suc (suc (suc zero))))) at lt = refl
+in_parts (suc (suc (suc (suc (suc (suc zero)))))) at lt = refl
+in_parts (suc (suc (suc (suc (suc (suc (suc zero))))))) at lt = refl
+in_parts (suc (suc (suc (suc (suc (suc (suc (suc n)))))))) at lt = absurd (omega arith)
+
+-- flags were read
+module _ (old mid : Input) (flags : ℕ) (read : u32.parse old ≡ Some (flags, mid)) where
+  -- which are too large
+  pub element_past : 8 ≤ flags → (placed element).parse old ≡ None
+  element_past le =
+      let none : (element_behind flags).parse mid ≡ None =
+      rw (
+        ne_eqb flags 0 (λ z. omega arith),
+        ne_eqb flags 1 (λ z. omega arith),
+        ne_eqb flags 2 (λ z. omega arith),
+        ne_eqb flags 3 (λ z. omega arith),
+        ne_eqb flags 4 (λ z. omega arith),
+        ne_eqb flags 5 (λ z. omega arith),
+        ne_eqb flags 6 (λ z. omega arith),
+        ne_eqb flags 7 (λ z. omega arith),
+      ) refl in
+      rw (read, none) refl
+
+  module _ (lt : flags < 8) where
+    -- no mode stands behind them
+    pub element_no_mode : (mode_by flags).parse mid ≡ None → (placed element).parse old ≡ None
+    element_no_mode e =
+        let parts : (segment (names_table flags) (mode_by flags) (items_by flags)).parse mid ≡ None = rw e refl in
+        let none : (element_behind flags).parse mid ≡ None = in_parts flags mid lt ∙ parts in
+        rw (read, none) refl
+
+    module _ (after : Input) (mode : Mode (Placed Operator)) (first : (mode_by flags).parse mid ≡ Some (mode, after)) where
+      -- a mode, but no items
+      pub element_no_items : (items_by flags).parse after ≡ None → (placed element).parse old ≡ None
+      element_no_items e =
+          let parts : (segment (names_table flags) (mode_by flags) (items_by flags)).parse mid ≡ None = rw (first, e) refl in
+          let none : (element_behind flags).parse mid ≡ None = in_parts flags mid lt ∙ parts in
+          rw (read, none) refl
+
+      -- both
+      pub element_read : (new : Input) (items : Items (Placed Operator)) → (items_by flags).parse after ≡ Some (items, new)
+          → (placed element).parse old ≡ Some (record { place = old.place; value = entry_of (names_table flags) (element_of mode items) }, new)
+      element_read new items e =
+          let parts : (segment (names_table flags) (mode_by flags) (items_by flags)).parse mid ≡ Some (entry_of (names_table flags) (element_of mode items), new) = rw (first, e) refl in
+          let some : (element_behind flags).parse mid ≡ Some (entry_of (names_table flags) (element_of mode items), new) = in_parts flags mid lt ∙ parts in
+          rw (read, some) refl

@@ -1,0 +1,103 @@
+-- Tables with an initialiser without operators.
+use Rattle.std.proofs.Common.{◌≡◌, ℕ, ◌+◌, ◌<◌, ◌≤◌, get_or, drop, List, [], ◌∷◌, ◌++◌, length, Option, Some, None, refl, sym, ap, subst, ◌∙◌, inl, inr, arith, append_assoc, length-append}
+use Rattle.std.proofs.Math.ListN.{drop_of_length-le}
+use Rattle.std.proofs.lemmas.List.{at_drop_more}
+use Rattle.wasmprinter_spec.specs.Grammar.{Input, some_is, Placed, placed}
+use Rattle.wasmprinter_spec.specs.Repeated.{Items}
+use Rattle.wasmprinter_spec.specs.Name.{vec}
+use Rattle.wasmprinter_spec.specs.Sections.{TableSection}
+use Rattle.wasmprinter_spec.specs.Operator.{Operator}
+use Rattle.wasmprinter_spec.specs.Placed.{Table, table_of}
+use Rattle.wasmprinter_spec.specs.Binary.Tables.{table}
+use Rattle.wasmprinter_spec.specs.Limits.{HasNoEmptyInit}
+use Rattle.wasmprinter_entries.specs.Refusals.{HasEmptyInit, PlacedTable, IsEmptyInit, IsEmpty, FirstIsEmpty}
+use Rattle.wasmprinter_segments.specs.Tables.{FindsEmpty}
+use Rattle.wasmprinter_entries.specs.Contents.{content_reasons}
+use Rattle.wasmprinter_entries.proofs.Parts.{alone_some}
+
+-- an initialiser without operators is what the definition says
+init_is : (init : Option (List (Placed Operator))) → IsEmptyInit init → init ≡ Some []
+init_is None e = absurd e
+init_is (Some []) e = refl
+init_is (Some (o ∷ os)) e = absurd e
+
+-- which a table without an empty one has not
+pub not_empty : (init : Option (List (Placed Operator))) → HasNoEmptyInit init → IsEmptyInit init → ⊥
+not_empty None none e = e
+not_empty (Some []) none e = none
+not_empty (Some (o ∷ os)) none e = e
+
+has_none : (init : Option (List (Placed Operator))) → (IsEmptyInit init → ⊥) → HasNoEmptyInit init
+has_none None ne = tt
+has_none (Some []) ne = absurd (ne tt)
+has_none (Some (o ∷ os)) ne = tt
+
+-- a table that was spelled at a place, and its initialiser is empty
+here_of : (p : ℕ) (text behind : List ℕ) (x : PlacedTable) (place : ℕ) → (placed table).spells p text x → IsEmpty place x → (place ≡ p) × table.spells place text (table_of x.value.type (Some []))
+here_of p text behind x place s e =
+    let there : place ≡ p = sym e.0 ∙ s.0 in
+    let same : x.value ≡ table_of x.value.type (Some []) = ap (table_of x.value.type) (init_is x.value.init e.1) in
+    (there, subst (λ (q : ℕ). table.spells q text (table_of x.value.type (Some []))) (sym there) (subst (λ (v : Table (Placed Operator)). table.spells p text v) same s.1))
+
+-- it is one of the tables that were spelled
+among : (p : ℕ) (text : List ℕ) (ts : List PlacedTable) (place : ℕ) → Items (placed table) p text ts → FirstIsEmpty place ts
+    → (at : Input) → (before behind : List ℕ) → at.bytes ≡ before ++ (text ++ behind) → p ≡ at.place + length before → HasEmptyInit at place
+among p text [] place s any at before behind parts starts = absurd any
+among p text (x ∷ xs) place s (inl here) at before behind parts starts =
+    let h = here_of p s.0 behind x place s.3 here in
+    let split : text ++ behind ≡ s.0 ++ (s.1 ++ behind) = ap (λ (t : List ℕ). t ++ behind) s.2 ∙ append_assoc s.0 s.1 behind in
+    record {
+      before = before;
+      text = s.0;
+      behind = s.1 ++ behind;
+      parts = parts ∙ ap (λ (t : List ℕ). before ++ t) split;
+      starts = h.0 ∙ starts;
+      type = x.value.type;
+      spelled = h.1;
+    }
+among p text (x ∷ xs) place s (inr there) at before behind parts starts =
+    let split : text ++ behind ≡ s.0 ++ (s.1 ++ behind) = ap (λ (t : List ℕ). t ++ behind) s.2 ∙ append_assoc s.0 s.1 behind in
+    among (p + length s.0) s.1 xs place s.4 there.1 at (before ++ s.0) behind
+    (parts ∙ ap (λ (t : List ℕ). before ++ t) split ∙ sym (append_assoc before s.0 (s.1 ++ behind))) (omega (arith, starts, length-append before s.0))
+
+-- what is found among tables from one on is found among all of them
+abbrev pub FoundFrom : List PlacedTable → ℕ → Type 0
+FoundFrom ts i = (r : Option ℕ) → FindsEmpty (drop i ts) r → FindsEmpty ts r
+
+module _ (ts : List PlacedTable) (i : ℕ) (x d : PlacedTable) (lt : i < length ts) (same : x ≡ get_or ts i d) where
+  next : (r : Option ℕ) → FindsEmpty (x ∷ drop (i + 1) ts) r → FindsEmpty (drop i ts) r
+  next r h =
+      let there : drop i ts ≡ get_or ts i d ∷ drop (i + 1) ts = at_drop_more (λ (xs : List PlacedTable). xs) ts i d lt in
+      subst (λ (xs : List PlacedTable). FindsEmpty xs r) (sym there) (subst (λ (y : PlacedTable). FindsEmpty (y ∷ drop (i + 1) ts) r) same h)
+
+  -- the next is not empty
+  passed : (IsEmptyInit x.value.init → ⊥) → (r : Option ℕ) → FindsEmpty (drop (i + 1) ts) r → FindsEmpty (x ∷ drop (i + 1) ts) r
+  passed ne None h = (has_none x.value.init ne, h)
+  passed ne (Some place) h = inr (has_none x.value.init ne, h)
+
+  pub found_more : (IsEmptyInit x.value.init → ⊥) → FoundFrom ts i → FoundFrom ts (i + 1)
+  found_more ne h r there = h r (next r (passed ne r there))
+
+  -- it is
+  pub found_here : IsEmptyInit x.value.init → FoundFrom ts i → FindsEmpty ts (Some x.place)
+  found_here e h = h (Some x.place) (next (Some x.place) (inl (refl, e)))
+
+-- none was found
+pub found_none : (ts : List PlacedTable) (i : ℕ) → length ts ≤ i → FoundFrom ts i → FindsEmpty ts None
+found_none ts i le h = h None (subst (λ (xs : List PlacedTable). FindsEmpty xs None) (sym (drop_of_length-le ts le)) tt)
+
+-- a table section among whose tables one is empty is refused for it
+pub section_empty : (at after : Input) (ts : List PlacedTable) (place : ℕ) → (vec (placed table)).parse at ≡ Some (ts, after) → FirstIsEmpty place ts
+    → (content_reasons TableSection at).tables place
+section_empty at after ts place read any =
+    let s = (vec (placed table)).sound at (ts, after) read in
+    let same : s.spelled.0.1 ≡ ts = some_is s.spelled.0.1 ts s.spelled.1 in
+    let parts = s.spelled.2 in
+    let items : Items (placed table) (at.place + length parts.0) parts.1 ts = subst (λ (xs : List PlacedTable). Items (placed table) (at.place + length parts.0) parts.1 xs) same parts.4.1 in
+    let split : at.bytes ≡ parts.0 ++ (parts.1 ++ after.bytes) = s.parts ∙ ap (λ (t : List ℕ). t ++ after.bytes) parts.2 ∙ append_assoc parts.0 parts.1 after.bytes in (
+      among (at.place + length parts.0) parts.1 ts place items any at parts.0 after.bytes split refl,
+      λ x e.
+          let b = alone_some (vec (placed table)) at x e in
+          let are : ts ≡ x = ap (λ (y : List PlacedTable × Input). y.0) (some_is (ts, after) (x, b.0) (sym read ∙ b.1)) in
+          (x, refl, subst (FirstIsEmpty place) are any),
+    )

@@ -1,0 +1,6 @@
+pub mod Over
+pub mod Emptied
+pub mod Listing
+pub mod Constants
+pub mod ElementFlags
+pub mod TableEntries

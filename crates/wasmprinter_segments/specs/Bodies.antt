@@ -1,0 +1,67 @@
+-- Reading bodies of functions.
+use Rattle.std.specs.List.{AllByRecursion}
+use Rattle.std.specs.Prelude.{◌≡◌, ℕ, ◌≤◌, List, Option, Some, None, Result, Ok, Err}
+use Rattle.wasmprinter_spec.specs.Grammar.{Input, input, Placed, placed}
+use Rattle.wasmprinter_spec.specs.Sized.{front_at}
+use Rattle.wasmprinter_spec.specs.Name.{u32, vec}
+use Rattle.wasmprinter_spec.specs.Placed.{Body}
+use Rattle.wasmprinter_spec.specs.Binary.Code.{body, code_entry}
+use Rattle.wasmprinter_spec.specs.Limits.{local_count, most_locals}
+use Rattle.wasmprinter_bytes.specs.Reads.{end_of}
+use Rattle.wasmprinter_error.specs.declared.error.Error.{Error}
+use Rattle.wasmprinter_error.specs.Reasons.{Reasons, HasReason}
+use Rattle.wasmprinter_segments.specs.Growing.{HasBlocks}
+use Rattle.wasmprinter_entries.specs.Refusals.{HasManyLocals, IsOver, AnyIsOver}
+use Rattle.wasmprinter_entries.specs.Contents.{HasFew}
+use Rattle.wasmprinter_bytes.specs.Lists.{CountsItems}
+
+-- a size stands there, and in so many bytes behind it what HasBlocks says
+pub record HasEntryBlocks (at : Input) : Type 0 where
+  pub size : ℕ
+  pub behind : Input
+  pub sized : u32.parse at ≡ Some (size, behind)
+  pub part : List ℕ
+  pub rest : Input
+  pub cut : front_at size behind ≡ Some (part, rest)
+  pub blocks : HasBlocks (input behind.place part)
+
+-- nothing of the kind stands there; or there are too many locals, and what stands there, if anything, has them; or a growth was refused, for
+-- which this is so
+abbrev pub body_reasons : (Input → Option (Placed Body × Input)) → Type 0 → Input → Reasons
+body_reasons parse grows at = record {
+  malformed = λ place. (parse at ≡ None) × (place ≤ end_of at);
+  component = ⊥;
+  locals = λ place. HasManyLocals at place × ((x : Placed Body × Input) → parse at ≡ Some x → IsOver place x.0);
+  functions = λ count. ⊥;
+  tables = λ place. ⊥;
+  memory = grows;
+}
+
+-- a body of few locals is read, or the refusal is true
+abbrev pub TakesBodyBy : (Input → Option (Placed Body × Input)) → (Input → Type 0) → Input → Result (Placed Body) Error → Input → Type 0
+TakesBodyBy parse Grows old (Ok b) new = (parse old ≡ Some (b, new)) × (local_count b.value.locals ≤ most_locals)
+TakesBodyBy parse Grows old (Err e) new = HasReason (body_reasons parse (Grows old) old) e
+
+-- a body of few locals is read, or the refusal is true
+abbrev pub TakesBody : Input → Result (Placed Body) Error → Input → Type 0
+TakesBody old r new = TakesBodyBy (placed body).parse HasBlocks old r new
+
+-- the same of an entry of a code section
+abbrev pub TakesEntry : Input → Result (Placed Body) Error → Input → Type 0
+TakesEntry old r new = TakesBodyBy code_entry.parse HasEntryBlocks old r new
+
+-- the bodies of a code section
+abbrev pub bodies_reasons : Input → Reasons
+bodies_reasons at = record {
+  malformed = λ place. ((vec code_entry).parse at ≡ None) × (place ≤ end_of at);
+  component = ⊥;
+  locals = λ place. HasManyLocals at place × ((x : List (Placed Body) × Input) → (vec code_entry).parse at ≡ Some x → AnyIsOver place x.0);
+  functions = λ count. ⊥;
+  tables = λ place. ⊥;
+  memory = CountsItems at;
+}
+
+-- bodies of few locals are read, or the refusal is true
+abbrev pub TakesBodies : {X : Type 0} → (X → List (Placed Body)) → Input → Result X Error → Input → Type 0
+TakesBodies items old (Ok v) new = ((vec code_entry).parse old ≡ Some (items v, new)) × AllByRecursion HasFew (items v)
+TakesBodies items old (Err e) new = HasReason (bodies_reasons old) e

@@ -1,0 +1,4 @@
+pub mod Segments
+pub mod Growing
+pub mod Bodies
+pub mod Tables

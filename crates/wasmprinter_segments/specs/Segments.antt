@@ -1,0 +1,87 @@
+-- What holds expressions in the program, and in the definitions; and how element segments are spelled behind their flags, mode and items apart.
+use Rattle.std.specs.Prelude.{ℕ, List, map, Bool, true, not, ◌&&◌, Option, Some, None}
+use Rattle.std.specs.Borrow.{Bor}
+use Rattle.wasmprinter_spec.specs.Grammar.{Grammar, Placed, succeed, choose}
+use Rattle.wasmprinter_spec.specs.Types.{ref_type, Func}
+use Rattle.wasmprinter_spec.specs.Operator.{Operator}
+use Rattle.wasmprinter_spec.specs.Instructions.{Closed}
+use Rattle.wasmprinter_spec.specs.Placed.{Mode, Passive, Declared, Active, Items, Functions, Expressions, PassiveData, ActiveData}
+use Rattle.wasmprinter_spec.specs.Placed.{DataMode as DefinedDataMode}
+use Rattle.wasmprinter_spec.specs.Binary.Limits.{has_bit}
+use Rattle.wasmprinter_spec.specs.Binary.Elements.{active, active_in, function_items, items_of_kind, expression_items, items_of_type}
+use Rattle.wasmprinter_ops.specs.ValTypes.{ref_view}
+use Rattle.wasmprinter_segments.specs.declared.elements.ElementMode.{ElementMode}
+use Rattle.wasmprinter_segments.specs.declared.elements.ElementMode.TheVariants as m
+use Rattle.wasmprinter_segments.specs.declared.elements.ElementItems.{ElementItems}
+use Rattle.wasmprinter_segments.specs.declared.elements.ElementItems.TheVariants as i
+use Rattle.wasmprinter_segments.specs.declared.data.DataMode.{DataMode}
+use Rattle.wasmprinter_segments.specs.declared.data.DataMode.TheVariants as d
+
+-- operators without the place of the `end` behind them
+abbrev pub Constant : Type 0
+Constant = List (Placed Operator)
+
+abbrev pub constant_of : Closed (Placed Operator) → Constant
+constant_of e = e.items
+
+abbrev pub constants_of : List (Closed (Placed Operator)) → List Constant
+constants_of es = map constant_of es
+
+-- the initialiser of a table
+abbrev pub init_of : Option (Closed (Placed Operator)) → Option Constant
+init_of None = None
+init_of (Some e) = Some (constant_of e)
+
+-- the same of one that is borrowed
+abbrev pub init_view : Option (Bor (Closed (Placed Operator))) → Option Constant
+init_view None = None
+init_view (Some e) = Some (constant_of e.now)
+
+-- what becomes of an element segment
+abbrev pub element_mode_view : ElementMode → Mode (Placed Operator)
+element_mode_view m.Passive = Passive
+element_mode_view m.Declared = Declared
+element_mode_view (m.Active table offset) = Active table (constant_of offset)
+
+-- its items
+abbrev pub element_items_view : ElementItems → Items (Placed Operator)
+element_items_view (i.Functions is) = Functions is
+element_items_view (i.Expressions t es) = Expressions (ref_view t) (constants_of es.items)
+
+-- what becomes of a data segment
+abbrev pub data_mode_view : DataMode → DefinedDataMode (Placed Operator)
+data_mode_view d.Passive = PassiveData
+data_mode_view (d.Active memory offset) = ActiveData memory (constant_of offset)
+
+-- ---- element segments behind their flags, which are below 8
+
+-- The flags bit by bit: bit 0 says that the segment is passive or declarative, not active; bit 1 that an active one names its table, and that
+-- another one is declarative; bit 2 that the items are expressions, not indices of functions.
+abbrev pub is_inactive : ℕ → Bool
+is_inactive flags = has_bit 0 flags
+
+abbrev pub is_explicit : ℕ → Bool
+is_explicit flags = has_bit 1 flags
+
+abbrev pub holds_expressions : ℕ → Bool
+holds_expressions flags = has_bit 2 flags
+
+-- flags that name a table
+abbrev pub names_table : ℕ → Bool
+names_table flags = not (is_inactive flags) && is_explicit flags
+
+-- flags of segments of which neither the kind nor the type of the items is written: it is that of functions
+abbrev pub omits_kind : ℕ → Bool
+omits_kind flags = not (is_inactive flags) && not (is_explicit flags)
+
+-- what becomes of the segment
+abbrev pub mode_by : ℕ → Grammar (Mode (Placed Operator))
+mode_by flags =
+    choose (is_inactive flags) (choose (is_explicit flags) (succeed Declared) (succeed Passive))
+    (choose (is_explicit flags) active_in active)
+
+-- its items
+abbrev pub items_by : ℕ → Grammar (Items (Placed Operator))
+items_by flags =
+    choose (holds_expressions flags) (choose (omits_kind flags) (expression_items (ref_type true Func)) items_of_type)
+    (choose (omits_kind flags) function_items items_of_kind)

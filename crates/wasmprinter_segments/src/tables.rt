@@ -1,0 +1,140 @@
+//! The table section (section 5.5, "Table Section").
+ghost use Rattle.std.specs.Prelude.{◌≡◌, ◌↔◌, IsTrue};
+ghost use Rattle.wasmprinter_spec.specs.Grammar.{placed};
+ghost use Rattle.wasmprinter_spec.specs.Binary.Tables.{table_by, table as table_grammar};
+ghost use Rattle.wasmprinter_spec.specs.Sections.{TableSection};
+ghost use Rattle.wasmprinter_bytes.specs.Reads.{end_of};
+ghost use Rattle.wasmprinter_bytes.specs.Lists.{Takes};
+ghost use Rattle.wasmprinter_segments.specs.Growing.{TableGrows};
+ghost use Rattle.wasmprinter_entries.specs.Contents.{TakesHeld};
+ghost use Rattle.wasmprinter_segments.specs.Tables.{FindsEmpty};
+ghost use Rattle.wasmprinter_entries.specs.Externs.{table_type_view};
+ghost use Rattle.wasmprinter_segments.specs.Segments.{init_view};
+ghost use Rattle.wasmprinter_entries.specs.Refusals.{IsEmptyInit};
+
+use std::alloc::Global;
+use std::marker::Model;
+use wasmprinter_bytes::bytes::Cursor;
+use wasmprinter_bytes::lists::{GrownIn, read_grown_list};
+use wasmprinter_entries::expected::{expect_end, read_only};
+use wasmprinter_entries::table_types::TableType;
+use wasmprinter_error::Error;
+use wasmprinter_ops::expression::Expression;
+
+/// In front of a table with an initialiser.
+const WITH_INIT: u8 = 0x40;
+
+/// Behind that byte.
+const RESERVED: u8 = 0x00;
+
+/// A table that the module defines, with the entry's place (section 2.5, "Tables").
+#[derive(Drop)]
+pub struct Table<'a> {
+    place: u64,
+    ty: TableType,
+    init: Option<Expression<'a>>,
+}
+
+impl<'a> Model for Table<'a> {
+    ghost use Rattle.wasmprinter_spec.specs.Grammar.{Placed};
+    ghost use Rattle.wasmprinter_spec.specs.Operator.{Operator};
+    ghost use Rattle.wasmprinter_spec.specs.Placed.{Table as TableValue, table_of};
+    ghost use Rattle.wasmprinter_entries.specs.Externs.{table_type_view};
+    ghost use Rattle.wasmprinter_segments.specs.Segments.{init_of};
+
+    ghost Value = { Placed (TableValue (Placed Operator)) };
+
+    ghost view = { λ t. record { place = t.place; value = table_of (table_type_view t.ty) (init_of t.init) } };
+}
+
+impl<'a> GrownIn<'a> for Table<'a> {
+    ghost parse = { (placed table_grammar).parse };
+
+    ghost grows = { TableGrows };
+
+    fn read(alloc: Global, cursor: &mut Cursor<'a>) -> Result<Table<'a>, Error> {
+        let place = cursor.place();
+        let Some(first) = cursor.peek() else {
+            return Err(Error::Malformed { place });
+        };
+        if first == WITH_INIT {
+            return Table::read_initialised(alloc, cursor);
+        }
+        let ty = TableType::read(cursor)?;
+        let init = None;
+        Ok(Table { place, ty, init })
+    }
+}
+
+impl<'a> Table<'a> {
+    /// Reads two bytes that announce an initialiser, a type, and the initialiser.
+    fn read_initialised(alloc: Global, cursor: &mut Cursor<'a>) -> Result<Self, Error>
+        ensures reads { Takes (λ t. t) (placed (table_by 0x40)).parse TableGrows cursor.old result cursor.new }
+        ensures end { end_of cursor.new ≡ end_of cursor.old }
+    {
+        let place = cursor.place();
+        read_only(cursor, WITH_INIT)?;
+        read_only(cursor, RESERVED)?;
+        let ty = TableType::read(cursor)?;
+        let init = Some(Expression::read(alloc, cursor)?);
+        Ok(Table { place, ty, init })
+    }
+
+    /// The place of the entry.
+    pub fn place(&self) -> u64
+        ensures { result ≡ self.now.place }
+    {
+        self.place
+    }
+
+    /// Its type.
+    pub fn ty(&self) -> TableType
+        ensures { table_type_view result ≡ self.now.value.type }
+    {
+        self.ty
+    }
+
+    /// What its elements are in the beginning, `None` where that isn't said.
+    pub fn init(&self) -> Option<&Expression<'a>>
+        ensures { init_view result ≡ self.now.value.init }
+    {
+        match &self.init {
+            Some(init) => Some(init),
+            None => None,
+        }
+    }
+
+    /// Whether there is an initialiser without operators.
+    fn is_empty(&self) -> bool
+        ensures { IsTrue result ↔ IsEmptyInit self.now.value.init }
+    {
+        match &self.init {
+            Some(init) => init.is_empty(),
+            None => false,
+        }
+    }
+}
+
+/// The place of the first table with an initialiser that has no operators.
+fn empty_table(tables: &[Table]) -> Option<u64>
+    ensures { FindsEmpty tables.now result }
+{
+    for table in tables {
+        if table.is_empty() {
+            return Some(table.place());
+        }
+    }
+    None
+}
+
+/// Reads what a table section holds.
+pub fn read_tables<'a>(alloc: Global, cursor: &mut Cursor<'a>) -> Result<Vec<Table<'a>>, Error>
+    ensures { TakesHeld TableSection (λ v. v.items) cursor.old result }
+{
+    let tables = read_grown_list(alloc, cursor)?;
+    expect_end(cursor)?;
+    match empty_table(&tables) {
+        Some(place) => Err(Error::EmptyTableInit { place }),
+        None => Ok(tables),
+    }
+}

@@ -1,0 +1,185 @@
+-- Bytes that are read as far as they stand: the entries in front of the first fault, and where reading stands behind them, or none where it met a
+-- fault. `gives` says which entries, as a relation; `read` computes them; `sound` and `complete` prove that both say the same. So from each place on
+-- there is exactly one list of entries.
+use Rattle.std.specs.Prelude.{◌≡◌, ◌≢◌, ◌==◌, if◌then◌else◌, ◌⊎◌, ℕ, zero, suc, List, [], ◌∷◌, ◌++◌, ◌<◌, length, Bool, true, false, Option, Some, None, MatchOption, refl}
+use Rattle.std.proofs.Common.{ap, inl, inr}
+use Rattle.std.proofs.lemmas.Bool.{eqb-true, eqb-false, eq-eqb, ne_eqb}
+use Rattle.std.proofs.lemmas.List.{nil_from_length}
+use Rattle.wasmprinter_spec.specs.Grammar.{Input, input, Spans, Grammar}
+use Rattle.wasmprinter_spec.specs.Repeated.{some_or}
+use Rattle.wasmprinter_spec.specs.Sized.{take_bytes}
+
+pub record Lenient (E : Type 0) : Type 1 where
+  pub gives : Input → List E → Option Input → Type 0
+  pub read : Input → List E × Option Input
+  pub sound : (at : Input) → gives at (read at).0 (read at).1
+  pub complete : (at : Input) (xs : List E) (end : Option Input) → gives at xs end → read at ≡ (xs, end)
+
+-- nothing of the kind is spelled there
+abbrev pub Lacks : {A : Type 0} → Grammar A → Input → Type 0
+Lacks g at = (x : _ × Input) → Spans g.spells at x → ⊥
+
+pub lacks : {A : Type 0} (g : Grammar A) (at : Input) → g.parse at ≡ None → Lacks g at
+lacks g at e x s = let f = g.complete at x s in absurd cc
+
+pub none_of : {A : Type 0} (g : Grammar A) (at : Input) (r : Option (A × Input)) → g.parse at ≡ r → Lacks g at → r ≡ None
+none_of g at None e l = refl
+none_of g at (Some x) e l = absurd (l x (g.sound at x e))
+
+-- ---- entries without a byte
+
+module _ {E : Type 0} (entries : List E) where
+  abbrev pub Gives : Input → List E → Option Input → Type 0
+  Gives at xs end = (xs ≡ entries) × (end ≡ Some at)
+
+  pub give_complete : (at : Input) (xs : List E) (end : Option Input) → Gives at xs end → ◌≡◌ {A = List E × Option Input} (entries, Some at) (xs, end)
+  give_complete at xs end s = rw (s.0, s.1) refl
+
+  abbrev pub give : Lenient E
+  give = record { gives = Gives; read = λ at. (entries, Some at); sound = λ at. (refl, refl); complete = give_complete }
+
+-- ---- a value and then entries, which may depend on it; a fault where no value is spelled
+
+module _ {A E : Type 0} (g : Grammar A) (h : A → Lenient E) where
+  abbrev pub Follows : Input → List E → Option Input → Type 0
+  Follows at xs end =
+      ((x : A × Input) × Spans g.spells at x × (h x.0).gives x.1 xs end)
+      ⊎ (Lacks g at × (xs ≡ []) × (end ≡ None))
+
+  abbrev pub read_behind : Option (A × Input) → List E × Option Input
+  read_behind None = ([], None)
+  read_behind (Some x) = (h x.0).read x.1
+
+  abbrev pub follow_at : Input → List E × Option Input
+  follow_at at = read_behind (g.parse at)
+
+  follow_sound_of : (at : Input) (r : Option (A × Input)) → g.parse at ≡ r → Follows at (read_behind r).0 (read_behind r).1
+  follow_sound_of at None e = inr (lacks g at e, refl, refl)
+  follow_sound_of at (Some x) e = inl (x, g.sound at x e, (h x.0).sound x.1)
+
+  pub follow_sound : (at : Input) → Follows at (follow_at at).0 (follow_at at).1
+  follow_sound at = follow_sound_of at (g.parse at) refl
+
+  pub follow_complete : (at : Input) (xs : List E) (end : Option Input) → Follows at xs end → follow_at at ≡ (xs, end)
+  follow_complete at xs end (inl s) = rw (g.complete at s.0 s.1) ((h s.0.0).complete s.0.1 xs end s.2)
+  follow_complete at xs end (inr s) = rw (none_of g at (g.parse at) refl s.0, s.1, s.2) refl
+
+  abbrev pub follow : Lenient E
+  follow = record { gives = Follows; read = follow_at; sound = follow_sound; complete = follow_complete }
+
+-- the entries of one value
+abbrev pub one : {A E : Type 0} → (A → List E) → Grammar A → Lenient E
+one entries g = follow g (λ a. give (entries a))
+
+-- entries of one form or another, by a test
+abbrev pub by_test : {E : Type 0} → Bool → Lenient E → Lenient E → Lenient E
+by_test true l m = l
+by_test false l m = m
+
+-- ---- n times entries; reading ends at the first fault among them
+
+module _ {E : Type 0} (l : Lenient E) where
+  abbrev pub Repeats : ℕ → Input → List E → Option Input → Type 0
+  Repeats zero at xs end = (xs ≡ []) × (end ≡ Some at)
+  Repeats (suc n) at xs end =
+      ((ys zs : List E) × (mid : Input) × l.gives at ys (Some mid) × Repeats n mid zs end × (xs ≡ ys ++ zs))
+      ⊎ (l.gives at xs None × (end ≡ None))
+
+  -- entries in front of others
+  abbrev pub prepend : List E → List E × Option Input → List E × Option Input
+  prepend ys r = (ys ++ r.0, r.1)
+
+  abbrev pub continue_with : List E × Option Input → (Input → List E × Option Input) → List E × Option Input
+  continue_with r k = some_or r.1 (r.0, None) (λ mid. prepend r.0 (k mid))
+
+  abbrev pub repeat_at : ℕ → Input → List E × Option Input
+  repeat_at zero at = ([], Some at)
+  repeat_at (suc n) at = continue_with (l.read at) (λ mid. repeat_at n mid)
+
+  repeat_sound_of : (n : ℕ) → ((mid : Input) → Repeats n mid (repeat_at n mid).0 (repeat_at n mid).1) → (at : Input) (ys : List E) (end : Option Input) → l.gives at ys end
+      → Repeats (suc n) at (continue_with (ys, end) (λ mid. repeat_at n mid)).0 (continue_with (ys, end) (λ mid. repeat_at n mid)).1
+  repeat_sound_of n h at ys None s = inr (s, refl)
+  repeat_sound_of n h at ys (Some mid) s = inl (ys, (repeat_at n mid).0, mid, s, h mid, refl)
+
+  pub repeat_sound : (n : ℕ) (at : Input) → Repeats n at (repeat_at n at).0 (repeat_at n at).1
+  repeat_sound zero at = (refl, refl)
+  repeat_sound (suc n) at = repeat_sound_of n (λ mid. repeat_sound n mid) at (l.read at).0 (l.read at).1 (l.sound at)
+
+  pub repeat_complete : (n : ℕ) (at : Input) (xs : List E) (end : Option Input) → Repeats n at xs end → repeat_at n at ≡ (xs, end)
+  repeat_complete zero at xs end s = rw (s.0, s.1) refl
+  repeat_complete (suc n) at xs end (inl s) =
+      let e = l.complete at s.0 (Some s.2) s.3 in
+      let f = repeat_complete n s.2 s.1 end s.4 in
+      rw (e, f, s.5) refl
+  repeat_complete (suc n) at xs end (inr s) = rw (l.complete at xs None s.0, s.1) refl
+
+  abbrev pub repeat : ℕ → Lenient E
+  repeat n = record { gives = Repeats n; read = repeat_at n; sound = repeat_sound n; complete = repeat_complete n }
+
+-- ---- entries, or none where no byte is left
+
+module _ {E : Type 0} (l : Lenient E) where
+  abbrev pub EndsOr : Input → List E → Option Input → Type 0
+  EndsOr at xs end = ((at.bytes ≡ []) × (xs ≡ []) × (end ≡ Some at)) ⊎ ((at.bytes ≢ []) × l.gives at xs end)
+
+  abbrev pub unless_ended_at : Input → List E × Option Input
+  unless_ended_at at = if length at.bytes == 0 then ([], Some at) else l.read at
+
+  ends_by : (at : Input) (b : Bool) → (length at.bytes == 0) ≡ b → EndsOr at (if b then ([], Some at) else l.read at).0 (if b then ([], Some at) else l.read at).1
+  ends_by at true e = inl (nil_from_length at.bytes (eqb-true (length at.bytes) 0 e), refl, refl)
+  ends_by at false e = inr (λ n. eqb-false (length at.bytes) 0 e (ap length n), l.sound at)
+
+  pub ends_sound : (at : Input) → EndsOr at (unless_ended_at at).0 (unless_ended_at at).1
+  ends_sound at = ends_by at (length at.bytes == 0) refl
+
+  pub ends_complete : (at : Input) (xs : List E) (end : Option Input) → EndsOr at xs end → unless_ended_at at ≡ (xs, end)
+  ends_complete at xs end (inl s) = rw (eq-eqb (length at.bytes) 0 (ap length s.0), s.1, s.2) refl
+  ends_complete at xs end (inr s) = rw (ne_eqb (length at.bytes) 0 (λ z. s.0 (nil_from_length at.bytes z))) (l.complete at xs end s.1)
+
+  abbrev pub unless_ended : Lenient E
+  unless_ended = record { gives = EndsOr; read = unless_ended_at; sound = ends_sound; complete = ends_complete }
+
+-- ---- entries within the next n bytes; what is left over of these is skipped
+
+-- reading goes on behind the bytes if it met no fault in them
+abbrev pub behind_part : Option Input → Input → Option Input
+behind_part None after = None
+behind_part (Some _) after = Some after
+
+module _ {E : Type 0} (l : Lenient E) (n : ℕ) where
+  abbrev pub StandsWithin : Input → List E → Option Input → Type 0
+  StandsWithin at xs end =
+      ((x : List ℕ × Input) × Spans (take_bytes n).spells at x × (inner : Option Input) × l.gives (input at.place x.0) xs inner × (end ≡ behind_part inner x.1))
+      ⊎ (Lacks (take_bytes n) at × (xs ≡ []) × (end ≡ None))
+
+  abbrev pub read_inside : Input → Option (List ℕ × Input) → List E × Option Input
+  read_inside at None = ([], None)
+  read_inside at (Some x) = ((l.read (input at.place x.0)).0, behind_part (l.read (input at.place x.0)).1 x.1)
+
+  abbrev pub within_at : Input → List E × Option Input
+  within_at at = read_inside at ((take_bytes n).parse at)
+
+  within_sound_of : (at : Input) (r : Option (List ℕ × Input)) → (take_bytes n).parse at ≡ r → StandsWithin at (read_inside at r).0 (read_inside at r).1
+  within_sound_of at None e = inr (lacks (take_bytes n) at e, refl, refl)
+  within_sound_of at (Some x) e = inl (x, (take_bytes n).sound at x e, (l.read (input at.place x.0)).1, l.sound (input at.place x.0), refl)
+
+  pub within_sound : (at : Input) → StandsWithin at (within_at at).0 (within_at at).1
+  within_sound at = within_sound_of at ((take_bytes n).parse at) refl
+
+  pub within_complete : (at : Input) (xs : List E) (end : Option Input) → StandsWithin at xs end → within_at at ≡ (xs, end)
+  within_complete at xs end (inl s) =
+      let p = (take_bytes n).complete at s.0 s.1 in
+      let e = l.complete (input at.place s.0.0) xs s.2 s.3 in
+      rw (p, e, s.4) refl
+  within_complete at xs end (inr s) = rw (none_of (take_bytes n) at ((take_bytes n).parse at) refl s.0, s.1, s.2) refl
+
+  abbrev pub within : Lenient E
+  within = record { gives = StandsWithin; read = within_at; sound = within_sound; complete = within_complete }
+
+-- ---- entries up to the end of the bytes, in groups that each take a byte at least
+
+module _ {E : Type 0} (l : Lenient E) where
+  -- the groups: behind a fault there is none
+  abbrev pub Groups : Input → List (List E) → Type 0
+  Groups at [] = at.bytes ≡ []
+  Groups at (xs ∷ groups) = (0 < length at.bytes) × (end : Option Input) × l.gives at xs end × MatchOption end (groups ≡ []) (λ mid. Groups mid groups)

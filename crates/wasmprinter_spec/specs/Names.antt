@@ -1,0 +1,119 @@
+-- The identifiers that the text of a module has (section 6.3 of the standard, "Identifiers"): for the module itself, for the items of its
+-- index spaces, for the fields of each type, and for the locals and labels of each function.
+use Rattle.std.specs.Prelude.{◌≡◌, ℕ, zero, suc, ◌+◌, ◌<◌, ◌^◌, List, [], ◌∷◌, Bool, true, false, Option, Some, None, option_map, IsUtf8, length}
+use Rattle.wasmprinter_spec.specs.Grammar.{◌>>=◌}
+use Rattle.wasmprinter_spec.specs.Row.{Space, Types, Func, Table, Memory, Tag, Global, Elem, Data, Local, Label}
+use Rattle.wasmprinter_spec.specs.IndexSpaces.{Identifiers}
+use Rattle.wasmprinter_spec.specs.Labels as labels
+use Rattle.wasmprinter_spec.specs.Labels.{Named, Naming}
+use Rattle.wasmprinter_spec.specs.LabelNames.{label_naming, no_label_names}
+use Rattle.wasmprinter_spec.specs.Names.Section.{Entry, module_subsection, function_subsection, local_subsection, label_subsection, type_subsection, table_subsection, memory_subsection, global_subsection, elem_subsection, data_subsection, field_subsection, tag_subsection}
+use Rattle.wasmprinter_spec.specs.Names.Content.{group_of, index_content, name_of}
+pub mod Section
+pub mod Content
+
+-- The labels of a function go by another rule than all else: two may have one name, and the inner one hides the outer.
+pub record Names : Type 0 where
+  pub module_name : Option Named
+  pub items : Space → ℕ → Option Named
+  -- of the type with the index
+  pub fields : ℕ → ℕ → Option Named
+  -- of the function with the index; parameters come first
+  pub locals : ℕ → ℕ → Option Named
+  pub labels : ℕ → Naming
+
+-- the identifiers that the operators of a function may use
+abbrev pub in_function : Names → ℕ → Space → ℕ → Option Named
+in_function n f Local i = n.locals f i
+in_function n f space i = n.items space i
+
+-- nothing has an identifier
+abbrev pub no_names : Names
+no_names = record {
+  module_name = None;
+  items = λ space i. None;
+  fields = λ t i. None;
+  locals = λ f i. None;
+  labels = λ f. no_label_names;
+}
+
+-- ---- the identifiers by the entries of name sections
+
+-- where identifiers are made up, an item without a name has the sign #, the word for its kind and its index
+abbrev pub or_invented : Bool → List ℕ → ℕ → Option Named → Option Named
+or_invented invents group index (Some n) = Some n
+or_invented true group index None = Some (record { given = None; content = index_content group index })
+or_invented false group index None = None
+
+-- the identifier of an item, by all entries of a module
+abbrev pub name_in : Bool → List Entry → ℕ → ℕ → ℕ → Option Named
+name_in invents entries s outer index = or_invented invents (group_of s) index (name_of entries s outer index)
+
+-- the subsection that names the items of a space of the module
+abbrev pub subsection_of : Space → Option ℕ
+subsection_of Types = Some type_subsection
+subsection_of Func = Some function_subsection
+subsection_of Table = Some table_subsection
+subsection_of Memory = Some memory_subsection
+subsection_of Tag = Some tag_subsection
+subsection_of Global = Some global_subsection
+subsection_of Elem = Some elem_subsection
+subsection_of Data = Some data_subsection
+subsection_of Local = None
+subsection_of Label = None
+
+-- With identifiers made up for what has no name, the module aside, or without.
+abbrev pub names_of : Bool → List Entry → Names
+names_of invents entries = record {
+  module_name = name_of entries module_subsection 0 0;
+  items = λ space i. subsection_of space >>= λ s. name_in invents entries s 0 i;
+  fields = λ t i. name_in invents entries field_subsection t i;
+  locals = λ f i. name_in invents entries local_subsection f i;
+  labels = λ f. label_naming invents (λ i. name_of entries label_subsection f i >>= λ n. n.given);
+}
+
+-- ---- the identifiers of declarations
+
+-- those of the items k, k + 1 .. , so many
+abbrev pub identifiers_at : (ℕ → Option Named) → ℕ → ℕ → Identifiers
+identifiers_at named k zero = []
+identifiers_at named k (suc n) = option_map (λ n. n.content) (named k) ∷ identifiers_at named (k + 1) n
+
+-- those of the first items, so many
+abbrev pub identifiers : (ℕ → Option Named) → ℕ → Identifiers
+identifiers named count = identifiers_at named 0 count
+
+-- ---- laws
+
+-- no two indices have one identifier
+abbrev pub AreDistinct : (ℕ → Option Named) → Type 0
+AreDistinct named = (i j : ℕ) (a b : Named) → i < 2 ^ 32 → j < 2 ^ 32 → named i ≡ Some a → named j ≡ Some b → a.content ≡ b.content → i ≡ j
+
+-- An identifier means one item of its space; labels of one identifier, one of which may stand in the other, were given one name.
+pub record AreApart (n : Names) : Type 0 where
+  pub items : (space : Space) → AreDistinct (n.items space)
+  pub fields : (t : ℕ) → AreDistinct (n.fields t)
+  pub locals : (f : ℕ) → AreDistinct (n.locals f)
+  pub labels : (f : ℕ) → labels.AreApart (n.labels f)
+
+abbrev pub IsGiven : Option (List ℕ) → Type 0
+IsGiven None = Unit {0}
+IsGiven (Some s) = IsUtf8 s
+
+-- names and identifiers are UTF-8, and an identifier is not empty
+pub record IsNamed (n : Named) : Type 0 where
+  pub given : IsGiven n.given
+  pub content : IsUtf8 n.content
+  pub some : 0 < length n.content
+
+-- whatever is named so
+abbrev pub IsNamedIfAny : Option Named → Type 0
+IsNamedIfAny None = Unit {0}
+IsNamedIfAny (Some n) = IsNamed n
+
+pub record AreNamed (n : Names) : Type 0 where
+  pub module_name : IsNamedIfAny n.module_name
+  pub items : (space : Space) (i : ℕ) → IsNamedIfAny (n.items space i)
+  pub fields : (t i : ℕ) → IsNamedIfAny (n.fields t i)
+  pub locals : (f i : ℕ) → IsNamedIfAny (n.locals f i)
+  pub labels : (f i d : ℕ) → IsNamedIfAny (n.labels f i d)

@@ -1,0 +1,36 @@
+//! A function that a module defines.
+ghost use Rattle.std.specs.Prelude.{◌≡◌};
+
+use std::marker::Model;
+use wasmprinter_segments::code::Body;
+
+/// A defined function.
+#[derive(Drop)]
+pub struct Function<'a> {
+    pub(crate) type_index: u32,
+    pub(crate) body: Body<'a>,
+}
+
+impl<'a> Model for Function<'a> {
+    ghost use Rattle.wasmprinter_spec.specs.Placed.{PlacedFunction};
+
+    ghost Value = { PlacedFunction };
+
+    ghost view = { λ f. record { type_index = f.type_index; body = f.body } };
+}
+
+impl<'a> Function<'a> {
+    /// The index of its type.
+    pub fn type_index(&self) -> u32
+        ensures { result ≡ self.now.type_index }
+    {
+        self.type_index
+    }
+
+    /// Its locals and operators.
+    pub fn body(&self) -> &Body<'a>
+        ensures { result.now ≡ self.now.body }
+    {
+        &self.body
+    }
+}
