@@ -87,7 +87,7 @@ identifiers named count = identifiers_at named 0 count
 
 -- no two indices have one identifier
 abbrev pub AreDistinct : (ℕ → Option Named) → Type 0
-AreDistinct named = (i j : ℕ) (a b : Named) → i < 2 ^ 32 → j < 2 ^ 32 → named i ≡ Some a → named j ≡ Some b → a.content ≡ b.content → i ≡ j
+AreDistinct named = (i j : ℕ) (a b : Named) → i < 2 ^ 64 → j < 2 ^ 64 → named i ≡ Some a → named j ≡ Some b → a.content ≡ b.content → i ≡ j
 
 -- An identifier means one item of its space; labels of one identifier, one of which may stand in the other, were given one name.
 pub record AreApart (n : Names) : Type 0 where

@@ -1,11 +1,11 @@
 -- Imports in the text format (section 6.6 of the standard, "Imports").
-use Rattle.std.specs.Prelude.{ℕ, List, ◌&&◌, codes, bytes_eq, Option, Some, None, option_map, if◌then◌else◌}
+use Rattle.std.specs.Prelude.{ℕ, List, ◌&&◌, Option, Some, None, option_map, if◌then◌else◌}
 use Rattle.std.specs.Str.{is_utf8}
 use Rattle.wasmprinter_spec.specs.Grammar.{◌>>=◌}
 use Rattle.wasmprinter_spec.specs.Forest.{Forest, End, Word, String, Group}
 use Rattle.wasmprinter_spec.specs.Types.{ExternKind, FuncKind, TableKind, MemoryKind, GlobalKind, TagKind, ExternType, FuncExtern, TableExtern, MemoryExtern, GlobalExtern, TagExtern}
 use Rattle.wasmprinter_spec.specs.Placed.{Import, import_of}
-use Rattle.wasmprinter_spec.specs.IndexSpaces.{Identifiers, Context}
+use Rattle.wasmprinter_spec.specs.IndexSpaces.{Context}
 use Rattle.wasmprinter_spec.specs.Text.Items.{identified, ended}
 use Rattle.wasmprinter_spec.specs.Text.TypeIndices.{type_index}
 use Rattle.wasmprinter_spec.specs.Text.Memories.{memory_type}

@@ -133,9 +133,13 @@ pair x = Indices x.0 x.1
 abbrev pub turned_pair : ℕ × ℕ → Immediates
 turned_pair x = Indices x.1 x.0
 
--- a type and a field of it (by its number; a field's identifier is not read)
+-- a structure type and a field of it
 abbrev pub type_and_field : Context → Forest → Option Immediates
-type_and_field c f = leading_index c.spaces.types f >>= λ t. one_word u32 t.1 >>= λ n. Some (Indices t.0 n)
+type_and_field c f = leading_index c.spaces.types f >>= λ t. index_in (c.fields t.0) t.1 >>= λ n. Some (Indices t.0 n)
+
+-- a type and a number
+abbrev pub type_and_count : Context → Forest → Option Immediates
+type_and_count c f = leading_index c.spaces.types f >>= λ t. one_word u32 t.1 >>= λ n. Some (Indices t.0 n)
 
 -- two indices, both 0 where none stands
 abbrev pub copied : Context → Space → Forest → Option (ℕ × ℕ)
@@ -275,7 +279,7 @@ immediates c ids (IndexShape space) f = option_map Index (index c ids space f)
 immediates c ids (DefaultIndexShape space) f = option_map Index (default_index c space f)
 immediates c ids (PairShape first second) f = option_map pair (two_indices c first second f)
 immediates c ids FieldShape f = type_and_field c f
-immediates c ids CountShape f = type_and_field c f
+immediates c ids CountShape f = type_and_count c f
 immediates c ids CallShape f = call_parts c f
 immediates c ids (SegmentShape segments space) f = with_segment c segments space f
 immediates c ids (CopyShape space) f = option_map pair (copied c space f)
