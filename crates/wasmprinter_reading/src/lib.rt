@@ -4,7 +4,7 @@
 
 ghost use Rattle.wasmprinter_spec.specs.Laws.{SpellsOne, TakesNested, ReadsBack, TokensStay};
 ghost use Rattle.wasmprinter_spec.specs.Laws.{PrintsPlainText, PlainTextIsUtf8, PlainTextHasNoColour, PlainTextsJoin};
-ghost use Rattle.wasmprinter_reading.specs.OperatorLaws.{OperatorsReadBack, NamedLabelsReadBack};
+ghost use Rattle.wasmprinter_reading.specs.OperatorLaws.{OperatorsReadBack, NamedOperatorsReadBack};
 ghost use Rattle.wasmprinter_reading.specs.NameLaws.{NamesAreOneList, NameMapsAreListed, BytesGiveEntries};
 ghost use Rattle.wasmprinter_reading.specs.NameLaws.{IdentifiersAreApart, IdentifiersAreNamed};
 
@@ -49,14 +49,14 @@ pub fn plain_texts_join()
     ensures { PlainTextsJoin }
 {}
 
-/// The text that is laid out for nested operators, over lines or in one, reads as exactly them, whatever their labels are called.
+/// The text that is laid out for nested operators, over lines or in one, reads as exactly them, whatever items and labels are called.
 pub fn printed_operators_read_back()
     ensures { OperatorsReadBack }
 {}
 
-/// The same where labels have the names of a name section, and the others identifiers made up for them, or none.
-pub fn named_labels_read_back()
-    ensures { NamedLabelsReadBack }
+/// The same where items and labels have the names of name sections, and the others identifiers made up for them, or none.
+pub fn named_operators_read_back()
+    ensures { NamedOperatorsReadBack }
 {}
 
 /// Each data of a name section gives exactly one list of entries (appendix "Name Section" of the standard).
