@@ -180,10 +180,11 @@ impl Names<'_> {
     }
 
     /// What stands behind the dollar sign for an item, `None` where no name is given for it. `outer` is as for [`Names::name`].
-    pub fn identifier(&self, space: Space, outer: u64, index: u64) -> Option<&str>
+    pub fn identifier(&self, space: Space, outer: u32, index: u32) -> Option<&str>
         ensures { option_copied result ≡ option_map (λ n. n.content) (name_at self.now (id_of space) (outer_of space outer) index) }
     {
-        self.name(space, outer, index).map(|name| name.content)
+        self.name(space, u64::from(outer), u64::from(index))
+            .map(|name| name.content)
     }
 
     /// The name of the module.
