@@ -11,6 +11,8 @@ pub mod Operators
 pub mod Ranged
 pub mod PartRanges
 pub mod Ranges
+pub mod Counts
+pub mod GivenNames
 pub mod Fields
 pub mod Back
 pub mod Stays
