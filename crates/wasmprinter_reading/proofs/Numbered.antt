@@ -11,15 +11,14 @@ unfoldable pub rows : List Forest → Forest
 rows [] = End
 rows (g ∷ gs) = Group g (rows gs)
 
--- what is made of each, with its number
-abbrev pub counted : {A B : Type 0} → (ℕ → A → B) → ℕ → List A → List B
-counted f i [] = []
-counted f i (x ∷ xs) = f i x ∷ counted f (i + 1) xs
+-- of each with its number, from i on
+abbrev pub map_numbered : {A B : Type 0} → (ℕ → A → B) → ℕ → List A → List B
+map_numbered f i [] = []
+map_numbered f i (x ∷ xs) = f i x ∷ map_numbered f (i + 1) xs
 
 -- fields of one kind, each with its number
-pub numbered_writes : {A : Type 0} (P : A → Type 0) (write : ℕ → A → List Piece) (items : ℕ → A → Forest) →
-    ((i : ℕ) (x : A) → i < 2 ^ 64 → P x → Writes Bound (write i x) Bound (Group (items i x) End)) →
-    (i : ℕ) (xs : List A) → i + length xs ≤ 2 ^ 64 → AllByRecursion P xs → Writes Bound (numbered write i xs) Bound (rows (counted items i xs))
+pub numbered_writes : {A : Type 0} (P : A → Type 0) (write : ℕ → A → List Piece) (items : ℕ → A → Forest) → ((i : ℕ) (x : A) → i < 2 ^ 64 → P x → Writes Bound (write i x) Bound (Group (items i x) End)) →
+    (i : ℕ) (xs : List A) → i + length xs ≤ 2 ^ 64 → AllByRecursion P xs → Writes Bound (numbered write i xs) Bound (rows (map_numbered items i xs))
 unfolding numbered rows
 numbered_writes P write items law i [] small h = nothing_writes
 numbered_writes P write items law i (x ∷ xs) small h =
