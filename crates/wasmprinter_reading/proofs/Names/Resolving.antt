@@ -5,6 +5,7 @@ use Rattle.std.proofs.lemmas.Bool.{eqb-true, eqb-false, false_from_ne_true}
 use Rattle.wasmprinter_spec.specs.IndexSpaces.{declares, is_declared, are_distinct, resolve}
 use Rattle.wasmprinter_spec.specs.Labels.{Named}
 use Rattle.wasmprinter_spec.specs.Names.{identifiers_at, identifiers, AreDistinct}
+use Rattle.wasmprinter_reading.specs.NameLaws.{IdentifiersResolve}
 use Rattle.wasmprinter_reading.proofs.Bytes.{bytes_same, same_bytes}
 
 -- an item's identifier
@@ -71,3 +72,6 @@ module _ (named : ℕ → Option Named) (apart : AreDistinct named) where
 
   pub identifiers_are_distinct : (count : ℕ) → count ≤ 2 ^ 64 → are_distinct (identifiers named count) ≡ true
   identifiers_are_distinct count le = distinct_at count 0 (omega (arith, le))
+
+pub identifiers_resolve : IdentifiersResolve
+identifiers_resolve named count apart few = (identifiers_are_distinct named apart count few, λ i n lt e. resolves named apart count i n few lt e)

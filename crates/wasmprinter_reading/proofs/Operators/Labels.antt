@@ -15,6 +15,8 @@ use Rattle.wasmprinter_lexical.proofs.Printed.{is_remark, is_remark-decimal}
 use Rattle.wasmprinter_lexical.proofs.Pieces.{Free, Bound}
 use Rattle.wasmprinter_lexical.proofs.Writes.{Writes, writing, then}
 use Rattle.wasmprinter_reading.specs.Listed.{IsU32}
+pub use Rattle.wasmprinter_reading.specs.LabelLaws.{Opened}
+use Rattle.wasmprinter_reading.specs.LabelLaws.{LabelsMeanTheirBlocks}
 use Rattle.wasmprinter_spec.specs.Names.{IsNamed, IsNamedIfAny}
 use Rattle.wasmprinter_reading.proofs.Bytes.{bytes_same, same_bytes}
 use Rattle.wasmprinter_reading.proofs.Declarations.{id}
@@ -27,11 +29,6 @@ use Rattle.wasmprinter_reading.proofs.Operators.Numbers.{index_is_no_word}
 -- what a reader keeps of labels
 abbrev pub ids : List Label → Identifiers
 ids xs = map id xs
-
--- labels that are open in a list of operators, each named by the blocks around it
-abbrev pub Opened : Naming → List Label → Type 0
-Opened naming [] = Unit {0}
-Opened naming (x ∷ xs) = ((i : ℕ) × (naming i (length xs) ≡ x)) × (length xs < 2 ^ 64) × Opened naming xs
 
 module _ (naming : Naming) (apart : AreApart naming) where
   -- a label around another is one of a block with fewer blocks around it
@@ -215,3 +212,13 @@ pub labels_write : (inner xs : List Label) (ls : List ℕ) (l : ℕ) → AllByRe
 unfolding labels_pieces
 labels_write inner xs [] l h hs small = label_writes inner xs l h small
 labels_write inner xs (m ∷ ms) l h hs small = then (label_writes inner xs m h hs.0) (labels_write inner xs ms l h hs.1 small)
+
+-- ---- the law
+
+pub labels_mean_their_blocks : LabelsMeanTheirBlocks
+unfolding label_pieces
+labels_mean_their_blocks naming apart xs o l n further around =
+    (λ seen.
+        let shown : (is_hidden n further || is_hidden n []) ≡ false = rw seen refl in
+        (rw (around, shown) refl, depth-target naming apart l xs n further o around seen),
+    λ hidden. rw (around, hidden) refl)
