@@ -13,6 +13,7 @@ pub mod Ranged
 pub mod PartRanges
 pub mod Ranges
 pub mod Counts
+pub mod Spaces
 pub mod GivenNames
 pub mod Fields
 pub mod Back
