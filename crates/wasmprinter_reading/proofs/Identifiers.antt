@@ -17,6 +17,7 @@ use Rattle.wasmprinter_lexical.proofs.Grown.{onto-End}
 use Rattle.wasmprinter_lexical.proofs.Pieces.{Edge, Free, Bound}
 use Rattle.wasmprinter_lexical.proofs.Writes.{Writes, writing, both_write, identifier_writes, gap_writes, begin_name_writes, nothing_writes, free_writes, loosened}
 use Rattle.wasmprinter_reading.proofs.Items.{index-decimal}
+use Rattle.wasmprinter_reading.proofs.Declarations.{id}
 use Rattle.wasmprinter_reading.proofs.Names.Resolving.{resolves}
 
 -- ---- what they are written as
@@ -30,11 +31,6 @@ index_items (Some m) n = Name m.content End
 abbrev pub id_items : Option Named → Forest
 id_items None = End
 id_items (Some n) = Name n.content End
-
--- what a reader keeps of it
-abbrev pub id : Option Named → Option (List ℕ)
-id None = None
-id (Some n) = Some n.content
 
 -- ---- they read back
 

@@ -5,6 +5,7 @@ pub mod Vectors
 pub mod Few
 pub mod Numbered
 pub mod Items
+pub mod Declarations
 pub mod Identifiers
 pub mod Types
 pub mod Tabled
