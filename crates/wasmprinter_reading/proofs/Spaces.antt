@@ -13,23 +13,9 @@ use Rattle.wasmprinter_spec.specs.Text.Items.{identified}
 use Rattle.wasmprinter_spec.specs.Text.Imports.{ImportField, field_of}
 use Rattle.wasmprinter_spec.specs.Indexed.{space_of}
 use Rattle.wasmprinter_spec.specs.Read.{declared, same_kind, imported_ids}
-use Rattle.wasmprinter_reading.proofs.Identifiers.{id}
+use Rattle.wasmprinter_reading.proofs.Declarations.{id}
 use Rattle.wasmprinter_reading.proofs.Numbered.{map_numbered}
 use Rattle.wasmprinter_reading.proofs.Names.Resolving.{identifiers_are_distinct}
-
--- ---- identifiers in order
-
-pub identifiers_at-append : (named : ℕ → Option Named) (k a b : ℕ) → identifiers_at named k a ++ identifiers_at named (k + a) b ≡ identifiers_at named k (a + b)
-identifiers_at-append named k zero b =
-    let same : k + 0 ≡ k = omega arith in
-    let count : b ≡ 0 + b = omega arith in
-    ap (λ (x : ℕ). identifiers_at named x b) same ∙ ap (identifiers_at named k) count
-identifiers_at-append named k (suc a) b =
-    let same : k + suc a ≡ k + 1 + a = omega arith in
-    let count : suc (a + b) ≡ suc a + b = omega arith in
-    ap₂ (λ x xs. x ∷ xs) refl
-    (ap (λ (x : ℕ). identifiers_at named (k + 1) a ++ identifiers_at named x b) same ∙ identifiers_at-append named (k + 1) a b)
-    ∙ ap (identifiers_at named k) count
 
 -- they are a space, where they are apart
 pub identifiers_space : (named : ℕ → Option Named) → AreDistinct named → (count : ℕ) → count ≤ 2 ^ 64 → index_space (identifiers named count) ≡ Some (identifiers named count)
@@ -37,14 +23,10 @@ identifiers_space named apart count few = rw (identifiers_are_distinct named apa
 
 -- ---- fields of one kind
 
-kept_is : (o : Option Named) → id o ≡ option_map (λ n. n.content) o
-kept_is None = refl
-kept_is (Some n) = refl
-
 pub declared_numbered : {A : Type 0} (items : ℕ → A → Forest) (named : ℕ → Option Named) → ((i : ℕ) (x : A) → (identified (items i x)).0 ≡ id (named i)) →
     (i : ℕ) (xs : List A) → declared (map_numbered items i xs) ≡ identifiers_at named i (length xs)
 declared_numbered items named its i [] = refl
-declared_numbered items named its i (x ∷ xs) = ap₂ (λ y ys. y ∷ ys) (its i x ∙ kept_is (named i)) (declared_numbered items named its (i + 1) xs)
+declared_numbered items named its i (x ∷ xs) = ap₂ (λ y ys. y ∷ ys) (its i x) (declared_numbered items named its (i + 1) xs)
 
 pub declared-append : (fs gs : List Forest) → declared (fs ++ gs) ≡ declared fs ++ declared gs
 declared-append [] gs = refl
@@ -148,7 +130,6 @@ module _ (names : Names) (items : ℕ → ExternType → Forest)
       by (inl t) rest =
           let first : (identified (items (number_of i.value.type n) i.value.type)).0 ≡ option_map (λ n. n.content) (named (number_in kind n)) =
           its (number_of i.value.type n) i.value.type
-          ∙ ap₂ (λ k j. id (names.items (space_of k) j)) t.its_kind t.number
-          ∙ kept_is (named (number_in kind n)) in
+          ∙ ap₂ (λ k j. id (names.items (space_of k) j)) t.its_kind t.number in
           rw (t.same, t.count, first, rest, t.next)
       by (inr l) rest = rw (l.other, l.count, rest, l.next)

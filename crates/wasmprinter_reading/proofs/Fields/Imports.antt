@@ -5,10 +5,14 @@ use Rattle.std.proofs.Math.Utf8.{scalars}
 use Rattle.std.proofs.lemmas.Str.{encodes-chars, scalars-chars, is_utf8-from_IsUtf8}
 use Rattle.wasmprinter_spec.specs.Character.{class}
 use Rattle.wasmprinter_spec.specs.Grammar.{Placed}
-use Rattle.wasmprinter_spec.specs.Forest.{Forest, End, Word, String, Group}
-use Rattle.wasmprinter_spec.specs.Types.{FuncType, SubType, signature_at, ExternKind, FuncKind, TableKind, MemoryKind, GlobalKind, TagKind, ExternType, FuncExtern, TableExtern, MemoryExtern, GlobalExtern, TagExtern}
+use Rattle.wasmprinter_spec.specs.Forest.{Forest, End, Word, String, Group, onto}
+use Rattle.wasmprinter_spec.specs.Types.{FuncType, signature_at, ExternKind, FuncKind, TableKind, MemoryKind, GlobalKind, TagKind, ExternType, FuncExtern, TableExtern, MemoryExtern, GlobalExtern, TagExtern}
+use Rattle.wasmprinter_spec.specs.Row as row
+use Rattle.wasmprinter_spec.specs.Row.{Func, Tag}
+use Rattle.wasmprinter_spec.specs.Names.{AreNamed}
 use Rattle.wasmprinter_spec.specs.Placed.{Import}
 use Rattle.wasmprinter_spec.specs.IndexSpaces.{Context}
+use Rattle.wasmprinter_spec.specs.Layout.Declarations.{Scope}
 use Rattle.wasmprinter_spec.specs.Layout.Imports.{Numbers, number_of, numbers_behind, extern_pieces, import_pieces, imports_pieces}
 use Rattle.wasmprinter_spec.specs.Text.Items.{identified}
 use Rattle.wasmprinter_spec.specs.Text.Exports.{kind_of_word}
@@ -18,23 +22,19 @@ use Rattle.wasmprinter_spec.specs.Text.Globals.{global_type}
 use Rattle.wasmprinter_spec.specs.Text.Imports.{ImportField, field_of, import_field, extern_type, read_import}
 use Rattle.wasmprinter_lexical.proofs.Grown.{onto-End}
 use Rattle.wasmprinter_lexical.proofs.Pieces.{Edge, Bound}
-use Rattle.wasmprinter_lexical.proofs.Writes.{Writes, is_open, both_write, nothing_writes, gap_writes, mark_writes, break_writes, quoted_writes, line_group_gap_writes}
+use Rattle.wasmprinter_lexical.proofs.Writes.{Writes, is_open, both_write, nothing_writes, gap_writes, break_writes, quoted_writes, line_group_gap_writes}
 use Rattle.wasmprinter_reading.specs.Listed.{IsSignatureInRange, AreSignaturesInRange}
-use Rattle.wasmprinter_reading.proofs.Numbered.{rows}
+use Rattle.wasmprinter_reading.proofs.Declarations.{id}
+use Rattle.wasmprinter_reading.proofs.Identifiers.{declaration-items, declaration_writes}
+use Rattle.wasmprinter_reading.proofs.Spaces.{kind_of_extern, held_imports}
 use Rattle.wasmprinter_reading.proofs.Ranged.{IsRangedExtern, IsRangedImport}
-use Rattle.wasmprinter_reading.proofs.Fields.Headers.{header_items, header_alone_writes, type_index-items}
+use Rattle.wasmprinter_reading.proofs.Fields.Scopes.{own_id, AreScoped}
+use Rattle.wasmprinter_reading.proofs.Fields.Headers.{header_items, header_alone_writes, identified-header}
 use Rattle.wasmprinter_reading.proofs.Fields.Tables.{table_type_items, table_type_writes, table_type-items, identified-table_type}
-use Rattle.wasmprinter_reading.proofs.Fields.Memories.{memory_items, memory_type_writes, memory_type-items, identified-memory}
+use Rattle.wasmprinter_reading.proofs.Fields.Memories.{memory_type_items, memory_type_writes, memory_type-items, identified-memory_type}
 use Rattle.wasmprinter_reading.proofs.Fields.Globals.{global_type_items, global_type_writes, global_type-items, identified-global_type}
 
 -- ---- what imports are written as
-
-abbrev pub kind_of_extern : ExternType → ExternKind
-kind_of_extern (FuncExtern i) = FuncKind
-kind_of_extern (TableExtern t) = TableKind
-kind_of_extern (MemoryExtern t) = MemoryKind
-kind_of_extern (GlobalExtern t) = GlobalKind
-kind_of_extern (TagExtern i) = TagKind
 
 abbrev pub extern_word : ExternType → List ℕ
 extern_word (FuncExtern i) = codes "func"
@@ -43,23 +43,22 @@ extern_word (MemoryExtern t) = codes "memory"
 extern_word (GlobalExtern t) = codes "global"
 extern_word (TagExtern i) = codes "tag"
 
-abbrev pub extern_items : List SubType → ExternType → Forest
-extern_items ts (FuncExtern i) = header_items (signature_at ts i) i End
-extern_items ts (TableExtern t) = table_type_items t
-extern_items ts (MemoryExtern t) = memory_items t
-extern_items ts (GlobalExtern t) = global_type_items t
-extern_items ts (TagExtern i) = header_items (signature_at ts i) i End
+-- with its number
+abbrev pub extern_items : Scope → ℕ → ExternType → Forest
+extern_items s n (FuncExtern i) = header_items s Func (Some n) n i End
+extern_items s n (TableExtern t) = onto (own_id s row.Table n) (table_type_items s.names t)
+extern_items s n (MemoryExtern t) = onto (own_id s row.Memory n) (memory_type_items t)
+extern_items s n (GlobalExtern t) = onto (own_id s row.Global n) (global_type_items s.names t)
+extern_items s n (TagExtern i) = header_items s Tag None n i End
 
 -- what an import holds behind its word
-abbrev pub import_items : List SubType → Import → Forest
-import_items ts i = String i.source (String i.name (Group (Word (extern_word i.type) (extern_items ts i.type)) End))
+abbrev pub import_items : Scope → ℕ → Import → Forest
+import_items s n i = String i.source (String i.name (Group (Word (extern_word i.type) (extern_items s n i.type)) End))
 
--- the field as it is sorted
-abbrev pub import_held : List SubType → Import → ImportField
-import_held ts i = field_of i.source i.name (extern_items ts i.type) (kind_of_extern i.type)
-
-abbrev pub imports_items : List SubType → List (Placed Import) → Forest
-imports_items ts is = rows (map (λ i. Word (codes "import") (import_items ts i.value)) is)
+abbrev pub imports_items : Scope → Numbers → List (Placed Import) → Forest
+imports_items s n [] = End
+imports_items s n (i ∷ is) =
+    Group (Word (codes "import") (import_items s (number_of i.value.type n) i.value)) (imports_items s (numbers_behind i.value.type n) is)
 
 -- ---- their pieces write it
 
@@ -92,32 +91,41 @@ room_behind t n more h =
     by (GlobalExtern i) f t m g k = record { functions = omega arith; tables = omega arith; memories = omega arith; globals = g; tags = omega arith }
     by (TagExtern i) f t m g k = record { functions = omega arith; tables = omega arith; memories = omega arith; globals = omega arith; tags = k }
 
-module _ (ts : List SubType) (s : AreSignaturesInRange (signature_at ts)) where
+module _ (s : Scope) (named : AreNamed s.names) (ranged : AreSignaturesInRange (signature_at s.types)) where
   extern_writes : {a : Edge} (n : ℕ) (t : ExternType) → is_open a ≡ true → n < 2 ^ 64 → IsRangedExtern t →
-      Writes a (extern_pieces ts n t) Bound (Group (Word (extern_word t) (extern_items ts t)) End)
+      Writes a (extern_pieces s n t) Bound (Group (Word (extern_word t) (extern_items s n t)) End)
   unfolding extern_pieces class
-  extern_writes n (FuncExtern i) e small h = line_group_gap_writes (codes "func") _ e refl (header_alone_writes (signature_at ts i) n i small (s i) h)
-  extern_writes n (TableExtern t) e small h = line_group_gap_writes (codes "table") _ e refl (mark_writes refl small (gap_writes refl (table_type_writes t h)))
-  extern_writes n (MemoryExtern t) e small h = line_group_gap_writes (codes "memory") _ e refl (mark_writes refl small (gap_writes refl (memory_type_writes t h)))
-  extern_writes n (GlobalExtern t) e small h = line_group_gap_writes (codes "global") _ e refl (mark_writes refl small (gap_writes refl (global_type_writes t h)))
-  extern_writes n (TagExtern i) e small h = line_group_gap_writes (codes "tag") _ e refl (header_alone_writes (signature_at ts i) n i small (s i) h)
+  extern_writes n (FuncExtern i) e small h = line_group_gap_writes (codes "func") _ e refl (header_alone_writes s named ranged Func (Some n) n i small h)
+  extern_writes n (TableExtern t) e small h =
+      line_group_gap_writes (codes "table") _ e refl
+      (both_write (declaration_writes (s.names.items row.Table n) n (named.items row.Table n) small)
+      (gap_writes {a = Bound} refl (table_type_writes s.names named t h)))
+  extern_writes n (MemoryExtern t) e small h =
+      line_group_gap_writes (codes "memory") _ e refl
+      (both_write (declaration_writes (s.names.items row.Memory n) n (named.items row.Memory n) small)
+      (gap_writes {a = Bound} refl (memory_type_writes t h)))
+  extern_writes n (GlobalExtern t) e small h =
+      line_group_gap_writes (codes "global") _ e refl
+      (both_write (declaration_writes (s.names.items row.Global n) n (named.items row.Global n) small)
+      (gap_writes {a = Bound} refl (global_type_writes s.names named t h)))
+  extern_writes n (TagExtern i) e small h = line_group_gap_writes (codes "tag") _ e refl (header_alone_writes s named ranged Tag None n i small h)
 
   import_writes : (n : ℕ) (i : Placed Import) → n < 2 ^ 64 → IsRangedImport i.value →
-      Writes Bound (import_pieces ts n i) Bound (Group (Word (codes "import") (import_items ts i.value)) End)
+      Writes Bound (import_pieces s n i) Bound (Group (Word (codes "import") (import_items s n i.value)) End)
   unfolding import_pieces class
   import_writes n i small h =
-      let inner : Forest = Group (Word (extern_word i.value.type) (extern_items ts i.value.type)) End in
+      let inner : Forest = Group (Word (extern_word i.value.type) (extern_items s n i.value.type)) End in
       let source : scalars (chars i.value.source) ≡ true = scalars-chars i.value.source h.source in
       let name : scalars (chars i.value.name) ≡ true = scalars-chars i.value.name h.name in
-      let written : Writes Bound (import_pieces ts n i) Bound
+      let written : Writes Bound (import_pieces s n i) Bound
       (Group (Word (codes "import") (String (encode_utf8_all (chars i.value.source)) (String (encode_utf8_all (chars i.value.name)) inner))) End) =
       break_writes (line_group_gap_writes (codes "import") _ refl refl
       (quoted_writes source (gap_writes refl (quoted_writes name (gap_writes refl (extern_writes n i.value.type refl small h.type)))))) in
       rw (encodes-chars i.value.source h.source, encodes-chars i.value.name h.name) at written
 
   pub imports_write : (n : Numbers) (is : List (Placed Import)) → LeaveRoom n (length is) → AllByRecursion (λ i. IsRangedImport i.value) is →
-      Writes Bound (imports_pieces ts n is) Bound (imports_items ts is)
-  unfolding imports_pieces rows
+      Writes Bound (imports_pieces s n is) Bound (imports_items s n is)
+  unfolding imports_pieces
   imports_write n [] room h = nothing_writes
   imports_write n (i ∷ is) room h =
       both_write (import_writes (number_of i.value.type n) i (number_small i.value.type n (length is) room) h.0)

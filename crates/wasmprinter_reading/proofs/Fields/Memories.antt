@@ -19,7 +19,8 @@ use Rattle.wasmprinter_lexical.proofs.Numbers.{natural-hexadecimal, is_word-hexa
 use Rattle.wasmprinter_lexical.proofs.Pieces.{Free, Bound}
 use Rattle.wasmprinter_lexical.proofs.Writes.{Writes, writing, both_write, nothing_writes, gap_writes, break_writes, line_group_gap_writes}
 use Rattle.wasmprinter_reading.proofs.Ranged.{IsRangedPage, IsRangedMemory}
-use Rattle.wasmprinter_reading.proofs.Identifiers.{id, declaration-items, declaration_writes}
+use Rattle.wasmprinter_reading.proofs.Identifiers.{declaration-items, declaration_writes}
+use Rattle.wasmprinter_reading.proofs.Declarations.{id}
 use Rattle.wasmprinter_reading.proofs.Fields.Scopes.{own_id}
 use Rattle.wasmprinter_reading.proofs.Fields.Limits.{wide_items, limits_items, wide_writes, limits_write, IsNoNumber, address_type-items, limits-items, identified-limits}
 

@@ -4,22 +4,23 @@ use Rattle.wasmprinter_spec.specs.Character.{class}
 use Rattle.wasmprinter_spec.specs.Grammar.{Placed}
 use Rattle.wasmprinter_spec.specs.Forest.{Forest, End, Word, Group, onto}
 use Rattle.wasmprinter_spec.specs.Numeral.{natural, numeral}
-use Rattle.wasmprinter_spec.specs.Types.{HeapType, Index, SubType, TableType, signature_at}
+use Rattle.wasmprinter_spec.specs.Types.{HeapType, Index, TableType, signature_at}
+use Rattle.wasmprinter_spec.specs.Row as row
+use Rattle.wasmprinter_spec.specs.Names.{Names, AreNamed}
 use Rattle.wasmprinter_spec.specs.Operator.{Operator}
 use Rattle.wasmprinter_spec.specs.Placed.{Table}
 use Rattle.wasmprinter_spec.specs.Module.{without_places, table_without_places}
 use Rattle.wasmprinter_spec.specs.Indexed.{Counts}
 use Rattle.wasmprinter_spec.specs.Limits.{HasNoEmptyInit}
 use Rattle.wasmprinter_spec.specs.IndexSpaces.{Context}
-use Rattle.wasmprinter_spec.specs.Piece as piece
-use Rattle.wasmprinter_spec.specs.Layout.Expressions.{in_line}
+use Rattle.wasmprinter_spec.specs.Layout.Declarations.{Scope}
 use Rattle.wasmprinter_spec.specs.Layout.Tables.{table_type_pieces, init_pieces, table_pieces}
 use Rattle.wasmprinter_spec.specs.Text.Items.{identified}
 use Rattle.wasmprinter_spec.specs.Text.Types.{ref_named, ref_group}
 use Rattle.wasmprinter_spec.specs.Text.Tables.{table_type, init, read_table}
 use Rattle.wasmprinter_lexical.proofs.Grown.{onto_assoc}
-use Rattle.wasmprinter_lexical.proofs.Pieces.{Edge, Free, Bound}
-use Rattle.wasmprinter_lexical.proofs.Writes.{Writes, is_open, both_write, nothing_writes, gap_writes, mark_writes, break_writes, line_group_gap_writes}
+use Rattle.wasmprinter_lexical.proofs.Pieces.{Free, Bound}
+use Rattle.wasmprinter_lexical.proofs.Writes.{Writes, both_write, nothing_writes, gap_writes, break_writes, line_group_gap_writes}
 use Rattle.wasmprinter_reading.specs.Listed.{AreSignaturesInRange}
 use Rattle.wasmprinter_reading.specs.OperatorLaws.{HaveSameTypes}
 use Rattle.wasmprinter_reading.proofs.Items.{leading_item-reads}
@@ -27,45 +28,44 @@ use Rattle.wasmprinter_reading.proofs.Ranged.{IsRangedTableType, IsRangedInit, I
 use Rattle.wasmprinter_reading.proofs.Types.Trees.{ref_items_by, ref_items, ref_writes}
 use Rattle.wasmprinter_reading.proofs.Types.Back.{ref_item}
 use Rattle.wasmprinter_reading.proofs.Fields.Limits.{wide_items, limits_items, wide_writes, limits_write, IsNoNumber, address_type-items, limits-items, identified-limits}
+use Rattle.wasmprinter_reading.proofs.Declarations.{id}
+use Rattle.wasmprinter_reading.proofs.Identifiers.{declaration-items, declaration_writes}
+use Rattle.wasmprinter_reading.proofs.Fields.Scopes.{own_id, AreScoped}
 use Rattle.wasmprinter_reading.proofs.Fields.Expressions.{constant_items, in_line_writes, AreIndexed, expression-items}
 
 -- ---- what tables are written as
 
-abbrev pub table_type_items : TableType → Forest
-table_type_items t = onto (wide_items t.wide) (onto (limits_items t.limits) (ref_items t.element))
+abbrev pub table_type_items : Names → TableType → Forest
+table_type_items names t = onto (wide_items t.wide) (onto (limits_items t.limits) (ref_items names t.element))
 
-abbrev pub init_items : List SubType → Option (List Operator) → Forest
-init_items ts None = End
-init_items ts (Some os) = constant_items ts os
+abbrev pub init_items : Scope → Option (List Operator) → Forest
+init_items s None = End
+init_items s (Some os) = constant_items s os
 
 -- what a table holds behind its word
-abbrev pub table_items : List SubType → Table Operator → Forest
-table_items ts t = onto (table_type_items t.type) (init_items ts t.init)
+abbrev pub table_items : Scope → ℕ → Table Operator → Forest
+table_items s i t = onto (own_id s row.Table i) (onto (table_type_items s.names t.type) (init_items s t.init))
 
 -- ---- their pieces write it
 
-pub table_type_writes : (t : TableType) → IsRangedTableType t → Writes Free (table_type_pieces t) Bound (table_type_items t)
+pub table_type_writes : (names : Names) → AreNamed names → (t : TableType) → IsRangedTableType t → Writes Free (table_type_pieces names t) Bound (table_type_items names t)
 unfolding table_type_pieces
-table_type_writes t h =
-    both_write (wide_writes t.wide) (both_write (limits_write t.limits h.min h.max) (gap_writes refl (ref_writes t.element h.element)))
+table_type_writes names named t h =
+    both_write (wide_writes t.wide) (both_write (limits_write t.limits h.min h.max) (gap_writes refl (ref_writes names named t.element h.element)))
 
--- a table by itself, or imported, with its number
-pub numbered_table_writes : {a : Edge} (i : ℕ) (t : TableType) {qs : List piece.Piece} {f : Forest} → is_open a ≡ true → i < 2 ^ 64 → IsRangedTableType t →
-    Writes Bound qs Bound f →
-    Writes a (piece.Mark i ∷ (piece.Gap ∷ (table_type_pieces t ++ qs))) Bound (onto (table_type_items t) f)
-numbered_table_writes i t e small h w = mark_writes e small (gap_writes refl (both_write (table_type_writes t h) w))
-
-module _ (ts : List SubType) (s : AreSignaturesInRange (signature_at ts)) where
-  init_writes : (i : Option (List (Placed Operator))) → IsRangedInit i → Writes Bound (init_pieces ts i) Bound (init_items ts (option_map without_places i))
+module _ (s : Scope) (named : AreNamed s.names) (ranged : AreSignaturesInRange (signature_at s.types)) where
+  init_writes : (i : Option (List (Placed Operator))) → IsRangedInit i → Writes Bound (init_pieces s i) Bound (init_items s (option_map without_places i))
   unfolding init_pieces
   init_writes None h = nothing_writes
-  init_writes (Some os) h = gap_writes refl (in_line_writes ts s os h)
+  init_writes (Some os) h = gap_writes refl (in_line_writes s named ranged os h)
 
   pub table_writes : (i : ℕ) (t : Placed (Table (Placed Operator))) → i < 2 ^ 64 → IsRangedTable t.value →
-      Writes Bound (table_pieces ts i t) Bound (Group (Word (codes "table") (table_items ts (table_without_places t.value))) End)
+      Writes Bound (table_pieces s i t) Bound (Group (Word (codes "table") (table_items s i (table_without_places t.value))) End)
   unfolding table_pieces class
   table_writes i t small h =
-      break_writes (line_group_gap_writes (codes "table") _ refl refl (numbered_table_writes i t.value.type refl small h.type (init_writes t.value.init h.init)))
+      break_writes (line_group_gap_writes (codes "table") _ refl refl
+      (both_write (declaration_writes (s.names.items row.Table i) i (named.items row.Table i) small)
+      (gap_writes {a = Bound} refl (both_write (table_type_writes s.names named t.value.type h.type) (init_writes t.value.init h.init)))))
 
 -- ---- they read back
 
