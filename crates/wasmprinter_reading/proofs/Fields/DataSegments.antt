@@ -4,7 +4,9 @@ use Rattle.std.proofs.lemmas.Bool.{eqb-true}
 use Rattle.wasmprinter_spec.specs.Character.{class}
 use Rattle.wasmprinter_spec.specs.Grammar.{Placed, ◌>>=◌}
 use Rattle.wasmprinter_spec.specs.Forest.{Forest, End, Word, String, Group, onto}
-use Rattle.wasmprinter_spec.specs.Types.{SubType, signature_at}
+use Rattle.wasmprinter_spec.specs.Types.{signature_at}
+use Rattle.wasmprinter_spec.specs.Row as row
+use Rattle.wasmprinter_spec.specs.Names.{AreNamed}
 use Rattle.wasmprinter_spec.specs.Operator.{Operator}
 use Rattle.wasmprinter_spec.specs.Placed.{DataMode, PassiveData, ActiveData, Data, data_of}
 use Rattle.wasmprinter_spec.specs.Module.{without_places, data_mode_without_places, data_without_places}
@@ -13,87 +15,95 @@ use Rattle.wasmprinter_spec.specs.Indexed.{Counts}
 use Rattle.wasmprinter_spec.specs.IndexSpaces.{index, Context}
 use Rattle.wasmprinter_spec.specs.Piece as piece
 use Rattle.wasmprinter_spec.specs.Layout.Groups.{line_group_gap}
-use Rattle.wasmprinter_spec.specs.Layout.Expressions.{in_line}
+use Rattle.wasmprinter_spec.specs.Layout.Declarations.{Scope, item_index}
 use Rattle.wasmprinter_spec.specs.Layout.DataSegments.{named_memory, data_mode_pieces, shown_bytes, data_pieces}
 use Rattle.wasmprinter_spec.specs.Text.Items.{identified}
 use Rattle.wasmprinter_spec.specs.Text.DataSegments.{strings, with_bytes, active_in, segment, read_data}
 use Rattle.wasmprinter_lexical.proofs.Pieces.{Free, Bound}
-use Rattle.wasmprinter_lexical.proofs.Writes.{Writes, both_write, nothing_writes, gap_writes, mark_writes, break_writes, word_writes, number_writes, quoted_bytes_writes, line_group_gap_writes}
+use Rattle.wasmprinter_lexical.proofs.Writes.{Writes, both_write, nothing_writes, gap_writes, break_writes, word_writes, quoted_bytes_writes, line_group_gap_writes}
 use Rattle.wasmprinter_reading.specs.Listed.{AreSignaturesInRange}
 use Rattle.wasmprinter_reading.specs.OperatorLaws.{HaveSameTypes}
-use Rattle.wasmprinter_reading.proofs.Items.{index-decimal}
+use Rattle.wasmprinter_reading.proofs.Declarations.{id}
+use Rattle.wasmprinter_reading.proofs.Identifiers.{declaration-items, declaration_writes, index_writes}
+use Rattle.wasmprinter_reading.proofs.Fields.Scopes.{own_id, own_index, AreScoped, own_index-reads}
 use Rattle.wasmprinter_reading.proofs.Ranged.{IsRangedExpression, IsRangedDataMode, IsRangedData}
 use Rattle.wasmprinter_reading.proofs.Fields.Expressions.{constant_held, constant_group_writes, AreIndexed, constant_group-items, IsOffset, offset_stands, no_offset}
 
 -- ---- what data segments are written as
 
 -- memory 0 is left out
-abbrev pub named_memory_items_by : Bool → ℕ → Forest → Forest
-named_memory_items_by true m f = f
-named_memory_items_by false m f = Group (Word (codes "memory") (Word (decimal m) End)) f
+abbrev pub named_memory_items_by : Scope → Bool → ℕ → Forest → Forest
+named_memory_items_by s true m f = f
+named_memory_items_by s false m f = Group (Word (codes "memory") (own_index s row.Memory m)) f
 
-abbrev pub named_memory_items : ℕ → Forest → Forest
-named_memory_items m f = named_memory_items_by (m == 0) m f
+abbrev pub named_memory_items : Scope → ℕ → Forest → Forest
+named_memory_items s m f = named_memory_items_by s (m == 0) m f
 
 -- the bytes, or three points in a skeleton
 abbrev pub bytes_items : Bool → List ℕ → Forest
 bytes_items true bs = Word (codes "...") End
 bytes_items false bs = String bs End
 
-abbrev pub data_mode_items : List SubType → DataMode Operator → Forest → Forest
-data_mode_items ts PassiveData f = f
-data_mode_items ts (ActiveData m offset) f = named_memory_items m (Group (constant_held ts (codes "offset") offset) f)
+abbrev pub data_mode_items : Scope → DataMode Operator → Forest → Forest
+data_mode_items s PassiveData f = f
+data_mode_items s (ActiveData m offset) f = named_memory_items s m (Group (constant_held s (codes "offset") offset) f)
+
+-- a data segment without its identifier
+abbrev pub segment_items : Scope → Bool → Data Operator → Forest
+segment_items s skeleton d = data_mode_items s d.mode (bytes_items skeleton d.bytes)
 
 -- what a data segment holds behind its word
-abbrev pub data_items : List SubType → Bool → Data Operator → Forest
-data_items ts skeleton d = data_mode_items ts d.mode (bytes_items skeleton d.bytes)
+abbrev pub data_items : Scope → Bool → ℕ → Data Operator → Forest
+data_items s skeleton i d = onto (own_id s row.Data i) (segment_items s skeleton d)
 
 -- ---- their pieces write it
-
-named_memory_writes : (m : ℕ) → m < 2 ^ 32 → {qs : List piece.Piece} {f : Forest} → Writes Free qs Free f →
-    Writes Free (named_memory m ++ qs) Free (named_memory_items m f)
-unfolding class
-named_memory_writes m h {qs} {f} w = by (m == 0)
-  where
-    by : (t : Bool) →
-        Writes Free (cond t [] (line_group_gap (codes "memory") (piece.Number m ∷ []) ++ (piece.Gap ∷ [])) ++ qs) Free (named_memory_items_by t m f)
-    by true = w
-    by false =
-        let small : m < 2 ^ 64 = omega (arith, h) in
-        both_write (both_write (line_group_gap_writes {b = Bound} (codes "memory") _ refl refl (number_writes small nothing_writes))
-        (gap_writes refl nothing_writes)) w
 
 bytes_write : (skeleton : Bool) (bs : List ℕ) → AreBytes bs → Writes Free (shown_bytes skeleton bs) Bound (bytes_items skeleton bs)
 unfolding class
 bytes_write true bs h = word_writes refl nothing_writes
 bytes_write false bs h = quoted_bytes_writes h nothing_writes
 
-module _ (ts : List SubType) (s : AreSignaturesInRange (signature_at ts)) where
+module _ (s : Scope) (named : AreNamed s.names) (ranged : AreSignaturesInRange (signature_at s.types)) where
+  named_memory_writes : (m : ℕ) → m < 2 ^ 32 → {qs : List piece.Piece} {f : Forest} → Writes Free qs Free f →
+      Writes Free (named_memory s m ++ qs) Free (named_memory_items s m f)
+  unfolding class
+  named_memory_writes m h {qs} {f} w = by (m == 0)
+    where
+      by : (t : Bool) →
+          Writes Free (cond t [] (line_group_gap (codes "memory") (item_index s row.Memory m) ++ (piece.Gap ∷ [])) ++ qs) Free (named_memory_items_by s t m f)
+      by true = w
+      by false =
+          let small : m < 2 ^ 64 = omega (arith, h) in
+          both_write (both_write
+          (line_group_gap_writes {b = Bound} (codes "memory") _ refl refl (index_writes (s.names.items row.Memory m) m (named.items row.Memory m) small))
+          (gap_writes refl nothing_writes)) w
+
   data_mode_writes : (m : DataMode (Placed Operator)) → IsRangedDataMode m →
-      Writes Free (data_mode_pieces ts m) Free (data_mode_items ts (data_mode_without_places m) End)
+      Writes Free (data_mode_pieces s m) Free (data_mode_items s (data_mode_without_places m) End)
   unfolding data_mode_pieces class
   data_mode_writes PassiveData h = nothing_writes
   data_mode_writes (ActiveData m offset) h =
-      named_memory_writes m h.0 (both_write (constant_group_writes ts s (codes "offset") offset refl refl h.1) (gap_writes refl nothing_writes))
+      named_memory_writes m h.0 (both_write (constant_group_writes s named ranged (codes "offset") offset refl refl h.1) (gap_writes refl nothing_writes))
 
-  named_memory_onto : (t : Bool) (m : ℕ) (g f : Forest) → onto (named_memory_items_by t m (Group g End)) f ≡ named_memory_items_by t m (Group g f)
+  named_memory_onto : (t : Bool) (m : ℕ) (g f : Forest) → onto (named_memory_items_by s t m (Group g End)) f ≡ named_memory_items_by s t m (Group g f)
   named_memory_onto true m g f = refl
   named_memory_onto false m g f = refl
 
-  data_mode_onto : (m : DataMode Operator) (f : Forest) → onto (data_mode_items ts m End) f ≡ data_mode_items ts m f
+  data_mode_onto : (m : DataMode Operator) (f : Forest) → onto (data_mode_items s m End) f ≡ data_mode_items s m f
   data_mode_onto PassiveData f = refl
-  data_mode_onto (ActiveData m offset) f = named_memory_onto (m == 0) m (constant_held ts (codes "offset") offset) f
+  data_mode_onto (ActiveData m offset) f = named_memory_onto (m == 0) m (constant_held s (codes "offset") offset) f
 
   pub data_writes : (skeleton : Bool) (i : ℕ) (d : Placed (Data (Placed Operator))) → i < 2 ^ 64 → IsRangedData d.value →
-      Writes Bound (data_pieces skeleton ts i d) Bound (Group (Word (codes "data") (data_items ts skeleton (data_without_places d.value))) End)
+      Writes Bound (data_pieces skeleton s i d) Bound (Group (Word (codes "data") (data_items s skeleton i (data_without_places d.value))) End)
   unfolding data_pieces class
   data_writes skeleton i d small h =
       let mode : DataMode Operator = data_mode_without_places d.value.mode in
       let bytes : Forest = bytes_items skeleton d.value.bytes in
-      let written : Writes Bound (data_pieces skeleton ts i d) Bound (Group (Word (codes "data") (onto (data_mode_items ts mode End) bytes)) End) =
+      let held : Writes Bound (data_pieces skeleton s i d) Bound (Group (Word (codes "data") (onto (own_id s row.Data i) (onto (data_mode_items s mode End) bytes))) End) =
       break_writes (line_group_gap_writes (codes "data") _ refl refl
-      (mark_writes refl small (gap_writes refl (both_write (data_mode_writes d.value.mode h.mode) (bytes_write skeleton d.value.bytes h.bytes))))) in
-      rw (data_mode_onto mode bytes) at written
+      (both_write (declaration_writes (s.names.items row.Data i) i (named.items row.Data i) small)
+      (gap_writes {a = Bound} refl (both_write (data_mode_writes d.value.mode h.mode) (bytes_write skeleton d.value.bytes h.bytes))))) in
+      rw (data_mode_onto mode bytes) at held
 
 -- ---- they read back
 

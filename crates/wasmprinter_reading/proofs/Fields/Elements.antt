@@ -4,24 +4,30 @@ use Rattle.std.specs.List.{AllByRecursion}
 use Rattle.wasmprinter_spec.specs.Character.{class}
 use Rattle.wasmprinter_spec.specs.Grammar.{Placed, ◌>>=◌}
 use Rattle.wasmprinter_spec.specs.Forest.{Forest, End, Word, Group, onto}
-use Rattle.wasmprinter_spec.specs.Types.{HeapType, Index, RefType, SubType, signature_at}
+use Rattle.wasmprinter_spec.specs.Types.{HeapType, Index, RefType, signature_at}
+use Rattle.wasmprinter_spec.specs.Row as row
+use Rattle.wasmprinter_spec.specs.Names.{AreNamed}
 use Rattle.wasmprinter_spec.specs.Operator.{Operator}
 use Rattle.wasmprinter_spec.specs.Placed.{Mode, Passive, Declared, Active, Items, Functions, Expressions, element_of, ElementEntry}
 use Rattle.wasmprinter_spec.specs.Module.{without_places, mode_without_places, items_without_places, element_without_places}
 use Rattle.wasmprinter_spec.specs.Indexed.{Counts}
 use Rattle.wasmprinter_spec.specs.IndexSpaces.{index, Context}
 use Rattle.wasmprinter_spec.specs.Piece as piece
-use Rattle.wasmprinter_spec.specs.Layout.Expressions.{in_line, constant_group}
+use Rattle.wasmprinter_spec.specs.Layout.Declarations.{Scope}
+use Rattle.wasmprinter_spec.specs.Layout.Expressions.{constant_group}
 use Rattle.wasmprinter_spec.specs.Layout.Elements as layout
 use Rattle.wasmprinter_spec.specs.Layout.Elements.{named_table, mode_pieces, items_pieces, shown_items, element_pieces}
 use Rattle.wasmprinter_spec.specs.Text.Items.{identified}
 use Rattle.wasmprinter_spec.specs.Text.Types.{ref_named, ref_group}
 use Rattle.wasmprinter_spec.specs.Text.Elements.{function_indices, expressions, typed_items, items, with_mode, active_in, segment, read_element}
 use Rattle.wasmprinter_lexical.proofs.Pieces.{Free, Bound}
-use Rattle.wasmprinter_lexical.proofs.Writes.{Writes, both_write, nothing_writes, gap_writes, mark_writes, break_writes, word_writes, number_writes, line_group_gap_writes}
+use Rattle.wasmprinter_lexical.proofs.Writes.{Writes, both_write, nothing_writes, gap_writes, break_writes, word_writes, line_group_gap_writes}
 use Rattle.wasmprinter_reading.specs.Listed.{AreSignaturesInRange}
 use Rattle.wasmprinter_reading.specs.OperatorLaws.{HaveSameTypes}
-use Rattle.wasmprinter_reading.proofs.Items.{index-decimal, leading_item-reads}
+use Rattle.wasmprinter_reading.proofs.Items.{leading_item-reads}
+use Rattle.wasmprinter_reading.proofs.Declarations.{id}
+use Rattle.wasmprinter_reading.proofs.Identifiers.{index_items, declaration-items, declaration_writes, index_writes}
+use Rattle.wasmprinter_reading.proofs.Fields.Scopes.{own_id, own_index, AreScoped, own_index-reads}
 use Rattle.wasmprinter_reading.proofs.Ranged.{IsRangedExpression, IsNamedTable, IsRangedMode, AreRangedItems, IsRangedElement}
 use Rattle.wasmprinter_reading.proofs.Types.Ranged.{IsRangedHeap}
 use Rattle.wasmprinter_reading.proofs.Types.Trees.{ref_items_by, ref_items, ref_writes}
@@ -30,24 +36,24 @@ use Rattle.wasmprinter_reading.proofs.Fields.Expressions.{constant_held, constan
 
 -- ---- what element segments are written as
 
--- numbers in a row
-abbrev pub numbers_items : List ℕ → Forest
-numbers_items [] = End
-numbers_items (i ∷ is) = Word (decimal i) (numbers_items is)
-
 -- the table stands there where the bytes name it
-abbrev pub named_table_items : Bool → ℕ → Forest → Forest
-named_table_items true t f = Group (Word (codes "table") (Word (decimal t) End)) f
-named_table_items false t f = f
+abbrev pub named_table_items : Scope → Bool → ℕ → Forest → Forest
+named_table_items s true t f = Group (Word (codes "table") (own_index s row.Table t)) f
+named_table_items s false t f = f
 
-module _ (ts : List SubType) where
+module _ (s : Scope) where
+  -- functions in a row
+  abbrev pub function_row : List ℕ → Forest
+  function_row [] = End
+  function_row (i ∷ is) = onto (own_index s row.Func i) (function_row is)
+
   abbrev pub expressions_items : List (List Operator) → Forest
   expressions_items [] = End
-  expressions_items (e ∷ es) = Group (constant_held ts (codes "item") e) (expressions_items es)
+  expressions_items (e ∷ es) = Group (constant_held s (codes "item") e) (expressions_items es)
 
   abbrev pub items_items : Items Operator → Forest
-  items_items (Functions is) = Word (codes "func") (numbers_items is)
-  items_items (Expressions t es) = onto (ref_items t) (expressions_items es)
+  items_items (Functions is) = Word (codes "func") (function_row is)
+  items_items (Expressions t es) = onto (ref_items s.names t) (expressions_items es)
 
   -- the items, or three points in a skeleton
   abbrev pub shown_items_items : Bool → Items Operator → Forest
@@ -58,61 +64,70 @@ module _ (ts : List SubType) where
   abbrev pub mode_items : Bool → Mode Operator → Forest → Forest
   mode_items names Passive f = f
   mode_items names Declared f = Word (codes "declare") f
-  mode_items names (Active t offset) f = named_table_items names t (Group (constant_held ts (codes "offset") offset) f)
+  mode_items names (Active t offset) f = named_table_items s names t (Group (constant_held s (codes "offset") offset) f)
+
+  -- an element segment without its identifier
+  abbrev pub segment_items : Bool → ElementEntry → Forest
+  segment_items skeleton e =
+      mode_items e.names_table (mode_without_places e.element.mode) (shown_items_items skeleton (items_without_places e.element.items))
 
   -- what an element segment holds behind its word
-  abbrev pub element_items : Bool → ElementEntry → Forest
-  element_items skeleton e =
-      mode_items e.names_table (mode_without_places e.element.mode) (shown_items_items skeleton (items_without_places e.element.items))
+  abbrev pub element_items : Bool → ℕ → ElementEntry → Forest
+  element_items skeleton i e = onto (own_id s row.Elem i) (segment_items skeleton e)
 
 -- ---- their pieces write it
 
-numbers_write : (is : List ℕ) → AllByRecursion (λ i. i < 2 ^ 32) is → Writes Bound (layout.function_items is) Bound (numbers_items is)
-unfolding layout.function_items
-numbers_write [] h = nothing_writes
-numbers_write (i ∷ is) h = let small : i < 2 ^ 64 = omega (arith, h.0) in gap_writes refl (number_writes small (numbers_write is h.1))
+module _ (s : Scope) (named : AreNamed s.names) (ranged : AreSignaturesInRange (signature_at s.types)) where
+  functions_write : (is : List ℕ) → AllByRecursion (λ i. i < 2 ^ 32) is → Writes Bound (layout.function_items s is) Bound (function_row s is)
+  unfolding layout.function_items
+  functions_write [] h = nothing_writes
+  functions_write (i ∷ is) h =
+      let small : i < 2 ^ 64 = omega (arith, h.0) in
+      gap_writes refl (both_write (index_writes (s.names.items row.Func i) i (named.items row.Func i) small) (functions_write is h.1))
 
-module _ (ts : List SubType) (s : AreSignaturesInRange (signature_at ts)) where
   expressions_write : (es : List (List (Placed Operator))) → AllByRecursion IsRangedExpression es →
-      Writes Bound (layout.expression_items ts es) Bound (expressions_items ts (map without_places es))
+      Writes Bound (layout.expression_items s es) Bound (expressions_items s (map without_places es))
   unfolding layout.expression_items class
   expressions_write [] h = nothing_writes
-  expressions_write (e ∷ es) h = gap_writes refl (both_write (constant_group_writes ts s (codes "item") e refl refl h.0) (expressions_write es h.1))
+  expressions_write (e ∷ es) h =
+      gap_writes refl (both_write (constant_group_writes s named ranged (codes "item") e refl refl h.0) (expressions_write es h.1))
 
-  items_write : (is : Items (Placed Operator)) → AreRangedItems is → Writes Free (items_pieces ts is) Bound (items_items ts (items_without_places is))
+  items_write : (is : Items (Placed Operator)) → AreRangedItems is → Writes Free (items_pieces s is) Bound (items_items s (items_without_places is))
   unfolding items_pieces class
-  items_write (Functions is) h = word_writes refl (numbers_write is h)
-  items_write (Expressions t es) h = both_write (ref_writes t h.0) (expressions_write es h.1)
+  items_write (Functions is) h = word_writes refl (functions_write is h)
+  items_write (Expressions t es) h = both_write (ref_writes s.names named t h.0) (expressions_write es h.1)
 
   shown_items_write : (skeleton : Bool) (is : Items (Placed Operator)) → AreRangedItems is →
-      Writes Free (shown_items skeleton ts is) Bound (shown_items_items ts skeleton (items_without_places is))
+      Writes Free (shown_items skeleton s is) Bound (shown_items_items s skeleton (items_without_places is))
   unfolding class
   shown_items_write true is h = word_writes refl nothing_writes
   shown_items_write false is h = items_write is h
 
   -- the mode, and a blank, before the items
   mode_writes : (names : Bool) (m : Mode (Placed Operator)) → IsRangedMode names m → {qs : List piece.Piece} {f : Forest} → Writes Free qs Bound f →
-      Writes Free (mode_pieces ts names m ++ (piece.Gap ∷ qs)) Bound (mode_items ts names (mode_without_places m) f)
+      Writes Bound (mode_pieces s names m ++ (piece.Gap ∷ qs)) Bound (mode_items s names (mode_without_places m) f)
   unfolding mode_pieces class
   mode_writes names Passive h w = gap_writes refl w
   mode_writes names Declared h w = gap_writes refl (word_writes refl (gap_writes refl w))
   mode_writes names (Active t offset) h {qs} {f} w = by names h.0
     where
       by : (b : Bool) → IsNamedTable b t →
-          Writes Free ((named_table b t ++ (piece.Gap ∷ constant_group ts (codes "offset") offset)) ++ (piece.Gap ∷ qs)) Bound
-          (named_table_items b t (Group (constant_held ts (codes "offset") (without_places offset)) f))
+          Writes Bound ((named_table s b t ++ (piece.Gap ∷ constant_group s (codes "offset") offset)) ++ (piece.Gap ∷ qs)) Bound
+          (named_table_items s b t (Group (constant_held s (codes "offset") (without_places offset)) f))
       by true k =
           let small : t < 2 ^ 64 = omega (arith, k) in
-          gap_writes refl (both_write (both_write (line_group_gap_writes (codes "table") _ refl refl (number_writes small nothing_writes))
-          (gap_writes {a = Bound} refl (constant_group_writes ts s (codes "offset") offset refl refl h.1))) (gap_writes refl w))
-      by false k = both_write (gap_writes refl (constant_group_writes ts s (codes "offset") offset refl refl h.1)) (gap_writes refl w)
+          gap_writes refl (both_write (both_write
+          (line_group_gap_writes (codes "table") _ refl refl (index_writes (s.names.items row.Table t) t (named.items row.Table t) small))
+          (gap_writes {a = Bound} refl (constant_group_writes s named ranged (codes "offset") offset refl refl h.1))) (gap_writes refl w))
+      by false k = both_write (gap_writes refl (constant_group_writes s named ranged (codes "offset") offset refl refl h.1)) (gap_writes refl w)
 
   pub element_writes : (skeleton : Bool) (i : ℕ) (e : Placed ElementEntry) → i < 2 ^ 64 → IsRangedElement e.value →
-      Writes Bound (element_pieces skeleton ts i e) Bound (Group (Word (codes "elem") (element_items ts skeleton e.value)) End)
+      Writes Bound (element_pieces skeleton s i e) Bound (Group (Word (codes "elem") (element_items s skeleton i e.value)) End)
   unfolding element_pieces class
   element_writes skeleton i e small h =
       break_writes (line_group_gap_writes (codes "elem") _ refl refl
-      (mark_writes refl small (mode_writes e.value.names_table e.value.element.mode h.mode (shown_items_write skeleton e.value.element.items h.items))))
+      (both_write (declaration_writes (s.names.items row.Elem i) i (named.items row.Elem i) small)
+      (mode_writes e.value.names_table e.value.element.mode h.mode (shown_items_write skeleton e.value.element.items h.items))))
 
 -- ---- they read back
 
