@@ -1,5 +1,5 @@
 -- Data segments among the fields of a module.
-use Rattle.std.proofs.Common.{◌≡◌, ℕ, ◌==◌, ◌<◌, ◌^◌, Bool, true, false, cond, List, [], ◌∷◌, ◌++◌, append-nil, Some, None, option_map, refl, sym, ap, ◌∙◌, codes, decimal, arith}
+use Rattle.std.proofs.Common.{◌≡◌, ℕ, ◌==◌, ◌<◌, ◌^◌, Bool, true, false, cond, List, [], ◌∷◌, ◌++◌, append-nil, Some, None, option_map, refl, sym, ap, ◌∙◌, codes, arith}
 use Rattle.std.proofs.lemmas.Bool.{eqb-true}
 use Rattle.wasmprinter_spec.specs.Character.{class}
 use Rattle.wasmprinter_spec.specs.Grammar.{Placed, ◌>>=◌}
@@ -22,7 +22,6 @@ use Rattle.wasmprinter_spec.specs.Text.DataSegments.{strings, with_bytes, active
 use Rattle.wasmprinter_lexical.proofs.Pieces.{Free, Bound}
 use Rattle.wasmprinter_lexical.proofs.Writes.{Writes, both_write, nothing_writes, gap_writes, break_writes, word_writes, quoted_bytes_writes, line_group_gap_writes}
 use Rattle.wasmprinter_reading.specs.Listed.{AreSignaturesInRange}
-use Rattle.wasmprinter_reading.specs.OperatorLaws.{HaveSameTypes}
 use Rattle.wasmprinter_reading.proofs.Declarations.{id}
 use Rattle.wasmprinter_reading.proofs.Identifiers.{declaration-items, declaration_writes, index_writes}
 use Rattle.wasmprinter_reading.proofs.Fields.Scopes.{own_id, own_index, AreScoped, own_index-reads}
@@ -110,29 +109,33 @@ module _ (s : Scope) (named : AreNamed s.names) (ranged : AreSignaturesInRange (
 strings-items : (bs : List ℕ) → strings (String bs End) ≡ Some bs
 strings-items bs = ap (λ x. Some x) (append-nil bs)
 
--- no identifier stands in front
-pub identified-data : (ts : List SubType) (d : Data Operator) → identified (data_items ts false d) ≡ (None, data_items ts false d)
-identified-data ts d = by d.mode
+-- no identifier stands in front of the mode
+identified-segment : (s : Scope) (d : Data Operator) → identified (segment_items s false d) ≡ (None, segment_items s false d)
+identified-segment s d = by d.mode
   where
-    active : (t : Bool) (m : ℕ) (g f : Forest) → identified (named_memory_items_by t m (Group g f)) ≡ (None, named_memory_items_by t m (Group g f))
+    active : (t : Bool) (m : ℕ) (g f : Forest) → identified (named_memory_items_by s t m (Group g f)) ≡ (None, named_memory_items_by s t m (Group g f))
     active true m g f = refl
     active false m g f = refl
 
-    by : (m : DataMode Operator) → identified (data_mode_items ts m (String d.bytes End)) ≡ (None, data_mode_items ts m (String d.bytes End))
+    by : (m : DataMode Operator) → identified (data_mode_items s m (String d.bytes End)) ≡ (None, data_mode_items s m (String d.bytes End))
     by PassiveData = refl
-    by (ActiveData m offset) = active (m == 0) m (constant_held ts (codes "offset") offset) (String d.bytes End)
+    by (ActiveData m offset) = active (m == 0) m (constant_held s (codes "offset") offset) (String d.bytes End)
 
-module _ (c : Context) (ts : List SubType) (k : Counts) (same : HaveSameTypes (in_line ts) c k) where
-  -- every index in the offset is declared
+-- the identifier of a data segment, and what it is
+pub identified-data : (s : Scope) (i : ℕ) (d : Data Operator) → identified (data_items s false i d) ≡ (id (s.names.items row.Data i), segment_items s false d)
+identified-data s i d = declaration-items (s.names.items row.Data i) (segment_items s false d) (identified-segment s d)
+
+module _ (s : Scope) (c : Context) (n : Counts) (scoped : AreScoped s c n) where
+  -- every index in the mode is declared
   abbrev pub IsIndexedMode : DataMode (Placed Operator) → Type 0
   IsIndexedMode PassiveData = Unit {0}
-  IsIndexedMode (ActiveData m offset) = AreIndexed c ts k same offset
+  IsIndexedMode (ActiveData m offset) = (m < n.memories) × AreIndexed n offset
 
   -- an active segment, behind its memory
-  active-items : (m : ℕ) (offset : List (Placed Operator)) (f : Forest) → IsRangedExpression offset → AreIndexed c ts k same offset →
-      active_in c m (Group (constant_held ts (codes "offset") (without_places offset)) f) ≡ with_bytes c (ActiveData m (without_places offset)) f
+  active-items : (m : ℕ) (offset : List (Placed Operator)) (f : Forest) → IsRangedExpression offset → AreIndexed n offset →
+      active_in c m (Group (constant_held s (codes "offset") (without_places offset)) f) ≡ with_bytes c (ActiveData m (without_places offset)) f
   active-items m offset f h d =
-      ap (λ o. o >>= λ e. with_bytes c (ActiveData m e) f) (constant_group-items c ts k same (codes "offset") no_offset offset h d)
+      ap (λ o. o >>= λ e. with_bytes c (ActiveData m e) f) (constant_group-items s c n scoped (codes "offset") no_offset offset h d)
 
   -- the group of an offset is no memory
   segment-offset : (g f : Forest) → IsOffset g → segment c (Group g f) ≡ active_in c 0 (Group g f)
@@ -141,25 +144,26 @@ module _ (c : Context) (ts : List SubType) (k : Counts) (same : HaveSameTypes (i
       ∙ ap (λ b. cond b (index c.spaces.memories o.rest >>= (λ m. active_in c m f)) (active_in c 0 (Group (Word o.word o.rest) f))) o.memory
       ∙ ap (λ x. active_in c 0 (Group x f)) (sym o.is)
 
-  segment-active : (t : Bool) (m : ℕ) → (m == 0) ≡ t → (offset : List (Placed Operator)) (f : Forest) → m < 2 ^ 32 → IsRangedExpression offset →
-      AreIndexed c ts k same offset →
-      segment c (named_memory_items_by t m (Group (constant_held ts (codes "offset") (without_places offset)) f)) ≡ with_bytes c
+  segment-active : (t : Bool) (m : ℕ) → (m == 0) ≡ t → (offset : List (Placed Operator)) (f : Forest) → m < 2 ^ 32 → m < n.memories →
+      IsRangedExpression offset → AreIndexed n offset →
+      segment c (named_memory_items_by s t m (Group (constant_held s (codes "offset") (without_places offset)) f)) ≡ with_bytes c
       (ActiveData m (without_places offset)) f
-  segment-active true m e offset f small h d =
-      segment-offset _ f (offset_stands ts offset h) ∙ active-items 0 offset f h d ∙ ap (λ i. with_bytes c (ActiveData i (without_places offset)) f)
+  segment-active true m e offset f small declared h d =
+      segment-offset _ f (offset_stands s offset h) ∙ active-items 0 offset f h d ∙ ap (λ i. with_bytes c (ActiveData i (without_places offset)) f)
       (sym (eqb-true m 0 e))
-  segment-active false m e offset f small h d =
-      ap (λ o. o >>= λ i. active_in c i (Group (constant_held ts (codes "offset") (without_places offset)) f)) (index-decimal c.spaces.memories m small)
+  segment-active false m e offset f small declared h d =
+      ap (λ o. o >>= λ i. active_in c i (Group (constant_held s (codes "offset") (without_places offset)) f))
+      (own_index-reads s c n scoped row.Memory (λ names f. refl) m declared small)
       ∙ active-items m offset f h d
 
   segment-items : (m : DataMode (Placed Operator)) (bs : List ℕ) → IsRangedDataMode m → IsIndexedMode m →
-      segment c (data_mode_items ts (data_mode_without_places m) (String bs End)) ≡ with_bytes c (data_mode_without_places m) (String bs End)
+      segment c (data_mode_items s (data_mode_without_places m) (String bs End)) ≡ with_bytes c (data_mode_without_places m) (String bs End)
   segment-items PassiveData bs h d = refl
-  segment-items (ActiveData m offset) bs h d = segment-active (m == 0) m refl offset (String bs End) h.0 h.1 d
+  segment-items (ActiveData m offset) bs h d = segment-active (m == 0) m refl offset (String bs End) h.0 d.0 h.1 d.1
 
-  pub read_data-items : (d : Data (Placed Operator)) → IsRangedData d → IsIndexedMode d.mode →
-      read_data c (data_items ts false (data_without_places d)) ≡ Some (data_without_places d)
-  read_data-items d h i =
-      ap (λ x. segment c x.1) (identified-data ts (data_without_places d))
-      ∙ segment-items d.mode d.bytes h.mode i
+  pub read_data-items : (i : ℕ) (d : Data (Placed Operator)) → IsRangedData d → IsIndexedMode d.mode →
+      read_data c (data_items s false i (data_without_places d)) ≡ Some (data_without_places d)
+  read_data-items i d h k =
+      ap (λ x. segment c x.1) (identified-data s i (data_without_places d))
+      ∙ segment-items d.mode d.bytes h.mode k
       ∙ ap (option_map (data_of (data_mode_without_places d.mode))) (strings-items d.bytes)

@@ -1,5 +1,5 @@
 -- Element segments among the fields of a module.
-use Rattle.std.proofs.Common.{◌≡◌, ℕ, ◌<◌, ◌^◌, Bool, true, false, cond, List, [], ◌∷◌, ◌++◌, Some, None, option_map, map, refl, sym, ap, ◌∙◌, codes, decimal, bytes_eq, arith}
+use Rattle.std.proofs.Common.{◌≡◌, ℕ, ◌<◌, ◌^◌, Bool, true, false, cond, List, [], ◌∷◌, ◌++◌, Option, Some, None, option_map, map, refl, sym, ap, ◌∙◌, codes, bytes_eq, arith}
 use Rattle.std.specs.List.{AllByRecursion}
 use Rattle.wasmprinter_spec.specs.Character.{class}
 use Rattle.wasmprinter_spec.specs.Grammar.{Placed, ◌>>=◌}
@@ -10,7 +10,8 @@ use Rattle.wasmprinter_spec.specs.Names.{AreNamed}
 use Rattle.wasmprinter_spec.specs.Operator.{Operator}
 use Rattle.wasmprinter_spec.specs.Placed.{Mode, Passive, Declared, Active, Items, Functions, Expressions, element_of, ElementEntry}
 use Rattle.wasmprinter_spec.specs.Module.{without_places, mode_without_places, items_without_places, element_without_places}
-use Rattle.wasmprinter_spec.specs.Indexed.{Counts}
+use Rattle.wasmprinter_spec.specs.Indexed.{Counts, IsDeclaredHeap}
+use Rattle.wasmprinter_spec.specs.Labels.{Named}
 use Rattle.wasmprinter_spec.specs.IndexSpaces.{index, Context}
 use Rattle.wasmprinter_spec.specs.Piece as piece
 use Rattle.wasmprinter_spec.specs.Layout.Declarations.{Scope}
@@ -23,13 +24,11 @@ use Rattle.wasmprinter_spec.specs.Text.Elements.{function_indices, expressions, 
 use Rattle.wasmprinter_lexical.proofs.Pieces.{Free, Bound}
 use Rattle.wasmprinter_lexical.proofs.Writes.{Writes, both_write, nothing_writes, gap_writes, break_writes, word_writes, line_group_gap_writes}
 use Rattle.wasmprinter_reading.specs.Listed.{AreSignaturesInRange}
-use Rattle.wasmprinter_reading.specs.OperatorLaws.{HaveSameTypes}
 use Rattle.wasmprinter_reading.proofs.Items.{leading_item-reads}
 use Rattle.wasmprinter_reading.proofs.Declarations.{id}
 use Rattle.wasmprinter_reading.proofs.Identifiers.{index_items, declaration-items, declaration_writes, index_writes}
-use Rattle.wasmprinter_reading.proofs.Fields.Scopes.{own_id, own_index, AreScoped, own_index-reads}
+use Rattle.wasmprinter_reading.proofs.Fields.Scopes.{own_id, own_index, AreScoped, own_index-reads, type_bound, type_indices-read, heap_bounded}
 use Rattle.wasmprinter_reading.proofs.Ranged.{IsRangedExpression, IsNamedTable, IsRangedMode, AreRangedItems, IsRangedElement}
-use Rattle.wasmprinter_reading.proofs.Types.Ranged.{IsRangedHeap}
 use Rattle.wasmprinter_reading.proofs.Types.Trees.{ref_items_by, ref_items, ref_writes}
 use Rattle.wasmprinter_reading.proofs.Types.Back.{ref_item, identified-ref}
 use Rattle.wasmprinter_reading.proofs.Fields.Expressions.{constant_held, constant_group_writes, AreIndexed, constant_group-items, IsOffset, offset_stands, no_offset, no_item}
@@ -131,76 +130,95 @@ module _ (s : Scope) (named : AreNamed s.names) (ranged : AreSignaturesInRange (
 
 -- ---- they read back
 
-numbers-items : (c : Context) (is : List ℕ) → AllByRecursion (λ i. i < 2 ^ 32) is → function_indices c (numbers_items is) ≡ Some is
-numbers-items c [] h = refl
-numbers-items c (i ∷ is) h = rw (index-decimal c.spaces.functions i h.0, numbers-items c is h.1)
+-- no identifier stands in front of the items
+identified-items : (s : Scope) (is : Items Operator) → identified (items_items s is) ≡ (None, items_items s is)
+identified-items s (Functions is) = refl
+identified-items s (Expressions t es) = identified-ref s.names t.nullable t.heap (expressions_items s es)
 
--- no identifier stands in front
-identified-items : (ts : List SubType) (is : Items Operator) → identified (items_items ts is) ≡ (None, items_items ts is)
-identified-items ts (Functions is) = refl
-identified-items ts (Expressions t es) = identified-ref t.nullable t.heap (expressions_items ts es)
-
-pub identified-element : (ts : List SubType) (e : ElementEntry) → identified (element_items ts false e) ≡ (None, element_items ts false e)
-identified-element ts e = by e.names_table (mode_without_places e.element.mode)
+identified-segment : (s : Scope) (e : ElementEntry) → identified (segment_items s false e) ≡ (None, segment_items s false e)
+identified-segment s e = by e.names_table (mode_without_places e.element.mode)
   where
     by : (names : Bool) (m : Mode Operator) →
-        identified (mode_items ts names m (items_items ts (items_without_places e.element.items))) ≡
-        (None, mode_items ts names m (items_items ts (items_without_places e.element.items)))
-    by names Passive = identified-items ts (items_without_places e.element.items)
+        identified (mode_items s names m (items_items s (items_without_places e.element.items))) ≡
+        (None, mode_items s names m (items_items s (items_without_places e.element.items)))
+    by names Passive = identified-items s (items_without_places e.element.items)
     by names Declared = refl
     by true (Active t offset) = refl
     by false (Active t offset) = refl
 
-module _ (c : Context) (ts : List SubType) (k : Counts) (same : HaveSameTypes (in_line ts) c k) where
-  -- every index in the expressions is declared
-  abbrev pub AreIndexedItems : Items (Placed Operator) → Type 0
-  AreIndexedItems (Functions is) = Unit {0}
-  AreIndexedItems (Expressions t es) = AllByRecursion (AreIndexed c ts k same) es
+-- the identifier of an element segment, and what it is
+pub identified-element : (s : Scope) (i : ℕ) (e : ElementEntry) → identified (element_items s false i e) ≡ (id (s.names.items row.Elem i), segment_items s false e)
+identified-element s i e = declaration-items (s.names.items row.Elem i) (segment_items s false e) (identified-segment s e)
 
+-- functions in a row, read one by one
+first_function : (c : Context) (o : Option Named) (i : ℕ) (f : Forest) (is : List ℕ) → index c.spaces.functions (index_items o i) ≡ Some i →
+    function_indices c f ≡ Some is → function_indices c (onto (index_items o i) f) ≡ Some (i ∷ is)
+first_function c None i f is h k = rw (h, k)
+first_function c (Some n) i f is h k = rw (h, k)
+
+module _ (s : Scope) (c : Context) (n : Counts) (scoped : AreScoped s c n) where
+  -- every index in the mode and in the items is declared
   abbrev pub IsIndexedMode : Mode (Placed Operator) → Type 0
-  IsIndexedMode (Active t offset) = AreIndexed c ts k same offset
+  IsIndexedMode (Active t offset) = (t < n.tables) × AreIndexed n offset
   IsIndexedMode _ = Unit {0}
 
-  expressions-items : (es : List (List (Placed Operator))) → AllByRecursion IsRangedExpression es → AllByRecursion (AreIndexed c ts k same) es →
-      expressions c (expressions_items ts (map without_places es)) ≡ Some (map without_places es)
-  expressions-items [] h d = refl
-  expressions-items (e ∷ es) h d = rw (constant_group-items c ts k same (codes "item") no_item e h.0 d.0, expressions-items es h.1 d.1)
+  abbrev pub AreIndexedItems : Items (Placed Operator) → Type 0
+  AreIndexedItems (Functions is) = AllByRecursion (λ i. i < n.functions) is
+  AreIndexedItems (Expressions t es) = IsDeclaredHeap n.types t.heap × AllByRecursion (AreIndexed n) es
 
-  typed_items-items : (t : RefType) (es : List (List (Placed Operator))) → IsRangedHeap t.heap → AllByRecursion IsRangedExpression es →
-      AllByRecursion (AreIndexed c ts k same) es →
-      typed_items c (onto (ref_items t) (expressions_items ts (map without_places es))) ≡ Some (Expressions t (map without_places es))
+  functions-items : (is : List ℕ) → AllByRecursion (λ i. i < 2 ^ 32) is → AllByRecursion (λ i. i < n.functions) is →
+      function_indices c (function_row s is) ≡ Some is
+  functions-items [] h d = refl
+  functions-items (i ∷ is) h d =
+      first_function c (s.names.items row.Func i) i (function_row s is) is
+      (own_index-reads s c n scoped row.Func (λ names f. refl) i d.0 h.0) (functions-items is h.1 d.1)
+
+  expressions-items : (es : List (List (Placed Operator))) → AllByRecursion IsRangedExpression es → AllByRecursion (AreIndexed n) es →
+      expressions c (expressions_items s (map without_places es)) ≡ Some (map without_places es)
+  expressions-items [] h d = refl
+  expressions-items (e ∷ es) h d = rw (constant_group-items s c n scoped (codes "item") no_item e h.0 d.0, expressions-items es h.1 d.1)
+
+  typed_items-items : (t : RefType) (es : List (List (Placed Operator))) → IsDeclaredHeap (type_bound s c n scoped) t.heap → AllByRecursion IsRangedExpression es →
+      AllByRecursion (AreIndexed n) es →
+      typed_items c (onto (ref_items s.names t) (expressions_items s (map without_places es))) ≡ Some (Expressions t (map without_places es))
   typed_items-items t es r h d =
-      let rest : Forest = expressions_items ts (map without_places es) in
-      rw (leading_item-reads ref_named (ref_group c.spaces.types) (ref_items t) t rest (ref_item c.spaces.types t.nullable t.heap r), expressions-items es h d)
+      let rest : Forest = expressions_items s (map without_places es) in
+      rw (
+        leading_item-reads ref_named (ref_group c.spaces.types) (ref_items s.names t) t rest
+            (ref_item s.names c.spaces.types (type_bound s c n scoped) (type_indices-read s c n scoped) t.nullable t.heap r),
+        expressions-items es h d,
+      )
 
   -- a reference type does not begin as other items and other modes do
-  items-typed : (null : Bool) (h : HeapType) (f : Forest) → items c (onto (ref_items_by null h) f) ≡ typed_items c (onto (ref_items_by null h) f)
+  items-typed : (null : Bool) (h : HeapType) (f : Forest) → items c (onto (ref_items_by s.names null h) f) ≡ typed_items c (onto (ref_items_by s.names null h) f)
   items-typed true (Index n) f = refl
   items-typed true _ f = refl
   items-typed false h f = refl
 
-  segment-typed : (null : Bool) (h : HeapType) (f : Forest) → segment c (onto (ref_items_by null h) f) ≡ with_mode c Passive (onto (ref_items_by null h) f)
+  segment-typed : (null : Bool) (h : HeapType) (f : Forest) →
+      segment c (onto (ref_items_by s.names null h) f) ≡ with_mode c Passive (onto (ref_items_by s.names null h) f)
   segment-typed true (Index n) f = refl
   segment-typed true _ f = refl
   segment-typed false h f = refl
 
   items-items : (is : Items (Placed Operator)) → AreRangedItems is → AreIndexedItems is →
-      items c (items_items ts (items_without_places is)) ≡ Some (items_without_places is)
-  items-items (Functions is) h d = rw (numbers-items c is h)
+      items c (items_items s (items_without_places is)) ≡ Some (items_without_places is)
+  items-items (Functions is) h d = rw (functions-items is h d)
   items-items (Expressions t es) h d =
-      items-typed t.nullable t.heap (expressions_items ts (map without_places es)) ∙ typed_items-items t es h.0 h.1 d
+      items-typed t.nullable t.heap (expressions_items s (map without_places es))
+      ∙ typed_items-items t es (heap_bounded s c n scoped t.heap h.0 d.0) h.1 d.1
 
   -- a passive segment
   segment-passive : (is : Items (Placed Operator)) →
-      segment c (items_items ts (items_without_places is)) ≡ with_mode c Passive (items_items ts (items_without_places is))
+      segment c (items_items s (items_without_places is)) ≡ with_mode c Passive (items_items s (items_without_places is))
   segment-passive (Functions is) = refl
-  segment-passive (Expressions t es) = segment-typed t.nullable t.heap (expressions_items ts (map without_places es))
+  segment-passive (Expressions t es) = segment-typed t.nullable t.heap (expressions_items s (map without_places es))
 
   -- an active segment, behind its table
-  active-items : (t : ℕ) (offset : List (Placed Operator)) (f : Forest) → IsRangedExpression offset → AreIndexed c ts k same offset →
-      active_in c t (Group (constant_held ts (codes "offset") (without_places offset)) f) ≡ with_mode c (Active t (without_places offset)) f
+  active-items : (t : ℕ) (offset : List (Placed Operator)) (f : Forest) → IsRangedExpression offset → AreIndexed n offset →
+      active_in c t (Group (constant_held s (codes "offset") (without_places offset)) f) ≡ with_mode c (Active t (without_places offset)) f
   active-items t offset f h d =
-      ap (λ o. o >>= λ e. with_mode c (Active t e) f) (constant_group-items c ts k same (codes "offset") no_offset offset h d)
+      ap (λ o. o >>= λ e. with_mode c (Active t e) f) (constant_group-items s c n scoped (codes "offset") no_offset offset h d)
 
   -- the group of an offset is no type and no table
   segment-offset : (g f : Forest) → IsOffset g → segment c (Group g f) ≡ active_in c 0 (Group g f)
@@ -213,26 +231,27 @@ module _ (c : Context) (ts : List SubType) (k : Counts) (same : HaveSameTypes (i
       ∙ ap (λ b. cond b (index c.spaces.tables o.rest >>= (λ t. active_in c t f)) (active_in c 0 inner)) o.table
       ∙ ap (λ x. active_in c 0 (Group x f)) (sym o.is)
 
-  segment-active : (names : Bool) (t : ℕ) (offset : List (Placed Operator)) (f : Forest) → IsNamedTable names t → IsRangedExpression offset →
-      AreIndexed c ts k same offset →
-      segment c (named_table_items names t (Group (constant_held ts (codes "offset") (without_places offset)) f)) ≡ with_mode c
+  segment-active : (names : Bool) (t : ℕ) (offset : List (Placed Operator)) (f : Forest) → IsNamedTable names t → t < n.tables → IsRangedExpression offset →
+      AreIndexed n offset →
+      segment c (named_table_items s names t (Group (constant_held s (codes "offset") (without_places offset)) f)) ≡ with_mode c
       (Active t (without_places offset)) f
-  segment-active true t offset f n h d =
-      ap (λ o. o >>= λ i. active_in c i (Group (constant_held ts (codes "offset") (without_places offset)) f)) (index-decimal c.spaces.tables t n)
+  segment-active true t offset f small declared h d =
+      ap (λ o. o >>= λ i. active_in c i (Group (constant_held s (codes "offset") (without_places offset)) f))
+      (own_index-reads s c n scoped row.Table (λ names f. refl) t declared small)
       ∙ active-items t offset f h d
-  segment-active false t offset f n h d =
-      segment-offset _ f (offset_stands ts offset h) ∙ active-items 0 offset f h d ∙ ap (λ i. with_mode c (Active i (without_places offset)) f) (sym n)
+  segment-active false t offset f zero declared h d =
+      segment-offset _ f (offset_stands s offset h) ∙ active-items 0 offset f h d ∙ ap (λ i. with_mode c (Active i (without_places offset)) f) (sym zero)
 
   segment-items : (names : Bool) (m : Mode (Placed Operator)) (is : Items (Placed Operator)) → IsRangedMode names m → IsIndexedMode m →
-      segment c (mode_items ts names (mode_without_places m) (items_items ts (items_without_places is))) ≡ with_mode c (mode_without_places m)
-      (items_items ts (items_without_places is))
+      segment c (mode_items s names (mode_without_places m) (items_items s (items_without_places is))) ≡ with_mode c (mode_without_places m)
+      (items_items s (items_without_places is))
   segment-items names Passive is h d = segment-passive is
   segment-items names Declared is h d = refl
-  segment-items names (Active t offset) is h d = segment-active names t offset _ h.0 h.1 d
+  segment-items names (Active t offset) is h d = segment-active names t offset _ h.0 d.0 h.1 d.1
 
-  pub read_element-items : (e : ElementEntry) → IsRangedElement e → IsIndexedMode e.element.mode → AreIndexedItems e.element.items →
-      read_element c (element_items ts false e) ≡ Some (element_without_places e)
-  read_element-items e h d i =
-      ap (λ x. segment c x.1) (identified-element ts e)
+  pub read_element-items : (i : ℕ) (e : ElementEntry) → IsRangedElement e → IsIndexedMode e.element.mode → AreIndexedItems e.element.items →
+      read_element c (element_items s false i e) ≡ Some (element_without_places e)
+  read_element-items i e h d k =
+      ap (λ x. segment c x.1) (identified-element s i e)
       ∙ segment-items e.names_table e.element.mode e.element.items h.mode d
-      ∙ ap (option_map (element_of (mode_without_places e.element.mode))) (items-items e.element.items h.items i)
+      ∙ ap (option_map (element_of (mode_without_places e.element.mode))) (items-items e.element.items h.items k)

@@ -1,23 +1,31 @@
 -- What functions and tags begin with: an identifier, the index of a type, and its signature. It is all that a tag holds, and a function or tag that
 -- is imported.
-use Rattle.std.proofs.Common.{◌≡◌, ℕ, ◌<◌, ◌^◌, [], ◌∷◌, List, ◌++◌, Option, Some, None, refl, subst, append-nil, codes}
+use Rattle.std.proofs.Common.{◌≡◌, ℕ, ◌<◌, ◌^◌, [], ◌∷◌, List, ◌++◌, length, Option, Some, None, refl, ap, ◌∙◌, subst, append-nil, codes, arith}
 use Rattle.wasmprinter_spec.specs.Character.{class}
 use Rattle.wasmprinter_spec.specs.Forest.{Forest, End, Word, Group, onto}
 use Rattle.wasmprinter_spec.specs.Types.{FuncType, signature_at}
-use Rattle.wasmprinter_spec.specs.Row.{Space}
-use Rattle.wasmprinter_spec.specs.Names.{AreNamed}
+use Rattle.wasmprinter_spec.specs.Row.{Space, Types}
+use Rattle.wasmprinter_spec.specs.Labels.{Named}
+use Rattle.wasmprinter_spec.specs.Names.{AreNamed, AreDistinct, identifiers}
+use Rattle.wasmprinter_spec.specs.Indexed.{Counts, parameter_count}
+use Rattle.wasmprinter_spec.specs.IndexSpaces.{Identifiers, index_space, index, Context}
 use Rattle.wasmprinter_spec.specs.Piece.{Piece}
 use Rattle.wasmprinter_spec.specs.Layout.Declarations.{Scope}
+use Rattle.wasmprinter_spec.specs.Layout.Types.{parameters_of}
 use Rattle.wasmprinter_spec.specs.Layout.Functions.{header_pieces}
 use Rattle.wasmprinter_spec.specs.Text.Items.{identified}
+use Rattle.wasmprinter_spec.specs.Text.Types.{signature}
+use Rattle.wasmprinter_spec.specs.Text.TypeIndices.{type_index}
 use Rattle.wasmprinter_lexical.proofs.Grown.{onto_assoc}
 use Rattle.wasmprinter_lexical.proofs.Pieces.{Edge, Free, Bound}
 use Rattle.wasmprinter_lexical.proofs.Writes.{Writes, both_write, nothing_writes, gap_writes}
 use Rattle.wasmprinter_reading.specs.Listed.{AreSignaturesInRange}
 use Rattle.wasmprinter_reading.proofs.Declarations.{id}
 use Rattle.wasmprinter_reading.proofs.Identifiers.{declaration-items, declaration_writes}
-use Rattle.wasmprinter_reading.proofs.Types.Trees.{type_use_items, type_use_writes}
-use Rattle.wasmprinter_reading.proofs.Fields.Scopes.{own_id}
+use Rattle.wasmprinter_reading.proofs.Spaces.{identifiers_space}
+use Rattle.wasmprinter_reading.proofs.Types.Trees.{signature_items, type_use_items, type_use_writes}
+use Rattle.wasmprinter_reading.proofs.Types.Back.{end_behind_signature, printed_signature, signature-items, own_parameters}
+use Rattle.wasmprinter_reading.proofs.Fields.Scopes.{own_id, own_index, AreScoped, own_index-reads, type_bound, type_indices-read, signature_bounded, signature_declared}
 
 -- the type and its signature, with the parameters of a function or of none
 abbrev pub use_items : Scope → Option ℕ → ℕ → Forest
@@ -45,3 +53,30 @@ module _ (s : Scope) (named : AreNamed s.names) (ranged : AreSignaturesInRange (
 pub identified-header : (s : Scope) (space : Space) (f : Option ℕ) (i type_index : ℕ) (rest : Forest) →
     identified (header_items s space f i type_index rest) ≡ (id (s.names.items space i), onto (use_items s f type_index) rest)
 identified-header s space f i type_index rest = declaration-items (s.names.items space i) (onto (use_items s f type_index) rest) refl
+
+-- ---- they read back
+
+module _ (s : Scope) (c : Context) (n : Counts) (scoped : AreScoped s c n) where
+  parameters_apart : (f : Option ℕ) → AreDistinct (parameters_of s.names f)
+  parameters_apart None i j a b p q e g h = absurd cc
+  parameters_apart (Some f) i j a b p q e g h = scoped.apart.locals f i j a b p q e g h
+
+  -- so few parameters
+  pub parameters_fit : (t : FuncType) (i : ℕ) → signature_at s.types i ≡ Some t → length t.params < 2 ^ 32
+  parameters_fit t i own = subst (λ o. parameter_count o < 2 ^ 32) own (scoped.few i)
+
+  -- the type is a function type
+  pub use-items : (f : Option ℕ) (t : FuncType) (i : ℕ) → signature_at s.types i ≡ Some t → i < 2 ^ 32 → type_index c (onto (use_items s f i) End) ≡ Some i
+  use-items f t i own small =
+      let ids : Identifiers = c.spaces.types in
+      let named : ℕ → Option Named = parameters_of s.names f in
+      let read : c.signature i ≡ Some t = scoped.types.read i ∙ own in
+      let index : index ids (own_index s Types i) ≡ Some i =
+      own_index-reads s c n scoped Types (λ names g. refl) i (signature_declared s c n scoped t i own) small in
+      let sig : signature ids (onto (signature_items s.names f t) End) ≡ Some (printed_signature named t, End) =
+      signature-items s.names ids (type_bound s c n scoped) (type_indices-read s c n scoped) f t End (signature_bounded s c n scoped t i own) (end_behind_signature ids) in
+      let fit : length t.params < 2 ^ 32 = parameters_fit t i own in
+      let space : index_space (identifiers named (length t.params)) ≡ Some (identifiers named (length t.params)) =
+      identifiers_space named (parameters_apart f) (length t.params) (omega (arith, fit)) in
+      let whole : type_index c (onto (type_use_items s.names f i (Some t)) End) ≡ Some i = rw (index, sig, read, own_parameters named t, space) in
+      ap (λ x. type_index c (onto (type_use_items s.names f i x) End)) own ∙ whole
