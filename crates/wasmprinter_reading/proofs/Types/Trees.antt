@@ -186,7 +186,7 @@ grouped_names named h k (t ∷ ts) = with_name (named k) t (grouped named (k + 1
 -- ---- their pieces write them
 
 module _ (names : Names) (named : AreNamed names) where
-  type_index_writes : (n : ℕ) → n < 2 ^ 32 → Writes Free (type_index_pieces names n) Bound (type_index_items names n)
+  pub type_index_writes : (n : ℕ) → n < 2 ^ 32 → Writes Free (type_index_pieces names n) Bound (type_index_items names n)
   unfolding type_index_pieces
   type_index_writes n r = index_writes (names.items Types n) n (named.items Types n) (omega (arith, r))
 
