@@ -10,7 +10,6 @@ pub mod Identifiers
 pub mod Types
 pub mod Tabled
 pub mod Operators
-pub mod Stub
 pub mod Ranged
 pub mod PartRanges
 pub mod Ranges

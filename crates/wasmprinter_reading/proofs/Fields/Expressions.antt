@@ -31,8 +31,8 @@ use Rattle.wasmprinter_reading.proofs.Tabled.{HasRow, row_for, StandsAlone, plai
 use Rattle.wasmprinter_reading.proofs.Ranged.{IsRangedExpression}
 use Rattle.wasmprinter_reading.proofs.Operators.Arguments.{AreArguments, arguments_front}
 use Rattle.wasmprinter_reading.proofs.Operators.Rows.{IsSome, rows_of-row, first_of_rows}
-use Rattle.wasmprinter_reading.proofs.Stub.{arguments_by}
-use Rattle.wasmprinter_reading.proofs.Stub.{arguments_items, expression_items, chunks_of, unfolded-operators, expression_writes, expression_reads}
+use Rattle.wasmprinter_reading.proofs.Operators.Immediates.{arguments_by}
+use Rattle.wasmprinter_reading.proofs.Operators.Lists.{arguments_items, expression_items, chunks_of, unfolded-operators, expression_writes, expression_reads}
 use Rattle.wasmprinter_reading.proofs.Fields.Scopes.{AreScoped}
 
 -- ---- what they are written as
@@ -51,7 +51,7 @@ constant_held s w os = Word w (constant_items s os)
 module _ (s : Scope) (named : AreNamed s.names) (ranged : AreSignaturesInRange (signature_at s.types)) where
   pub in_line_writes : (os : List (Placed Operator)) → IsRangedExpression os → Writes Free (constant_pieces s os) Bound (constant_items s (without_places os))
   unfolding constant_pieces
-  in_line_writes os h = expression_writes (in_line s) ranged named os h.listed
+  in_line_writes os h = expression_writes (in_line s) named ranged os h.listed
 
   -- the first operator of a line stands right behind a bare parenthesis
   opened_line_writes : (o : Placed Operator) (os : List (Placed Operator)) → IsRangedExpression (o ∷ os) →

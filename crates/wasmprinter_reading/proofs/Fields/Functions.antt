@@ -36,7 +36,7 @@ use Rattle.wasmprinter_reading.proofs.Spaces.{identifiers_space}
 use Rattle.wasmprinter_reading.proofs.Types.Ranged.{IsRangedVal}
 use Rattle.wasmprinter_reading.proofs.Types.Trees.{groups_items, signature_items, type_use_items, HaveTypes, HaveNames, grouped_types, grouped_names, variables_write, groups_write}
 use Rattle.wasmprinter_reading.proofs.Types.Back.{variables_leave, variables_take, IsBehindSignature, printed_signature, signature-items, own_parameters}
-use Rattle.wasmprinter_reading.proofs.Stub.{expression_items, chunks_of, unfolded-operators, expression_writes, expression_reads}
+use Rattle.wasmprinter_reading.proofs.Operators.Lists.{expression_items, chunks_of, unfolded-operators, expression_writes, expression_reads}
 use Rattle.wasmprinter_reading.proofs.Fields.Scopes.{own_index, AreScoped, own_index-reads, type_bound, type_indices-read, vals_bounded, signature_bounded, signature_declared}
 use Rattle.wasmprinter_reading.proofs.Fields.Headers.{header_items, header_writes, identified-header}
 
@@ -112,7 +112,7 @@ module _ (s : Scope) (named : AreNamed s.names) (ranged : AreSignaturesInRange (
   body_writes : (os : List (Placed Operator)) → AllByRecursion IsListed (without_places os) →
       Writes Bound (body_pieces s os) Ended (expression_items (body_setting s) (without_places os))
   unfolding body_pieces
-  body_writes os l = behind_anything Bound (expression_writes (body_setting s) ranged named os l)
+  body_writes os l = behind_anything Bound (expression_writes (body_setting s) named ranged os l)
 
   empty_body_writes : Writes Bound (body_pieces s []) Bound End
   unfolding body_pieces expression_pieces operators_pieces
