@@ -17,6 +17,8 @@ pub mod Counts
 pub mod Spaces
 pub mod GivenNames
 pub mod Fields
+pub mod Sorted
+pub mod DeclaredTypes
 pub mod Back
 pub mod Stays
 pub mod Nested
