@@ -1,7 +1,7 @@
 -- Declarations with the identifiers that they have: parameters, locals and fields.
-use Rattle.std.proofs.Common.{◌≡◌, true, ℕ, zero, suc, ◌+◌, ◌≤◌, ◌^◌, List, [], ◌∷◌, ◌++◌, length, Option, Some, None, refl, ap, ◌∙◌, subst, arith, option_map, map}
+use Rattle.std.proofs.Common.{◌≡◌, true, ℕ, zero, suc, ◌+◌, ◌≤◌, ◌^◌, List, [], ◌∷◌, ◌++◌, length, Option, Some, refl, ap, ◌∙◌, arith, option_map}
 use Rattle.wasmprinter_spec.specs.Labels.{Named}
-use Rattle.wasmprinter_spec.specs.IndexSpaces.{Identifiers, are_distinct, index_space}
+use Rattle.wasmprinter_spec.specs.IndexSpaces.{are_distinct, index_space}
 use Rattle.wasmprinter_spec.specs.Names.{AreDistinct, identifiers_at, identifiers}
 use Rattle.wasmprinter_spec.specs.Text.Items.{Declaration, declaration, ids_of, types_of}
 use Rattle.wasmprinter_reading.proofs.Names.Resolving.{identifiers_are_distinct}

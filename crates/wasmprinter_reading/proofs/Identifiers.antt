@@ -11,11 +11,11 @@ use Rattle.wasmprinter_spec.specs.Labels.{Named}
 use Rattle.wasmprinter_spec.specs.IndexSpaces.{Identifiers, index, leading_index}
 use Rattle.wasmprinter_spec.specs.Names.{IsGiven, IsNamed, IsNamedIfAny, AreDistinct, identifiers}
 use Rattle.wasmprinter_spec.specs.Text.Items.{identified}
-use Rattle.wasmprinter_spec.specs.Piece.{Piece, Gap, Number, NumberRemark, BeginName, EndStyle, Identifier, NameNote}
+use Rattle.wasmprinter_spec.specs.Piece.{Piece, Gap, NumberRemark, EndStyle, Identifier, NameNote}
 use Rattle.wasmprinter_spec.specs.Layout.Identifiers.{given_pieces, mark_pieces, leading_mark_pieces, mark_gap_pieces, identifier_gap_pieces, declaration_pieces, index_pieces}
 use Rattle.wasmprinter_lexical.proofs.Grown.{onto-End}
 use Rattle.wasmprinter_lexical.proofs.Pieces.{Edge, Free, Bound}
-use Rattle.wasmprinter_lexical.proofs.Writes.{Writes, writing, both_write, identifier_writes, gap_writes, begin_name_writes, nothing_writes, free_writes, loosened}
+use Rattle.wasmprinter_lexical.proofs.Writes.{Writes, writing, both_write, identifier_writes, gap_writes, begin_name_writes, nothing_writes}
 use Rattle.wasmprinter_reading.proofs.Items.{index-decimal}
 use Rattle.wasmprinter_reading.proofs.Declarations.{id}
 use Rattle.wasmprinter_reading.proofs.Names.Resolving.{resolves}

@@ -3,13 +3,13 @@ use Rattle.std.proofs.Common.{◌≡◌, ℕ, ◌<◌, List, [], ◌∷◌, ◌+
 use Rattle.std.specs.Prelude.{nat_eq, ◌==◌, IsUtf8, if◌then◌else◌}
 use Rattle.std.proofs.lemmas.Str.{IsUtf8-append}
 use Rattle.wasmprinter_lexical.proofs.Printed.{all_printed}
-use Rattle.wasmprinter_spec.specs.Grammar.{◌>>=◌, some_is}
+use Rattle.wasmprinter_spec.specs.Grammar.{◌>>=◌}
 use Rattle.wasmprinter_spec.specs.Labels.{Named}
 use Rattle.wasmprinter_spec.specs.LabelNames.{is_clean}
 use Rattle.wasmprinter_spec.specs.Row.{Space, Types, Func, Table, Memory, Tag, Global, Elem, Data, Local, Label}
 use Rattle.wasmprinter_spec.specs.Names.Section.{Entry, module_subsection, function_subsection, local_subsection, label_subsection, type_subsection, table_subsection, memory_subsection, global_subsection, elem_subsection, data_subsection, field_subsection, tag_subsection}
 use Rattle.wasmprinter_spec.specs.Names.Content.{group_of, index_content, marked_content, is_counted, is_among, entry_name, last_name, entries_in, name_of}
-use Rattle.wasmprinter_spec.specs.Names.{Names, names_of, no_names, or_invented, name_in, IsGiven, IsNamed, IsNamedIfAny, AreNamed}
+use Rattle.wasmprinter_spec.specs.Names.{names_of, no_names, or_invented, name_in, IsGiven, IsNamed, IsNamedIfAny, AreNamed}
 use Rattle.wasmprinter_reading.specs.NameLaws.{AreEntries, IsEntry, IdentifiersAreNamed}
 use Rattle.wasmprinter_reading.proofs.Operators.LabelNames.{printed_is_utf8, utf8-decimal, label_naming_names}
 use Rattle.wasmprinter_reading.proofs.Names.Distinct.{are_entries-in}

@@ -1,8 +1,8 @@
 -- The identifier and the type of a block.
-use Rattle.std.proofs.Common.{◌≡◌, ℕ, ◌+◌, ◌<◌, ◌^◌, true, List, [], ◌∷◌, ◌++◌, Option, Some, None, refl, sym, ◌∙◌, codes, decimal, arith, subst}
+use Rattle.std.proofs.Common.{◌≡◌, ℕ, ◌+◌, ◌<◌, ◌^◌, true, List, [], ◌∷◌, ◌++◌, Option, Some, None, refl, ◌∙◌, codes, decimal, subst}
 use Rattle.wasmprinter_spec.specs.Character.{class}
 use Rattle.wasmprinter_spec.specs.Grammar.{◌>>=◌}
-use Rattle.wasmprinter_spec.specs.Forest.{Forest, End, Word, Name, Group, onto}
+use Rattle.wasmprinter_spec.specs.Forest.{Forest, End, Word, Group, onto}
 use Rattle.wasmprinter_spec.specs.Row as row
 use Rattle.wasmprinter_spec.specs.Types.{ValType, FuncType}
 use Rattle.wasmprinter_spec.specs.Operator.{BlockType, Empty, Value, OfType}

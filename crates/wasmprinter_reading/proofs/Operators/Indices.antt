@@ -1,22 +1,22 @@
 -- Immediates that are indices: what they are written as, that this reads back, and that their pieces write it.
-use Rattle.std.proofs.Common.{◌≡◌, ℕ, ◌<◌, ◌^◌, Bool, true, false, ◌&&◌, cond, eqb, List, [], ◌∷◌, ◌++◌, Option, Some, None, refl, sym, ap, ◌∙◌, codes, decimal, arith}
+use Rattle.std.proofs.Common.{◌≡◌, ℕ, Bool, true, false, ◌&&◌, cond, eqb, List, [], ◌∷◌, ◌++◌, Option, Some, None, refl, sym, ap, ◌∙◌, codes, decimal, arith}
 use Rattle.std.specs.List.{AllByRecursion}
 use Rattle.std.proofs.lemmas.Bool.{and_parts, eqb-true}
 use Rattle.wasmprinter_spec.specs.Character.{class}
-use Rattle.wasmprinter_spec.specs.Forest.{Forest, End, Word, Name, Group, onto}
+use Rattle.wasmprinter_spec.specs.Forest.{Forest, End, Word, Group, onto}
 use Rattle.wasmprinter_spec.specs.Types.{FuncType}
 use Rattle.wasmprinter_spec.specs.Operator.{Indices, OfType}
 use Rattle.wasmprinter_spec.specs.Row as row
 use Rattle.wasmprinter_spec.specs.Row.{Space, Label}
 use Rattle.wasmprinter_spec.specs.Labels as labels
-use Rattle.wasmprinter_spec.specs.Labels.{Named, Naming}
+use Rattle.wasmprinter_spec.specs.Labels.{Named}
 use Rattle.wasmprinter_spec.specs.Names.{IsNamedIfAny, AreNamed, AreApart, in_function}
 use Rattle.wasmprinter_spec.specs.Indexed.{Counts, IsIndex, IsFieldOf, IsFunctionType}
 use Rattle.wasmprinter_spec.specs.Code.{head}
 use Rattle.wasmprinter_spec.specs.IndexSpaces.{Identifiers, Context, space_in, index as index_in}
 use Rattle.wasmprinter_spec.specs.Text.Types.{val_types, variables}
 use Rattle.wasmprinter_spec.specs.Text.TypeUses.{no_type, same_func_type, agrees}
-use Rattle.wasmprinter_spec.specs.Text.Operators.{block_type, index, default_index, two_indices, type_and_field, type_and_count, copied, with_segment, call_parts, called}
+use Rattle.wasmprinter_spec.specs.Text.Operators.{block_type, index, default_index, two_indices, type_and_field, type_and_count, copied, with_segment, call_parts}
 use Rattle.wasmprinter_spec.specs.Piece.{Gap}
 use Rattle.wasmprinter_spec.specs.Layout.Groups.{line_group_gap}
 use Rattle.wasmprinter_spec.specs.Layout.ValTypes.{type_index_pieces}

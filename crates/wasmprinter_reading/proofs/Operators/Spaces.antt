@@ -1,5 +1,5 @@
 -- Indices of items, in operators: what they are written as, that their pieces write it, and that they read back.
-use Rattle.std.proofs.Common.{◌≡◌, ℕ, ◌<◌, ◌^◌, true, List, [], Option, Some, None, refl, length, arith, min}
+use Rattle.std.proofs.Common.{◌≡◌, ℕ, ◌<◌, ◌^◌, true, List, Option, Some, None, refl, length, arith, min}
 use Rattle.wasmprinter_spec.specs.Forest.{Forest}
 use Rattle.wasmprinter_spec.specs.Row.{Space, Types, Local, Label}
 use Rattle.wasmprinter_spec.specs.Labels.{Named}

@@ -1,9 +1,9 @@
 -- The items of types read back, where indices do.
-use Rattle.std.proofs.Common.{◌≡◌, ◌⊎◌, inl, inr, ℕ, ◌<◌, ◌≤◌, ◌+◌, ◌^◌, true, false, Bool, List, [], ◌∷◌, ◌++◌, Option, Some, None, refl, sym, ap, ◌∙◌, codes, bytes_eq, append-nil, map, option_map, length, arith}
+use Rattle.std.proofs.Common.{◌≡◌, ◌⊎◌, inl, inr, ℕ, ◌<◌, ◌+◌, true, false, Bool, List, [], ◌∷◌, ◌++◌, Option, Some, None, refl, ap, ◌∙◌, codes, bytes_eq, append-nil, map, option_map, length, arith}
 use Rattle.std.specs.List.{AllByRecursion}
 use Rattle.std.proofs.lemmas.Bool.{and_from, eq-eqb}
 use Rattle.wasmprinter_spec.specs.Numeral.{natural, numeral}
-use Rattle.wasmprinter_spec.specs.Forest.{Forest, End, Word, Name, Group, onto}
+use Rattle.wasmprinter_spec.specs.Forest.{Forest, End, Word, Group, onto}
 use Rattle.wasmprinter_spec.specs.Row.{Types}
 use Rattle.wasmprinter_spec.specs.Types.{HeapType, Index, ref_type, ValType, Ref, StorageType, Val, I8, I16, FieldType, field_type, FuncType, CompositeType, FuncComposite, ArrayComposite, StructComposite, SubType, sub_type}
 use Rattle.wasmprinter_spec.specs.Labels.{Named}
@@ -12,7 +12,7 @@ use Rattle.wasmprinter_spec.specs.Layout.Variables.{Variables, Alone, Together, 
 use Rattle.wasmprinter_spec.specs.Layout.Types.{parameters_of}
 use Rattle.wasmprinter_spec.specs.IndexSpaces.{Identifiers, index}
 use Rattle.wasmprinter_spec.specs.Indexed.{IsDeclaredHeap, IsDeclaredVal, IsDeclaredStorage, IsDeclaredField, IsDeclaredFunc, IsDeclaredComposite, IsDeclaredSub}
-use Rattle.wasmprinter_spec.specs.Text.Items.{identified, groups, Declaration, declaration, declarations, ids_of, types_of}
+use Rattle.wasmprinter_spec.specs.Text.Items.{identified, groups, Declaration, declaration, declarations}
 use Rattle.wasmprinter_spec.specs.Text.Types.{heap_of_word, ref_of_word, number_of_word, packed_of_word, val_named, storage_named, field_named, heap_type, ref_named, ref_parts, ref_group, val_group, val_types, storage_group, storage_type, field_group, field, fields, variables, Signature, Declared, with_fields, signature, composite, supertypes, subtype, read_type, read_group, group_members}
 use Rattle.wasmprinter_spec.specs.Text.TypeUses.{heap_number, same_heap, same_flag, same_type, same_types, same_func_type, agrees, parameters}
 use Rattle.wasmprinter_lexical.proofs.Grown.{onto-End, onto_assoc}
@@ -21,7 +21,7 @@ use Rattle.wasmprinter_reading.proofs.Declarations.{id, declared_from, types_of-
 use Rattle.wasmprinter_reading.proofs.Bytes.{same_bytes}
 use Rattle.wasmprinter_reading.proofs.Identifiers.{index_items, id_items, Reads, declaration-items}
 use Rattle.wasmprinter_reading.proofs.Types.Ranged.{IsFewComposite, IsFewSub}
-use Rattle.wasmprinter_reading.proofs.Types.Trees.{heap_items, ref_items_by, val_items, types_items, group_items, variables_items, groups_items, HaveTypes, grouped_types, signature_items, storage_items, field_items_by, field_items, struct_items, composite_items, supertype_items, sub_group_items, sub_items_by, sub_items, type_items, type_field, members_items}
+use Rattle.wasmprinter_reading.proofs.Types.Trees.{heap_items, ref_items_by, val_items, types_items, group_items, groups_items, HaveTypes, grouped_types, signature_items, storage_items, field_items_by, field_items, struct_items, composite_items, supertype_items, sub_group_items, sub_items_by, sub_items, type_items, members_items}
 use Rattle.wasmprinter_reading.proofs.Numbered.{rows, map_numbered}
 
 -- ---- value types
