@@ -1,5 +1,6 @@
 //! Composite types and subtypes (section 6.4 of the WebAssembly Core Specification).
 ghost use Rattle.std.specs.Prelude.{◌≡◌, [], ◌∷◌, true, ℕ, ◌&&◌, ◌==◌, None, length, option_map};
+ghost use Rattle.wasmprinter_spec.specs.Names.{Names};
 ghost use Rattle.wasmprinter_spec.specs.Options.{Options};
 ghost use Rattle.wasmprinter_spec.specs.Types.{FuncComposite, ArrayComposite, StructComposite};
 ghost use Rattle.wasmprinter_spec.specs.Layout.Groups.{numbered};
@@ -113,7 +114,8 @@ fn write_fields<P: Print>(
     fields: &FieldTypes<'_>,
 ) -> io::Result<()>
     ensures { (o : Options) → Prints P.meaning o p.old p.new result
-        (numbered (λ k f. struct_field_pieces (shown identifiers.now) ((shown identifiers.now).fields owner k) f) 0 (fields_view fields.now)) }
+        (numbered (λ k f. struct_field_pieces (shown identifiers.now) ((shown identifiers.now).fields owner k) f) 0
+        (fields_view fields.now)) }
 {
     for (number, field) in (0..u64::from(fields.len())).zip(fields.iter()) {
         write_field_group(p, identifiers, owner, number, field)?;
@@ -186,7 +188,7 @@ fn write_composite_type<P: Print>(
 
 /// Writes that a subtype is final, and a blank.
 fn write_final<P: Print>(p: &mut P) -> io::Result<()>
-    ensures { (o : Options) → Prints P.meaning o p.old p.new result (final_pieces true) }
+    ensures { (o : Options) (names : Names) → Prints P.meaning o p.old p.new result (final_pieces names true) }
 {
     word(p, "final")?;
     gap(p)
@@ -194,7 +196,7 @@ fn write_final<P: Print>(p: &mut P) -> io::Result<()>
 
 /// Writes that a subtype is final, if it is, and a blank.
 fn write_final_if<P: Print>(p: &mut P, is_final: bool) -> io::Result<()>
-    ensures { (o : Options) → Prints P.meaning o p.old p.new result (final_pieces is_final) }
+    ensures { (o : Options) (names : Names) → Prints P.meaning o p.old p.new result (final_pieces names is_final) }
 {
     if is_final { write_final(p) } else { Ok(()) }
 }

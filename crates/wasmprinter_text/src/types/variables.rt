@@ -69,7 +69,8 @@ fn write_alone<P: Print>(
     value_type: ValType,
 ) -> io::Result<()>
     ensures { (o : Options) → Prints P.meaning o p.old p.new result
-        (variables_pieces (shown identifiers.now) keyword.now (Alone (identifier_view identifier.entry) (type_view value_type))) }
+        (variables_pieces (shown identifiers.now) keyword.now
+        (Alone (identifier_view identifier.entry) (type_view value_type))) }
 {
     open(p, keyword)?;
     gap(p)?;
@@ -111,7 +112,8 @@ pub fn write_variable<P: Print>(
     value_type: ValType,
 ) -> io::Result<Before>
     ensures pieces { (o : Options) → Prints P.meaning o p.old p.new result
-        (variable_pieces (shown identifiers.now) keyword.now before (parameters_of (shown identifiers.now) owner number) (type_view value_type)) }
+        (variable_pieces (shown identifiers.now) keyword.now before
+        (parameters_of (shown identifiers.now) owner number) (type_view value_type)) }
     ensures next { IfOk result (λ b. b ≡ before_next (parameters_of (shown identifiers.now) owner number)) }
 {
     match variable(identifiers, owner, number) {
@@ -145,7 +147,8 @@ pub(crate) fn write_params<P: Print>(
     types: &ValTypes<'_>,
 ) -> io::Result<()>
     ensures { (o : Options) → Prints P.meaning o p.old p.new result
-        (groups_pieces (shown identifiers.now) (codes "param") (grouped (parameters_of (shown identifiers.now) owner) 0 (types_view types.now))) }
+        (groups_pieces (shown identifiers.now) (codes "param")
+        (grouped (parameters_of (shown identifiers.now) owner) 0 (types_view types.now))) }
 {
     let mut before = Before::Shut;
     for (number, value_type) in (0..u64::from(types.len())).zip(types.iter()) {
