@@ -10,7 +10,7 @@ ghost use Rattle.wasmprinter_spec.specs.Piece.{Open};
 ghost use Rattle.wasmprinter_print.specs.Prints.{Prints};
 ghost use Rattle.wasmprinter_names.specs.Shown.{identifier_view, shown};
 ghost use Rattle.wasmprinter_ops.specs.ValTypes.{type_view, types_view};
-ghost use Rattle.wasmprinter_text.specs.Variables.{front_pieces, end_pieces, before_next, unnamed_pieces, variable_pieces, walk_pieces};
+ghost use Rattle.wasmprinter_text.specs.Variables.{front_pieces, end_pieces, before_next, first_pieces, unnamed_pieces, variable_pieces};
 
 use crate::indices::write_mark_gap;
 use crate::types::{write_type, write_val_type};
@@ -79,6 +79,22 @@ fn write_alone<P: Print>(
     shut(p)
 }
 
+/// Writes a variable without an identifier as the first of a new group, which stays open.
+fn write_first<P: Print>(
+    p: &mut P,
+    identifiers: &Identifiers<'_, '_>,
+    keyword: &str,
+    before: Before,
+    value_type: ValType,
+) -> io::Result<()>
+    ensures { (o : Options) → Prints P.meaning o p.old p.new result
+        (first_pieces (shown identifiers.now) keyword.now before (type_view value_type)) }
+{
+    begin_group(p, before)?;
+    open(p, keyword)?;
+    write_type(p, identifiers, value_type)
+}
+
 /// Writes a variable without an identifier: in the group that is open, or as the first of a new one.
 fn write_together<P: Print>(
     p: &mut P,
@@ -92,11 +108,7 @@ fn write_together<P: Print>(
 {
     match before {
         Before::Open => write_type(p, identifiers, value_type),
-        _ => {
-            begin_group(p, before)?;
-            open(p, keyword)?;
-            write_type(p, identifiers, value_type)
-        }
+        _ => write_first(p, identifiers, keyword, before, value_type),
     }
 }
 
