@@ -9,6 +9,7 @@ mod sections;
 pub use decoder::decode;
 pub use function::Function;
 pub use module::Module;
+pub use wasmprinter_entries::customs::Custom;
 pub use wasmprinter_entries::exports::{Export, ExternKind};
 pub use wasmprinter_entries::global_types::GlobalType;
 pub use wasmprinter_entries::imports::{ExternType, Import};
