@@ -26,7 +26,7 @@ pub struct Name<'a> {
 #[derive(Clone, Copy, PartialEq, Eq, PartialOrd, Ord)]
 pub struct Given<'a> {
     subsection: u8,
-    outer: u32,
+    outer: u64,
     name: &'a str,
 }
 
@@ -34,8 +34,8 @@ pub struct Given<'a> {
 #[derive(Clone, Copy, PartialEq, Eq, PartialOrd, Ord)]
 pub struct Place {
     subsection: u8,
-    outer: u32,
-    index: u32,
+    outer: u64,
+    index: u64,
 }
 
 /// A name as it is kept.
@@ -73,7 +73,7 @@ fn is_clean(name: &str) -> bool
 fn marked_content(
     alloc: Global,
     subsection: u8,
-    index: u32,
+    index: u64,
     name: &str,
     is_new: bool,
 ) -> Result<Option<String>, AllocError>
@@ -112,8 +112,8 @@ impl<'a> NamesBuilder<'a> {
         &mut self,
         alloc: Global,
         subsection: u8,
-        outer: u32,
-        index: u32,
+        outer: u64,
+        index: u64,
         name: &'a str,
     ) -> Result<(), AllocError>
         ensures { OnOk result ((entries : List Entry) → Holds entries self.old
@@ -169,7 +169,7 @@ impl Names<'_> {
 
     /// The name of an item, `None` where none is given. `outer` is the function of a local or a label and the type of a field, and else
     /// ignored.
-    pub fn name(&self, space: Space, outer: u32, index: u32) -> Option<Name<'_>>
+    pub fn name(&self, space: Space, outer: u64, index: u64) -> Option<Name<'_>>
         ensures { option_map name_view result ≡ name_at self.now (id_of space) (outer_of space outer) index }
     {
         self.get(Place {
@@ -183,7 +183,8 @@ impl Names<'_> {
     pub fn identifier(&self, space: Space, outer: u32, index: u32) -> Option<&str>
         ensures { option_copied result ≡ option_map (λ n. n.content) (name_at self.now (id_of space) (outer_of space outer) index) }
     {
-        self.name(space, outer, index).map(|name| name.content)
+        self.name(space, u64::from(outer), u64::from(index))
+            .map(|name| name.content)
     }
 
     /// The name of the module.
