@@ -15,7 +15,7 @@ use crate::context::Context;
 use std::io;
 use wasmprinter_ops::opcode::Space;
 use wasmprinter_print::Print;
-use wasmprinter_text::identifiers::write_index;
+use wasmprinter_text::indices::write_index;
 use wasmprinter_text::signature::{Signatures, write_type_index};
 use wasmprinter_words::numbers::number_word;
 use wasmprinter_words::words::gap;
