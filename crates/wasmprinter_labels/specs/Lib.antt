@@ -1,1 +1,3 @@
 pub mod Found
+pub mod Scan
+pub mod Views
