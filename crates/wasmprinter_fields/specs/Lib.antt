@@ -1,3 +1,4 @@
 pub mod Parts
+pub mod Scopes
 pub mod TypeLines
 pub mod FieldGroups
