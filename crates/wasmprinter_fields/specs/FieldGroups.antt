@@ -5,8 +5,9 @@ use Rattle.wasmprinter_spec.specs.Names.{Names}
 use Rattle.wasmprinter_spec.specs.Placed.{PlacedModule}
 use Rattle.wasmprinter_spec.specs.Options.{Options}
 use Rattle.wasmprinter_spec.specs.Piece.{Piece}
-use Rattle.wasmprinter_spec.specs.Layout.{tag_pieces, start_pieces}
+use Rattle.wasmprinter_spec.specs.Layout.{tag_pieces, start_pieces, module_field_pieces}
 use Rattle.wasmprinter_spec.specs.Layout.Groups.{numbered}
+use Rattle.wasmprinter_spec.specs.Layout.Identifiers.{leading_mark_pieces}
 use Rattle.wasmprinter_spec.specs.Layout.Declarations.{Scope, scope_of}
 use Rattle.wasmprinter_spec.specs.Layout.Types.{type_section_pieces}
 use Rattle.wasmprinter_spec.specs.Layout.Imports.{no_numbers, imports_pieces}
@@ -48,3 +49,7 @@ unfoldable pub code_and_data_pieces : Options → Scope → PlacedModule → Lis
 code_and_data_pieces o s m =
     numbered (function_pieces o s) (imported_count FuncKind m.imports) m.functions
     ++ numbered (data_pieces o.skeleton (within s (imported_count FuncKind m.imports + length m.functions))) 0 m.datas
+
+-- what stands in a module's group
+abbrev pub module_parts : Options → Names → PlacedModule → List Piece
+module_parts o names m = leading_mark_pieces names.module_name ++ module_field_pieces o names m

@@ -12,7 +12,7 @@ use Rattle.wasmprinter_fields.specs.Parts.{types_of}
 use Rattle.wasmprinter_fields.specs.declared.scope.Scope.{Scope}
 
 abbrev pub scope_view : Scope → layout.Scope
-scope_view s = scope_of (types_of s.module.now) (names_of s.labels) s.function
+scope_view s = scope_of (types_of s.types.module.now) (names_of s.labels) s.function
 
 -- the identifier of an item of the module: by computation one of the scope's names
 abbrev pub item_in : Scan → Space → ℕ → Option Named

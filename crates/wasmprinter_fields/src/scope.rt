@@ -1,7 +1,7 @@
 //! What the fields of a module are printed by, and what is printed by it: items where they are declared and used, and types.
-ghost use Rattle.std.specs.Prelude.{◌≡◌, ℕ};
+ghost use Rattle.std.specs.Prelude.{◌≡◌, ◌∷◌, ℕ};
 ghost use Rattle.wasmprinter_spec.specs.Options.{Options};
-ghost use Rattle.wasmprinter_spec.specs.Types.{signature_at};
+ghost use Rattle.wasmprinter_spec.specs.Piece.{Gap};
 ghost use Rattle.wasmprinter_spec.specs.Layout.Declarations.{type_use};
 ghost use Rattle.wasmprinter_spec.specs.Layout.Identifiers.{declaration_pieces, index_pieces};
 ghost use Rattle.wasmprinter_spec.specs.Layout.ValTypes.{ref_pieces, val_pieces};
@@ -11,7 +11,6 @@ ghost use Rattle.wasmprinter_names.specs.Shown.{shown};
 ghost use Rattle.wasmprinter_text.specs.Items.{item_of};
 ghost use Rattle.wasmprinter_ops.specs.ValTypes.{ref_view, type_view};
 ghost use Rattle.wasmprinter_labels.specs.Scan.{names_of};
-ghost use Rattle.wasmprinter_fields.specs.Parts.{types_of};
 ghost use Rattle.wasmprinter_fields.specs.Scopes.{scope_view, item_in};
 
 use std::io;
@@ -46,9 +45,9 @@ impl<'m, 'a> Signatures for ModuleTypes<'m, 'a> {
 /// What the fields of a module are printed by.
 #[derive(Drop)]
 pub(crate) struct Scope<'s, 'a> {
-    /// The module, for its types.
-    pub(crate) module: &'s Module<'a>,
-    /// The labels of open blocks, and the identifiers of the module.
+    /// The types of the module.
+    pub(crate) types: ModuleTypes<'s, 'a>,
+    /// The labels of open blocks, with the identifiers of the module.
     pub(crate) labels: OpenLabels<'s, 'a>,
     /// The function whose locals and labels an expression means.
     pub(crate) function: u64,
@@ -61,15 +60,6 @@ impl<'s, 'a> Scope<'s, 'a> {
         ensures items { (space : Space) (n : ℕ) → item_of result space 0 n ≡ item_in self.now.labels space n }
     {
         self.labels.identifiers()
-    }
-
-    /// The types of the module.
-    pub(crate) fn types(&self) -> ModuleTypes<'s, 'a>
-        ensures { result.module.now ≡ self.now.module.now }
-    {
-        ModuleTypes {
-            module: self.module,
-        }
     }
 }
 
@@ -99,16 +89,17 @@ pub(crate) fn write_index<P: Print>(
     write_index_of(p, &scope.identifiers(), space, 0, u64::from(index))
 }
 
-/// Writes the index of a type, and its signature where it is a function type. `owner` is the function that has the type.
+/// Writes a blank, the index of a type, and its signature where it is a function type. `owner` is the function that has the type.
 pub(crate) fn write_type_use<P: Print>(
     p: &mut P,
     scope: &Scope<'_, '_>,
     owner: Option<u64>,
     index: u32,
 ) -> io::Result<()>
-    ensures { (o : Options) → Prints P.meaning o p.old p.new result (type_use (scope_view scope.now) owner index) }
+    ensures { (o : Options) → Prints P.meaning o p.old p.new result
+        (Gap ∷ type_use (scope_view scope.now) owner index) }
 {
-    signature::write_type_use(p, &scope.identifiers(), owner, &scope.types(), index)
+    signature::write_type_use(p, &scope.identifiers(), owner, &scope.types, index)
 }
 
 /// Writes a reference type.
