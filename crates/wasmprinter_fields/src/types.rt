@@ -114,7 +114,7 @@ fn write_rec<P: Print>(
 {
     open(p, "rec")?;
     write_types(p, options, scope, group, first)?;
-    close_group(p, options, scope, group.types().len() != 0)
+    close_group(p, options, group.types().len() != 0)
 }
 
 /// Writes what stands on the line of a group and those below it.
