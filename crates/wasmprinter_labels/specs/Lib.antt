@@ -1,3 +1,5 @@
 pub mod Found
 pub mod Scan
+pub mod Stack
+pub mod Blocks
 pub mod Views

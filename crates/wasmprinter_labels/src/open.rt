@@ -47,8 +47,8 @@ impl<'n, 'a> OpenLabels<'n, 'a> {
     ///
     /// Where memory for that room is refused. None is asked for if no label has a name.
     pub fn new(alloc: Global, identifiers: Identifiers<'n, 'a>) -> Result<Self, AllocError>
-        ensures start { IfOk result (λ labels. labels ≡ at_start identifiers 0) }
-        ensures needed { ((f n : ℕ) → name_at identifiers.names.now label_subsection f n ≡ None) → IsOk result }
+        ensures start { IfOk result (λ labels. labels ≡ at_start identifiers.entry 0) }
+        ensures needed { ((f n : ℕ) → name_at identifiers.entry.names.now label_subsection f n ≡ None) → IsOk result }
     {
         let _ = alloc;
         Ok(OpenLabels { identifiers })
