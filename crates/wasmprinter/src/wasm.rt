@@ -1,4 +1,5 @@
 //! Modules in the binary format: decoding, and walking over what was decoded.
+pub use wasmprinter_names::{Name, Names, Space};
 pub use wasmprinter_ops::blocks::{BlockType, Catch, Catches, Targets};
 pub use wasmprinter_ops::expression::{Expression, OperatorsReader};
 pub use wasmprinter_ops::opcode::Opcode;
@@ -6,7 +7,7 @@ pub use wasmprinter_ops::operands::MemArg;
 pub use wasmprinter_ops::operator::{Immediates, Operator};
 pub use wasmprinter_ops::types::{HeapType, RefType, ValType, ValTypes};
 pub use wasmprinter_wasm::{
-    Body, Data, DataMode, Element, ElementItems, ElementMode, Export, ExternKind, ExternType,
+    Body, Custom, Data, DataMode, Element, ElementItems, ElementMode, Export, ExternKind, ExternType,
     Function, Global, GlobalType, Import, Limits, LocalEntry, Locals, Memory, MemoryType, Module,
     Start, Table, TableType, Tag, TypeGroup, decode,
 };
