@@ -3,4 +3,5 @@ pub mod Scan
 pub mod Stack
 pub mod Blocks
 pub mod Numbers
+pub mod Inside
 pub mod Views
