@@ -1,12 +1,13 @@
 //! Parameters and locals (section 6.6 of the WebAssembly Core Specification, "Functions" and "Type Uses"). One with an identifier stands in
 //! a group of its own, and neighbours without share one.
-ghost use Rattle.std.specs.Prelude.{◌≡◌, ◌∷◌, [], ◌++◌, Some, None, IfOk, codes, option_map};
+ghost use Rattle.std.specs.Prelude.{◌≡◌, ◌∷◌, ◌++◌, Some, IfOk, codes, option_map};
 ghost use Rattle.wasmprinter_spec.specs.Options.{Options};
 ghost use Rattle.wasmprinter_spec.specs.Layout.Groups.{line_group};
 ghost use Rattle.wasmprinter_spec.specs.Layout.Types.{parameters_of};
-ghost use Rattle.wasmprinter_spec.specs.Layout.ValTypes.{type_list as list_of_types};
-ghost use Rattle.wasmprinter_spec.specs.Layout.Variables.{Alone, grouped, variables_pieces, groups_pieces};
-ghost use Rattle.wasmprinter_spec.specs.Piece.{Open};
+ghost use Rattle.wasmprinter_spec.specs.Layout.Identifiers.{mark_gap_pieces};
+ghost use Rattle.wasmprinter_spec.specs.Layout.ValTypes.{val_pieces};
+ghost use Rattle.wasmprinter_spec.specs.Layout.Variables.{grouped, groups_pieces};
+ghost use Rattle.wasmprinter_spec.specs.Piece.{Gap};
 ghost use Rattle.wasmprinter_print.specs.Prints.{Prints};
 ghost use Rattle.wasmprinter_names.specs.Shown.{identifier_view, shown};
 ghost use Rattle.wasmprinter_ops.specs.ValTypes.{type_view, types_view};
@@ -60,7 +61,7 @@ fn begin_group<P: Print>(p: &mut P, before: Before) -> io::Result<()>
 }
 
 /// Writes a variable with an identifier as a group.
-#[tactic(auto, unfolding(wasmprinter_spec::specs::Layout::Variables::variables_pieces, wasmprinter_spec::specs::Layout::Groups::line_group))]
+#[tactic(auto, unfolding(wasmprinter_spec::specs::Layout::Groups::line_group))]
 fn write_alone<P: Print>(
     p: &mut P,
     identifiers: &Identifiers<'_, '_>,
@@ -69,8 +70,8 @@ fn write_alone<P: Print>(
     value_type: ValType,
 ) -> io::Result<()>
     ensures { (o : Options) → Prints P.meaning o p.old p.new result
-        (variables_pieces (shown identifiers.now) keyword.now
-        (Alone (identifier_view identifier.entry) (type_view value_type))) }
+        (line_group keyword.now (Gap ∷ (mark_gap_pieces (Some (identifier_view identifier.entry))
+        ++ val_pieces (shown identifiers.now) (type_view value_type)))) }
 {
     open(p, keyword)?;
     gap(p)?;
@@ -114,6 +115,7 @@ fn write_together<P: Print>(
 
 /// Writes a variable, and says what stands before the next one. `owner` is the function whose variable it is, `None` of a parameter that is
 /// of no function.
+#[tactic(auto, unfolding(wasmprinter_spec::specs::Layout::Variables::variables_pieces))]
 pub fn write_variable<P: Print>(
     p: &mut P,
     identifiers: &Identifiers<'_, '_>,

@@ -30,6 +30,6 @@ returns g c o =
     let field = field_of (shown c.args.identifiers.now) c.args.owner in
     let items = c.loop-number.number-iterator.b in
     let none : items ≡ [] =
-        ⊎_elim (λ u. none-left _ _ items c.loop-number.invariant.count u.1.1.0) (λ u. u.1.0) c.in-None.ensures.steps in
+    ⊎_elim (λ u. none-left _ _ items c.loop-number.invariant.count u.1.1.0) (λ u. u.1.0) c.in-None.ensures.steps in
     let last = fields-none field c.loop-number.number-iterator.a.start items none in
     lacks_none g.P.Print.meaning _ (rw last at (c.loop-number.invariant.lacks o))

@@ -1,6 +1,5 @@
 use Rattle.std.proofs.Common.{◌≡◌, ◌+◌, length}
 use Rattle.wasmprinter_spec.specs.Options.{Options}
-use Rattle.wasmprinter_spec.specs.Names.{Names}
 use Rattle.wasmprinter_spec.specs.Layout.Groups.{numbered}
 use Rattle.wasmprinter_print.specs.Prints.{Lacks}
 use Rattle.wasmprinter_names.specs.Shown.{shown}
