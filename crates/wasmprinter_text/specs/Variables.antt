@@ -26,10 +26,14 @@ before_next (Some n) = before.Shut
 before_next None = before.Open
 
 module _ (names : Names) (w : List ℕ) where
+  -- the first variable of a new group of those without identifiers
+  abbrev pub first_pieces : Before → ValType → List Piece
+  first_pieces b t = front_pieces b ++ (Open w ∷ type_list names (t ∷ []))
+
   -- a variable without an identifier
   abbrev pub unnamed_pieces : Before → ValType → List Piece
   unnamed_pieces before.Open t = type_list names (t ∷ [])
-  unnamed_pieces b t = front_pieces b ++ (Open w ∷ type_list names (t ∷ []))
+  unnamed_pieces b t = first_pieces b t
 
   abbrev pub variable_pieces : Before → Option Named → ValType → List Piece
   variable_pieces b (Some n) t = front_pieces b ++ variables_pieces names w (Alone n t)

@@ -3,6 +3,7 @@
 ghost use Rattle.std.specs.Prelude.{[], ◌∷◌, Some, chars, option_map};
 ghost use Rattle.wasmprinter_spec.specs.Options.{Options};
 ghost use Rattle.wasmprinter_spec.specs.Piece.{Gap, NameNote, Identifier as IdentifierPiece};
+ghost use Rattle.wasmprinter_spec.specs.Layout.Groups.{line_group_gap};
 ghost use Rattle.wasmprinter_spec.specs.Layout.Identifiers.{given_pieces, mark_pieces, leading_mark_pieces, mark_gap_pieces};
 ghost use Rattle.wasmprinter_spec.specs.Layout.Identifiers.{identifier_gap_pieces, declaration_pieces, index_pieces};
 ghost use Rattle.wasmprinter_print.specs.Prints.{Prints};
@@ -16,7 +17,7 @@ use wasmprinter_print::Print;
 use wasmprinter_words::comments::number_remark;
 use wasmprinter_words::identifiers::{identifier as write_content, made_up, name_note};
 use wasmprinter_words::numbers;
-use wasmprinter_words::words::{begin_name, end_style, gap};
+use wasmprinter_words::words::{begin_name, end_style, gap, open_gap, shut};
 
 /// Writes an identifier.
 fn write_identifier<P: Print>(p: &mut P, identifier: Identifier<'_>) -> io::Result<()>
@@ -178,4 +179,21 @@ pub fn write_index_of<P: Print>(
         (index_pieces (item_of identifiers.now space outer number) number) }
 {
     write_index(p, identifiers.item(space, outer, number), number)
+}
+
+/// Writes an index of a space of the module as a group behind a keyword.
+#[tactic(auto, unfolding(wasmprinter_spec::specs::Layout::Groups::line_group_gap))]
+pub fn write_index_group<P: Print>(
+    p: &mut P,
+    identifiers: &Identifiers<'_, '_>,
+    keyword: &str,
+    space: Space,
+    index: u32,
+) -> io::Result<()>
+    ensures { (o : Options) → Prints P.meaning o p.old p.new result
+        (line_group_gap keyword.now (index_pieces (item_of identifiers.now space 0 index) index)) }
+{
+    open_gap(p, keyword)?;
+    write_index_of(p, identifiers, space, 0, u64::from(index))?;
+    shut(p)
 }

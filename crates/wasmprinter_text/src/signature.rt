@@ -8,12 +8,13 @@ ghost use Rattle.wasmprinter_spec.specs.Layout.Types.{signature_if_any, type_use
 ghost use Rattle.wasmprinter_print.specs.Prints.{Prints};
 ghost use Rattle.wasmprinter_names.specs.Shown.{shown};
 
-use crate::types::{signature, write_type_number};
+use crate::indices::write_index_group;
+use crate::types::signature;
 use std::io;
-use wasmprinter_names::Identifiers;
+use wasmprinter_names::{Identifiers, Space};
 use wasmprinter_ops::types::composite::FuncType;
 use wasmprinter_print::Print;
-use wasmprinter_words::words::{gap, open_gap, shut};
+use wasmprinter_words::words::gap;
 
 /// The types of a module, of which some are function types.
 pub trait Signatures {
@@ -46,7 +47,7 @@ fn write_signature<P: Print, S: Signatures>(
 }
 
 /// Writes a blank and the index of a type, as a group.
-#[tactic(auto, unfolding(wasmprinter_spec::specs::Layout::Groups::line_group_gap))]
+#[tactic(auto, unfolding(wasmprinter_spec::specs::Layout::ValTypes::type_index_pieces))]
 pub fn write_type_index<P: Print>(
     p: &mut P,
     identifiers: &Identifiers<'_, '_>,
@@ -56,9 +57,7 @@ pub fn write_type_index<P: Print>(
         (Gap ∷ line_group_gap (codes "type") (type_index_pieces (shown identifiers.now) index)) }
 {
     gap(p)?;
-    open_gap(p, "type")?;
-    write_type_number(p, identifiers, index)?;
-    shut(p)
+    write_index_group(p, identifiers, "type", Space::Types, index)
 }
 
 /// Writes a blank, the index of a type as a group, and its signature, which is nothing where the index is no function type's. The

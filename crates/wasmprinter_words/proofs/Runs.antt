@@ -4,13 +4,12 @@ use Rattle.std.specs.List.{list_all}
 use Rattle.std.specs.Str.{IsAscii}
 use Rattle.std.specs.Str.Parse.{AllDigits}
 use Rattle.std.specs.Char.{digit_value}
-use Rattle.std.proofs.Common.{refl, sym, ap, ◌∙◌, arith, true≢false, leb, ltb, eqb, cond, lit<, suc, zero}
+use Rattle.std.proofs.Common.{refl, sym, ap, ◌∙◌, arith, true≢false, leb, ltb, cond, lit<, suc, zero}
 use Rattle.std.proofs.lemmas.Bool.{and_parts, and_from, ltb-true, ltb-false, ne_eqb, le-ltb, le-leb, agree_below, agree_below_at}
 use Rattle.std.proofs.lemmas.Fmt.{decimal_is_IsNumeral}
 use Rattle.std.proofs.lemmas.Str.{chars-IsAscii, encodes-IsAscii, encodes-chars}
-use Rattle.std.proofs.lemmas.Str.Ascii.{IsAscii-from_all}
 use Rattle.std.proofs.lemmas.Str.Parse.{digit_at}
-use Rattle.wasmprinter_spec.specs.Character.{Class, Foreign, class}
+use Rattle.wasmprinter_spec.specs.Character.{Foreign, class}
 use Rattle.wasmprinter_spec.specs.Names.Content.{index_content}
 use Rattle.wasmprinter_spec.specs.Quoted.{runs, all_run, is_run, quoted_text, identifier_text}
 

@@ -1,7 +1,8 @@
 //! Composite types and subtypes (section 6.4 of the WebAssembly Core Specification).
-ghost use Rattle.std.specs.Prelude.{◌≡◌, [], ◌∷◌, true, ℕ, ◌&&◌, ◌==◌, None, length, option_map};
+ghost use Rattle.std.specs.Prelude.{◌≡◌, [], ◌∷◌, true, ℕ, ◌&&◌, ◌==◌, None, codes, length, option_map};
 ghost use Rattle.wasmprinter_spec.specs.Names.{Names};
 ghost use Rattle.wasmprinter_spec.specs.Options.{Options};
+ghost use Rattle.wasmprinter_spec.specs.Piece.{Gap, Word};
 ghost use Rattle.wasmprinter_spec.specs.Types.{FuncComposite, ArrayComposite, StructComposite};
 ghost use Rattle.wasmprinter_spec.specs.Layout.Groups.{numbered};
 ghost use Rattle.wasmprinter_spec.specs.Layout.Types.{storage_pieces, field_pieces_by, field_pieces, struct_field_pieces, composite_pieces};
@@ -188,7 +189,7 @@ fn write_composite_type<P: Print>(
 
 /// Writes that a subtype is final, and a blank.
 fn write_final<P: Print>(p: &mut P) -> io::Result<()>
-    ensures { (o : Options) (names : Names) → Prints P.meaning o p.old p.new result (final_pieces names true) }
+    ensures { (o : Options) → Prints P.meaning o p.old p.new result (Word (codes "final") ∷ (Gap ∷ [])) }
 {
     word(p, "final")?;
     gap(p)

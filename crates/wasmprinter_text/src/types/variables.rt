@@ -1,16 +1,17 @@
 //! Parameters and locals (section 6.6 of the WebAssembly Core Specification, "Functions" and "Type Uses"). One with an identifier stands in
 //! a group of its own, and neighbours without share one.
-ghost use Rattle.std.specs.Prelude.{◌≡◌, ◌∷◌, [], ◌++◌, Some, None, IfOk, codes, option_map};
+ghost use Rattle.std.specs.Prelude.{◌≡◌, ◌∷◌, ◌++◌, Some, IfOk, codes, option_map};
 ghost use Rattle.wasmprinter_spec.specs.Options.{Options};
 ghost use Rattle.wasmprinter_spec.specs.Layout.Groups.{line_group};
 ghost use Rattle.wasmprinter_spec.specs.Layout.Types.{parameters_of};
-ghost use Rattle.wasmprinter_spec.specs.Layout.ValTypes.{type_list as list_of_types};
-ghost use Rattle.wasmprinter_spec.specs.Layout.Variables.{Alone, grouped, variables_pieces, groups_pieces};
-ghost use Rattle.wasmprinter_spec.specs.Piece.{Open};
+ghost use Rattle.wasmprinter_spec.specs.Layout.Identifiers.{mark_gap_pieces};
+ghost use Rattle.wasmprinter_spec.specs.Layout.ValTypes.{val_pieces};
+ghost use Rattle.wasmprinter_spec.specs.Layout.Variables.{grouped, groups_pieces};
+ghost use Rattle.wasmprinter_spec.specs.Piece.{Gap};
 ghost use Rattle.wasmprinter_print.specs.Prints.{Prints};
 ghost use Rattle.wasmprinter_names.specs.Shown.{identifier_view, shown};
 ghost use Rattle.wasmprinter_ops.specs.ValTypes.{type_view, types_view};
-ghost use Rattle.wasmprinter_text.specs.Variables.{front_pieces, end_pieces, before_next, unnamed_pieces, variable_pieces, walk_pieces};
+ghost use Rattle.wasmprinter_text.specs.Variables.{front_pieces, end_pieces, before_next, first_pieces, unnamed_pieces, variable_pieces};
 
 use crate::indices::write_mark_gap;
 use crate::types::{write_type, write_val_type};
@@ -60,7 +61,7 @@ fn begin_group<P: Print>(p: &mut P, before: Before) -> io::Result<()>
 }
 
 /// Writes a variable with an identifier as a group.
-#[tactic(auto, unfolding(wasmprinter_spec::specs::Layout::Variables::variables_pieces, wasmprinter_spec::specs::Layout::Groups::line_group))]
+#[tactic(auto, unfolding(wasmprinter_spec::specs::Layout::Groups::line_group))]
 fn write_alone<P: Print>(
     p: &mut P,
     identifiers: &Identifiers<'_, '_>,
@@ -69,14 +70,30 @@ fn write_alone<P: Print>(
     value_type: ValType,
 ) -> io::Result<()>
     ensures { (o : Options) → Prints P.meaning o p.old p.new result
-        (variables_pieces (shown identifiers.now) keyword.now
-        (Alone (identifier_view identifier.entry) (type_view value_type))) }
+        (line_group keyword.now (Gap ∷ (mark_gap_pieces (Some (identifier_view identifier.entry))
+        ++ val_pieces (shown identifiers.now) (type_view value_type)))) }
 {
     open(p, keyword)?;
     gap(p)?;
     write_mark_gap(p, Some(identifier))?;
     write_val_type(p, identifiers, value_type)?;
     shut(p)
+}
+
+/// Writes a variable without an identifier as the first of a new group, which stays open.
+fn write_first<P: Print>(
+    p: &mut P,
+    identifiers: &Identifiers<'_, '_>,
+    keyword: &str,
+    before: Before,
+    value_type: ValType,
+) -> io::Result<()>
+    ensures { (o : Options) → Prints P.meaning o p.old p.new result
+        (first_pieces (shown identifiers.now) keyword.now before (type_view value_type)) }
+{
+    begin_group(p, before)?;
+    open(p, keyword)?;
+    write_type(p, identifiers, value_type)
 }
 
 /// Writes a variable without an identifier: in the group that is open, or as the first of a new one.
@@ -92,16 +109,13 @@ fn write_together<P: Print>(
 {
     match before {
         Before::Open => write_type(p, identifiers, value_type),
-        _ => {
-            begin_group(p, before)?;
-            open(p, keyword)?;
-            write_type(p, identifiers, value_type)
-        }
+        _ => write_first(p, identifiers, keyword, before, value_type),
     }
 }
 
 /// Writes a variable, and says what stands before the next one. `owner` is the function whose variable it is, `None` of a parameter that is
 /// of no function.
+#[tactic(auto, unfolding(wasmprinter_spec::specs::Layout::Variables::variables_pieces))]
 pub fn write_variable<P: Print>(
     p: &mut P,
     identifiers: &Identifiers<'_, '_>,

@@ -1,4 +1,4 @@
-use Rattle.std.proofs.Common.{rules, sym, ◌∙◌, ◌≡◌, true, chars}
+use Rattle.std.proofs.Common.{sym, ◌∙◌, ◌≡◌, true, chars}
 use Rattle.wasmprinter_spec.specs.Quoted.{is_run}
 use Rattle.wasmprinter_words.proofs.Runs.{plain-chars}
 use Rattle.wasmprinter_words.proofs.identifiers.write_content.Goals as goal
