@@ -32,7 +32,7 @@ use wasmprinter_ops::operands::MemArg;
 use wasmprinter_ops::operator::Immediates;
 use wasmprinter_ops::types::{HeapType, RefType};
 use wasmprinter_print::Print;
-use wasmprinter_text::identifiers::write_leading_mark;
+use wasmprinter_text::indices::write_leading_mark;
 use wasmprinter_text::signature::Signatures;
 use wasmprinter_words::numbers::constant;
 

@@ -1,9 +1,8 @@
 //! Labels (section 6.5 of the WebAssembly Core Specification, "Labels"): blocks by their identifiers, or by numbers that are counted from
 //! the innermost out.
-ghost use Rattle.std.specs.Prelude.{[], ◌∷◌, codes, decimal, true, false, Some};
+ghost use Rattle.std.specs.Prelude.{[], ◌∷◌, codes, decimal, true, false};
 ghost use Rattle.wasmprinter_spec.specs.Options.{Options};
 ghost use Rattle.wasmprinter_spec.specs.Piece.{Gap, Word, Number, Remark};
-ghost use Rattle.wasmprinter_spec.specs.Layout.Identifiers.{index_pieces};
 ghost use Rattle.wasmprinter_spec.specs.Layout.Operators.{label_name_pieces, label_pieces, labels_pieces};
 ghost use Rattle.wasmprinter_print.specs.Prints.{Prints};
 ghost use Rattle.wasmprinter_names.specs.Shown.{identifier_view};
@@ -15,29 +14,21 @@ use wasmprinter_labels::Meant;
 use wasmprinter_names::Identifier;
 use wasmprinter_ops::blocks::Targets;
 use wasmprinter_print::Print;
-use wasmprinter_text::identifiers::{write_index, write_leading_mark};
+use wasmprinter_text::indices::{write_index, write_mark};
 use wasmprinter_text::signature::Signatures;
 use wasmprinter_words::comments::{block_remark, unstyled_remark};
 use wasmprinter_words::numbers::{gap_index, number, number_word};
 use wasmprinter_words::words::gap;
-
-/// Writes the identifier of a label that is made up.
-fn write_made_up<P: Print>(p: &mut P, identifier: Identifier<'_>, label: u32) -> io::Result<()>
-    ensures { (o : Options) → Prints P.meaning o p.old p.new result
-        (Gap ∷ index_pieces (Some (identifier_view identifier.entry)) label) }
-{
-    gap(p)?;
-    write_index(p, Some(identifier), u64::from(label))
-}
 
 /// Writes a label by its identifier: with its name, if it has one, and else as an index.
 fn write_by_name<P: Print>(p: &mut P, identifier: Identifier<'_>, label: u32) -> io::Result<()>
     ensures { (o : Options) → Prints P.meaning o p.old p.new result
         (Gap ∷ label_name_pieces (identifier_view identifier.entry).given label (identifier_view identifier.entry)) }
 {
+    gap(p)?;
     match identifier {
-        Identifier::Given(_) => write_leading_mark(p, Some(identifier)),
-        Identifier::Invented { .. } => write_made_up(p, identifier, label),
+        Identifier::Given(_) => write_mark(p, identifier),
+        Identifier::Invented { .. } => write_index(p, Some(identifier), u64::from(label)),
     }
 }
 

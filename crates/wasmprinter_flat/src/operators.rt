@@ -160,7 +160,8 @@ pub fn write_operators<P: Print, S: Signatures>(
 ) -> io::Result<()>
     ensures prints { Prints P.meaning options.now p.old p.new result
         (expression_pieces (setting_view S.signature_at setting.now (names_of labels.old)) expression.now.items) }
-    ensures names { names_of labels.new ≡ names_of labels.old }
+    ensures named { labels.new.named ≡ labels.old.named }
+    ensures invents { labels.new.invents ≡ labels.old.invents }
 {
     labels.begin(setting.function);
     let mut first = true;

@@ -1,1 +1,4 @@
 pub mod Kept
+pub mod Numbering
+pub mod Cursors
+pub mod Targets

@@ -1,5 +1,5 @@
 -- What is known of the labels between two operators of an expression.
-use Rattle.std.specs.Prelude.{ℕ, List, [], length, Bool}
+use Rattle.std.specs.Prelude.{ℕ, suc, List, [], ◌∷◌, length, Bool}
 use Rattle.wasmprinter_spec.specs.Row.{Role}
 use Rattle.wasmprinter_spec.specs.Labels.{Label, labels_after, count_after, outside, inside}
 use Rattle.wasmprinter_spec.specs.Names.{Names, names_by}
@@ -31,6 +31,18 @@ at_start x f = record { named = x.names.now; invents = x.invents; function = f; 
 -- the same for an expression of another function
 abbrev pub begun : ℕ → Scan → Scan
 begun f s = record { named = s.named; invents = s.invents; function = f; count = 0; labels = [] }
+
+-- behind an operator that opens a block
+abbrev pub opened : Scan → Scan
+opened s = record { named = s.named; invents = s.invents; function = s.function; count = suc s.count; labels = own_label s ∷ s.labels }
+
+abbrev pub without_first : List Label → List Label
+without_first [] = []
+without_first (x ∷ xs) = xs
+
+-- behind one that closes a block
+abbrev pub closed : Scan → Scan
+closed s = record { named = s.named; invents = s.invents; function = s.function; count = s.count; labels = without_first s.labels }
 
 -- behind an operator of the role
 abbrev pub advanced : Role → Scan → Scan

@@ -120,7 +120,8 @@ impl<'n> NamedBlocks<'n> {
 
     /// Takes the innermost block away if it is at this depth.
     pub(crate) fn close(&mut self, depth: u64)
-        ensures { self.new ≡ record { blocks = closed_at depth self.old.blocks; limit = self.old.limit } }
+        ensures closed { self.new ≡ record { blocks = closed_at depth self.old.blocks; limit = self.old.limit } }
+        ensures descend { Descend (depths self.old.blocks) }
     {
         if self.blocks.last().is_some_and(|block| block.depth == depth) {
             self.pop();

@@ -2,6 +2,7 @@
 #![tactic(auto)]
 
 mod blocks;
+mod numbers;
 mod open;
 
 pub use open::{Meant, OpenLabels};

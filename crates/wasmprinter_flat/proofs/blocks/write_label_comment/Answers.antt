@@ -1,6 +1,6 @@
 use Rattle.wasmprinter_spec.specs.Layout.Operators.{ending_pieces}
 use Rattle.wasmprinter_print.specs.PrintsLaws.{both_pieces}
-use Rattle.wasmprinter_flat.proofs.blocks.write_ending.Goals as goal
+use Rattle.wasmprinter_flat.proofs.blocks.write_label_comment.Goals as goal
 
 pub returns-in_ok-gap-in-OverLines : goal.returns-in_ok-gap-in-OverLines
 unfolding ending_pieces
