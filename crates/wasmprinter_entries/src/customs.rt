@@ -27,7 +27,10 @@ impl<'a> Model for Custom<'a> {
 
     ghost Value = { Placed CustomValue };
 
-    ghost view = { λ c. record { place = c.place; value = custom_of c.name.now (record { place = c.content.place; value = c.content.bytes }) } };
+    ghost view = { λ c. record {
+      place = c.place;
+      value = custom_of c.name.now (record { place = c.content.place; value = c.content.bytes });
+    } };
 }
 
 impl<'a> Custom<'a> {

@@ -1,6 +1,6 @@
 //! Names of a few name sections. The bytes and what is expected are typed by hand.
 
-use crate::{Name, Names, NamesBuilder, Space, read_names};
+use crate::{Identifier, Identifiers, Name, Names, NamesBuilder, Space, read_names};
 use std::alloc::Global;
 use std::test::Fail;
 use wasmprinter_bytes::bytes::Cursor;
@@ -131,5 +131,48 @@ fn names_of_labels_and_the_module_never_count(rt: HostRuntime) -> Result<(), Fai
             content: "#module0 ",
         })
     );
+    Ok(())
+}
+
+#[test]
+fn identifiers_are_given_or_made_up(rt: HostRuntime) -> Result<(), Fail> {
+    // the module is `m`; function 0 is called `f`
+    let names = names_of(rt.alloc(), &[b"\x00\x02\x01m\x01\x04\x01\x00\x01f"])?;
+    let given = Identifiers {
+        names: &names,
+        invents: false,
+    };
+    let all = Identifiers {
+        names: &names,
+        invents: true,
+    };
+    let name = Name {
+        given: "f",
+        content: "f",
+    };
+    assert_eq!(rt; given.item(Space::Func, 0, 0), Some(Identifier::Given(name)));
+    assert_eq!(rt; given.item(Space::Func, 0, 1), None);
+    assert_eq!(rt; all.item(Space::Func, 0, 0), Some(Identifier::Given(name)));
+    assert_eq!(rt;
+        all.item(Space::Local, 3, 5_000_000_000),
+        Some(Identifier::Invented {
+            space: Space::Local,
+            number: 5_000_000_000,
+        })
+    );
+    assert_eq!(rt; given.module().is_some(), true);
+    assert_eq!(rt; Space::Types.word(), "type");
+    assert_eq!(rt; Space::Data.word(), "data");
+    Ok(())
+}
+
+#[test]
+fn no_identifier_is_made_up_for_a_module(rt: HostRuntime) -> Result<(), Fail> {
+    let names = names_of(rt.alloc(), &[])?;
+    let all = Identifiers {
+        names: &names,
+        invents: true,
+    };
+    assert_eq!(rt; all.module(), None);
     Ok(())
 }

@@ -17,6 +17,8 @@ mod imports;
 #[cfg(test)]
 mod limits;
 #[cfg(test)]
+mod names;
+#[cfg(test)]
 mod opcode_words;
 #[cfg(test)]
 mod opcodes;

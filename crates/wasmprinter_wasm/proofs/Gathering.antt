@@ -150,8 +150,8 @@ module _ (start at : Input) (g : Gathered) (some : at.bytes ≡ [] → ⊥) (k :
       let c = custom_kind s is in
       let custom : section.parse at ≡ Some (holds CustomSection c.0, after) = read ∙ ap (λ (x : Section). Some (x, after)) c.1 in
       let one : (x : Section × Input) → section.parse at ≡ Some x → 0 < item_count x.0 = λ x e.
-          let same : holds CustomSection c.0 ≡ x.0 = ap (λ (y : Section × Input). y.0) (some_is (holds CustomSection c.0, after) x (sym custom ∙ e)) in
-          omega (arith, ap item_count same) in (
+      let same : holds CustomSection c.0 ≡ x.0 = ap (λ (y : Section × Input). y.0) (some_is (holds CustomSection c.0, after) x (sym custom ∙ e)) in
+      omega (arith, ap item_count same) in (
         kept_later start at k.later (inr (custom_read at after c.0 custom)),
         of_sections (λ (s : Section). 0 < item_count s) (λ (ss : List Section). 0 < item_count_in ss) some_midst one,
       )
