@@ -1,5 +1,5 @@
 -- The label of the next block, by where a scan stands among the labels with names.
-use Rattle.std.proofs.Common.{◌≡◌, ◌≢◌, ℕ, zero, suc, ◌+◌, ◌<◌, ◌≤◌, List, [], ◌∷◌, length, get_or, refl, sym, ap, ◌∙◌, subst, arith, true≢false}
+use Rattle.std.proofs.Common.{◌≡◌, ◌≢◌, ℕ, zero, suc, ◌<◌, ◌≤◌, List, [], ◌∷◌, length, refl, sym, ap, ◌∙◌, subst, arith, true≢false}
 use Rattle.std.proofs.lemmas.Bool.{eqb-true, eqb-false}
 use Rattle.std.specs.Prelude.{Bool, true, false, ◌&&◌, nat_eq, map, Option, Some, None, option_map, if◌then◌else◌, slice_get, Contains}
 use Rattle.std.proofs.lemmas.Option.{slice_get_within, get_or_from_slice_get}
@@ -12,7 +12,7 @@ use Rattle.wasmprinter_names.specs.Views.{NamedItem, name_view, name_at}
 use Rattle.wasmprinter_names.specs.Labels.{NamedLabel, labels_in, label_at, IsBefore, Ascend, AreOfLabels}
 use Rattle.wasmprinter_names.specs.LabelViews.{label_view}
 use Rattle.wasmprinter_labels.specs.Stack.{unnamed}
-use Rattle.wasmprinter_labels.specs.Inside.{IsPast, IsAhead, IsCursor, label_of}
+use Rattle.wasmprinter_labels.specs.Inside.{IsAhead, IsCursor, label_of}
 use Rattle.wasmprinter_labels.specs.declared.numbers.NumberedLabel.{NumberedLabel}
 
 -- the label is that of block n of function f
@@ -112,7 +112,7 @@ picked_one f n zero (x ∷ xs) = by (is_at f n (view x))
 picked_one f n (suc k) [] = refl
 picked_one f n (suc k) (x ∷ xs) = picked_one f n k xs
 
-name_in : (named : List NamedItem) (f n : ℕ) → name_at named label_subsection f n ≡ label_at (labels_in named) f n
+pub name_in : (named : List NamedItem) (f n : ℕ) → name_at named label_subsection f n ≡ label_at (labels_in named) f n
 name_in [] f n = refl
 name_in (x ∷ named) f n = by (nat_eq x.subsection label_subsection) (name_in named f n)
   where

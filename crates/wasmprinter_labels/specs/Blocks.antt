@@ -1,5 +1,5 @@
 -- Open blocks whose labels have names, as the program keeps them.
-use Rattle.std.specs.Prelude.{◌≡◌, ◌≢◌, ℕ, ◌<◌, ◌≤◌, ◌==◌, List, [], ◌∷◌, length, map, reverse, Bool, true, false, Option, Some, None, if◌then◌else◌, slice_index_or}
+use Rattle.std.specs.Prelude.{◌≡◌, ◌≢◌, ℕ, ◌<◌, ◌≤◌, ◌==◌, List, [], ◌∷◌, length, map, reverse, true, false, Option, Some, None, if◌then◌else◌, slice_index_or}
 use Rattle.std.specs.List.{AllByRecursion}
 use Rattle.wasmprinter_names.specs.Views.{name_view}
 use Rattle.wasmprinter_labels.specs.Stack.{Block, depths, Descend, StandsAt}

@@ -1,5 +1,5 @@
 -- Open blocks whose labels have names.
-use Rattle.std.specs.Prelude.{◌≡◌, ℕ, suc, zero, ◌<◌, ◌==◌, List, [], ◌∷◌, ◌++◌, map, Bool, true, false, if◌then◌else◌, codes, decimal, Some, None}
+use Rattle.std.specs.Prelude.{◌≡◌, ℕ, suc, zero, ◌<◌, ◌==◌, List, [], ◌∷◌, ◌++◌, map, Bool, true, false, if◌then◌else◌, Some, None}
 use Rattle.std.specs.List.{list_any}
 use Rattle.wasmprinter_spec.specs.Labels.{Named, Label}
 use Rattle.wasmprinter_spec.specs.LabelNames.{label_named}

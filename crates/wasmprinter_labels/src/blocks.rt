@@ -133,7 +133,10 @@ impl<'n> NamedBlocks<'n> {
         ensures name { IsNameAt self.now.blocks depth result }
         ensures descend { Descend (depths self.now.blocks) }
     {
-        let Ok(position) = self.blocks.binary_search_by_key(&depth, |block| block.depth) else {
+        let Ok(position) = self
+            .blocks
+            .binary_search_by_key(&depth, |block| block.depth)
+        else {
             return NameAt::Unnamed;
         };
         let block = self.blocks[position];

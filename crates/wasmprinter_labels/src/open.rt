@@ -55,11 +55,11 @@ impl<'n, 'a> Model for OpenLabels<'n, 'a> {
     ghost Value = { Scan };
 
     ghost view = { λ x. record {
-        named = x.identifiers.names.now;
-        invents = x.identifiers.invents;
-        function = x.function;
-        count = x.opened;
-        labels = labels_from x.identifiers.invents x.named.blocks x.depth;
+      named = x.identifiers.names.now;
+      invents = x.identifiers.invents;
+      function = x.function;
+      count = x.opened;
+      labels = labels_from x.identifiers.invents x.named.blocks x.depth;
     } };
 
     ghost invariant = { λ x. IsKept x.identifiers.names.now x.labels.items x.next x.function x.opened x.depth x.named };

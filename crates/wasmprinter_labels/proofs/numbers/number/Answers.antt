@@ -1,4 +1,3 @@
-use Rattle.std.proofs.Common.{rules, Some}
 use Rattle.std.proofs.lemmas.Map.Text.{btree_map_updates_str}
 use Rattle.wasmprinter_labels.proofs.numbers.number.Goals as goal
 

@@ -1,7 +1,5 @@
-use Rattle.std.proofs.Common.{rules, ◌≡◌, map, take, sym, ap, ◌∙◌, subst, arith, length}
-use Rattle.std.specs.Prelude.{unwrap_or}
+use Rattle.std.proofs.Common.{◌≡◌, arith, length}
 use Rattle.std.proofs.lemmas.Grind.{common_steps}
-use Rattle.wasmprinter_labels.specs.Numbers.{IsNumbering}
 use Rattle.wasmprinter_labels.proofs.Numbering.{numbering_more, numbered}
 use Rattle.wasmprinter_labels.proofs.numbers.numbered.Goals as goal
 

@@ -1,5 +1,4 @@
-use Rattle.std.proofs.Common.{rules, refl, sym, ap, ◌∙◌, length}
-use Rattle.std.specs.Prelude.{Some, None}
+use Rattle.std.proofs.Common.{sym, ap, ◌∙◌, length}
 use Rattle.wasmprinter_labels.specs.Scan.{Scan, own_label}
 use Rattle.wasmprinter_labels.specs.Stack.{unnamed, labels_from}
 use Rattle.wasmprinter_labels.proofs.Cursors.{own_some, own_none}
