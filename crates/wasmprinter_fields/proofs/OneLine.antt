@@ -1,0 +1,124 @@
+-- Declarations and type uses stand on one line.
+use Rattle.std.specs.Prelude.{◌≡◌, ℕ, ◌+◌, List, [], ◌∷◌, ◌++◌, Bool, true, false, bytes_eq, chars, codes, Option, Some, None, refl}
+use Rattle.wasmprinter_spec.specs.Types as defined
+use Rattle.wasmprinter_spec.specs.Types.{HeapType, RefType, ValType, FuncType}
+use Rattle.wasmprinter_spec.specs.Labels.{Named}
+use Rattle.wasmprinter_spec.specs.Names.{Names}
+use Rattle.wasmprinter_spec.specs.Row.{Space}
+use Rattle.wasmprinter_spec.specs.Piece.{Piece, Gap, NumberRemark, EndStyle, Shut}
+use Rattle.wasmprinter_spec.specs.Layout.Groups.{has_break, line_group, line_group_gap}
+use Rattle.wasmprinter_spec.specs.Layout.Identifiers.{given_pieces, mark_pieces, mark_gap_pieces, declaration_pieces, index_pieces}
+use Rattle.wasmprinter_spec.specs.Layout.ValTypes.{type_index_pieces, heap_pieces, null_ref_pieces, ref_pieces_by, ref_pieces, val_pieces, type_list}
+use Rattle.wasmprinter_spec.specs.Layout.Variables.{Variables, Alone, Together, variables_pieces, groups_pieces, grouped}
+use Rattle.wasmprinter_spec.specs.Layout.Types.{parameters_of, list_group, signature_pieces, signature_if_any, type_use_pieces}
+use Rattle.wasmprinter_spec.specs.Layout.Functions.{header_pieces}
+use Rattle.wasmprinter_spec.specs.Layout.Declarations.{Scope}
+use Rattle.wasmprinter_lines.proofs.Groups.{line-append}
+
+-- groups of what stands on one line
+group-line : (w : List ℕ) (ps : List Piece) → has_break ps ≡ false → has_break (line_group w ps) ≡ false
+unfolding line_group
+group-line w ps e = line-append ps (Shut ∷ []) e refl
+
+group_gap-line : (w : List ℕ) (ps : List Piece) → has_break ps ≡ false → has_break (line_group_gap w ps) ≡ false
+unfolding line_group_gap
+group_gap-line w ps e = line-append ps (Shut ∷ []) e refl
+
+-- ---- identifiers
+
+given-line : (given : Option (List ℕ)) (content : List ℕ) → has_break (given_pieces given content) ≡ false
+given-line None content = refl
+given-line (Some s) content = by (bytes_eq s content)
+  where
+    by : (b : Bool) → has_break (cond b [] (Gap ∷ (NameNote (chars s) ∷ []))) ≡ false
+    by true = refl
+    by false = refl
+
+mark-line : (n : Named) → has_break (mark_pieces n) ≡ false
+unfolding mark_pieces
+mark-line n = given-line n.given n.content
+
+mark_gap-line : (n : Option Named) → has_break (mark_gap_pieces n) ≡ false
+unfolding mark_gap_pieces
+mark_gap-line None = refl
+mark_gap-line (Some n) = line-append (mark_pieces n) (Gap ∷ []) (mark-line n) refl
+
+declaration-line : (n : Option Named) (i : ℕ) → has_break (declaration_pieces n i) ≡ false
+unfolding declaration_pieces
+declaration-line n i = line-append (mark_gap_pieces n) (NumberRemark i ∷ (EndStyle ∷ [])) (mark_gap-line n) refl
+
+index-line : (n : Option Named) (i : ℕ) → has_break (index_pieces n i) ≡ false
+unfolding index_pieces
+index-line None i = refl
+index-line (Some n) i = refl
+
+-- ---- types
+
+module _ (names : Names) where
+  type_index-line : (i : ℕ) → has_break (type_index_pieces names i) ≡ false
+  unfolding type_index_pieces
+  type_index-line i = index-line (names.items Types i) i
+
+  heap-line : (h : HeapType) → has_break (heap_pieces names h) ≡ false
+  unfolding heap_pieces
+  heap-line (defined.Index n) = type_index-line n
+  heap-line _ = refl
+
+  null_ref-line : (h : HeapType) → has_break (null_ref_pieces names h) ≡ false
+  unfolding null_ref_pieces line_group
+  null_ref-line (defined.Index n) = line-append (heap_pieces names (defined.Index n)) (Shut ∷ []) (heap-line (defined.Index n)) refl
+  null_ref-line _ = refl
+
+  ref_by-line : (null : Bool) (h : HeapType) → has_break (ref_pieces_by names null h) ≡ false
+  ref_by-line true h = null_ref-line h
+  ref_by-line false h = group_gap-line (codes "ref") (heap_pieces names h) (heap-line h)
+
+  val-line : (t : ValType) → has_break (val_pieces names t) ≡ false
+  unfolding val_pieces ref_pieces
+  val-line (defined.Ref r) = ref_by-line r.nullable r.heap
+  val-line _ = refl
+
+  types-line : (ts : List ValType) → has_break (type_list names ts) ≡ false
+  unfolding type_list
+  types-line [] = refl
+  types-line (t ∷ ts) = line-append (val_pieces names t) (type_list names ts) (val-line t) (types-line ts)
+
+  variables-line : (w : List ℕ) (g : Variables) → has_break (variables_pieces names w g) ≡ false
+  unfolding variables_pieces
+  variables-line w (Alone n t) =
+      group-line w (Gap ∷ (mark_gap_pieces (Some n) ++ val_pieces names t)) (line-append (mark_gap_pieces (Some n)) (val_pieces names t) (mark_gap-line (Some n)) (val-line t))
+  variables-line w (Together ts) = group-line w (type_list names ts) (types-line ts)
+
+  groups-line : (w : List ℕ) (gs : List Variables) → has_break (groups_pieces names w gs) ≡ false
+  unfolding groups_pieces
+  groups-line w [] = refl
+  groups-line w (g ∷ gs) = line-append (variables_pieces names w g) (groups_pieces names w gs) (variables-line w g) (groups-line w gs)
+
+  list_group-line : (w : List ℕ) (ts : List ValType) → has_break (list_group names w ts) ≡ false
+  unfolding list_group
+  list_group-line w [] = refl
+  list_group-line w (t ∷ ts) = group-line w (type_list names (t ∷ ts)) (types-line (t ∷ ts))
+
+  signature-line : (f : Option ℕ) (t : FuncType) → has_break (signature_pieces names f t) ≡ false
+  unfolding signature_pieces
+  signature-line f t =
+      let gs : List Variables = grouped (parameters_of names f) 0 t.params in
+      line-append (groups_pieces names (codes "param") gs) (list_group names (codes "result") t.results)
+      (groups-line (codes "param") gs) (list_group-line (codes "result") t.results)
+
+  signature_if_any-line : (f : Option ℕ) (t : Option FuncType) → has_break (signature_if_any names f t) ≡ false
+  signature_if_any-line f None = refl
+  signature_if_any-line f (Some t) = signature-line f t
+
+  type_use-line : (f : Option ℕ) (i : ℕ) (t : Option FuncType) → has_break (type_use_pieces names f i t) ≡ false
+  unfolding type_use_pieces
+  type_use-line f i t =
+      line-append (line_group_gap (codes "type") (type_index_pieces names i)) (signature_if_any names f t)
+      (group_gap-line (codes "type") (type_index_pieces names i) (type_index-line i)) (signature_if_any-line f t)
+
+-- the head of a function or a tag
+pub header-line : (s : Scope) (space : Space) (f : Option ℕ) (i n : ℕ) → has_break (header_pieces s space f i n) ≡ false
+unfolding header_pieces
+header-line s space f i n =
+    let type_use : List Piece = type_use_pieces s.names f n (signature_at s.types n) in
+    line-append (declaration_pieces (s.names.items space i) i) (Gap ∷ type_use) (declaration-line (s.names.items space i) i) (type_use-line s.names f n (signature_at s.types n))
