@@ -78,8 +78,8 @@ pub record Progress {P : Type 0} (m : Meaning P) (o : Options) (old new : P) (s 
   pub named : l.named ≡ start.named
   pub invents : l.invents ≡ start.invents
   pub fits : Fits s l
-  pub opened : l.count + length rest < 2 ^ 64
-  pub open : length l.labels + length rest < 2 ^ 64
+  pub counted : l.count + length rest < 2 ^ 64
+  pub nested : length l.labels + length rest < 2 ^ 64
 
 -- nothing is written yet
 pub starts : {P : Type 0} (m : Meaning P) (o : Options) (a : P) (s : Setting) (start l : Scan) (all os : List (Placed Operator)) → l ≡ begun s.function start →
@@ -90,17 +90,17 @@ starts m o a s start l all os b n e h = rw b (record {
   named = refl;
   invents = refl;
   fits = record { names = n; function = refl };
-  opened = omega (arith, h, ap length e);
-  open = omega (arith, h, ap length e);
+  counted = omega (arith, h, ap length e);
+  nested = omega (arith, h, ap length e);
 })
 
 module _ {P : Type 0} (m : Meaning P) {o : Options} {a t : P} {s : Setting} {start : Scan} {all os : List (Placed Operator)} {first : Bool} {l : Scan} (p : Progress m o a t s start all os first l) where
   -- an operator is left, so there is room for one more block
   pub has_room : (rest : List (Placed Operator)) (x : ℕ × Operator) → pairs os ≡ x ∷ pairs rest → length l.labels + 1 < 2 ^ 64
-  has_room rest x e = omega (arith, p.open, ap length (first-pair os rest x e))
+  has_room rest x e = omega (arith, p.nested, ap length (first-pair os rest x e))
 
   pub has_count : (rest : List (Placed Operator)) (x : ℕ × Operator) → pairs os ≡ x ∷ pairs rest → l.count + 1 < 2 ^ 64
-  has_count rest x e = omega (arith, p.opened, ap length (first-pair os rest x e))
+  has_count rest x e = omega (arith, p.counted, ap length (first-pair os rest x e))
 
   -- what is lacking: the next operator, and the others
   pub lacks_next : (rest : List (Placed Operator)) (x : ℕ × Operator) → pairs os ≡ x ∷ pairs rest →
@@ -121,8 +121,8 @@ module _ {P : Type 0} (m : Meaning P) {o : Options} {a t : P} {s : Setting} {sta
     named = p.named;
     invents = p.invents;
     fits = record { names = p.fits.names; function = p.fits.function };
-    opened = omega (arith, p.opened, ap length (first-pair os rest x e), after-count (role_of x.1.opcode) l.count);
-    open = omega (arith, p.open, ap length (first-pair os rest x e), after-length (role_of x.1.opcode) (own_label l) l.labels);
+    counted = omega (arith, p.counted, ap length (first-pair os rest x e), after-count (role_of x.1.opcode) l.count);
+    nested = omega (arith, p.nested, ap length (first-pair os rest x e), after-length (role_of x.1.opcode) (own_label l) l.labels);
   })
 
   -- no operator is left

@@ -80,6 +80,21 @@ pub(crate) fn write_block_type<P: Print, S: Signatures>(
     }
 }
 
+/// Writes a tag and a label.
+fn write_tag_and_label<P: Print, S: Signatures>(
+    p: &mut P,
+    context: &Context<'_, '_, '_, '_, S>,
+    tag: u32,
+    label: u32,
+) -> io::Result<()>
+    ensures { (o : Options) → Prints P.meaning o p.old p.new result
+        (Gap ∷ (named_index (setting_in S.signature_at context.now) row.Tag tag
+        ++ label_pieces (within context.now) (around context.now) label)) }
+{
+    write_operand(p, context, Space::Tag, tag)?;
+    write_label(p, context, label)
+}
+
 /// Writes a catch clause that names a tag.
 #[tactic(auto, unfolding(wasmprinter_spec::specs::Layout::Groups::line_group))]
 fn write_tagged<P: Print, S: Signatures>(
@@ -94,8 +109,7 @@ fn write_tagged<P: Print, S: Signatures>(
         ++ label_pieces (within context.now) (around context.now) label))) }
 {
     open(p, keyword)?;
-    write_operand(p, context, Space::Tag, tag)?;
-    write_label(p, context, label)?;
+    write_tag_and_label(p, context, tag, label)?;
     shut(p)
 }
 

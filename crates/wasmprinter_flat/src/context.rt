@@ -63,7 +63,8 @@ impl<'n, 'a, S: Signatures> Context<'_, '_, 'n, 'a, S> {
 
     /// The identifier of what an index means, if it has one. Labels go by another rule.
     pub(crate) fn identifier(&self, space: Space, index: u32) -> Option<Identifier<'n>>
-        ensures { option_map identifier_view result ≡ in_function (names_in self.now) self.now.setting.now.function (space_view space) index }
+        ensures { option_map identifier_view result
+            ≡ in_function (names_in self.now) self.now.setting.now.function (space_view space) index }
     {
         match named_space(space) {
             Some(named) => self.identifiers().item(named, self.setting.function, u64::from(index)),
