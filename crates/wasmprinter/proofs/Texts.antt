@@ -1,5 +1,6 @@
 -- The text that a printer over a writer of text hands over.
-use Rattle.std.specs.Prelude.{◌≡◌, ℕ, List, [], ◌∷◌, ◌++◌, refl}
+use Rattle.std.specs.Prelude.{◌≡◌, ℕ, List, [], ◌∷◌, ◌++◌, Result, Ok, Err, IfOk, refl}
+use Rattle.wasmprinter_error.specs.declared.error.Error.{Error}
 use Rattle.std.proofs.Common.{sym, ap, subst, ◌∙◌, append_assoc, append-nil, inl}
 use Rattle.wasmprinter_spec.specs.Call.{Call, Text, Newline, Line, Start, Claim, call_text, text_of}
 use Rattle.wasmprinter_spec.specs.Meaning.{Meaning, Run}
@@ -63,3 +64,7 @@ default_text bytes text v = record {
   plain = v.plain two_blanks;
   reads = λ indexed. v.reads indexed refl two_blanks;
 }
+
+pub default_if_ok : {T : Type 0} (view : T → List ℕ) (bytes : List ℕ) (r : Result T Error) → IfOk r (λ t. HasTextBy defaults bytes (view t)) → IfOk r (λ t. HasText bytes (view t))
+default_if_ok view bytes (Ok t) h = default_text bytes (view t) h
+default_if_ok view bytes (Err e) h = tt

@@ -1,9 +1,10 @@
 //! How a module is printed.
-ghost use Rattle.std.specs.Prelude.{◌≡◌, ◌↔◌, OnOk, IfErr, IsErrOf};
+ghost use Rattle.std.specs.Prelude.{◌≡◌, ◌↔◌, OnOk, IfOk, IfErr, IsErrOf, string_bytes};
 ghost use Rattle.wasmprinter_spec.specs.Binary.{IsComponent};
-ghost use Rattle.wasmprinter.specs.Printed.{Printed};
-ghost use Rattle.wasmprinter.specs.Outcome.{HasCause, IsTrueOf, Leaves};
+ghost use Rattle.wasmprinter.specs.Printed.{Printed, HasTextBy};
+ghost use Rattle.wasmprinter.specs.Outcome.{HasCause, HasTextCause, IsTrueOf, IsTrueOfText, Leaves};
 
+use crate::in_memory::without_printer;
 use std::alloc::Global;
 use std::marker::Model;
 use wasmprinter_error::Error;
@@ -11,7 +12,7 @@ use wasmprinter_fields::modules::write_module;
 use wasmprinter_labels::OpenLabels;
 use wasmprinter_lines::options::PrintOptions;
 use wasmprinter_names::Identifiers;
-use wasmprinter_print::Print;
+use wasmprinter_print::{Print, PrintFmtWrite};
 use wasmprinter_wasm::decode;
 
 /// What is printed of a module, and how.
@@ -91,6 +92,24 @@ impl Config {
         write_module(printer, &self.options, &module, labels)?;
         Ok(())
     }
+
+    /// The text of a module in the binary format.
+    ///
+    /// # Errors
+    ///
+    /// As [`Config::print`], with `Memory` where the text can't grow, and never `Printer`.
+    pub fn print_to_string(&self, alloc: Global, wasm: &[u8]) -> Result<String, Error>
+        ensures printed { IfOk result (λ text. HasTextBy self.now wasm.now (string_bytes text)) }
+        ensures caused { IfErr result (HasTextCause wasm.now) }
+        ensures refused { IfErr result (IsTrueOfText wasm.now) }
+        ensures component { IsErrOf result Error.Component ↔ IsComponent wasm.now }
+    {
+        let mut printer = PrintFmtWrite(String::new(alloc));
+        match self.print(alloc, wasm, &mut printer) {
+            Ok(()) => Ok(printer.0),
+            Err(error) => Err(without_printer(error)),
+        }
+    }
 }
 
 impl Default for Config {
@@ -108,7 +127,6 @@ impl Default for Config {
 mod tests {
     use super::*;
     use std::test::Fail;
-    use wasmprinter_print::PrintFmtWrite;
 
     /// A function that answers its parameter, exported.
     const EXPORTED: [u8; 35] = [

@@ -7,40 +7,14 @@ ghost use Rattle.wasmprinter.specs.Outcome.{as_growth, HasTextCause, IsTrueOfTex
 use crate::config::Config;
 use std::alloc::Global;
 use wasmprinter_error::Error;
-use wasmprinter_print::PrintFmtWrite;
 
 /// A string that is printed to fails only where it can't grow.
-fn without_printer(error: Error) -> Error
+pub(crate) fn without_printer(error: Error) -> Error
     ensures { result ≡ as_growth error }
 {
     match error {
         Error::Printer(_) => Error::Memory,
         error => error,
-    }
-}
-
-impl Config {
-    ghost use Rattle.std.specs.Prelude.{◌≡◌, ◌↔◌, IfOk, IfErr, IsErrOf, string_bytes};
-    ghost use Rattle.wasmprinter_spec.specs.Binary.{IsComponent};
-    ghost use Rattle.wasmprinter.specs.Printed.{HasTextBy};
-    ghost use Rattle.wasmprinter.specs.Outcome.{HasTextCause, IsTrueOfText};
-
-    /// The text of a module in the binary format.
-    ///
-    /// # Errors
-    ///
-    /// As `Config::print`, with `Memory` where the text can't grow, and never `Printer`.
-    pub fn print_to_string(&self, alloc: Global, wasm: &[u8]) -> Result<String, Error>
-        ensures printed { IfOk result (λ text. HasTextBy self.now wasm.now (string_bytes text)) }
-        ensures caused { IfErr result (HasTextCause wasm.now) }
-        ensures refused { IfErr result (IsTrueOfText wasm.now) }
-        ensures component { IsErrOf result Error.Component ↔ IsComponent wasm.now }
-    {
-        let mut printer = PrintFmtWrite(String::new(alloc));
-        match self.print(alloc, wasm, &mut printer) {
-            Ok(()) => Ok(printer.0),
-            Err(error) => Err(without_printer(error)),
-        }
     }
 }
 

@@ -2,7 +2,7 @@ use Rattle.std.proofs.Common.{string_bytes, sym, subst}
 use Rattle.wasmprinter.specs.Outcome.{HasTextCause, IsTrueOfText}
 use Rattle.wasmprinter.proofs.Outcomes.{growth_cause, growth_true}
 use Rattle.wasmprinter.proofs.Texts.{grows_by, printed_text}
-use Rattle.wasmprinter.proofs.in_memory.Config.print_to_string.Goals as goal
+use Rattle.wasmprinter.proofs.config.Config.print_to_string.Goals as goal
 
 pub returns-in-Ok-clause-printed : goal.returns-in-Ok-clause-printed
 returns-in-Ok-clause-printed c =
