@@ -173,6 +173,7 @@ fn labels_are_those_of_the_function(rt: HostRuntime) -> Result<(), Fail> {
         assert_eq!(rt; labels.own(), own);
     }
     // what closes nothing changes nothing
+    labels.begin(1);
     labels.advance(Role::Ends);
     assert_eq!(rt; labels.depth(), 0);
     Ok(())
