@@ -4,6 +4,7 @@ use Rattle.std.proofs.Common.{sym, ap, ◌∙◌}
 use Rattle.std.proofs.Math.Dec.{eqb-suc-zero}
 use Rattle.wasmprinter_spec.specs.Grammar.{Placed}
 use Rattle.wasmprinter_spec.specs.Types.{MemoryType, FuncKind, TableKind, MemoryKind, GlobalKind, TagKind}
+use Rattle.wasmprinter_spec.specs.Labels.{Named}
 use Rattle.wasmprinter_spec.specs.Names.{Names}
 use Rattle.wasmprinter_spec.specs.Operator.{Operator}
 use Rattle.wasmprinter_spec.specs.Placed.{TypeGroup, Import, Table, Global, Export, ElementEntry, Data, PlacedFunction, PlacedModule}
@@ -11,6 +12,7 @@ use Rattle.wasmprinter_spec.specs.Options.{Options}
 use Rattle.wasmprinter_spec.specs.Piece.{Piece}
 use Rattle.wasmprinter_spec.specs.Layout.{tag_pieces, start_pieces, early_scope, late_scope, module_field_pieces}
 use Rattle.wasmprinter_spec.specs.Layout.Groups.{has_break, numbered}
+use Rattle.wasmprinter_spec.specs.Layout.Identifiers.{leading_mark_pieces}
 use Rattle.wasmprinter_spec.specs.Layout.Declarations.{Scope}
 use Rattle.wasmprinter_spec.specs.Layout.Types.{type_group_pieces, type_section_pieces}
 use Rattle.wasmprinter_spec.specs.Layout.Imports.{Numbers, no_numbers, import_pieces, imports_pieces}
@@ -22,7 +24,9 @@ use Rattle.wasmprinter_spec.specs.Layout.Elements.{element_pieces}
 use Rattle.wasmprinter_spec.specs.Layout.Functions.{function_pieces}
 use Rattle.wasmprinter_spec.specs.Layout.DataSegments.{data_pieces}
 use Rattle.wasmprinter_lines.proofs.Groups.{has_break-append}
+use Rattle.wasmprinter_text.proofs.Signatures.{mark-line}
 use Rattle.wasmprinter_entries.specs.Externs.{imported_count}
+use Rattle.wasmprinter_fields.specs.FieldGroups.{module_parts}
 use Rattle.wasmprinter_fields.proofs.Numbering.{numbered-break}
 
 -- for groups of types: each begins a line
@@ -85,7 +89,7 @@ abbrev pub has_any : {A : Type 0} → List A → Bool
 has_any xs = not (length xs == 0)
 
 -- for the fields of a module
-pub fields-break : (o : Options) (names : Names) (m : PlacedModule) → has_break (module_field_pieces o names m) ≡
+fields-break : (o : Options) (names : Names) (m : PlacedModule) → has_break (module_field_pieces o names m) ≡
     ((((((((((has_any m.types || has_any m.imports) || has_any m.tables) || has_any m.memories) || has_any m.tags) || has_any m.globals) || has_any m.exports)
     || is_some m.start) || has_any m.elements) || has_any m.functions) || has_any m.datas)
 unfolding module_field_pieces
@@ -131,3 +135,17 @@ fields-break o names m =
     ∙ next-break till_start (has_any m.elements) elements behind_functions (numbered-break (element_pieces o.skeleton s) 0 m.elements (element-break o.skeleton s))
     ∙ next-break till_elements (has_any m.functions) functions datas (numbered-break (function_pieces o s) _ m.functions (function-break o s))
     ∙ ap (λ b. till_functions || b) (numbered-break (data_pieces o.skeleton late) 0 m.datas (data-break o.skeleton late))
+
+leading_mark-line : (n : Option Named) → has_break (leading_mark_pieces n) ≡ false
+unfolding leading_mark_pieces
+leading_mark-line None = refl
+leading_mark-line (Some n) = mark-line n
+
+-- for a module
+pub module-break : (o : Options) (names : Names) (m : PlacedModule) → has_break (module_parts o names m) ≡
+    ((((((((((has_any m.types || has_any m.imports) || has_any m.tables) || has_any m.memories) || has_any m.tags) || has_any m.globals) || has_any m.exports)
+    || is_some m.start) || has_any m.elements) || has_any m.functions) || has_any m.datas)
+module-break o names m =
+    let fields : List Piece = module_field_pieces o names m in
+    has_break-append (leading_mark_pieces names.module_name) fields
+    ∙ ap (λ b. b || has_break fields) (leading_mark-line names.module_name) ∙ fields-break o names m

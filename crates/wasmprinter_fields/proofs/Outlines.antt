@@ -1,15 +1,23 @@
 -- The layouts of functions by their groups.
-use Rattle.std.specs.Prelude.{◌≡◌, ℕ, List, ◌++◌, Bool, true, false, ◌||◌, codes, Some, refl}
+use Rattle.std.specs.Prelude.{◌≡◌, ℕ, List, ◌∷◌, ◌++◌, Bool, true, false, ◌||◌, codes, Option, Some, refl}
 use Rattle.std.proofs.Common.{ap, ◌∙◌}
-use Rattle.wasmprinter_spec.specs.Row.{Func}
+use Rattle.wasmprinter_spec.specs.Types.{signature_at}
+use Rattle.wasmprinter_spec.specs.Row.{Space, Func}
 use Rattle.wasmprinter_spec.specs.Placed.{PlacedFunction}
-use Rattle.wasmprinter_spec.specs.Piece.{Piece}
-use Rattle.wasmprinter_spec.specs.Layout.Declarations.{Scope}
-use Rattle.wasmprinter_spec.specs.Layout.Functions.{local_pieces, body_pieces, inner_pieces, function_group}
+use Rattle.wasmprinter_spec.specs.Piece.{Piece, Gap}
+use Rattle.wasmprinter_spec.specs.Layout.Declarations.{Scope, item_declaration, type_use}
+use Rattle.wasmprinter_spec.specs.Layout.Functions.{header_pieces, local_pieces, body_pieces, inner_pieces, function_group}
 use Rattle.wasmprinter_spec.specs.Layout.Groups.{has_break, group_gap_at, line_group_gap}
-use Rattle.wasmprinter_lines.proofs.Groups.{has_break-append}
+use Rattle.wasmprinter_lines.proofs.Groups.{has_break-append, line-append}
+use Rattle.wasmprinter_text.proofs.Signatures.{declaration-line, type_use-line}
 use Rattle.wasmprinter_fields.specs.Parts.{parameter_count_of, function_header, outline_parts, definition_parts}
-use Rattle.wasmprinter_fields.proofs.OneLine.{header-line}
+
+-- the head of a function or a tag stands on one line
+header-line : (s : Scope) (space : Space) (f : Option ℕ) (i n : ℕ) → has_break (header_pieces s space f i n) ≡ false
+unfolding header_pieces
+header-line s space f i n =
+    line-append (item_declaration s space i) (Gap ∷ type_use s f n) (declaration-line (s.names.items space i) i)
+    (type_use-line s.names f n (signature_at s.types n))
 
 -- a function without its body stands on one line
 outline-out : (offsets : Bool) (s : Scope) (f : PlacedFunction) → function_group true offsets s f ≡ line_group_gap (codes "func") (outline_parts s f)

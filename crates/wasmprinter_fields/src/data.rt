@@ -1,9 +1,6 @@
 //! Data segments (section 6.6 of the WebAssembly Core Specification, "Data Segments").
 ghost use Rattle.std.specs.Prelude.{◌≡◌, codes};
-ghost use Rattle.wasmprinter_spec.specs.Row as row;
 ghost use Rattle.wasmprinter_spec.specs.Options.{Options};
-ghost use Rattle.wasmprinter_spec.specs.Layout.Groups.{line_group_gap};
-ghost use Rattle.wasmprinter_spec.specs.Layout.Declarations.{item_index};
 ghost use Rattle.wasmprinter_spec.specs.Layout.DataSegments.{named_memory, data_mode_pieces, shown_bytes};
 ghost use Rattle.wasmprinter_print.specs.Prints.{Prints};
 ghost use Rattle.wasmprinter_segments.specs.Segments.{data_mode_view};
@@ -12,29 +9,14 @@ ghost use Rattle.wasmprinter_fields.specs.Scopes.{scope_view};
 
 use crate::expressions::write_constant_group;
 use crate::fields::Field;
-use crate::scope::{Scope, write_declaration, write_index};
+use crate::scope::{Scope, write_declaration, write_index_group};
 use std::io;
 use wasmprinter_lines::options::PrintOptions;
 use wasmprinter_names::Space;
 use wasmprinter_print::Print;
 use wasmprinter_wasm::{Data, DataMode};
 use wasmprinter_words::strings::write_byte_string;
-use wasmprinter_words::words::{gap, open_gap, shut, word};
-
-/// Writes a memory of the module by its index, as a group.
-#[tactic(auto, using(crate::proofs::LineGroups::groups))]
-fn write_memory_group<P: Print>(
-    p: &mut P,
-    scope: &Scope<'_, '_>,
-    memory: u32,
-) -> io::Result<()>
-    ensures { (o : Options) → Prints P.meaning o p.old p.new result
-        (line_group_gap (codes "memory") (item_index (scope_view scope.now) row.Memory memory)) }
-{
-    open_gap(p, "memory")?;
-    write_index(p, scope, Space::Memory, memory)?;
-    shut(p)
-}
+use wasmprinter_words::words::{gap, word};
 
 /// Writes the memory of a segment and a blank, and nothing for memory 0.
 fn write_named_memory<P: Print>(
@@ -47,7 +29,7 @@ fn write_named_memory<P: Print>(
     if memory == 0 {
         return Ok(());
     }
-    write_memory_group(p, scope, memory)?;
+    write_index_group(p, scope, "memory", Space::Memory, memory)?;
     gap(p)
 }
 

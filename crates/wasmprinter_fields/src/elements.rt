@@ -3,7 +3,6 @@ ghost use Rattle.std.specs.Prelude.{◌≡◌, ◌∷◌, codes};
 ghost use Rattle.wasmprinter_spec.specs.Row as row;
 ghost use Rattle.wasmprinter_spec.specs.Options.{Options};
 ghost use Rattle.wasmprinter_spec.specs.Piece.{Gap};
-ghost use Rattle.wasmprinter_spec.specs.Layout.Groups.{line_group_gap};
 ghost use Rattle.wasmprinter_spec.specs.Layout.Declarations.{item_index};
 ghost use Rattle.wasmprinter_spec.specs.Layout.Expressions.{constant_group};
 ghost use Rattle.wasmprinter_spec.specs.Layout.Elements.{named_table, mode_pieces, function_items, expression_items};
@@ -15,7 +14,7 @@ ghost use Rattle.wasmprinter_fields.specs.Scopes.{scope_view};
 
 use crate::expressions::write_constant_group;
 use crate::fields::Field;
-use crate::scope::{Scope, write_declaration, write_index, write_ref_type};
+use crate::scope::{Scope, write_declaration, write_index, write_index_group, write_ref_type};
 use std::io;
 use wasmprinter_bytes::lists::Items;
 use wasmprinter_lines::options::PrintOptions;
@@ -23,22 +22,7 @@ use wasmprinter_names::Space;
 use wasmprinter_ops::expression::Expression;
 use wasmprinter_print::Print;
 use wasmprinter_wasm::{Element, ElementItems, ElementMode};
-use wasmprinter_words::words::{gap, open_gap, shut, word};
-
-/// Writes a table of the module by its index, as a group.
-#[tactic(auto, using(crate::proofs::LineGroups::groups))]
-fn write_table_group<P: Print>(
-    p: &mut P,
-    scope: &Scope<'_, '_>,
-    table: u32,
-) -> io::Result<()>
-    ensures { (o : Options) → Prints P.meaning o p.old p.new result
-        (line_group_gap (codes "table") (item_index (scope_view scope.now) row.Table table)) }
-{
-    open_gap(p, "table")?;
-    write_index(p, scope, Space::Table, table)?;
-    shut(p)
-}
+use wasmprinter_words::words::{gap, word};
 
 /// Writes a blank and the table of a segment, where the bytes name it.
 fn write_named_table<P: Print>(
@@ -53,7 +37,7 @@ fn write_named_table<P: Print>(
         return Ok(());
     }
     gap(p)?;
-    write_table_group(p, scope, table)
+    write_index_group(p, scope, "table", Space::Table, table)
 }
 
 /// Writes what becomes of a segment, with a blank in front; `names_table` is whether the bytes name its table.

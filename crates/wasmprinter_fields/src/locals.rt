@@ -112,11 +112,13 @@ fn write_entries<P: Print>(
         (walk_pieces (names_of scope.now.labels) (codes "local") ((names_of scope.now.labels).locals function) Line parameters
         (locals_of locals.now)) }
 {
+    prove!(locals.len() <= u32::MAX);
     let mut position = Position {
         before: Before::Line,
         number: u64::from(parameters),
     };
     for entry in locals.iter() {
+        prove!(entry.count() <= u32::MAX);
         position = write_entry(p, scope, function, position, &entry)?;
     }
     end_variables(p, position.before)

@@ -2,6 +2,7 @@
 ghost use Rattle.std.specs.Prelude.{◌≡◌, ◌∷◌, ℕ};
 ghost use Rattle.wasmprinter_spec.specs.Options.{Options};
 ghost use Rattle.wasmprinter_spec.specs.Piece.{Gap};
+ghost use Rattle.wasmprinter_spec.specs.Layout.Groups.{line_group_gap};
 ghost use Rattle.wasmprinter_spec.specs.Layout.Declarations.{type_use};
 ghost use Rattle.wasmprinter_spec.specs.Layout.Identifiers.{declaration_pieces, index_pieces};
 ghost use Rattle.wasmprinter_spec.specs.Layout.ValTypes.{ref_pieces, val_pieces};
@@ -19,7 +20,7 @@ use wasmprinter_names::{Identifiers, Space};
 use wasmprinter_ops::types::composite::{FuncType, SubType};
 use wasmprinter_ops::types::{RefType, ValType};
 use wasmprinter_print::Print;
-use wasmprinter_text::indices::{write_declaration_of, write_index_of};
+use wasmprinter_text::indices::{self, write_declaration_of, write_index_of};
 use wasmprinter_text::signature::{self, Signatures};
 use wasmprinter_text::types;
 use wasmprinter_text::types::composite::type_field;
@@ -87,6 +88,20 @@ pub(crate) fn write_index<P: Print>(
         (index_pieces (item_in scope.now.labels space index) index) }
 {
     write_index_of(p, &scope.identifiers(), space, 0, u64::from(index))
+}
+
+/// Writes an index of an item of the module as a group behind a keyword.
+pub(crate) fn write_index_group<P: Print>(
+    p: &mut P,
+    scope: &Scope<'_, '_>,
+    keyword: &str,
+    space: Space,
+    index: u32,
+) -> io::Result<()>
+    ensures { (o : Options) → Prints P.meaning o p.old p.new result
+        (line_group_gap keyword.now (index_pieces (item_in scope.now.labels space index) index)) }
+{
+    indices::write_index_group(p, &scope.identifiers(), keyword, space, index)
 }
 
 /// Writes a blank, the index of a type, and its signature where it is a function type. `owner` is the function that has the type.
