@@ -1,6 +1,6 @@
 -- The layout of locals, entry by entry.
-use Rattle.std.specs.Prelude.{◌≡◌, ℕ, zero, suc, ◌+◌, ◌-◌, ◌<◌, ◌≤◌, ◌==◌, List, [], ◌∷◌, ◌++◌, Bool, true, false, cond, Option, Some, None, is_some, codes, length, replicate, refl}
-use Rattle.std.proofs.Common.{sym, ap, ap₂, ◌∙◌, append_assoc, arith, length-append}
+use Rattle.std.specs.Prelude.{◌≡◌, ℕ, zero, suc, ◌+◌, ◌-◌, ◌<◌, ◌≤◌, ◌==◌, List, [], ◌∷◌, ◌++◌, Bool, true, false, cond, Option, Some, None, is_some, codes, replicate, refl}
+use Rattle.std.proofs.Common.{sym, ap, ap₂, ◌∙◌, append_assoc, arith}
 use Rattle.std.proofs.lemmas.Bool.{eqb-true, eqb-false}
 use Rattle.wasmprinter_spec.specs.Grammar.{Placed}
 use Rattle.wasmprinter_spec.specs.Types.{ValType}
@@ -20,22 +20,29 @@ use Rattle.wasmprinter_fields.specs.LocalWalk.{behind_one, behind_all, local_par
 
 -- ---- one after the other
 
-module _ (names : Names) (f : ℕ) where
-  -- two lists of locals
-  pub parts-append : (x : Position) (ts us : List ValType) →
-      locals_parts names f x (ts ++ us) ≡ locals_parts names f x ts ++ locals_parts names f (behind_all (names.locals f) x ts) us
-  parts-append x [] us = refl
-  parts-append x (t ∷ ts) us =
-      ap (λ ps. local_parts names f x t ++ ps) (parts-append (behind_one (names.locals f) x) ts us)
-      ∙ sym (append_assoc (local_parts names f x t) (locals_parts names f (behind_one (names.locals f) x) ts) (locals_parts names f (behind_all (names.locals f) x (t ∷ ts)) us))
+-- a walk over locals of the function f, from a position on
+abbrev pub walk_from : Names → ℕ → Position → List ValType → List Piece
+walk_from names f x ts = walk_pieces names (codes "local") (names.locals f) x.before x.number ts
 
-  -- locals, and the end of the last group
-  pub parts-walk : (x : Position) (ts : List ValType) →
-      locals_parts names f x ts ++ end_pieces (behind_all (names.locals f) x ts).before ≡ walk_pieces names (codes "local") (names.locals f) x.before x.number ts
-  parts-walk x [] = refl
-  parts-walk x (t ∷ ts) =
-      append_assoc (local_parts names f x t) (locals_parts names f (behind_one (names.locals f) x) ts) (end_pieces (behind_all (names.locals f) x (t ∷ ts)).before)
-      ∙ ap (λ ps. local_parts names f x t ++ ps) (parts-walk (behind_one (names.locals f) x) ts)
+module _ (names : Names) (f : ℕ) where
+  -- some locals, and the others
+  walk-append : (x : Position) (ts us : List ValType) →
+      walk_from names f x (ts ++ us) ≡ locals_parts names f x ts ++ walk_from names f (behind_all (names.locals f) x ts) us
+  walk-append x [] us = refl
+  walk-append x (t ∷ ts) us =
+      ap (λ ps. local_parts names f x t ++ ps) (walk-append (behind_one (names.locals f) x) ts us)
+      ∙ sym (append_assoc (local_parts names f x t) (locals_parts names f (behind_one (names.locals f) x) ts) (walk_from names f (behind_all (names.locals f) x (t ∷ ts)) us))
+
+  -- the locals of the next entry, and those of the others
+  pub entries-next : (x : Position) (es rest : List (Placed LocalEntry)) (e : Placed LocalEntry) → es ≡ e ∷ rest →
+      walk_from names f x (locals_of es) ≡ locals_parts names f x (replicate e.value.count e.value.type)
+      ++ walk_from names f (behind_all (names.locals f) x (replicate e.value.count e.value.type)) (locals_of rest)
+  entries-next x es rest e p =
+      ap (λ xs. walk_from names f x (locals_of xs)) p ∙ walk-append x (replicate e.value.count e.value.type) (locals_of rest)
+
+  -- no entry is left
+  pub entries-none : (x : Position) (es : List (Placed LocalEntry)) → es ≡ [] → walk_from names f x (locals_of es) ≡ end_pieces x.before
+  entries-none x es p = ap (λ xs. walk_from names f x (locals_of xs)) p
 
   -- what is left of a local so many times: the next time, and the others
   pub times-next : (x : Position) (n i : ℕ) (t : ValType) → i < n →
@@ -46,23 +53,7 @@ module _ (names : Names) (f : ℕ) where
   pub times-none : (x : Position) (n i : ℕ) (t : ValType) → n ≤ i → locals_parts names f x (replicate (n - i) t) ≡ []
   times-none x n i t h = let e : n - i ≡ 0 = omega arith in ap (λ m. locals_parts names f x (replicate m t)) e
 
-  -- the locals of the next entry, and those of the others
-  pub entries-next : (x : Position) (es rest : List (Placed LocalEntry)) (e : Placed LocalEntry) → es ≡ e ∷ rest →
-      locals_parts names f x (locals_of es) ≡ locals_parts names f x (replicate e.value.count e.value.type)
-      ++ locals_parts names f (behind_all (names.locals f) x (replicate e.value.count e.value.type)) (locals_of rest)
-  entries-next x es rest e p =
-      ap (λ xs. locals_parts names f x (locals_of xs)) p ∙ parts-append x (replicate e.value.count e.value.type) (locals_of rest)
-
-  -- no entry is left
-  pub entries-none : (x : Position) (es : List (Placed LocalEntry)) → es ≡ [] → locals_parts names f x (locals_of es) ≡ []
-  entries-none x es p = ap (λ xs. locals_parts names f x (locals_of xs)) p
-
 module _ (named : ℕ → Option Named) where
-  -- behind two lists of locals
-  behind-append : (x : Position) (ts us : List ValType) → behind_all named x (ts ++ us) ≡ behind_all named (behind_all named x ts) us
-  behind-append x [] us = refl
-  behind-append x (t ∷ ts) us = behind-append (behind_one named x) ts us
-
   -- behind what is left of a local so many times
   pub behind_times-next : (x : Position) (n i : ℕ) (t : ValType) → i < n →
       behind_all named x (replicate (n - i) t) ≡ behind_all named (behind_one named x) (replicate (n - (i + 1)) t)
@@ -70,15 +61,6 @@ module _ (named : ℕ → Option Named) where
 
   pub behind_times-none : (x : Position) (n i : ℕ) (t : ValType) → n ≤ i → behind_all named x (replicate (n - i) t) ≡ x
   behind_times-none x n i t h = let e : n - i ≡ 0 = omega arith in ap (λ m. behind_all named x (replicate m t)) e
-
-  -- behind the locals of the next entry, and of the others
-  pub behind_entries-next : (x : Position) (es rest : List (Placed LocalEntry)) (e : Placed LocalEntry) → es ≡ e ∷ rest →
-      behind_all named x (locals_of es) ≡ behind_all named (behind_all named x (replicate e.value.count e.value.type)) (locals_of rest)
-  behind_entries-next x es rest e p =
-      ap (λ xs. behind_all named x (locals_of xs)) p ∙ behind-append x (replicate e.value.count e.value.type) (locals_of rest)
-
-  pub behind_entries-none : (x : Position) (es : List (Placed LocalEntry)) → es ≡ [] → behind_all named x (locals_of es) ≡ x
-  behind_entries-none x es p = ap (λ xs. behind_all named x (locals_of xs)) p
 
   -- the number behind so many locals
   pub behind_times-number : (x : Position) (n : ℕ) (t : ValType) → (behind_all named x (replicate n t)).number ≡ x.number + n

@@ -12,9 +12,9 @@ returns-in-None g c =
 pub returns-in_err-break_line-in-Some : goal.returns-in_err-break_line-in-Some
 returns-in_err-break_line-in-Some g c =
     rw (locals-some (names_of c.args.scope.now.labels) c.args.function c.args.parameters c.args.locals.now _ (sym c.in-Some.ensures))
-    (pieces_end g.P.Print.meaning c.from_residual.result _ c.from_residual.ensures.1 c.in_err-break_line.ensures)
+    (pieces_end g.P.Print.meaning c.from_residual.result _ c.from_residual.ensures.1 c.in_err-break_line-in-Some.ensures)
 
 pub returns-in_ok-break_line-in-Some : goal.returns-in_ok-break_line-in-Some
 returns-in_ok-break_line-in-Some g c =
     rw (locals-some (names_of c.args.scope.now.labels) c.args.function c.args.parameters c.args.locals.now _ (sym c.in-Some.ensures))
-    (both_pieces g.P.Print.meaning c.in_ok-break_line.ensures (c.write_entries.ensures c.args.options.now))
+    (both_pieces g.P.Print.meaning c.in_ok-break_line-in-Some.ensures (c.write_entries.ensures c.args.options.now))
