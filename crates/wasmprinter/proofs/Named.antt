@@ -1,6 +1,6 @@
 -- The names of a module: the identifiers that the printer shows are the definitions', and memory is wanted for them only where the module has a custom
 -- section, which is kept.
-use Rattle.std.proofs.Common.{◌≡◌, ◌≢◌, ℕ, zero, suc, ◌+◌, ◌<◌, Bool, ◌&&◌, Option, Some, None, List, [], ◌∷◌, ◌++◌, length, refl, sym, ap, ◌∙◌, subst, arith, append_assoc, inl, inr}
+use Rattle.std.proofs.Common.{◌≡◌, ◌≢◌, ℕ, zero, suc, ◌+◌, ◌<◌, Bool, true, false, ◌&&◌, Option, Some, None, List, [], ◌∷◌, ◌++◌, length, refl, sym, ap, ◌∙◌, subst, arith, append_assoc, inl, inr}
 use Rattle.std.proofs.Math.Path.{fun_ext}
 use Rattle.std.proofs.lemmas.List.{length-append}
 use Rattle.wasmprinter_spec.specs.Grammar.{◌>>=◌, bind_some, some_is, Placed, input}
@@ -10,7 +10,11 @@ use Rattle.wasmprinter_spec.specs.Placed.{Custom, PlacedFunction, PlacedModule}
 use Rattle.wasmprinter_spec.specs.Sections.{CustomSection, Section, holds, section, are_above, contents_in}
 use Rattle.wasmprinter_spec.specs.Repeated.{until_end, some_or}
 use Rattle.wasmprinter_spec.specs.Binary.{Spells, binary, customs_in, type_indices_in, bodies_in, data_count_in, datas_in, function_pairs, counts_data, module_from}
-use Rattle.wasmprinter_spec.specs.Names.{Naming, names_by, names_of}
+use Rattle.wasmprinter_spec.specs.Names.{Names, Naming, names_by}
+use Rattle.wasmprinter_spec.specs.Options.{Options}
+use Rattle.wasmprinter_spec.specs.Layout.{module_pieces_with, module_pieces}
+use Rattle.wasmprinter_names.specs.Views.{NamedItem, name_at}
+use Rattle.wasmprinter_labels.specs.Scan.{Scan, names_of}
 use Rattle.wasmprinter_spec.specs.Names.Section.{Entry}
 use Rattle.wasmprinter_spec.specs.Names.Content.{name_of}
 use Rattle.wasmprinter_spec.specs.ModuleNames.{name_entries, module_names}
@@ -91,3 +95,20 @@ names_refusal bytes m s some =
 -- without entries nothing has a name
 pub unnamed : (entries : List Entry) → entries ≡ [] → (s outer index : ℕ) → name_of entries s outer index ≡ None
 unnamed entries e s outer index = rw e refl
+
+-- ---- what is printed by these names
+
+-- what was made of the names that a module's sections give
+pub shown_names : (o : Options) (m : PlacedModule) (s : Scan) (items : List NamedItem) → s.named ≡ items → s.invents ≡ o.invents →
+    ((t outer index : ℕ) → name_at items t outer index ≡ name_of (name_entries m.customs) t outer index) → names_of s ≡ module_names o.invents m
+shown_names o m s items same invents given =
+    ap (λ (x : List NamedItem). names_by s.invents (name_at x)) same ∙ ap (λ (b : Bool). names_by b (name_at items)) invents ∙ are_names o.invents m (name_at items) given
+
+-- the pieces by the module's own names
+pub own_pieces : (o : Options) (m : PlacedModule) (n : Names) → n ≡ module_names o.invents m → module_pieces_with o n m ≡ module_pieces o m
+unfolding module_pieces
+own_pieces o m n e = ap (λ (x : Names). module_pieces_with o x m) e
+
+-- what can't be so of a refusal
+pub not_ok : false ≡ true → ⊥
+not_ok h = absurd cc

@@ -43,7 +43,8 @@ impl Config {
 
     /// Whether each line begins with the place of what stands on it. Takes no memory.
     pub fn print_offsets(&mut self, print: bool) -> &mut Self
-        ensures { result.now ≡ record self.old { offsets = print } }
+        ensures itself { result.ghost_name ≡ self.entry.ghost_name }
+        ensures options { result.now ≡ record self.old { offsets = print } }
     {
         self.options.offsets = print;
         self
@@ -51,7 +52,8 @@ impl Config {
 
     /// Whether bodies, items of element segments and bytes of data segments are left out. Takes no memory.
     pub fn print_skeleton(&mut self, print: bool) -> &mut Self
-        ensures { result.now ≡ record self.old { skeleton = print } }
+        ensures itself { result.ghost_name ≡ self.entry.ghost_name }
+        ensures options { result.now ≡ record self.old { skeleton = print } }
     {
         self.options.skeleton = print;
         self
@@ -59,7 +61,8 @@ impl Config {
 
     /// Whether identifiers are made up for items without a name, as `$#func3`. Takes no memory.
     pub fn name_unnamed(&mut self, name: bool) -> &mut Self
-        ensures { result.now ≡ record self.old { invents = name } }
+        ensures itself { result.ghost_name ≡ self.entry.ghost_name }
+        ensures options { result.now ≡ record self.old { invents = name } }
     {
         self.options.invents = name;
         self

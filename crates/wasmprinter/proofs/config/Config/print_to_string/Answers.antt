@@ -7,7 +7,7 @@ use Rattle.wasmprinter.proofs.config.Config.print_to_string.Goals as goal
 pub returns-in-Ok-clause-printed : goal.returns-in-Ok-clause-printed
 returns-in-Ok-clause-printed c =
     printed_text _ c.args.self.now (λ p. string_bytes p.0) (λ s call t h. grows_by _ string_bytes (λ _ _ _ e. e) s.0 call t.0 h) c.args.wasm.now _ c.print.new.printer c.new.ensures.bytes
-    (rw c.new-2.ensures at c.in-Ok.ensures.printed)
+    c.in-Ok.ensures.printed
 
 pub returns-in-Err-clause-caused : goal.returns-in-Err-clause-caused
 returns-in-Err-clause-caused c =
