@@ -8,7 +8,9 @@ use std::alloc::Global;
 use std::marker::Model;
 use wasmprinter_error::Error;
 use wasmprinter_fields::modules::write_module;
+use wasmprinter_labels::OpenLabels;
 use wasmprinter_lines::options::PrintOptions;
+use wasmprinter_names::Identifiers;
 use wasmprinter_print::Print;
 use wasmprinter_wasm::decode;
 
@@ -29,7 +31,7 @@ impl Model for Config {
 impl Config {
     ghost use Rattle.wasmprinter_spec.specs.Options.{defaults};
 
-    /// No places in front of lines, bodies in full, and an indent of two blanks. Takes no memory.
+    /// No places in front of lines, bodies in full, no identifiers made up, and an indent of two blanks. Takes no memory.
     pub fn new() -> Config
         ensures { result ≡ defaults }
     {
@@ -38,9 +40,19 @@ impl Config {
         }
     }
 
-    /// Prints the text of a module in the binary format to a printer.
+    /// Whether identifiers are made up for items without a name, of the sign `#`, the word for the kind of item and its number. Takes no
+    /// memory.
+    pub fn name_unnamed(&mut self, invents: bool) -> &mut Self
+        ensures itself { result.ghost_name ≡ self.entry.ghost_name }
+        ensures options { result.now ≡ record self.old { invents = invents } }
+    {
+        self.options.invents = invents;
+        self
+    }
+
+    /// Prints the text of a module in the binary format to a printer, with the identifiers that its name sections give.
     ///
-    /// The module is read and checked whole before the first call on the printer.
+    /// The module and its names are read and checked whole before the first call on the printer.
     ///
     /// # Errors
     ///
@@ -56,7 +68,13 @@ impl Config {
         ensures component { IsErrOf result Error.Component ↔ IsComponent wasm.now }
     {
         let module = decode(alloc, wasm)?;
-        write_module(printer, &self.options, &module)?;
+        let names = module.names(alloc)?;
+        let identifiers = Identifiers {
+            names: &names,
+            invents: self.options.invents,
+        };
+        let labels = OpenLabels::new(alloc, identifiers)?;
+        write_module(printer, &self.options, &module, labels)?;
         Ok(())
     }
 }
@@ -211,7 +229,7 @@ mod tests {
         let shown = format!(in rt.alloc(); "{config:?}")?;
         assert_eq!(rt;
             shown.as_str(),
-            "Config { options: PrintOptions { offsets: false, skeleton: false, indent: TwoBlanks } }"
+            "Config { options: PrintOptions { offsets: false, skeleton: false, invents: false, indent: TwoBlanks } }"
         );
         Ok(())
     }

@@ -33,7 +33,8 @@ given-line (Some s) content = by (bytes_eq s content)
     by true = refl
     by false = refl
 
-mark-line : (n : Named) → has_break (mark_pieces n) ≡ false
+-- an identifier with its name
+pub mark-line : (n : Named) → has_break (mark_pieces n) ≡ false
 unfolding mark_pieces
 mark-line n = given-line n.given n.content
 
