@@ -6,3 +6,6 @@ mod numbers;
 mod open;
 
 pub use open::{Meant, OpenLabels};
+
+#[cfg(test)]
+mod tests;
