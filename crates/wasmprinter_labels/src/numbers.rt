@@ -21,7 +21,8 @@ fn number<'n>(
     next: usize,
 ) -> Result<usize, AllocError>
     ensures number { IfOk result (λ n. n ≡ unwrap_or (number_of numbers.old given.now) next) }
-    ensures known { IfOk result (λ n. (q : List ℕ) → number_of numbers.new q ≡ (if bytes_eq given.now q then Some n else number_of numbers.old q)) }
+    ensures known { IfOk result (λ n. (q : List ℕ)
+        → number_of numbers.new q ≡ (if bytes_eq given.now q then Some n else number_of numbers.old q)) }
 {
     if let Some(number) = numbers.get(given) {
         return Ok(*number);

@@ -46,7 +46,10 @@ fn made_up<'n>(depth: u64) -> Identifier<'n> {
 #[test]
 fn a_label_is_hidden_for_a_while(rt: HostRuntime) -> Result<(), Fail> {
     // labels of function 0: 0 `a`, 1 `b`, 2 `a`
-    let names = names_of(rt.alloc(), b"\x03\x0c\x01\x00\x03\x00\x01a\x01\x01b\x02\x01a")?;
+    let names = names_of(
+        rt.alloc(),
+        b"\x03\x0c\x01\x00\x03\x00\x01a\x01\x01b\x02\x01a",
+    )?;
     let mut labels = given_only(rt.alloc(), &names)?;
     labels.begin(0);
     assert_eq!(rt; labels.own(), Some(given("a")));
@@ -76,7 +79,10 @@ fn a_label_is_hidden_for_a_while(rt: HostRuntime) -> Result<(), Fail> {
 #[test]
 fn delegate_leaves_its_block_out(rt: HostRuntime) -> Result<(), Fail> {
     // labels of function 0: 0 `a`, 1 `b`, 2 `a`
-    let names = names_of(rt.alloc(), b"\x03\x0c\x01\x00\x03\x00\x01a\x01\x01b\x02\x01a")?;
+    let names = names_of(
+        rt.alloc(),
+        b"\x03\x0c\x01\x00\x03\x00\x01a\x01\x01b\x02\x01a",
+    )?;
     let mut labels = given_only(rt.alloc(), &names)?;
     labels.begin(0);
     assert_eq!(rt; labels.find(Role::Delegates, 0), Meant::ByNumber);
@@ -154,7 +160,10 @@ fn identifiers_are_made_up_by_depth(rt: HostRuntime) -> Result<(), Fail> {
 #[test]
 fn labels_are_those_of_the_function(rt: HostRuntime) -> Result<(), Fail> {
     // label 0 of function 1: `a`; of function 3: `a`
-    let names = names_of(rt.alloc(), b"\x03\x0b\x02\x01\x01\x00\x01a\x03\x01\x00\x01a")?;
+    let names = names_of(
+        rt.alloc(),
+        b"\x03\x0b\x02\x01\x01\x00\x01a\x03\x01\x00\x01a",
+    )?;
     let mut labels = given_only(rt.alloc(), &names)?;
     labels.begin(1);
     assert_eq!(rt; labels.own(), Some(given("a")));
@@ -173,6 +182,7 @@ fn labels_are_those_of_the_function(rt: HostRuntime) -> Result<(), Fail> {
         assert_eq!(rt; labels.own(), own);
     }
     // what closes nothing changes nothing
+    labels.begin(1);
     labels.advance(Role::Ends);
     assert_eq!(rt; labels.depth(), 0);
     Ok(())
