@@ -7,7 +7,7 @@ use Rattle.wasmprinter_spec.specs.Row.{Role}
 use Rattle.wasmprinter_spec.specs.Types.{FuncType}
 use Rattle.wasmprinter_spec.specs.Operator.{Operator}
 use Rattle.wasmprinter_spec.specs.Table.{word_of, role_of, shape_of}
-use Rattle.wasmprinter_spec.specs.Names.{Names, names_by}
+use Rattle.wasmprinter_spec.specs.Names.{Names}
 use Rattle.wasmprinter_spec.specs.Labels.{Label, labels_after, count_after, outside, inside}
 use Rattle.wasmprinter_spec.specs.Options.{Options}
 use Rattle.wasmprinter_spec.specs.Piece.{Word}
@@ -17,7 +17,6 @@ use Rattle.wasmprinter_spec.specs.Layout.Operators.{Setting, level, before_word,
 use Rattle.wasmprinter_print.specs.Emits.{Through}
 use Rattle.wasmprinter_print.specs.Prints.{Written, Lacks}
 use Rattle.wasmprinter_print.specs.PrintsLaws.{no_piece, next_written, lacks_none}
-use Rattle.wasmprinter_names.specs.Views.{NamedItem, name_at}
 use Rattle.wasmprinter_ops.specs.Operators.{placed_view, pairs}
 use Rattle.wasmprinter_labels.specs.Scan.{Scan, names_of, own_label, begun, advanced}
 use Rattle.wasmprinter_flat.specs.Settings.{over_lines}

@@ -1,5 +1,5 @@
 -- What an operator's immediates are printed by, as the definitions see it.
-use Rattle.std.specs.Prelude.{ℕ, List, Option, Some, length}
+use Rattle.std.specs.Prelude.{ℕ, List, Option, Some}
 use Rattle.wasmprinter_spec.specs.Types.{FuncType}
 use Rattle.wasmprinter_spec.specs.Row.{Space, Local, Shape}
 use Rattle.wasmprinter_spec.specs.Names.{Names, subsection_of}

@@ -76,7 +76,13 @@ pub(crate) fn write_block_type<P: Print, S: Signatures>(
     match block_type {
         BlockType::Empty => Ok(()),
         BlockType::Value(value_type) => write_result(p, &identifiers, value_type),
-        BlockType::Func(index) => write_type_use(p, &identifiers, None, context.setting.types, index),
+        BlockType::Func(index) => write_type_use(
+            p,
+            &identifiers,
+            None,
+            context.setting.types,
+            index,
+        ),
     }
 }
 

@@ -67,7 +67,9 @@ impl<'n, 'a, S: Signatures> Context<'_, '_, 'n, 'a, S> {
             ≡ in_function (names_in self.now) self.now.setting.now.function (space_view space) index }
     {
         match named_space(space) {
-            Some(named) => self.identifiers().item(named, self.setting.function, u64::from(index)),
+            Some(named) => self
+                .identifiers()
+                .item(named, self.setting.function, u64::from(index)),
             None => None,
         }
     }
@@ -76,7 +78,8 @@ impl<'n, 'a, S: Signatures> Context<'_, '_, 'n, 'a, S> {
     pub(crate) fn field(&self, type_index: u32, field: u32) -> Option<Identifier<'n>>
         ensures { option_map identifier_view result ≡ (names_in self.now).fields type_index field }
     {
-        self.identifiers().item(NamedSpace::Field, u64::from(type_index), u64::from(field))
+        self.identifiers()
+            .item(NamedSpace::Field, u64::from(type_index), u64::from(field))
     }
 
     /// The number of the block that the operator opens, if it opens one. Blocks are counted from 1.

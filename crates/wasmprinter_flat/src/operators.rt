@@ -137,7 +137,14 @@ fn write_operator<P: Print, S: Signatures>(
         labels,
         role,
     };
-    write_before(p, options, setting, first, place, level(role, labels.depth()))?;
+    write_before(
+        p,
+        options,
+        setting,
+        first,
+        place,
+        level(role, labels.depth()),
+    )?;
     word(p, operator.opcode.word())?;
     write_behind(p, &context, operator)
 }

@@ -26,7 +26,11 @@ use wasmprinter_words::words::{gap, open_gap, shut};
 
 /// Writes one type as a result.
 #[tactic(auto, unfolding(wasmprinter_spec::specs::Layout::Groups::line_group_gap))]
-pub(crate) fn write_result<P: Print>(p: &mut P, identifiers: &Identifiers<'_, '_>, value_type: ValType) -> io::Result<()>
+pub(crate) fn write_result<P: Print>(
+    p: &mut P,
+    identifiers: &Identifiers<'_, '_>,
+    value_type: ValType,
+) -> io::Result<()>
     ensures { (o : Options) → Prints P.meaning o p.old p.new result
         (Gap ∷ line_group_gap (codes "result") (val_pieces (shown identifiers.now) (type_view value_type))) }
 {
@@ -48,7 +52,11 @@ fn only_type(types: &ValTypes<'_>) -> Option<ValType>
 }
 
 /// Writes the types that `select` names.
-pub(crate) fn write_select<P: Print>(p: &mut P, identifiers: &Identifiers<'_, '_>, types: &ValTypes<'_>) -> io::Result<()>
+pub(crate) fn write_select<P: Print>(
+    p: &mut P,
+    identifiers: &Identifiers<'_, '_>,
+    types: &ValTypes<'_>,
+) -> io::Result<()>
     ensures { (o : Options) → Prints P.meaning o p.old p.new result
         (select_pieces (shown identifiers.now) (types_view types.now)) }
 {
@@ -59,7 +67,11 @@ pub(crate) fn write_select<P: Print>(p: &mut P, identifiers: &Identifiers<'_, '_
 }
 
 /// Writes a heap type.
-pub(crate) fn write_heap<P: Print>(p: &mut P, identifiers: &Identifiers<'_, '_>, heap: HeapType) -> io::Result<()>
+pub(crate) fn write_heap<P: Print>(
+    p: &mut P,
+    identifiers: &Identifiers<'_, '_>,
+    heap: HeapType,
+) -> io::Result<()>
     ensures { (o : Options) → Prints P.meaning o p.old p.new result
         (Gap ∷ heap_pieces (shown identifiers.now) (heap_view heap)) }
 {
@@ -68,7 +80,11 @@ pub(crate) fn write_heap<P: Print>(p: &mut P, identifiers: &Identifiers<'_, '_>,
 }
 
 /// Writes a reference type.
-pub(crate) fn write_ref<P: Print>(p: &mut P, identifiers: &Identifiers<'_, '_>, ref_type: RefType) -> io::Result<()>
+pub(crate) fn write_ref<P: Print>(
+    p: &mut P,
+    identifiers: &Identifiers<'_, '_>,
+    ref_type: RefType,
+) -> io::Result<()>
     ensures { (o : Options) → Prints P.meaning o p.old p.new result
         (Gap ∷ ref_pieces (shown identifiers.now) (ref_view ref_type)) }
 {
@@ -77,7 +93,12 @@ pub(crate) fn write_ref<P: Print>(p: &mut P, identifiers: &Identifiers<'_, '_>, 
 }
 
 /// Writes two reference types.
-fn write_refs<P: Print>(p: &mut P, identifiers: &Identifiers<'_, '_>, source: RefType, target: RefType) -> io::Result<()>
+fn write_refs<P: Print>(
+    p: &mut P,
+    identifiers: &Identifiers<'_, '_>,
+    source: RefType,
+    target: RefType,
+) -> io::Result<()>
     ensures { (o : Options) → Prints P.meaning o p.old p.new result
         (Gap ∷ (ref_pieces (shown identifiers.now) (ref_view source) ++ (Gap ∷ ref_pieces (shown identifiers.now) (ref_view target)))) }
 {
@@ -100,5 +121,10 @@ pub(crate) fn write_cast<P: Print, S: Signatures>(
         ++ (Gap ∷ ref_pieces (names_in context.now) (target_type flags target))))) }
 {
     write_label(p, context, label)?;
-    write_refs(p, &context.identifiers(), cast_source(flags, source), cast_target(flags, target))
+    write_refs(
+        p,
+        &context.identifiers(),
+        cast_source(flags, source),
+        cast_target(flags, target),
+    )
 }

@@ -26,12 +26,7 @@ impl Signatures for NoTypes {
 }
 
 /// The operators of an expression of function 0, printed in one line, in a module with the names of this section.
-fn with_names(
-    alloc: Global,
-    section: &[u8],
-    invents: bool,
-    bytes: &[u8],
-) -> Result<String, Fail> {
+fn with_names(alloc: Global, section: &[u8], invents: bool, bytes: &[u8]) -> Result<String, Fail> {
     let mut builder = NamesBuilder::new(alloc);
     read_names(alloc, &mut builder, Cursor::new(0, section))?;
     let names = builder.finish();
@@ -100,7 +95,8 @@ fn blocks_stand_in_the_line(rt: HostRuntime) -> Result<(), Fail> {
 #[test]
 fn names_stand_for_indices(rt: HostRuntime) -> Result<(), Fail> {
     // local 0 of function 0 is `x`, labels 0 and 1 of it are `a`; memory 0 is `m`, global 0 is `g`
-    let section = b"\x02\x06\x01\x00\x01\x00\x01x\x03\x09\x01\x00\x02\x00\x01a\x01\x01a\x06\x04\x01\x00\x01m\x07\x04\x01\x00\x01g";
+    let section =
+        b"\x02\x06\x01\x00\x01\x00\x01x\x03\x09\x01\x00\x02\x00\x01a\x01\x01a\x06\x04\x01\x00\x01m\x07\x04\x01\x00\x01g";
     let plain = with_names(
         rt.alloc(),
         section,

@@ -1,4 +1,3 @@
-use Rattle.std.proofs.Common.{sym, ◌∙◌}
 use Rattle.wasmprinter_flat.specs.Contexts.{around, within}
 use Rattle.wasmprinter_flat.proofs.LabelTexts.{label-out}
 use Rattle.wasmprinter_flat.proofs.labels.write_label.Goals as goal

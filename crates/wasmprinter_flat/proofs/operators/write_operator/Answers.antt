@@ -1,4 +1,3 @@
-use Rattle.std.proofs.Common.{sym}
 use Rattle.wasmprinter_spec.specs.Operator.{Operator}
 use Rattle.wasmprinter_print.specs.PrintsLaws.{both_pieces, pieces_end}
 use Rattle.wasmprinter_ops.specs.Immediates.{immediates_view}
