@@ -9,5 +9,5 @@ pub use wasmprinter_ops::types::{HeapType, RefType, ValType, ValTypes};
 pub use wasmprinter_wasm::{
     Body, Custom, Data, DataMode, Element, ElementItems, ElementMode, Export, ExternKind, ExternType,
     Function, Global, GlobalType, Import, Limits, LocalEntry, Locals, Memory, MemoryType, Module,
-    Start, Table, TableType, Tag, TypeGroup, decode,
+    Name, Names, Space, Start, Table, TableType, Tag, TypeGroup, decode,
 };

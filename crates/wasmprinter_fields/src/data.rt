@@ -19,11 +19,7 @@ use wasmprinter_words::strings::write_byte_string;
 use wasmprinter_words::words::{gap, word};
 
 /// Writes the memory of a segment and a blank, and nothing for memory 0.
-fn write_named_memory<P: Print>(
-    p: &mut P,
-    scope: &Scope<'_, '_>,
-    memory: u32,
-) -> io::Result<()>
+fn write_named_memory<P: Print>(p: &mut P, scope: &Scope<'_, '_>, memory: u32) -> io::Result<()>
     ensures { (o : Options) → Prints P.meaning o p.old p.new result (named_memory (scope_view scope.now) memory) }
 {
     if memory == 0 {

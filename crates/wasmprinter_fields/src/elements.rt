@@ -68,11 +68,7 @@ fn write_element_mode<P: Print>(
 }
 
 /// Writes a blank and the index of a function.
-fn write_function_item<P: Print>(
-    p: &mut P,
-    scope: &Scope<'_, '_>,
-    function: u32,
-) -> io::Result<()>
+fn write_function_item<P: Print>(p: &mut P, scope: &Scope<'_, '_>, function: u32) -> io::Result<()>
     ensures { (o : Options) → Prints P.meaning o p.old p.new result
         (Gap ∷ item_index (scope_view scope.now) row.Func function) }
 {

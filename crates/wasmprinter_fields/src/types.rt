@@ -109,7 +109,8 @@ fn write_rec<P: Print>(
 ) -> io::Result<()>
     requires { first + length group.now.value.types < 2 ^ 64 }
     ensures { Prints P.meaning options.now p.old p.new result
-        (Open (codes "rec") ∷ (numbered (listed_pieces (names_of scope.now.labels) group.now.value.written group.now.place) first group.now.value.types
+        (Open (codes "rec")
+        ∷ (numbered (listed_pieces (names_of scope.now.labels) group.now.value.written group.now.place) first group.now.value.types
         ++ close None 1 (not (length group.now.value.types == 0)))) }
 {
     open(p, "rec")?;

@@ -1,4 +1,4 @@
-use Rattle.std.proofs.Common.{◌≡◌, ◌+◌, ◌*◌, ◌<◌, ◌≤◌, ◌∙◌, ap, refl, [], length, replicate, arith}
+use Rattle.std.proofs.Common.{◌≡◌, ◌∙◌, ap, refl, [], length, replicate, arith}
 use Rattle.wasmprinter_print.specs.PrintsLaws.{no_piece, rest_written, next_written, next_fails}
 use Rattle.wasmprinter_labels.specs.Scan.{names_of}
 use Rattle.wasmprinter_fields.specs.LocalWalk.{behind_all}
