@@ -1,5 +1,4 @@
 //! Modules in the binary format: decoding, and walking over what was decoded.
-pub use wasmprinter_names::{Name, Names, Space};
 pub use wasmprinter_ops::blocks::{BlockType, Catch, Catches, Targets};
 pub use wasmprinter_ops::expression::{Expression, OperatorsReader};
 pub use wasmprinter_ops::opcode::Opcode;
