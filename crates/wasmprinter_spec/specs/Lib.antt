@@ -14,8 +14,10 @@ pub mod Nesting
 pub mod NestingSteps
 pub mod Table
 pub mod Instructions
+pub mod Kinds
 pub mod Placed
 pub mod Sections
+pub mod Customs
 pub mod Binary
 pub mod Module
 pub mod Limits
