@@ -14,7 +14,7 @@ use Rattle.wasmprinter_spec.specs.Options.{Options, IsBlank}
 use Rattle.wasmprinter_spec.specs.Token.{left, left_note, right, word, name, string, is_name, tokens}
 use Rattle.wasmprinter_spec.specs.Forest.{Forest, End, Word, Name, String, Group, Note, flat, onto, cut, row_customs, customs, forest, the_one, grow}
 use Rattle.wasmprinter_spec.specs.Piece as piece
-use Rattle.wasmprinter_spec.specs.Piece.{Piece, Begin, Feed, Break, Gap, Open, OpenGap, OpenPlain, OpenBare, OpenTypeGap, Shut, TypeWord, TypeWordGap, GapTypeWord, Number, Constant, Literals, GapLiterals, Float, Mark, Quoted, QuotedBytes, Identifier, NameNote, Remark, Ending, word_tokens, all_calls, all_tokens, piece_tokens}
+use Rattle.wasmprinter_spec.specs.Piece.{Piece, Begin, Feed, Break, Gap, Open, OpenGap, OpenPlain, OpenBare, OpenTypeGap, Shut, TypeWord, TypeWordGap, GapTypeWord, Number, Constant, Literals, GapLiterals, Float, NumberRemark, BeginName, EndStyle, Quoted, QuotedBytes, Identifier, NameNote, Remark, Ending, word_tokens, all_calls, all_tokens, piece_tokens}
 use Rattle.wasmprinter_spec.specs.Layout.Groups.{group, line_group_gap, group_at, group_gap_at, line_group, close, has_break}
 use Rattle.wasmprinter_lexical.proofs.Runs.{is_word, are_words}
 use Rattle.wasmprinter_lexical.proofs.Grown.{flat-onto, one-flat, cut-onto, row_customs-onto, customs-onto}
@@ -161,10 +161,33 @@ gap_writes {a = a} {ps = ps} e w = record {
   in_groups = w.in_groups;
 }
 
-pub mark_writes : {a b : Edge} {n : ℕ} {ps : List Piece} {f : Forest} → is_open a ≡ true → n < 2 ^ 64 → Writes Free ps b f → Writes a (Mark n ∷ ps) b f
-mark_writes {a = a} {n = n} {ps = ps} e h w = record {
-  joins = λ qs g. joins_anywhere a (Mark n) (ps ++ qs) e refl (w.joins qs g);
+pub number_remark_writes : {a b : Edge} {n : ℕ} {ps : List Piece} {f : Forest} → is_open a ≡ true → n < 2 ^ 64 → Writes Free ps b f → Writes a (NumberRemark n ∷ ps) b f
+number_remark_writes {a = a} {n = n} {ps = ps} e h w = record {
+  joins = λ qs g. joins_anywhere a (NumberRemark n) (ps ++ qs) e refl (w.joins qs g);
   are = (h, w.are);
+  whole = w.whole;
+  tokens = w.tokens;
+  without = w.without;
+  in_row = w.in_row;
+  in_groups = w.in_groups;
+}
+
+-- no text, and no item
+pub begin_name_writes : {b : Edge} {ps : List Piece} {f : Forest} → Writes Free ps b f → Writes Free (BeginName ∷ ps) b f
+begin_name_writes w = record {
+  joins = w.joins;
+  are = (tt, w.are);
+  whole = w.whole;
+  tokens = w.tokens;
+  without = w.without;
+  in_row = w.in_row;
+  in_groups = w.in_groups;
+}
+
+pub end_style_writes : {a b : Edge} {ps : List Piece} {f : Forest} → is_open a ≡ true → Writes Bound ps b f → Writes a (EndStyle ∷ ps) b f
+end_style_writes {a = a} {ps = ps} e w = record {
+  joins = λ qs h. joins_anywhere a EndStyle (ps ++ qs) e refl (w.joins qs h);
+  are = (tt, w.are);
   whole = w.whole;
   tokens = w.tokens;
   without = w.without;
@@ -538,4 +561,4 @@ bare_group_then {a = a} {c = c} {ps = ps} {qs = qs} {f = f} {g = g} o v' w =
 pub then : {a c : Edge} {ps qs : List Piece} {f g : Forest} → Writes a ps Bound f → Writes Bound qs c g → Writes a (ps ++ qs) c (onto f g)
 then v w = both_write v w
 
-pub ruleset writing = (nothing_writes, free_writes, begin_writes, feed_writes, gap_writes, break_writes, mark_writes, word_writes, type_word_writes, type_word_gap_writes, gap_type_word_writes, number_writes, constant_writes, literals_writes, gap_literals_writes, float_writes, quoted_writes, quoted_bytes_writes, identifier_writes, name_note_writes, remark_writes, ending_writes, group_writes, group_at_writes, group_gap_at_writes, line_group_writes, line_group_gap_writes, group_then, group_at_then, line_group_then, line_group_gap_then, plain_group_then, type_group_then, bare_group_then, opened_writes, then)
+pub ruleset writing = (nothing_writes, free_writes, begin_writes, feed_writes, gap_writes, break_writes, number_remark_writes, begin_name_writes, end_style_writes, word_writes, type_word_writes, type_word_gap_writes, gap_type_word_writes, number_writes, constant_writes, literals_writes, gap_literals_writes, float_writes, quoted_writes, quoted_bytes_writes, identifier_writes, name_note_writes, remark_writes, ending_writes, group_writes, group_at_writes, group_gap_at_writes, line_group_writes, line_group_gap_writes, group_then, group_at_then, line_group_then, line_group_gap_then, plain_group_then, type_group_then, bare_group_then, opened_writes, then)

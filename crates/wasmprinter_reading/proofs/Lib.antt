@@ -5,12 +5,16 @@ pub mod Vectors
 pub mod Few
 pub mod Numbered
 pub mod Items
+pub mod Declarations
+pub mod Identifiers
 pub mod Types
 pub mod Tabled
 pub mod Operators
 pub mod Ranged
 pub mod PartRanges
 pub mod Ranges
+pub mod Counts
+pub mod GivenNames
 pub mod Fields
 pub mod Back
 pub mod Stays

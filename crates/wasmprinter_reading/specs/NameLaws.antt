@@ -1,12 +1,14 @@
 -- Laws of name sections and of the identifiers that they give.
-use Rattle.std.specs.Prelude.{◌≡◌, ◌⊎◌, ℕ, List, map, length, ◌<◌, Bool, Option, Some, None, IsUtf8}
+use Rattle.std.specs.Prelude.{◌≡◌, ◌⊎◌, ℕ, List, map, length, ◌<◌, ◌≤◌, ◌^◌, Bool, true, Option, Some, None, IsUtf8}
 use Rattle.std.specs.List.{AllByRecursion}
 use Rattle.wasmprinter_spec.specs.Grammar.{Input, Spans, Grammar}
 use Rattle.wasmprinter_spec.specs.Repeated.{Items}
 use Rattle.wasmprinter_spec.specs.Lenient.{Lacks, repeat}
 use Rattle.wasmprinter_spec.specs.Binary.{AreBytes}
 use Rattle.wasmprinter_spec.specs.Names.Section.{Entry, entry, entry_of, association, GivesNames}
-use Rattle.wasmprinter_spec.specs.Names.{names_of, AreApart, AreNamed}
+use Rattle.wasmprinter_spec.specs.Labels.{Named}
+use Rattle.wasmprinter_spec.specs.IndexSpaces.{are_distinct, resolve}
+use Rattle.wasmprinter_spec.specs.Names.{names_of, identifiers, AreDistinct, AreApart, AreNamed}
 use Rattle.wasmprinter_reading.specs.Listed.{IsU32}
 
 -- ---- name sections
@@ -46,3 +48,9 @@ IdentifiersAreApart = (invents : Bool) (entries : List Entry) → AreEntries ent
 -- Each identifier is UTF-8 and not empty, and each name is UTF-8.
 abbrev pub IdentifiersAreNamed : Type 0
 IdentifiersAreNamed = (invents : Bool) (entries : List Entry) → AreEntries entries → AreNamed (names_of invents entries)
+
+-- Identifiers of which no two items of a space have one are distinct as declarations, and each is resolved to its item.
+abbrev pub IdentifiersResolve : Type 0
+IdentifiersResolve = (named : ℕ → Option Named) (count : ℕ) → AreDistinct named → count ≤ 2 ^ 64 →
+    (are_distinct (identifiers named count) ≡ true)
+    × ((i : ℕ) (n : Named) → i < count → named i ≡ Some n → resolve n.content (identifiers named count) ≡ Some i)

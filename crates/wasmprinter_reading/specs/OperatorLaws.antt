@@ -1,14 +1,14 @@
 -- The laws of nested operators: their text reads as exactly them.
-use Rattle.std.specs.Prelude.{◌≡◌, ℕ, ◌≤◌, ◌^◌, List, length, Bool, Option, Some}
+use Rattle.std.specs.Prelude.{◌≡◌, ℕ, ◌<◌, ◌≤◌, ◌^◌, List, length, Bool, Option, Some}
 use Rattle.std.specs.List.{AllByRecursion}
 use Rattle.wasmprinter_spec.specs.Grammar.{Placed, ◌>>=◌}
-use Rattle.wasmprinter_spec.specs.Types.{FieldType}
+use Rattle.wasmprinter_spec.specs.Types.{FieldType, FuncType}
 use Rattle.wasmprinter_spec.specs.Row.{Space, Types, Func, Table, Memory, Tag, Global, Elem, Data, Local, Label}
 use Rattle.wasmprinter_spec.specs.Operator.{Operator}
 use Rattle.wasmprinter_spec.specs.Nesting.{Nests, Sequence}
 use Rattle.wasmprinter_spec.specs.Instructions.{roles}
 use Rattle.wasmprinter_spec.specs.Module.{without_places}
-use Rattle.wasmprinter_spec.specs.Indexed.{Counts, IsIndexedOperator}
+use Rattle.wasmprinter_spec.specs.Indexed.{Counts, IsDeclaredFunc, IsIndexedOperator}
 use Rattle.wasmprinter_spec.specs.Call.{text_of}
 use Rattle.wasmprinter_spec.specs.Options.{Options, IsBlank}
 use Rattle.wasmprinter_spec.specs.Names.Section.{Entry}
@@ -41,12 +41,15 @@ pub record HaveSameTypes (s : Setting) (c : Context) (n : Counts) : Type 0 where
   pub counted : (i : ℕ) → n.signature i ≡ s.signature i
   pub in_range : AreSignaturesInRange s.signature
 
--- and the same identifiers: those of all items that are counted
+-- And the same identifiers: those of all items that are counted. What has a signature or fields is a counted type, and so is what a signature names.
 pub record HaveSameNames (s : Setting) (c : Context) (n : Counts) : Type 0 where
   pub spaces : (space : Space) → space_in c.spaces space ≡ identifiers (in_function s.names s.function space) (count_in n space)
   pub fields : (t : ℕ) (fs : List FieldType) → n.fields t ≡ Some fs → c.fields t ≡ identifiers (s.names.fields t) (length fs)
   pub few : (space : Space) → count_in n space ≤ 2 ^ 64
   pub few_fields : (t : ℕ) (fs : List FieldType) → n.fields t ≡ Some fs → length fs ≤ 2 ^ 64
+  pub functions : (t : ℕ) (f : FuncType) → n.signature t ≡ Some f → t < n.types
+  pub signatures : (t : ℕ) (f : FuncType) → n.signature t ≡ Some f → IsDeclaredFunc n.types f
+  pub structures : (t : ℕ) (fs : List FieldType) → n.fields t ≡ Some fs → t < n.types
 
 -- Operators of an expression: listed, well nested, no more than a size can count, and every used index is declared.
 pub record AreOperators (n : Counts) (os : List (Placed Operator)) : Type 0 where

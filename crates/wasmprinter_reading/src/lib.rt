@@ -6,7 +6,8 @@ ghost use Rattle.wasmprinter_spec.specs.Laws.{SpellsOne, TakesNested, ReadsBack,
 ghost use Rattle.wasmprinter_spec.specs.Laws.{PrintsPlainText, PlainTextIsUtf8, PlainTextHasNoColour, PlainTextsJoin};
 ghost use Rattle.wasmprinter_reading.specs.OperatorLaws.{OperatorsReadBack, NamedOperatorsReadBack};
 ghost use Rattle.wasmprinter_reading.specs.NameLaws.{NamesAreOneList, NameMapsAreListed, BytesGiveEntries};
-ghost use Rattle.wasmprinter_reading.specs.NameLaws.{IdentifiersAreApart, IdentifiersAreNamed};
+ghost use Rattle.wasmprinter_reading.specs.NameLaws.{IdentifiersAreApart, IdentifiersAreNamed, IdentifiersResolve};
+ghost use Rattle.wasmprinter_reading.specs.LabelLaws.{LabelsMeanTheirBlocks};
 
 /// Given bytes spell at most one module with its places (section 5.5 of the standard, "Modules").
 pub fn bytes_spell_one_module()
@@ -82,4 +83,14 @@ pub fn identifiers_are_apart()
 /// Each identifier is UTF-8 and not empty, and each name is UTF-8.
 pub fn identifiers_are_named()
     ensures { IdentifiersAreNamed }
+{}
+
+/// Identifiers of which no two items of a space have one are distinct as declarations, and each is resolved to its item.
+pub fn identifiers_resolve()
+    ensures { IdentifiersResolve }
+{}
+
+/// A label that is printed by its identifier means the block that is meant; where a block further in has its name, it is printed by its number.
+pub fn labels_mean_their_blocks()
+    ensures { LabelsMeanTheirBlocks }
 {}

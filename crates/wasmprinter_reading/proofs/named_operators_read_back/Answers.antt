@@ -1,5 +1,5 @@
-use Rattle.wasmprinter_reading.proofs.Operators.ReadBack.{named_labels_read_back}
-use Rattle.wasmprinter_reading.proofs.named_labels_read_back.Goals as goal
+use Rattle.wasmprinter_reading.proofs.Operators.ReadBack.{named_operators_read_back}
+use Rattle.wasmprinter_reading.proofs.named_operators_read_back.Goals as goal
 
 pub returns : goal.returns
-returns c = named_labels_read_back
+returns c = named_operators_read_back
