@@ -14,8 +14,11 @@ pub mod Ranged
 pub mod PartRanges
 pub mod Ranges
 pub mod Counts
+pub mod Spaces
 pub mod GivenNames
 pub mod Fields
+pub mod Sorted
+pub mod DeclaredTypes
 pub mod Back
 pub mod Stays
 pub mod Nested
