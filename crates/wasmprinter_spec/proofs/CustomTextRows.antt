@@ -9,6 +9,8 @@ use Rattle.wasmprinter_spec.specs.Call.{Call, Claim, text_of}
 use Rattle.wasmprinter_spec.specs.Options.{Options, defaults, Answers}
 use Rattle.wasmprinter_spec.specs.Layout.{layout, refusal}
 use Rattle.wasmprinter_spec.specs.Read.{read}
+use Rattle.wasmprinter_spec.specs.HintsOfModule.{operator_hint, module_hints}
+use Rattle.wasmprinter_spec.specs.Text.Hints.{text_hints}
 use Rattle.wasmprinter_spec.proofs.Samples.{head_bytes, lines}
 use Rattle.wasmprinter_spec.proofs.Computing.{composing, reading}
 
@@ -279,3 +281,27 @@ first_counts = refl
 one_for_each : printed (hinted (0x01 ∷ 0x00 ∷ 0x02 ∷ 0x03 ∷ 0x01 ∷ 0x01 ∷ 0x03 ∷ 0x01 ∷ 0x00 ∷ [])) ≡ Some (hinted_text (codes "    (@metadata.code.branch_hint \"\\01\")" ∷ []))
 unfolding composing reading
 one_for_each = refl
+
+-- the hint of the module is that of its text
+hint_of_module : (decode (hinted (0x01 ∷ 0x00 ∷ 0x01 ∷ 0x03 ∷ 0x01 ∷ 0x01 ∷ [])) >>= module_hints) ≡ Some (operator_hint 0 1 true ∷ [])
+unfolding composing reading
+hint_of_module = refl
+
+hint_of_text : text_hints (hinted_text (codes "    (@metadata.code.branch_hint \"\\01\")" ∷ [])) ≡ Some (operator_hint 0 1 true ∷ [])
+unfolding reading
+hint_of_text = refl
+
+-- offsets that don't rise, and one that is no operator's
+other_hints : (decode (hinted (0x01 ∷ 0x00 ∷ 0x02 ∷ 0x03 ∷ 0x01 ∷ 0x01 ∷ 0x03 ∷ 0x01 ∷ 0x00 ∷ [])) >>= module_hints) ≡ None
+unfolding composing reading
+other_hints = refl
+
+hint_of_the_last_end : (decode (hinted (0x01 ∷ 0x00 ∷ 0x01 ∷ 0x06 ∷ 0x01 ∷ 0x01 ∷ [])) >>= module_hints) ≡ None
+unfolding composing reading
+hint_of_the_last_end = refl
+
+-- in a folded text a hint in front of a group is that of the group's operator; imported functions count
+hint_of_a_group : text_hints (codes "(module (import \"m\" \"f\" (func $f)) (func $g (@name \"g\") (param $x i32) (@metadata.code.branch_hint \"\\00\") (if (local.get $x) (then))))")
+    ≡ Some (operator_hint 1 1 false ∷ [])
+unfolding reading
+hint_of_a_group = refl

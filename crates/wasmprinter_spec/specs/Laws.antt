@@ -19,6 +19,8 @@ use Rattle.wasmprinter_spec.specs.Operator.{Operator}
 use Rattle.wasmprinter_spec.specs.Table.{role_of}
 use Rattle.wasmprinter_spec.specs.Nesting.{Nests, Sequence}
 use Rattle.wasmprinter_spec.specs.Text.Operators.{if_nested}
+use Rattle.wasmprinter_spec.specs.HintsOfModule.{OperatorHint, module_hints}
+use Rattle.wasmprinter_spec.specs.Text.Hints.{text_hints}
 use Rattle.wasmprinter_spec.specs.Read.{read}
 
 -- Given bytes spell at most one module with its places.
@@ -87,3 +89,10 @@ PlainTextHasNoColour = (text : List ℕ) → IsPlainText text → uncolour text 
 -- A plain text behind a plain text is plain.
 abbrev pub PlainTextsJoin : Type 0
 PlainTextsJoin = (a b : List ℕ) → IsPlainText a → IsPlainText b → IsPlainText (a ++ b)
+
+-- The hints of a module whose hint section is well formed are those of its printed text: each once, directly before its operator.
+abbrev pub HintsStay : Type 0
+HintsStay =
+    (bytes : List ℕ) (m : PlacedModule) (o : Options) (answers : Answers) (hs : List OperatorHint) →
+    Spells bytes m → o.skeleton ≡ false → IsBlank o.indent → refusal o answers m ≡ None → module_hints m ≡ Some hs →
+    text_hints (text_of (layout o answers m)) ≡ Some hs

@@ -42,6 +42,7 @@ pub mod ModuleNames
 pub mod Layout
 pub mod IndexSpaces
 pub mod Code
+pub mod HintsOfModule
 pub mod Text
 pub mod Read
 pub mod Laws

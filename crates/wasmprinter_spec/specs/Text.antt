@@ -16,3 +16,4 @@ pub mod Exports
 pub mod Elements
 pub mod DataSegments
 pub mod Customs
+pub mod Hints
