@@ -1,16 +1,16 @@
 -- The items of a module read back as that module.
-use Rattle.std.proofs.Common.{◌≡◌, ℕ, ◌+◌, ◌<◌, ◌≤◌, ◌^◌, ◌*◌, Bool, true, false, List, [], ◌∷◌, ◌++◌, length, Option, Some, None, refl, sym, ap, ap₂, subst, ◌∙◌, codes, map, append-nil, option_map, arith, min}
+use Rattle.std.proofs.Common.{◌≡◌, ℕ, ◌+◌, ◌<◌, ◌≤◌, ◌^◌, Bool, false, List, [], ◌∷◌, ◌++◌, length, Option, Some, None, refl, sym, ap, ap₂, ◌∙◌, codes, map, append-nil, option_map, arith, min}
 use Rattle.std.specs.List.{AllByRecursion}
 use Rattle.std.proofs.lemmas.List.{length-map}
-use Rattle.wasmprinter_spec.specs.Grammar.{Placed, ◌>>=◌}
+use Rattle.wasmprinter_spec.specs.Grammar.{Placed}
 use Rattle.wasmprinter_spec.specs.Forest.{Forest, End, Word, Group, onto}
-use Rattle.wasmprinter_spec.specs.Types.{SubType, FuncType, FieldType, MemoryType, ExternKind, FuncKind, TableKind, MemoryKind, GlobalKind, TagKind, ExternType, FuncExtern, TableExtern, MemoryExtern, GlobalExtern, TagExtern, concat, all_types, signature_at, fields_at}
+use Rattle.wasmprinter_spec.specs.Types.{SubType, MemoryType, ExternKind, FuncKind, TableKind, MemoryKind, GlobalKind, TagKind, ExternType, FuncExtern, TableExtern, MemoryExtern, GlobalExtern, TagExtern, concat, all_types, signature_at}
 use Rattle.wasmprinter_spec.specs.Row as row
 use Rattle.wasmprinter_spec.specs.Row.{Space, Types, Func}
 use Rattle.wasmprinter_spec.specs.Names.{Names, AreApart, identifiers, identifiers_at, in_function}
 use Rattle.wasmprinter_spec.specs.Operator.{Operator}
 use Rattle.wasmprinter_spec.specs.Placed.{TypeGroup, Import, Export, Table, Global, Mode, Passive, Declared, Active, Items, Functions, Expressions, ElementEntry, DataMode, PassiveData, ActiveData, Data, PlacedFunction, PlacedModule}
-use Rattle.wasmprinter_spec.specs.Module.{func_import, table_import, memory_import, global_import, tag_import, without_places, each_value, mode_without_places, items_without_places, data_mode_without_places, groups_of, locals_of, function_of, table_without_places, global_without_places, element_without_places, data_without_places, module_of}
+use Rattle.wasmprinter_spec.specs.Module.{func_import, table_import, memory_import, global_import, tag_import, without_places, each_value, mode_without_places, items_without_places, data_mode_without_places, groups_of, function_of, table_without_places, global_without_places, element_without_places, data_without_places, module_of}
 use Rattle.wasmprinter_spec.specs.Limits.{HasNoEmptyInit}
 use Rattle.wasmprinter_spec.specs.Indexed as indexed
 use Rattle.wasmprinter_spec.specs.Indexed.{IsDeclaredSub, Counts, IsIndexed, IsIndexedFunction, IsIndexedImport, IsIndexedTable, IsIndexedGlobal, IsIndexedExport, IsIndexedElement, IsIndexedData, NamesFunction, space_of, counts_of, counts_in}
@@ -337,10 +337,6 @@ module _ (names : Names) (m : PlacedModule) where
     scoped f = record { types = same_types f; names = same_names f; apart = apart; few = λ i. own_parameters_few m.types i h.each_group }
 
     -- ---- each field
-
-    -- a function type by its index
-    type_at : (i : ℕ) → NamesFunction (module_of m) i → (t : FuncType) × (signature_at own_types i ≡ Some t)
-    type_at i d = d
 
     read_function-own : (i : ℕ) (f : PlacedFunction) → IsRangedFunction f × IsIndexedFunction (module_of m) (function_of f) →
         read_function whole_context (own_function false i f) ≡ Some (function_of f)

@@ -3,7 +3,7 @@ use Rattle.std.proofs.Common.{◌≡◌, ℕ, zero, suc, ◌<◌, ◌≤◌, ◌
 use Rattle.std.specs.List.{AllByRecursion}
 use Rattle.std.proofs.lemmas.List.{length-append, length-replicate}
 use Rattle.wasmprinter_spec.specs.Grammar.{Placed, some_is}
-use Rattle.wasmprinter_spec.specs.Types.{ExternType, FieldType, FuncType, CompositeType, FuncComposite, ArrayComposite, StructComposite, SubType, all_types, func_type_of, fields_of, signature_at, fields_at}
+use Rattle.wasmprinter_spec.specs.Types.{ExternType, FieldType, CompositeType, FuncComposite, ArrayComposite, StructComposite, SubType, all_types, func_type_of, fields_of, signature_at, fields_at}
 use Rattle.wasmprinter_spec.specs.Placed.{TypeGroup, Import, LocalEntry}
 use Rattle.wasmprinter_spec.specs.Module.{groups_of, locals_of, selected_first, imported}
 use Rattle.wasmprinter_spec.specs.Indexed.{parameter_count}

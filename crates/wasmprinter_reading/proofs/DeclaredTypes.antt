@@ -1,9 +1,9 @@
 -- The types of a module: their groups read back, with the identifiers of types and of fields.
-use Rattle.std.proofs.Common.{◌≡◌, ℕ, zero, suc, ◌+◌, ◌<◌, ◌^◌, List, [], ◌∷◌, ◌++◌, length, Option, Some, None, refl, sym, ap, ap₂, subst, ◌∙◌, map, slice_get, arith}
+use Rattle.std.proofs.Common.{◌≡◌, ℕ, zero, suc, ◌+◌, ◌<◌, List, [], ◌∷◌, ◌++◌, length, Some, refl, sym, ap, ap₂, subst, ◌∙◌, slice_get, arith}
 use Rattle.std.specs.List.{AllByRecursion}
 use Rattle.std.proofs.lemmas.List.{length-append}
 use Rattle.wasmprinter_spec.specs.Grammar.{Placed, some_is}
-use Rattle.wasmprinter_spec.specs.Forest.{Forest, End, Group}
+use Rattle.wasmprinter_spec.specs.Forest.{End, Group}
 use Rattle.wasmprinter_spec.specs.Types.{FieldType, FuncType, CompositeType, FuncComposite, ArrayComposite, StructComposite, SubType, concat, all_types, func_type_of, fields_of, signature_at, fields_at}
 use Rattle.wasmprinter_spec.specs.Row.{Types}
 use Rattle.wasmprinter_spec.specs.Names.{Names, identifiers_at, identifiers, AreDistinct}

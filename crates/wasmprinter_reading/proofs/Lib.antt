@@ -24,4 +24,5 @@ pub mod Stays
 pub mod Nested
 pub mod Main
 pub mod OperatorRows
+pub mod ModuleRows
 pub mod Names

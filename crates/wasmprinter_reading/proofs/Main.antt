@@ -1,5 +1,5 @@
 -- Printed text reads back, and its tokens do not depend on places and indent.
-use Rattle.std.proofs.Common.{◌≡◌, ℕ, ◌<◌, ◌≤◌, ◌+◌, ◌^◌, cond, List, [], ◌∷◌, ◌++◌, length, None, refl, sym, ap, ◌∙◌, codes, arith}
+use Rattle.std.proofs.Common.{◌≡◌, ℕ, ◌<◌, ◌≤◌, ◌+◌, ◌^◌, cond, [], ◌∷◌, ◌++◌, length, None, refl, sym, ap, ◌∙◌, codes, arith}
 use Rattle.std.proofs.lemmas.Str.{is_utf8-from_IsUtf8}
 use Rattle.wasmprinter_spec.specs.Character.{class}
 use Rattle.wasmprinter_spec.specs.Grammar.{◌>>=◌}
@@ -11,7 +11,7 @@ use Rattle.wasmprinter_spec.specs.Plain.{IsPlainText}
 use Rattle.wasmprinter_spec.specs.Piece.{Feed, all_calls, all_tokens}
 use Rattle.wasmprinter_spec.specs.Types.{FuncKind, TableKind, MemoryKind, TagKind, GlobalKind, signature_at}
 use Rattle.wasmprinter_spec.specs.Placed.{PlacedModule, PlacedFunction}
-use Rattle.wasmprinter_spec.specs.Names.{Names, AreApart, AreNamed}
+use Rattle.wasmprinter_spec.specs.Names.{Names, AreNamed}
 use Rattle.wasmprinter_spec.specs.ModuleNames.{module_names}
 use Rattle.wasmprinter_spec.specs.Module.{without_places, imported, func_import, table_import, memory_import, global_import, tag_import}
 use Rattle.wasmprinter_spec.specs.Layout.Groups.{numbered}

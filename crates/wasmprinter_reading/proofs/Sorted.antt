@@ -1,8 +1,8 @@
 -- The fields of a module, sorted by kind.
-use Rattle.std.proofs.Common.{◌≡◌, ℕ, ◌+◌, ◌<◌, ◌^◌, Bool, true, false, List, [], ◌∷◌, ◌++◌, length, Option, Some, None, refl, sym, ap, subst, ◌∙◌, codes, append-nil, option_map}
+use Rattle.std.proofs.Common.{◌≡◌, ℕ, ◌+◌, Bool, true, false, List, [], ◌∷◌, ◌++◌, length, Option, Some, None, refl, sym, ap, subst, ◌∙◌, codes, option_map}
 use Rattle.std.specs.List.{AllByRecursion}
 use Rattle.wasmprinter_spec.specs.Grammar.{Placed, ◌>>=◌}
-use Rattle.wasmprinter_spec.specs.Forest.{Forest, End, Word, Group, onto}
+use Rattle.wasmprinter_spec.specs.Forest.{Forest, Word, onto}
 use Rattle.wasmprinter_spec.specs.Types.{SubType, ExternType}
 use Rattle.wasmprinter_spec.specs.Row.{Func}
 use Rattle.wasmprinter_spec.specs.Names.{Names}
@@ -11,7 +11,7 @@ use Rattle.wasmprinter_spec.specs.Placed.{TypeGroup, Import}
 use Rattle.wasmprinter_spec.specs.Layout.Declarations.{Scope}
 use Rattle.wasmprinter_spec.specs.Layout.Imports.{Numbers, number_of, numbers_behind}
 use Rattle.wasmprinter_spec.specs.Text.Items.{identified}
-use Rattle.wasmprinter_spec.specs.Text.Imports.{ImportField, field_of}
+use Rattle.wasmprinter_spec.specs.Text.Imports.{ImportField}
 use Rattle.wasmprinter_spec.specs.Read.{Fields, with_start, with_field, fields}
 use Rattle.wasmprinter_lexical.proofs.Grown.{onto_assoc}
 use Rattle.wasmprinter_reading.proofs.Ranged.{IsRangedImport}

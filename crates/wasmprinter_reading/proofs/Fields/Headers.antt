@@ -1,8 +1,7 @@
 -- What functions and tags begin with: an identifier, the index of a type, and its signature. It is all that a tag holds, and a function or tag that
 -- is imported.
-use Rattle.std.proofs.Common.{◌≡◌, ℕ, ◌<◌, ◌^◌, [], ◌∷◌, List, ◌++◌, length, Option, Some, None, refl, ap, ◌∙◌, subst, append-nil, codes, arith}
-use Rattle.wasmprinter_spec.specs.Character.{class}
-use Rattle.wasmprinter_spec.specs.Forest.{Forest, End, Word, Group, onto}
+use Rattle.std.proofs.Common.{◌≡◌, ℕ, ◌<◌, ◌^◌, [], List, ◌++◌, length, Option, Some, None, refl, ap, ◌∙◌, subst, append-nil, arith}
+use Rattle.wasmprinter_spec.specs.Forest.{Forest, End, onto}
 use Rattle.wasmprinter_spec.specs.Types.{FuncType, signature_at}
 use Rattle.wasmprinter_spec.specs.Row.{Space, Types}
 use Rattle.wasmprinter_spec.specs.Labels.{Named}

@@ -1,5 +1,5 @@
 -- The start function among the fields of a module.
-use Rattle.std.proofs.Common.{◌≡◌, ℕ, ◌<◌, ◌^◌, Option, Some, None, option_map, refl, ap, codes, arith}
+use Rattle.std.proofs.Common.{◌≡◌, ℕ, ◌<◌, Option, Some, None, option_map, refl, ap, codes, arith}
 use Rattle.wasmprinter_spec.specs.Character.{class}
 use Rattle.wasmprinter_spec.specs.Forest.{Forest, End, Word, Group}
 use Rattle.wasmprinter_spec.specs.Grammar.{Placed}
