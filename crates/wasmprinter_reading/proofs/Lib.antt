@@ -10,6 +10,7 @@ pub mod Identifiers
 pub mod Types
 pub mod Tabled
 pub mod Operators
+pub mod Customs
 pub mod Ranged
 pub mod PartRanges
 pub mod Ranges

@@ -1,0 +1,2 @@
+-- Custom sections: in which order they stand, what they are written as, and that they read back.
+pub mod Ordered
