@@ -1,5 +1,6 @@
 pub mod Bytes
 pub mod AllSpelled
+pub mod AllGiven
 pub mod LebRange
 pub mod Vectors
 pub mod Few
