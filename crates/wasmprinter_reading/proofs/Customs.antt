@@ -4,3 +4,4 @@ pub mod Roles
 pub mod Lines
 pub mod Parts
 pub mod Notes
+pub mod Places
