@@ -38,10 +38,15 @@ Writes a ps b f = WritesNoted a ps b f f
 
 -- ---- what follows from it
 
+-- The text of pieces that may stand so reads as their tokens.
+pub pieces_tokens : (o : Options) → IsBlank o.indent → (ps : List Piece) → joined Free ps ≡ true → ArePieces ps → tokens (text_of (all_calls o ps)) ≡ all_tokens ps
+pieces_tokens o blank ps j a = ap tokens (text_of-all_calls o ps) ∙ pieces_lex o blank Free ps j a
+
+pub writes_joined : {a b : Edge} {ps : List Piece} {f k : Forest} → WritesNoted a ps b f k → joined a ps ≡ true
+writes_joined {a = a} {ps = ps} w = subst (λ t. joined a t ≡ true) (append-nil ps) (w.joins [] refl)
+
 pub writes_tokens : {b : Edge} {f k : Forest} (o : Options) → IsBlank o.indent → (ps : List Piece) → WritesNoted Free ps b f k → tokens (text_of (all_calls o ps)) ≡ all_tokens ps
-writes_tokens o blank ps w =
-    let j : joined Free ps ≡ true = subst (λ t. joined Free t ≡ true) (append-nil ps) (w.joins [] refl) in
-    ap tokens (text_of-all_calls o ps) ∙ pieces_lex o blank Free ps j w.are
+writes_tokens o blank ps w = pieces_tokens o blank ps (writes_joined w) w.are
 
 -- The text of pieces grows into what they write.
 pub writes_forest : {b : Edge} {f k : Forest} (o : Options) → IsBlank o.indent → (ps : List Piece) (w : WritesNoted Free ps b f k) → forest (text_of (all_calls o ps)) ≡ Some w.whole
@@ -54,7 +59,7 @@ pub all_tokens-append : (ps qs : List Piece) → all_tokens (ps ++ qs) ≡ all_t
 all_tokens-append [] qs = refl
 all_tokens-append (p ∷ ps) qs = ap (λ t. piece_tokens p ++ t) (all_tokens-append ps qs) ∙ sym (append_assoc (piece_tokens p) (all_tokens ps) (all_tokens qs))
 
-ArePieces-append : (ps qs : List Piece) → ArePieces ps → ArePieces qs → ArePieces (ps ++ qs)
+pub ArePieces-append : (ps qs : List Piece) → ArePieces ps → ArePieces qs → ArePieces (ps ++ qs)
 ArePieces-append [] qs a b = b
 ArePieces-append (p ∷ ps) qs a b = (a.0, ArePieces-append ps qs a.1 b)
 

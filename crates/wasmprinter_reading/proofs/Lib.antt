@@ -22,6 +22,7 @@ pub mod Fields
 pub mod Sorted
 pub mod DeclaredTypes
 pub mod Back
+pub mod Written
 pub mod Stays
 pub mod Nested
 pub mod Main
