@@ -26,6 +26,7 @@ pub mod Written
 pub mod Stays
 pub mod Nested
 pub mod Main
+pub mod Hints
 pub mod OperatorRows
 pub mod ModuleRows
 pub mod Names

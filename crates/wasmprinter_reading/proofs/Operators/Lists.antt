@@ -72,11 +72,11 @@ chunks_of s n xs (o ∷ os) =
     ∷ chunks_of s (count_after (role_of o.opcode) n) (labels_after (role_of o.opcode) (s.names.labels s.function n (length xs)) xs) os
 
 -- an operator's word
-row_word : (o : Operator) (r : HasRow o) → word_of o.opcode ≡ r.row.word
+pub row_word : (o : Operator) (r : HasRow o) → word_of o.opcode ≡ r.row.word
 row_word o r = ap word_of_row r.found
 
 -- an operator's word takes what stands behind it
-word_takes : (r : Row) → In r table → (w : List ℕ) → w ≡ r.word → (f : Forest) (is : List Instruction) →
+pub word_takes : (r : Row) → In r table → (w : List ℕ) → w ≡ r.word → (f : Forest) (is : List Instruction) →
     with_word (rows_of w) w (Some (code_of f is)) ≡ Some (code_of End (Flat (chunk (rows_of w) f) ∷ is))
 word_takes r at w e f is =
     let rows : IsSome (rows_of r.word) = rows_of-row r at in
@@ -99,7 +99,7 @@ code-operators s n xs (o ∷ os) h =
     ap (with_word (rows_of (word_of o.opcode)) (word_of o.opcode)) e
     ∙ word_takes r.row r.in_table (word_of o.opcode) (row_word o r) a (map Flat (chunks_of s m ys os))
 
-flattened-Flat : (cs : List Chunk) → flattened (map Flat cs) ≡ Some cs
+pub flattened-Flat : (cs : List Chunk) → flattened (map Flat cs) ≡ Some cs
 flattened-Flat [] = refl
 flattened-Flat (c ∷ cs) = rw (flattened-Flat cs)
 

@@ -1,0 +1,2 @@
+-- The branch hints of a module stay in its text.
+pub mod Bodies
