@@ -1,2 +1,4 @@
 -- The branch hints of a module stay in its text.
 pub mod Bodies
+pub mod Fields
+pub mod Taken

@@ -44,7 +44,7 @@ use Rattle.wasmprinter_reading.proofs.Fields.Headers.{header_items, header_write
 -- ---- what functions are written as
 
 -- what the operators of a body at this place are laid out by
-abbrev body_setting : Scope → ℕ → Setting
+abbrev pub body_setting : Scope → ℕ → Setting
 body_setting s place = record { form = OverLines; signature = signature_at s.types; nesting = 2; names = s.names; function = s.function; body = place }
 
 -- the locals behind so many parameters

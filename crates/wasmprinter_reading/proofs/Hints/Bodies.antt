@@ -8,7 +8,8 @@ use Rattle.wasmprinter_spec.specs.Row.{Row, Role}
 use Rattle.wasmprinter_spec.specs.Table.{rows_of, word_of, role_of, shape_of}
 use Rattle.wasmprinter_spec.specs.Labels.{Label, labels_after, count_after, outside, inside}
 use Rattle.wasmprinter_spec.specs.Module.{without_places}
-use Rattle.wasmprinter_spec.specs.Customs.Hints.{Hint, flag, next_hint, hint_behind}
+use Rattle.wasmprinter_spec.specs.Customs.Hints.{Hint, FunctionHints, flag, next_hint, hint_behind, next_hints, hints_behind}
+use Rattle.wasmprinter_spec.specs.Placed.{PlacedFunction}
 use Rattle.wasmprinter_spec.specs.HintsOfModule.{OperatorHint, operator_hint}
 use Rattle.wasmprinter_spec.specs.Piece.{flag_byte}
 use Rattle.wasmprinter_spec.specs.Code.{Chunk, chunk, Flat, code_of, with_word, with_front, with_group, with_hint, PartHead, head, hinted, code, flattened, unfolded}
@@ -33,6 +34,11 @@ own_hint f k (Some h) = operator_hint f k h.value.taken ∷ []
 abbrev pub taken_hints : ℕ → ℕ → ℕ → List (Placed Hint) → List (Placed Operator) → List OperatorHint
 taken_hints f k body hs [] = []
 taken_hints f k body hs (o ∷ os) = own_hint f k (next_hint (o.place - body) hs) ++ taken_hints f (k + 1) body (hint_behind (o.place - body) hs) os
+
+-- functions from i on
+abbrev pub all_taken : List FunctionHints → ℕ → List PlacedFunction → List OperatorHint
+all_taken es i [] = []
+all_taken es i (f ∷ fs) = taken_hints i 0 f.body.place (next_hints i es) f.body.value.operators ++ all_taken (hints_behind i es) (i + 1) fs
 
 -- ---- code
 
