@@ -32,7 +32,6 @@ use Rattle.wasmprinter_spec.specs.Text.Globals.{read_global}
 use Rattle.wasmprinter_spec.specs.Text.Elements.{read_element}
 use Rattle.wasmprinter_spec.specs.Text.DataSegments.{read_data}
 use Rattle.wasmprinter_spec.specs.Read.{Fields, no_fields, fields, declared, imported_ids, space_behind, spaces_of, context, module_of_fields, read_forest}
-use Rattle.wasmprinter_lexical.proofs.Grown.{onto-End}
 use Rattle.wasmprinter_reading.specs.Listed.{AreSignaturesInRange}
 use Rattle.wasmprinter_reading.specs.OperatorLaws.{count_in, HaveSameTypes, HaveSameNames}
 use Rattle.wasmprinter_reading.proofs.Ranged.{IsRanged, IsRangedImport, IsRangedTable, IsRangedGlobal, IsRangedExport, IsRangedElement, IsRangedData, IsRangedFunction}

@@ -2,3 +2,4 @@
 pub mod Bodies
 pub mod Fields
 pub mod Taken
+pub mod Kept

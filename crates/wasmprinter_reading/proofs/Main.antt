@@ -1,48 +1,41 @@
 -- Printed text reads back, and its tokens do not depend on places and indent.
-use Rattle.std.proofs.Common.{◌≡◌, ℕ, ◌<◌, ◌≤◌, ◌+◌, ◌^◌, cond, List, [], ◌∷◌, ◌++◌, length, Option, Some, None, refl, sym, ap, ◌∙◌, codes, arith, Bool, true, false, subst, append-nil, map}
-use Rattle.std.specs.List.{AllByRecursion}
+use Rattle.std.proofs.Common.{◌≡◌, ℕ, ◌+◌, cond, List, [], ◌∷◌, ◌++◌, Option, Some, None, refl, sym, ap, ◌∙◌, codes, Bool, false, subst, append-nil, map}
 use Rattle.std.proofs.lemmas.Str.{is_utf8-from_IsUtf8}
-use Rattle.wasmprinter_spec.specs.Character.{class}
 use Rattle.wasmprinter_spec.specs.Grammar.{◌>>=◌}
 use Rattle.wasmprinter_spec.specs.Forest.{Forest, End, Word, Name, String, Reserved, Group, Note, onto, forest, cut, row_customs, customs}
 use Rattle.wasmprinter_spec.specs.Token.{tokens}
 use Rattle.wasmprinter_spec.specs.Call.{text_of}
 use Rattle.wasmprinter_spec.specs.Options.{Options, Answers, AreUnclaimed, IsBlank}
 use Rattle.wasmprinter_spec.specs.Plain.{IsPlainText}
-use Rattle.wasmprinter_spec.specs.Piece.{Piece, Begin, Feed, Open, all_calls, all_tokens}
+use Rattle.wasmprinter_spec.specs.Piece.{Piece, all_calls, all_tokens}
 use Rattle.wasmprinter_spec.specs.Kinds.{Kind, TypeSection, ImportSection, FunctionSection, TableSection, MemorySection, TagSection, GlobalSection, ExportSection, StartSection, ElementSection, CodeSection, DataSection}
-use Rattle.wasmprinter_spec.specs.Types.{FuncKind, TableKind, MemoryKind, TagKind, GlobalKind, signature_at}
+use Rattle.wasmprinter_spec.specs.Types.{FuncKind}
 use Rattle.wasmprinter_spec.specs.Customs.{RawCustom, raw_customs}
-use Rattle.wasmprinter_spec.specs.Customs.Hints.{FunctionHints, hints_of, next_hints, hints_behind}
+use Rattle.wasmprinter_spec.specs.Customs.Hints.{FunctionHints, hints_of, hints_behind}
 use Rattle.wasmprinter_spec.specs.Placed.{PlacedModule, PlacedFunction}
-use Rattle.wasmprinter_spec.specs.Names.{Names, AreApart, AreNamed}
+use Rattle.wasmprinter_spec.specs.Names.{Names, AreNamed}
 use Rattle.wasmprinter_spec.specs.Labels.{Named}
 use Rattle.wasmprinter_spec.specs.Layout.Declarations.{Scope}
 use Rattle.wasmprinter_spec.specs.ModuleNames.{module_names}
-use Rattle.wasmprinter_spec.specs.Module.{Module, module_of, without_places, imported, func_import, table_import, memory_import, global_import, tag_import}
-use Rattle.wasmprinter_spec.specs.Layout.Groups.{numbered}
-use Rattle.wasmprinter_spec.specs.Layout.Identifiers.{leading_mark_pieces}
-use Rattle.wasmprinter_spec.specs.Layout.Customs.{joined}
-use Rattle.wasmprinter_spec.specs.Layout.{tag_pieces, module_parts, module_pieces_of, module_pieces_with, module_pieces, layout, refusal}
+use Rattle.wasmprinter_spec.specs.Module.{Module, module_of}
+use Rattle.wasmprinter_spec.specs.Layout.{module_pieces_with, module_pieces, layout, refusal}
 use Rattle.wasmprinter_spec.specs.Laws.{ReadsBack, TokensStay, PrintsPlainText}
 use Rattle.wasmprinter_spec.specs.Read.{read, read_groups, read_forest, read_customs}
 use Rattle.wasmprinter_spec.specs.Text.Items.{each}
 use Rattle.wasmprinter_spec.specs.Text.Customs.{read_custom}
 use Rattle.wasmprinter_lexical.proofs.Plain.{plain_is_utf8}
 use Rattle.wasmprinter_lexical.proofs.PrintedPieces.{text_is_plain}
-use Rattle.wasmprinter_reading.proofs.Ranged.{IsRanged, IsRangedTable, IsRangedMemory, IsRangedGlobal, IsRangedExport, IsRangedElement, IsRangedData, IsRangedFunction}
+use Rattle.wasmprinter_reading.proofs.Ranged.{IsRanged}
 use Rattle.wasmprinter_reading.proofs.Ranges.{ranged}
 use Rattle.wasmprinter_reading.proofs.GivenNames.{module_names_apart, module_names_named}
 use Rattle.wasmprinter_reading.proofs.Stays.{module_pieces_stay}
-use Rattle.wasmprinter_spec.specs.Layout.Imports.{no_numbers}
-use Rattle.wasmprinter_lexical.proofs.Grown.{onto-End}
-use Rattle.wasmprinter_lexical.proofs.Pieces.{Free, Bound}
-use Rattle.wasmprinter_lexical.proofs.Noted.{Noted, noted-cut, raw_row, raw_groups, noted-raw_groups}
-use Rattle.wasmprinter_lexical.proofs.Writes.{Writes, WritesNoted, pieces_tokens, writes_forest}
+use Rattle.wasmprinter_lexical.proofs.Pieces.{Bound}
+use Rattle.wasmprinter_lexical.proofs.Noted.{Noted, noted-cut, noted-raw_groups}
+use Rattle.wasmprinter_lexical.proofs.Writes.{Writes, pieces_tokens, writes_forest}
 use Rattle.wasmprinter_reading.proofs.Identifiers.{id_items}
 use Rattle.wasmprinter_reading.proofs.Fields.Functions.{functions_hinted}
 use Rattle.wasmprinter_reading.proofs.Customs.Notes.{at_place, RowReads, both_rows}
-use Rattle.wasmprinter_reading.proofs.Customs.Places.{all_places, raws_over, raws_over_all}
+use Rattle.wasmprinter_reading.proofs.Customs.Places.{raws_over_all}
 use Rattle.wasmprinter_reading.proofs.Written.{types_write, own_imports_write, tables_write, memories_write, tags_write, globals_write, exports_write, start_write, elements_write, datas_write, noting, noted, module_noted, laid, module_writes, module_stands}
 use Rattle.wasmprinter_reading.proofs.Back.{early, before, module_items, module_reads}
 

@@ -1,5 +1,5 @@
 -- A module that bytes spell keeps to its ranges.
-use Rattle.std.proofs.Common.{◌≡◌, ℕ, suc, ◌<◌, ◌≤◌, ◌+◌, ◌^◌, ◌&&◌, List, [], ◌∷◌, length, Option, Some, None, refl, sym, ap, ◌∙◌, subst, inl, inr, arith}
+use Rattle.std.proofs.Common.{◌≡◌, ℕ, suc, ◌<◌, ◌≤◌, ◌+◌, ◌^◌, ◌&&◌, List, [], ◌∷◌, length, Option, Some, None, refl, sym, ap, subst, inl, inr, arith}
 use Rattle.std.specs.List.{AllByRecursion}
 use Rattle.std.proofs.lemmas.Bool.{and_parts}
 use Rattle.std.proofs.lemmas.List.{length-append, length-map}
@@ -17,7 +17,7 @@ use Rattle.wasmprinter_spec.specs.Binary.Exports.{extern_kind, export}
 use Rattle.wasmprinter_spec.specs.Binary.Customs.{custom_section}
 use Rattle.wasmprinter_spec.specs.Binary.Code.{local_entry, body_from, body, code_entry}
 use Rattle.wasmprinter_spec.specs.Sections.{Kind, CustomSection, TypeSection, ImportSection, FunctionSection, TableSection, MemorySection, TagSection, GlobalSection, ExportSection, StartSection, ElementSection, DataCountSection, CodeSection, DataSection, Section, holds, content, content_of, section_id, section, are_above, place_behind, customs_behind}
-use Rattle.wasmprinter_spec.proofs.Ordered.{picks, picked_own, held_each}
+use Rattle.wasmprinter_spec.proofs.Ordered.{picks, held_each}
 use Rattle.wasmprinter_spec.specs.Binary.{type_indices_in, bodies_in, data_count_in, datas_in, counts_data, function_pairs, module_from, module_of_sections, AreBytes, Spells}
 use Rattle.wasmprinter_reading.specs.Listed.{IsListed}
 use Rattle.wasmprinter_reading.proofs.Ranged.{IsRangedImport, IsRangedTable, IsRangedMemory, IsRangedGlobal, IsRangedExport, IsRangedStart, IsRangedElement, IsRangedData, IsRangedCustom, IsRangedLocal, ArePlaced, IsRangedBody, IsRangedFunction, IsRanged}

@@ -1,26 +1,19 @@
 -- A module: what its pieces write, field by field, with the custom sections at their places among them.
-use Rattle.std.proofs.Common.{◌≡◌, ℕ, ◌<◌, ◌≤◌, ◌+◌, ◌^◌, cond, List, [], ◌∷◌, ◌++◌, length, Option, Some, None, refl, sym, ap, ◌∙◌, codes, arith, true, false, subst, append-nil, map}
+use Rattle.std.proofs.Common.{◌≡◌, ℕ, ◌<◌, ◌≤◌, ◌+◌, ◌^◌, List, [], ◌∷◌, ◌++◌, length, Option, Some, None, refl, sym, codes, arith, true, subst}
 use Rattle.std.specs.List.{AllByRecursion}
-use Rattle.std.proofs.lemmas.Str.{is_utf8-from_IsUtf8}
 use Rattle.wasmprinter_spec.specs.Character.{class}
-use Rattle.wasmprinter_spec.specs.Grammar.{◌>>=◌}
-use Rattle.wasmprinter_spec.specs.Forest.{Forest, End, Word, Group, onto, forest, cut, row_customs, customs}
-use Rattle.wasmprinter_spec.specs.Token.{tokens}
-use Rattle.wasmprinter_spec.specs.Call.{text_of}
-use Rattle.wasmprinter_spec.specs.Options.{Options, Answers, AreUnclaimed, IsBlank}
-use Rattle.wasmprinter_spec.specs.Plain.{IsPlainText}
-use Rattle.wasmprinter_spec.specs.Piece.{Piece, Begin, Feed, Open, all_calls, all_tokens}
+use Rattle.wasmprinter_spec.specs.Forest.{Forest, End, Word, Group, onto}
+use Rattle.wasmprinter_spec.specs.Options.{Options, Answers}
+use Rattle.wasmprinter_spec.specs.Piece.{Piece, Feed}
 use Rattle.wasmprinter_spec.specs.Kinds.{Kind, TypeSection, ImportSection, FunctionSection, TableSection, MemorySection, TagSection, GlobalSection, ExportSection, StartSection, ElementSection, CodeSection, DataSection}
 use Rattle.wasmprinter_spec.specs.Types.{FuncKind, TableKind, MemoryKind, TagKind, GlobalKind, signature_at}
-use Rattle.wasmprinter_spec.specs.Customs.{RawCustom, raw_customs}
 use Rattle.wasmprinter_spec.specs.Customs.Hints.{FunctionHints, hints_of, next_hints, hints_behind}
 use Rattle.wasmprinter_spec.specs.Placed.{PlacedModule, PlacedFunction}
-use Rattle.wasmprinter_spec.specs.Names.{Names, AreApart, AreNamed}
-use Rattle.wasmprinter_spec.specs.ModuleNames.{module_names}
-use Rattle.wasmprinter_spec.specs.Module.{Module, module_of, without_places, imported, func_import, table_import, memory_import, global_import, tag_import}
+use Rattle.wasmprinter_spec.specs.Names.{Names, AreNamed}
+use Rattle.wasmprinter_spec.specs.Module.{without_places, imported, func_import, table_import, memory_import, global_import, tag_import}
 use Rattle.wasmprinter_spec.specs.Layout.Groups.{numbered}
 use Rattle.wasmprinter_spec.specs.Layout.Identifiers.{leading_mark_pieces}
-use Rattle.wasmprinter_spec.specs.Layout.Customs.{Part, Shown, Laid, joined, parts_at}
+use Rattle.wasmprinter_spec.specs.Layout.Customs.{Shown, Laid, joined, parts_at}
 use Rattle.wasmprinter_spec.specs.Layout.Types.{type_section_pieces}
 use Rattle.wasmprinter_spec.specs.Layout.Functions.{function_pieces, functions_pieces}
 use Rattle.wasmprinter_spec.specs.Layout.Imports.{no_numbers, imports_pieces}
@@ -30,20 +23,12 @@ use Rattle.wasmprinter_spec.specs.Layout.Globals.{global_pieces}
 use Rattle.wasmprinter_spec.specs.Layout.Elements.{element_pieces}
 use Rattle.wasmprinter_spec.specs.Layout.DataSegments.{data_pieces}
 use Rattle.wasmprinter_spec.specs.Layout.Exports.{export_pieces}
-use Rattle.wasmprinter_spec.specs.Layout.{tag_pieces, start_pieces, module_parts, module_pieces_of, module_pieces_with, module_pieces, layout, refusal}
-use Rattle.wasmprinter_spec.specs.Laws.{ReadsBack, TokensStay, PrintsPlainText}
-use Rattle.wasmprinter_spec.specs.Read.{read, read_groups, read_forest, read_customs}
-use Rattle.wasmprinter_spec.specs.Text.Items.{each}
-use Rattle.wasmprinter_spec.specs.Text.Customs.{read_custom}
+use Rattle.wasmprinter_spec.specs.Layout.{tag_pieces, start_pieces, module_parts, module_pieces_of, module_pieces_with}
 use Rattle.wasmprinter_lexical.proofs.Pieces as pieces
 use Rattle.wasmprinter_lexical.proofs.Pieces.{Free, Bound, ArePieces}
-use Rattle.wasmprinter_lexical.proofs.Writes.{Writes, WritesNoted, IsWritten, written, writes_joined, both_write, nothing_writes, break_writes, writes_forest, writes_tokens, begin_writes, group_at_then, feed_writes}
-use Rattle.wasmprinter_lexical.proofs.Plain.{plain_is_utf8}
-use Rattle.wasmprinter_lexical.proofs.PrintedPieces.{text_is_plain}
+use Rattle.wasmprinter_lexical.proofs.Writes.{Writes, WritesNoted, IsWritten, written, writes_joined, both_write, nothing_writes, break_writes, begin_writes, group_at_then, feed_writes}
 use Rattle.wasmprinter_reading.specs.Listed.{AreSignaturesInRange}
 use Rattle.wasmprinter_reading.proofs.Ranged.{IsRanged, IsRangedTable, IsRangedMemory, IsRangedGlobal, IsRangedExport, IsRangedElement, IsRangedData, IsRangedFunction}
-use Rattle.wasmprinter_reading.proofs.Ranges.{ranged}
-use Rattle.wasmprinter_reading.proofs.GivenNames.{module_names_apart, module_names_named}
 use Rattle.wasmprinter_reading.proofs.Identifiers.{id_items, leading_mark_writes}
 use Rattle.wasmprinter_reading.proofs.Numbered.{rows, numbered_writes}
 use Rattle.wasmprinter_reading.proofs.Fields.Imports.{imports_items, imports_write}
@@ -58,7 +43,7 @@ use Rattle.wasmprinter_reading.proofs.Fields.Exports.{export_writes}
 use Rattle.wasmprinter_reading.proofs.Fields.Functions.{functions_hinted, function_writes}
 use Rattle.wasmprinter_reading.proofs.Types.Trees.{type_section_items, type_section_writes}
 use Rattle.wasmprinter_reading.proofs.Sorted.{field_rows}
-use Rattle.wasmprinter_reading.proofs.Back.{early, late, before, own_types, own_memory, own_tag, own_table, own_global, own_export, own_element, own_function, own_data, signatures_ranged, numbers_fit, module_items, module_reads}
+use Rattle.wasmprinter_reading.proofs.Back.{early, late, before, own_types, own_memory, own_tag, own_table, own_global, own_export, own_element, own_function, own_data, signatures_ranged, numbers_fit, module_items}
 use Rattle.wasmprinter_reading.proofs.Customs.Parts.{PartsWrite, PartsBefore, shown, both_parts, parts_then, parts_whole, parts_partly}
 use Rattle.wasmprinter_reading.proofs.Customs.Notes.{NotesAt, notes_at}
 use Rattle.wasmprinter_reading.proofs.Customs.Places.{ordered_anywhere}

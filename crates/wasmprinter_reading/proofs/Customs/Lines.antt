@@ -1,5 +1,5 @@
 -- The lines of the annotations `producers` and `dylink.0` are groups of items: nothing more counts of them.
-use Rattle.std.proofs.Common.{◌≡◌, ℕ, ◌<◌, ◌^◌, ◌-◌, ◌&&◌, ◌==◌, Bool, true, false, cond, List, [], ◌∷◌, ◌++◌, Option, Some, None, refl, sym, subst, codes, chars, decimal, append_assoc, arith, lit<, lt_trans}
+use Rattle.std.proofs.Common.{◌≡◌, ℕ, ◌<◌, ◌^◌, ◌-◌, ◌&&◌, ◌==◌, Bool, true, false, cond, List, [], ◌∷◌, ◌++◌, Option, refl, subst, codes, chars, decimal, append_assoc, lit<, lt_trans}
 use Rattle.std.specs.Prelude.{IsUtf8}
 use Rattle.std.specs.Fmt.{digits}
 use Rattle.std.specs.List.{AllByRecursion}
@@ -10,14 +10,14 @@ use Rattle.wasmprinter_spec.specs.Grammar.{Placed}
 use Rattle.wasmprinter_spec.specs.Quoted.{is_run}
 use Rattle.wasmprinter_spec.specs.Customs.Producers.{Value, Field}
 use Rattle.wasmprinter_spec.specs.Customs.Dylink.{MemInfo, ExportInfo, ImportInfo, Content, Sizes, Needed, Exports, Imports, Paths, Other, Subsection}
-use Rattle.wasmprinter_spec.specs.Piece.{Piece, Break, Gap, Open, OpenGap, OpenPlain, OpenRun, Shut, Word, Quoted}
+use Rattle.wasmprinter_spec.specs.Piece.{Piece, Break, Gap, Open, OpenGap, OpenPlain, Shut, Word, Quoted}
 use Rattle.wasmprinter_spec.specs.Layout.Groups.{line_group, line_group_gap}
 use Rattle.wasmprinter_spec.specs.Layout.Customs.{gap_quoted, gap_quoted_list, values_pieces, fields_pieces, flag_words, has_bit, flags_by, flags_pieces, sizes_group, sizes_pieces, names_pieces, exports_pieces, import_infos_pieces, content_pieces, subsections_pieces}
 use Rattle.wasmprinter_lexical.proofs.Runs.{is_word}
 use Rattle.wasmprinter_lexical.proofs.Numbers.{is_word-decimal}
 use Rattle.wasmprinter_lexical.proofs.Printed.{is_word-hex}
 use Rattle.wasmprinter_lexical.proofs.Pieces.{Edge, Free, Bound}
-use Rattle.wasmprinter_lexical.proofs.Writes.{IsWritten, written, is_open, both_write, nothing_writes, break_writes, gap_writes, word_writes, quoted_writes, line_group_writes, line_group_gap_writes, plain_group_then, run_group_writes}
+use Rattle.wasmprinter_lexical.proofs.Writes.{IsWritten, written, both_write, nothing_writes, break_writes, gap_writes, word_writes, quoted_writes, line_group_writes, line_group_gap_writes, plain_group_then, run_group_writes}
 use Rattle.wasmprinter_reading.proofs.Customs.Roles.{IsRangedValue, IsRangedField, IsRangedMemInfo, IsRangedContent, AreRangedSubsections}
 
 -- ---- parts

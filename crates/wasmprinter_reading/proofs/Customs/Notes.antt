@@ -1,13 +1,12 @@
 -- What custom sections are written as, those at one place among the other sections, and that raw ones read back.
 use Rattle.std.proofs.Common.{◌≡◌, ℕ, ◌<◌, ◌+◌, Bool, true, false, cond, List, [], ◌∷◌, ◌++◌, Option, Some, None, refl, sym, ap, ◌∙◌, subst, codes, chars, append_assoc, append-nil, map, encode_utf8_all}
 use Rattle.std.specs.List.{AllByRecursion}
-use Rattle.std.proofs.Math.Utf8.{scalars}
 use Rattle.std.proofs.lemmas.List.{map-append}
 use Rattle.std.proofs.lemmas.Str.{encodes-chars, scalars-chars, is_utf8-from_IsUtf8}
 use Rattle.wasmprinter_spec.specs.Character.{class}
 use Rattle.wasmprinter_spec.specs.Grammar.{◌>>=◌, bind_some, some_is}
 use Rattle.wasmprinter_spec.specs.Kinds.{Kind, CustomSection, TypeSection, ImportSection, FunctionSection, TableSection, MemorySection, TagSection, GlobalSection, ExportSection, StartSection, ElementSection, DataCountSection, CodeSection, DataSection}
-use Rattle.wasmprinter_spec.specs.Placed.{Custom, CustomEntry}
+use Rattle.wasmprinter_spec.specs.Placed.{CustomEntry}
 use Rattle.wasmprinter_spec.specs.Forest.{Forest, End, Word, String, Group, Note, onto, cut, row_customs}
 use Rattle.wasmprinter_spec.specs.Customs.{Role, Silent, Listed, Linked, Refused, Raw, Faulted, role_of, RawCustom, raw_custom, is_raw, raw_customs}
 use Rattle.wasmprinter_spec.specs.Options.{Answers, AreUnclaimed}
@@ -21,7 +20,7 @@ use Rattle.wasmprinter_lexical.proofs.Grown.{row_customs-onto}
 use Rattle.wasmprinter_lexical.proofs.Noted.{raw_row}
 use Rattle.wasmprinter_lexical.proofs.Runs.{is_word}
 use Rattle.wasmprinter_lexical.proofs.Printed.{is_remark, is_remark-append}
-use Rattle.wasmprinter_lexical.proofs.Pieces.{Edge, Free, Bound, Ended}
+use Rattle.wasmprinter_lexical.proofs.Pieces.{Edge, Free, Bound}
 use Rattle.wasmprinter_lexical.proofs.Writes.{Writes, WritesNoted, nothing_writes, break_writes, gap_writes, word_writes, quoted_writes, quoted_bytes_writes, plain_group_then, note_writes, note_gap_writes, plain_ending_writes, claimed_writes}
 use Rattle.wasmprinter_reading.proofs.Ranged.{IsRangedCustom}
 use Rattle.wasmprinter_reading.proofs.Customs.Ordered.{is_any_place}

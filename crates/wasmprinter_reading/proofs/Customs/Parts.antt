@@ -1,5 +1,5 @@
 -- Parts of a layout, up to the first refusal.
-use Rattle.std.proofs.Common.{◌≡◌, ℕ, List, [], ◌∷◌, ◌++◌, Some, None, refl, sym, subst, append_assoc}
+use Rattle.std.proofs.Common.{◌≡◌, ℕ, List, [], ◌∷◌, ◌++◌, None, sym, subst, append_assoc}
 use Rattle.wasmprinter_spec.specs.Forest.{Forest, End, onto}
 use Rattle.wasmprinter_spec.specs.Piece.{Piece}
 use Rattle.wasmprinter_spec.specs.Layout.Customs.{Part, Shown, Stops, joined}

@@ -1,15 +1,14 @@
 -- What the sections `producers` and `dylink.0` of a module that bytes spell hold: names of UTF-8 and numbers of 32 bits.
-use Rattle.std.proofs.Common.{◌≡◌, ℕ, ◌<◌, ◌^◌, ◌==◌, Bool, true, false, cond, List, [], ◌∷◌, length, Option, Some, None, refl, sym, subst, codes, bytes_eq}
+use Rattle.std.proofs.Common.{◌≡◌, ℕ, ◌<◌, ◌^◌, ◌==◌, Bool, true, false, cond, List, [], ◌∷◌, length, Option, Some, None, refl, sym, subst, bytes_eq}
 use Rattle.std.specs.Prelude.{IsUtf8}
 use Rattle.std.proofs.lemmas.Bool.{and_parts}
 use Rattle.std.specs.List.{AllByRecursion}
 use Rattle.wasmprinter_spec.specs.Character.{class}
-use Rattle.wasmprinter_spec.specs.Grammar.{Input, input, byte, placed, Placed}
+use Rattle.wasmprinter_spec.specs.Grammar.{Input, input, byte}
 use Rattle.wasmprinter_spec.specs.Quoted.{is_run}
 use Rattle.wasmprinter_spec.specs.Sized.{take_bytes}
 use Rattle.wasmprinter_spec.specs.Lenient.{Lenient, give, one, unless_ended}
 use Rattle.wasmprinter_spec.specs.Placed.{Custom}
-use Rattle.wasmprinter_spec.specs.Binary.{AreBytes}
 use Rattle.wasmprinter_spec.specs.Customs.{Role, Silent, Listed, Linked, Raw, Faulted, producers_role, dylink_role, role_of, name_section, hint_section, producers_section, dylink_section}
 use Rattle.wasmprinter_spec.specs.Customs.Producers.{Value, Field, value, field, producers, are_runs}
 use Rattle.wasmprinter_spec.specs.Customs.Dylink.{MemInfo, Content, Sizes, Needed, Exports, Imports, Paths, Other, Subsection, mem_info, export_info, import_info, known, is_known, content, subsection, subsections, first_other, judged_by, judged}
@@ -17,7 +16,7 @@ use Rattle.wasmprinter_lexical.proofs.Printed.{is_remark}
 use Rattle.wasmprinter_reading.proofs.Bytes.{bytes_same}
 use Rattle.wasmprinter_reading.proofs.AllSpelled.{AllSpelled, AllSpelled-any, AllSpelled-seq, AllSpelled-map_value, AllSpelled-choose, AllSpelled-placed, AllSpelled-exactly}
 use Rattle.wasmprinter_reading.proofs.AllGiven.{AllGiven, AllGiven-give, AllGiven-follow, AllGiven-repeat, AllGiven-unless_ended}
-use Rattle.wasmprinter_reading.proofs.Vectors.{IsVector, AllSpelled-u32, AllSpelled-vec}
+use Rattle.wasmprinter_reading.proofs.Vectors.{AllSpelled-u32, AllSpelled-vec}
 use Rattle.wasmprinter_reading.proofs.PartRanges.{AllSpelled-name}
 use Rattle.wasmprinter_reading.proofs.Ranged.{IsRangedCustom}
 

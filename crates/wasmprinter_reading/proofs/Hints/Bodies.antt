@@ -1,10 +1,10 @@
 -- The hints of a function's text: annotations behind identifiers count for nothing, and each hint stands in front of its operator.
-use Rattle.std.proofs.Common.{◌≡◌, ℕ, ◌-◌, ◌+◌, Bool, true, false, List, [], ◌∷◌, ◌++◌, Option, Some, None, refl, sym, ap, ◌∙◌, codes, bytes_eq, map, option_map, length}
+use Rattle.std.proofs.Common.{◌≡◌, ℕ, ◌-◌, ◌+◌, Bool, true, false, List, [], ◌∷◌, ◌++◌, Option, Some, None, refl, ap, ◌∙◌, bytes_eq, map, option_map, length}
 use Rattle.std.specs.List.{AllByRecursion, list_any}
 use Rattle.wasmprinter_spec.specs.Grammar.{Placed, ◌>>=◌}
-use Rattle.wasmprinter_spec.specs.Forest.{Forest, End, Word, Name, String, Group, Note, onto}
+use Rattle.wasmprinter_spec.specs.Forest.{Forest, End, Word, Name, String, Group, onto}
 use Rattle.wasmprinter_spec.specs.Operator.{Operator}
-use Rattle.wasmprinter_spec.specs.Row.{Row, Role}
+use Rattle.wasmprinter_spec.specs.Row.{Role}
 use Rattle.wasmprinter_spec.specs.Table.{rows_of, word_of, role_of, shape_of}
 use Rattle.wasmprinter_spec.specs.Labels.{Label, labels_after, count_after, outside, inside}
 use Rattle.wasmprinter_spec.specs.Module.{without_places}
@@ -12,9 +12,9 @@ use Rattle.wasmprinter_spec.specs.Customs.Hints.{Hint, FunctionHints, flag, next
 use Rattle.wasmprinter_spec.specs.Placed.{PlacedFunction}
 use Rattle.wasmprinter_spec.specs.HintsOfModule.{OperatorHint, operator_hint}
 use Rattle.wasmprinter_spec.specs.Piece.{flag_byte}
-use Rattle.wasmprinter_spec.specs.Code.{Chunk, chunk, Flat, code_of, with_word, with_front, with_group, with_hint, PartHead, head, hinted, code, flattened, unfolded}
+use Rattle.wasmprinter_spec.specs.Code.{Chunk, chunk, Flat, code_of, with_word, with_hint, hinted, code, unfolded}
 use Rattle.wasmprinter_spec.specs.Layout.Operators.{Setting}
-use Rattle.wasmprinter_spec.specs.Text.Hints.{header_words, body_of, hint_flag, chunk_hints, function_hints_in}
+use Rattle.wasmprinter_spec.specs.Text.Hints.{header_words, body_of, chunk_hints}
 use Rattle.wasmprinter_lexical.proofs.Noted.{Noted, no_items, a_word, a_name, a_noted_name, a_string, a_group, a_note}
 use Rattle.wasmprinter_reading.specs.Listed.{IsListed}
 use Rattle.wasmprinter_reading.proofs.Tabled.{HasRow, row_for}

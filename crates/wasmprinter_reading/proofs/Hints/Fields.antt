@@ -1,5 +1,5 @@
 -- The hints of the fields of a module: functions have theirs, and all other fields and annotations have none.
-use Rattle.std.proofs.Common.{◌≡◌, ℕ, ◌+◌, Bool, true, false, List, [], ◌∷◌, ◌++◌, Option, Some, None, refl, sym, ap, ◌∙◌, subst, codes, bytes_eq, length, arith, append-nil, append_assoc}
+use Rattle.std.proofs.Common.{◌≡◌, ℕ, ◌+◌, Bool, true, false, List, [], ◌∷◌, ◌++◌, Option, Some, None, refl, sym, subst, codes, bytes_eq, length, arith, append_assoc}
 use Rattle.std.specs.List.{AllByRecursion, list_any}
 use Rattle.wasmprinter_spec.specs.Grammar.{Placed, ◌>>=◌}
 use Rattle.wasmprinter_spec.specs.Forest.{Forest, End, Word, Name, String, Group, Note, onto}
@@ -17,14 +17,14 @@ use Rattle.wasmprinter_spec.specs.Layout.Variables.{Variables, Alone, Together, 
 use Rattle.wasmprinter_spec.specs.Layout.Types.{parameters_of}
 use Rattle.wasmprinter_spec.specs.Layout.Declarations.{Scope}
 use Rattle.wasmprinter_spec.specs.Layout.Imports.{Numbers, number_of, numbers_behind}
-use Rattle.wasmprinter_spec.specs.Text.Hints.{header_words, body_of, chunk_hints, function_hints_in, imports_function, field_hints}
+use Rattle.wasmprinter_spec.specs.Text.Hints.{header_words, chunk_hints, function_hints_in, field_hints}
 use Rattle.wasmprinter_lexical.proofs.Grown.{onto_assoc}
 use Rattle.wasmprinter_lexical.proofs.Noted.{Noted, no_items, a_word, a_name, a_noted_name, a_string, a_group, a_note}
 use Rattle.wasmprinter_reading.proofs.Ranged.{IsRangedFunction}
 use Rattle.wasmprinter_reading.proofs.Identifiers.{id_items}
-use Rattle.wasmprinter_reading.proofs.Numbered.{rows, map_numbered}
+use Rattle.wasmprinter_reading.proofs.Numbered.{rows}
 use Rattle.wasmprinter_reading.proofs.Sorted.{field_rows}
-use Rattle.wasmprinter_reading.proofs.Types.Trees.{groups_items, group_items, signature_items, signature_if_any_items, type_use_items, type_field, members_items, type_group_items_by, type_section_items}
+use Rattle.wasmprinter_reading.proofs.Types.Trees.{groups_items, group_items, signature_if_any_items, type_use_items, members_items, type_group_items_by, type_section_items}
 use Rattle.wasmprinter_reading.proofs.Fields.Start.{start_items}
 use Rattle.wasmprinter_reading.proofs.Fields.Imports.{extern_word, extern_items, imports_items}
 use Rattle.wasmprinter_reading.proofs.Fields.Functions.{body_setting, function_scope, function_hinted, functions_hinted}

@@ -1,12 +1,12 @@
 -- Operators and functions take all hints of a well formed section: each hint that waits meets its operator, and each entry its function.
-use Rattle.std.proofs.Common.{◌≡◌, ℕ, suc, ◌+◌, ◌-◌, ◌<◌, ◌≤◌, ◌==◌, eqb, ltb, Bool, true, false, cond, ◌&&◌, List, [], ◌∷◌, ◌++◌, Option, Some, None, refl, sym, ap, ap₂, ◌∙◌, subst, map, option_map, arith, inl, inr, ◌⊎◌}
+use Rattle.std.proofs.Common.{◌≡◌, ℕ, suc, ◌+◌, ◌-◌, ◌<◌, ◌≤◌, eqb, ltb, Bool, true, false, cond, List, [], ◌∷◌, ◌++◌, Option, Some, None, refl, sym, ap, ap₂, ◌∙◌, subst, map, option_map, arith, inl, inr, ◌⊎◌}
 use Rattle.std.specs.List.{AllByRecursion}
 use Rattle.std.specs.Prelude.{slice_get}
-use Rattle.std.proofs.lemmas.Bool.{and_parts, eqb-true, eqb-false, eq-eqb, ne_eqb, ltb-true, ltb-false, lt-ltb, le-ltb, cases_lt}
+use Rattle.std.proofs.lemmas.Bool.{and_parts, eqb-true, eqb-false, eq-eqb, ne_eqb, ltb-true, ltb-false, le-ltb, cases_lt}
 use Rattle.wasmprinter_spec.specs.Grammar.{Placed, ◌>>=◌, bind_some, some_is}
 use Rattle.wasmprinter_spec.specs.Operator.{Operator}
 use Rattle.wasmprinter_spec.specs.Placed.{Body, PlacedFunction}
-use Rattle.wasmprinter_spec.specs.Customs.Hints.{Hint, FunctionHints, next_hint, hint_behind, next_hints, hints_behind}
+use Rattle.wasmprinter_spec.specs.Customs.Hints.{Hint, FunctionHints}
 use Rattle.wasmprinter_spec.specs.HintsOfModule.{OperatorHint, operator_hint, number_at, hint_in, body_at, entry_hints, all_hints, rise, offsets_rise}
 use Rattle.wasmprinter_spec.specs.Text.Items.{each}
 use Rattle.wasmprinter_reading.proofs.Ranged.{ArePlaced, IsRangedFunction}
@@ -35,7 +35,7 @@ rise_tail a (b ∷ bs) h = (and_parts (ltb a b) (rise (b ∷ bs)) h).1
 
 -- ---- operators
 
--- an operator in front of others is found where it begins, and no hint behind it finds it
+-- an operator that begins before the place is passed over
 passed : (place k : ℕ) (o : Placed Operator) (os : List (Placed Operator)) → o.place < place → number_at place k (o ∷ os) ≡ number_at place (k + 1) os
 passed place k o os lt = rw (ne_eqb o.place place (λ e. omega (arith, lt, e)))
 
@@ -89,10 +89,10 @@ module _ (f body : ℕ) where
       rw takes (ap₂ (λ x y. x ∷ y) first behind ∙ some_is (one.0 ∷ others.0) rs others.2)
 
   -- the operator o takes no hint
-  taken_later : (k low : ℕ) (o : Placed Operator) (os : List (Placed Operator)) (h : Placed Hint) (hs : List (Placed Hint)) (rs : List OperatorHint) → body ≤ o.place →
+  taken_later : (k : ℕ) (o : Placed Operator) (os : List (Placed Operator)) (h : Placed Hint) (hs : List (Placed Hint)) (rs : List OperatorHint) → body ≤ o.place →
       ArePlaced (suc o.place) os → eqb o.place (body + h.value.offset) ≡ false → AreOver h.value.offset (offsets hs) → each (hint_from k (o ∷ os)) (h ∷ hs) ≡ Some rs →
       (each (hint_from (k + 1) os) (h ∷ hs) ≡ Some rs → taken_hints f (k + 1) body (h ∷ hs) os ≡ rs) → taken_hints f k body (h ∷ hs) (o ∷ os) ≡ rs
-  taken_later k low o os h hs rs le p other over e more =
+  taken_later k o os h hs rs le p other over e more =
       let moved : hint_from k (o ∷ os) h ≡ hint_from (k + 1) os h =
       ap (λ t. option_map (λ n. operator_hint f n h.value.taken) (cond t (Some k) (number_at (body + h.value.offset) (k + 1) os))) other in
       let one = bind_some (hint_from k (o ∷ os) h) (λ y. each (hint_from k (o ∷ os)) hs >>= λ ys. Some (y ∷ ys)) rs e in
@@ -118,7 +118,7 @@ module _ (f body : ℕ) where
           ((ts : List OperatorHint) → each (hint_from (k + 1) os) hs ≡ Some ts → taken_hints f (k + 1) body hs os ≡ ts) →
           (each (hint_from (k + 1) os) (h ∷ hs) ≡ Some rs → taken_hints f (k + 1) body (h ∷ hs) os ≡ rs) → taken_hints f k body (h ∷ hs) (o ∷ os) ≡ rs
       by true same over here later = taken_here k o os h hs rs (eqb-true o.place (body + h.value.offset) same) over e here
-      by false other over here later = taken_later k low o os h hs rs (omega (arith, le, p.0)) p.1 other over e later
+      by false other over here later = taken_later k o os h hs rs (omega (arith, le, p.0)) p.1 other over e later
 
 -- ---- functions
 
