@@ -1,0 +1,5 @@
+pub mod Contents
+pub mod Flags
+pub mod Judgements
+pub mod Roles
+pub mod Sound

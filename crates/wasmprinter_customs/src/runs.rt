@@ -1,0 +1,34 @@
+//! Names that can stand as a word (section 6.3 of the WebAssembly Core Specification, "Identifiers").
+ghost use Rattle.std.specs.Prelude.{◌≡◌};
+ghost use Rattle.wasmprinter_spec.specs.Character.{class};
+ghost use Rattle.wasmprinter_spec.specs.Quoted.{runs, all_run, is_run};
+
+/// Whether a byte is an identifier character.
+fn runs(byte: u8) -> bool
+    ensures { result ≡ runs (class byte) }
+{
+    matches!(byte, b'!'..=b'~')
+        && !matches!(
+            byte,
+            b'"' | b'(' | b')' | b',' | b';' | b'[' | b']' | b'{' | b'}'
+        )
+}
+
+/// Whether all bytes are identifier characters.
+fn all_run(bytes: &[u8]) -> bool
+    ensures { result ≡ all_run bytes.now }
+{
+    for &byte in bytes {
+        if !runs(byte) {
+            return false;
+        }
+    }
+    true
+}
+
+/// Whether a name has identifier characters alone, and one at least.
+pub(crate) fn is_run(name: &str) -> bool
+    ensures { result ≡ is_run name.now }
+{
+    !name.is_empty() && all_run(name.as_bytes())
+}
