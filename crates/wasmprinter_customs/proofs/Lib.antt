@@ -1,0 +1,2 @@
+mod RunBytes
+mod Subsections

@@ -1,10 +1,10 @@
 //! The section `dylink.0` (tool conventions, "Dynamic Linking"): subsections, each an id, a size and so many bytes.
-ghost use Rattle.std.specs.Prelude.{◌≡◌};
+ghost use Rattle.std.specs.Prelude.{◌≡◌, IfOk};
 ghost use Rattle.wasmprinter_spec.specs.Customs.Dylink.{mem_info, export_info, import_info, known, is_known, subsection, judged};
 ghost use Rattle.wasmprinter_bytes.specs.Reads.{Reads};
 ghost use Rattle.wasmprinter_customs.specs.Contents.{content_view};
 ghost use Rattle.wasmprinter_customs.specs.Flags.{bits_of};
-ghost use Rattle.wasmprinter_customs.specs.Judgements.{found_view, judgement_view};
+ghost use Rattle.wasmprinter_customs.specs.Judgements.{found_view, HasKnownId, judgement_view};
 
 use crate::flags::SymbolFlags;
 use crate::items::{ItemsIn, ReadFrom};
@@ -260,7 +260,8 @@ enum Found<'a> {
 
 impl<'a> Found<'a> {
     fn read(cursor: &mut Cursor<'a>) -> Result<Self, Malformed>
-        ensures { Reads found_view subsection.parse cursor.old result cursor.new }
+        ensures reads { Reads found_view subsection.parse cursor.old result cursor.new }
+        ensures known { IfOk result HasKnownId }
     {
         let place = cursor.place();
         let id = cursor.u8()?;

@@ -3,15 +3,14 @@ ghost use Rattle.std.specs.Prelude.{◌≡◌};
 ghost use Rattle.wasmprinter_spec.specs.Character.{class};
 ghost use Rattle.wasmprinter_spec.specs.Quoted.{runs, all_run, is_run};
 
+/// The printable characters, but the blank, that don't stand in a word.
+const NOT_IN_WORDS: [u8; 9] = [b'"', b'(', b')', b',', b';', b'[', b']', b'{', b'}'];
+
 /// Whether a byte is an identifier character.
 fn runs(byte: u8) -> bool
     ensures { result ≡ runs (class byte) }
 {
-    matches!(byte, b'!'..=b'~')
-        && !matches!(
-            byte,
-            b'"' | b'(' | b')' | b',' | b';' | b'[' | b']' | b'{' | b'}'
-        )
+    byte.is_ascii_graphic() && !NOT_IN_WORDS.contains(&byte)
 }
 
 /// Whether all bytes are identifier characters.
