@@ -1,2 +1,3 @@
+mod FoundSteps
 mod RunBytes
 mod Subsections

@@ -357,10 +357,11 @@ impl<'a> Judgement<'a> {
     {
         let mut cursor = section.fork();
         'subsections: while !cursor.is_empty() {
-            match Found::read(&mut cursor) {
-                Ok(Found::Known(_)) => {}
-                Ok(Found::Other { id, .. }) => return Judgement::Unknown(id),
-                Err(_) => return Judgement::Faulty,
+            let Ok(found) = Found::read(&mut cursor) else {
+                return Judgement::Faulty;
+            };
+            if let Found::Other { id, .. } = found {
+                return Judgement::Unknown(id);
             }
         }
         Judgement::Whole(Dylink { cursor: section })

@@ -1,9 +1,10 @@
 //! The flags of symbols (tool conventions, "Linking").
 ghost use Rattle.std.specs.Prelude.{⊤, ◌≡◌, [], ◌∷◌, codes, ◌<◌, ◌^◌};
 ghost use Rattle.wasmprinter_spec.specs.Layout.Customs.{flag_words};
-ghost use Rattle.wasmprinter_customs.specs.Flags.{words_by, others_by};
+ghost use Rattle.wasmprinter_customs.specs.Flags.{bits_of, words_by, others_by};
 
 use bitflags::{Flag, Flags};
+use std::marker::Model;
 
 /// What is said of a symbol.
 #[derive(Clone, Copy, Debug, PartialEq, Eq)]
@@ -91,5 +92,65 @@ impl Flags for SymbolFlags {
 
     fn from_bits_retain(bits: u32) -> SymbolFlags {
         SymbolFlags(bits)
+    }
+}
+
+/// The words of the flags that are left, in the order of their bits.
+#[derive(Drop)]
+pub struct FlagWords {
+    left: SymbolFlags,
+    row: usize,
+}
+
+impl Model for FlagWords {
+    ghost use Rattle.std.specs.Prelude.{ℕ, List, drop};
+    ghost use Rattle.wasmprinter_spec.specs.Layout.Customs.{flag_words};
+    ghost use Rattle.wasmprinter_customs.specs.Flags.{bits_of, words_by};
+
+    ghost Value = { List (List ℕ) };
+
+    ghost view = { λ w. words_by (drop w.row flag_words) (bits_of w.left) };
+}
+
+impl Iterator for FlagWords {
+    ghost use Rattle.std.specs.Iterator.{YieldsFirstBy, item_count};
+
+    type Item = &'static str;
+
+    ghost next_gives = { YieldsFirstBy (λ word. word.now) (λ words. words) };
+
+    ghost remaining = { item_count (λ words. words) };
+
+    fn next(&mut self) -> Option<&'static str> {
+        let flags = SymbolFlags::flags();
+        'rows: while self.row < flags.len() {
+            let flag = &flags[self.row];
+            self.row += 1;
+            if self.left.contains(*flag.value()) {
+                self.left.remove(*flag.value());
+                return Some(flag.name());
+            }
+        }
+        None
+    }
+}
+
+impl SymbolFlags {
+    /// The words of the flags that are set, in the order of their bits.
+    pub fn words(self) -> FlagWords
+        ensures { result ≡ words_by flag_words (bits_of self) }
+    {
+        FlagWords { left: self, row: 0 }
+    }
+
+    /// The bits of no flag.
+    pub fn other_bits(self) -> u32
+        ensures { result ≡ others_by flag_words (bits_of self) }
+    {
+        let mut left = self;
+        for flag in SymbolFlags::flags() {
+            left.remove(*flag.value());
+        }
+        left.bits()
     }
 }

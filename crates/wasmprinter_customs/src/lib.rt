@@ -12,7 +12,7 @@ mod role;
 mod runs;
 
 pub use dylink::{Content, Dylink, ExportInfo, ImportInfo, MemInfo, Subsection};
-pub use flags::SymbolFlags;
+pub use flags::{FlagWords, SymbolFlags};
 pub use hints::{FunctionHints, Hint, Hints};
 pub use items::{ItemsIn, ReadFrom, Source};
 pub use names::Names;
