@@ -1,3 +1,4 @@
+mod FlagRows
 mod FoundSteps
 mod RunBytes
 mod Subsections

@@ -89,8 +89,8 @@ judged_some at some =
     let n : ℕ = length at.bytes - 1 in
     let more : length at.bytes ≡ suc n = omega (arith, some) in
     let read : repeat_at turn (length at.bytes) at ≡ on_from all (subsection.parse at) =
-        ap (λ (k : ℕ). repeat_at turn k at) more ∙ step n at some
-        ∙ on_same (λ mid. repeat_at turn n mid) all (subsection.parse at) (λ x e. enough n (length x.1.bytes) x.1 (omega (arith, more, shrinks at x e)) (omega arith)) in
+    ap (λ (k : ℕ). repeat_at turn k at) more ∙ step n at some
+    ∙ on_same (λ mid. repeat_at turn n mid) all (subsection.parse at) (λ x e. enough n (length x.1.bytes) x.1 (omega (arith, more, shrinks at x e)) (omega arith)) in
     ap judged_read read ∙ judged_on all (subsection.parse at)
 
 pub judged_none : (at : Input) → at.bytes ≡ [] → judged at ≡ Whole []

@@ -8,11 +8,11 @@ abbrev pub bits_of : SymbolFlags → ℕ
 bits_of flags = flags.0
 
 -- the words of the flags that are set
-abbrev pub words_by : List (ℕ × List ℕ) → ℕ → List (List ℕ)
+unfoldable pub words_by : List (ℕ × List ℕ) → ℕ → List (List ℕ)
 words_by [] rest = []
 words_by (row ∷ rows) rest = if has_bit rest row.0 then row.1 ∷ words_by rows (rest - row.0) else words_by rows rest
 
 -- all other bits
-abbrev pub others_by : List (ℕ × List ℕ) → ℕ → ℕ
+unfoldable pub others_by : List (ℕ × List ℕ) → ℕ → ℕ
 others_by [] rest = rest
 others_by (row ∷ rows) rest = if has_bit rest row.0 then others_by rows (rest - row.0) else others_by rows rest

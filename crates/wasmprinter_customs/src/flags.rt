@@ -1,5 +1,5 @@
 //! The flags of symbols (tool conventions, "Linking").
-ghost use Rattle.std.specs.Prelude.{⊤, ◌≡◌, [], ◌∷◌, codes, ◌<◌, ◌^◌};
+ghost use Rattle.std.specs.Prelude.{◌≡◌, map};
 ghost use Rattle.wasmprinter_spec.specs.Layout.Customs.{flag_words};
 ghost use Rattle.wasmprinter_customs.specs.Flags.{bits_of, words_by, others_by};
 
@@ -98,18 +98,18 @@ impl Flags for SymbolFlags {
 /// The words of the flags that are left, in the order of their bits.
 #[derive(Drop)]
 pub struct FlagWords {
-    left: SymbolFlags,
+    left: u32,
     row: usize,
 }
 
 impl Model for FlagWords {
     ghost use Rattle.std.specs.Prelude.{ℕ, List, drop};
     ghost use Rattle.wasmprinter_spec.specs.Layout.Customs.{flag_words};
-    ghost use Rattle.wasmprinter_customs.specs.Flags.{bits_of, words_by};
+    ghost use Rattle.wasmprinter_customs.specs.Flags.{words_by};
 
     ghost Value = { List (List ℕ) };
 
-    ghost view = { λ w. words_by (drop w.row flag_words) (bits_of w.left) };
+    ghost view = { λ w. words_by (drop w.row flag_words) w.left };
 }
 
 impl Iterator for FlagWords {
@@ -122,13 +122,14 @@ impl Iterator for FlagWords {
     ghost remaining = { item_count (λ words. words) };
 
     fn next(&mut self) -> Option<&'static str> {
-        let flags = SymbolFlags::flags();
-        'rows: while self.row < flags.len() {
-            let flag = &flags[self.row];
+        let rows = SymbolFlags::rows();
+        'rows: while self.row < rows.len() {
+            let flag = &rows[self.row];
             self.row += 1;
-            if self.left.contains(*flag.value()) {
-                self.left.remove(*flag.value());
-                return Some(flag.name());
+            let bits = flag.value.bits();
+            if self.left & bits == bits {
+                self.left -= bits;
+                return Some(flag.name);
             }
         }
         None
@@ -136,21 +137,34 @@ impl Iterator for FlagWords {
 }
 
 impl SymbolFlags {
+    /// The flags in the order of their bits.
+    fn rows() -> &'static [Flag<SymbolFlags>]
+        ensures { map (λ flag. (bits_of flag.value, flag.name.now)) result.now ≡ flag_words }
+    {
+        SymbolFlags::FLAGS
+    }
+
     /// The words of the flags that are set, in the order of their bits.
     pub fn words(self) -> FlagWords
         ensures { result ≡ words_by flag_words (bits_of self) }
     {
-        FlagWords { left: self, row: 0 }
+        FlagWords {
+            left: self.bits(),
+            row: 0,
+        }
     }
 
     /// The bits of no flag.
     pub fn other_bits(self) -> u32
         ensures { result ≡ others_by flag_words (bits_of self) }
     {
-        let mut left = self;
-        for flag in SymbolFlags::flags() {
-            left.remove(*flag.value());
+        let mut left = self.bits();
+        for flag in SymbolFlags::rows() {
+            let bits = flag.value.bits();
+            if left & bits == bits {
+                left -= bits;
+            }
         }
-        left.bits()
+        left
     }
 }
