@@ -46,17 +46,34 @@ AreBits (row ∷ rows) = IsBit row.0 × AreBits rows
 
 flags_are_bits : AreBits flag_words
 unfolding AreBits
-flags_are_bits =
-    (record { place = 0; power = refl },
-    (record { place = 1; power = refl },
-    (record { place = 2; power = refl },
-    (record { place = 4; power = refl },
-    (record { place = 5; power = refl },
-    (record { place = 6; power = refl },
-    (record { place = 7; power = refl },
-    (record { place = 8; power = refl },
-    (record { place = 9; power = refl },
-    tt)))))))))
+flags_are_bits = (
+  record { place = 0; power = refl },
+  (
+    record { place = 1; power = refl },
+    (
+      record { place = 2; power = refl },
+      (
+        record { place = 4; power = refl },
+        (
+          record { place = 5; power = refl },
+          (
+            record { place = 6; power = refl },
+            (
+              record { place = 7; power = refl },
+              (
+                record { place = 8; power = refl },
+                (
+                  record { place = 9; power = refl },
+                  tt,
+                ),
+              ),
+            ),
+          ),
+        ),
+      ),
+    ),
+  ),
+)
 
 bits_behind : (i : ℕ) (rows : List (ℕ × List ℕ)) → AreBits rows → AreBits (drop i rows)
 unfolding AreBits
