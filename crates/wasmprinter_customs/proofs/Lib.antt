@@ -1,3 +1,4 @@
+pub mod FlagPieces
 mod FlagRows
 mod FoundSteps
 mod RunBytes

@@ -5,7 +5,7 @@ use Rattle.std.proofs.lemmas.Bool.{eqb-true, eqb-false, eq-eqb, ne_eqb}
 use Rattle.std.proofs.lemmas.List.{length-append, nil_from_length}
 use Rattle.wasmprinter_spec.specs.Grammar.{Input}
 use Rattle.wasmprinter_spec.specs.Lenient.{Lenient, one, give, read_behind, unless_ended, repeat_at, continue_with}
-use Rattle.wasmprinter_spec.specs.Customs.Dylink.{Content, Other, Subsection, subsection, Judged, Whole, Unknown, Faulty, other_of, first_some, first_other, judged_by, judged}
+use Rattle.wasmprinter_spec.specs.Customs.Dylink.{Subsection, subsection, Judged, Whole, Unknown, Faulty, other_of, first_some, first_other, judged_by, judged}
 use Rattle.wasmprinter_customs.specs.Sound.{subsections_in, IsWhole}
 
 -- what is read in one turn

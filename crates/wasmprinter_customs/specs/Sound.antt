@@ -1,6 +1,6 @@
 -- The subsections of a section of `dylink.0` without a fault.
 use Rattle.std.specs.Prelude.{List, []}
-use Rattle.wasmprinter_spec.specs.Customs.Dylink.{Subsection, Judged, Whole, Unknown, Faulty}
+use Rattle.wasmprinter_spec.specs.Customs.Dylink.{Subsection, Judged, Whole}
 
 abbrev pub subsections_in : Judged → List Subsection
 subsections_in (Whole ss) = ss

@@ -1,5 +1,5 @@
 //! Branch hints (Code Metadata): for functions, which operators are likely to branch.
-ghost use Rattle.std.specs.Prelude.{◌≡◌, ◌+◌, ◌<◌, ◌^◌, [], length, option_map};
+ghost use Rattle.std.specs.Prelude.{◌≡◌, ◌+◌, ◌<◌, ◌^◌, [], length, codes, bytes_eq};
 ghost use Rattle.wasmprinter_spec.specs.Grammar.{placed};
 ghost use Rattle.wasmprinter_spec.specs.Customs.Hints.{hint as hint_grammar, flag, function_hints, hint_section, hints_given};
 ghost use Rattle.wasmprinter_spec.specs.Customs.Hints.{next_hints, hints_behind, next_hint, hint_behind};
@@ -12,6 +12,9 @@ use wasmprinter_bytes::bytes::Cursor;
 use wasmprinter_bytes::lists::{Items, Spelled};
 use wasmprinter_error::Malformed;
 
+/// The name of sections of branch hints. Of several the last counts.
+pub(crate) const HINT_SECTION: &str = "metadata.code.branch_hint";
+
 /// More functions with hints are taken for a fault.
 const MOST_FUNCTIONS: u32 = 1000000;
 
@@ -20,6 +23,13 @@ const MOST_HINTS: u32 = 131071;
 
 /// How many bytes a hint has: one.
 const HINT_SIZE: u8 = 0x01;
+
+/// Whether sections of this name hold branch hints.
+pub fn is_hint_section(name: &str) -> bool
+    ensures { result ≡ bytes_eq name.now (codes "metadata.code.branch_hint") }
+{
+    name == HINT_SECTION
+}
 
 /// A hint, with the place of its first byte.
 #[derive(Drop)]

@@ -13,7 +13,7 @@ mod runs;
 
 pub use dylink::{Content, Dylink, ExportInfo, ImportInfo, MemInfo, Subsection};
 pub use flags::{FlagWords, SymbolFlags};
-pub use hints::{FunctionHints, Hint, Hints};
+pub use hints::{FunctionHints, Hint, Hints, is_hint_section};
 pub use items::{ItemsIn, ReadFrom, Source};
 pub use names::Names;
 pub use producers::{Field, Producers, Value, Values};

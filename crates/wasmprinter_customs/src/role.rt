@@ -7,8 +7,18 @@ ghost use Rattle.wasmprinter_spec.specs.Customs.Dylink.{judged};
 ghost use Rattle.wasmprinter_customs.specs.Roles.{role_view};
 
 use crate::dylink::{Dylink, Judgement};
+use crate::hints::HINT_SECTION;
 use crate::producers::{Producers, are_runs, read_producers};
 use wasmprinter_bytes::bytes::Cursor;
+
+/// The name of sections that give names.
+const NAME_SECTION: &str = "name";
+
+/// The name of sections that say what made the module.
+const PRODUCERS_SECTION: &str = "producers";
+
+/// The name of sections for dynamic linking.
+const DYLINK_SECTION: &str = "dylink.0";
 
 /// What a custom section is to the text.
 #[derive(Drop)]
@@ -55,9 +65,9 @@ pub fn custom_role<'a>(name: &str, place: u64, bytes: &'a [u8]) -> CustomRole<'a
     ensures { role_view result ≡ role_of (custom_of name.now (record { place = place; value = bytes.now })) }
 {
     match name {
-        "name" | "metadata.code.branch_hint" => CustomRole::Silent,
-        "producers" => producers_role(Cursor::new(place, bytes)),
-        "dylink.0" => dylink_role(Cursor::new(place, bytes)),
+        NAME_SECTION | HINT_SECTION => CustomRole::Silent,
+        PRODUCERS_SECTION => producers_role(Cursor::new(place, bytes)),
+        DYLINK_SECTION => dylink_role(Cursor::new(place, bytes)),
         _ => CustomRole::Raw,
     }
 }

@@ -1,6 +1,8 @@
 //! What sections hold. The bytes and what is expected are typed by hand.
 
-use crate::{Content, CustomRole, Dylink, Hint, Hints, Producers, SymbolFlags, custom_role};
+use crate::{
+    Content, CustomRole, Dylink, Hint, Hints, Producers, SymbolFlags, custom_role, is_hint_section,
+};
 use bitflags::Flags;
 use std::test::Fail;
 
@@ -184,6 +186,8 @@ fn shown(hint: Option<Hint>) -> Option<(u64, bool)> {
 
 #[test]
 fn hints_are_taken_in_order(rt: HostRuntime) {
+    assert!(rt; is_hint_section("metadata.code.branch_hint"));
+    assert!(rt; !is_hint_section("metadata.code.branch_hints"));
     // function 1: offsets 3 and 7; function 4: offset 2
     let bytes = b"\x02\x01\x02\x03\x01\x01\x07\x01\x00\x04\x01\x02\x01\x01";
     let mut hints = Hints::given(0x50, bytes);

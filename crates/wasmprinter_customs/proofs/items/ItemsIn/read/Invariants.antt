@@ -1,5 +1,4 @@
 use Rattle.std.proofs.Common.{◌≡◌, ◌-◌}
-use Rattle.wasmprinter_spec.specs.Grammar.{Input}
 use Rattle.wasmprinter_spec.specs.Repeated.{skip_at}
 use Rattle.wasmprinter_customs.proofs.items.ItemsIn.read.Given as goal
 
