@@ -11,22 +11,31 @@ use std::marker::Model;
 pub struct SymbolFlags(u32);
 
 impl SymbolFlags {
+    /// Another definition of the symbol may stand for it.
     pub const BINDING_WEAK: SymbolFlags = SymbolFlags(0x1);
 
+    /// The symbol is of its own module alone.
     pub const BINDING_LOCAL: SymbolFlags = SymbolFlags(0x2);
 
+    /// Other modules don't see it.
     pub const VISIBILITY_HIDDEN: SymbolFlags = SymbolFlags(0x4);
 
+    /// It is defined elsewhere.
     pub const UNDEFINED: SymbolFlags = SymbolFlags(0x10);
 
+    /// It is to be exported.
     pub const EXPORTED: SymbolFlags = SymbolFlags(0x20);
 
+    /// It has a name of its own where it is imported.
     pub const EXPLICIT_NAME: SymbolFlags = SymbolFlags(0x40);
 
+    /// It stays, even if nothing uses it.
     pub const NO_STRIP: SymbolFlags = SymbolFlags(0x80);
 
+    /// It stands in the memory of a thread.
     pub const TLS: SymbolFlags = SymbolFlags(0x100);
 
+    /// Its address is absolute.
     pub const ABSOLUTE: SymbolFlags = SymbolFlags(0x200);
 
     /// The flags and their words in the text.

@@ -229,13 +229,13 @@ impl<'a> Hints<'a> {
     }
 
     /// The hints of the function with this number, if its entry is the next; else none.
-    pub fn next_function(&mut self, number: u32) -> FunctionHints<'a>
+    pub fn next_function(&mut self, number: u64) -> FunctionHints<'a>
         ensures gives { result ≡ next_hints number self.old }
         ensures behind { self.new ≡ hints_behind number self.old }
     {
         let mut behind = self.entries.iter();
         match behind.next() {
-            Some(entry) if entry.function == number => {
+            Some(entry) if u64::from(entry.function) == number => {
                 self.entries = behind;
                 FunctionHints { hints: entry.hints }
             }
