@@ -44,36 +44,12 @@ AreBits : List (ℕ × List ℕ) → Type 0
 AreBits [] = Unit {0}
 AreBits (row ∷ rows) = IsBit row.0 × AreBits rows
 
+bit : (k : ℕ) → IsBit (2 ^ k)
+bit k = record { place = k; power = refl }
+
 flags_are_bits : AreBits flag_words
 unfolding AreBits
-flags_are_bits = (
-  record { place = 0; power = refl },
-  (
-    record { place = 1; power = refl },
-    (
-      record { place = 2; power = refl },
-      (
-        record { place = 4; power = refl },
-        (
-          record { place = 5; power = refl },
-          (
-            record { place = 6; power = refl },
-            (
-              record { place = 7; power = refl },
-              (
-                record { place = 8; power = refl },
-                (
-                  record { place = 9; power = refl },
-                  tt,
-                ),
-              ),
-            ),
-          ),
-        ),
-      ),
-    ),
-  ),
-)
+flags_are_bits = (bit 0, (bit 1, (bit 2, (bit 4, (bit 5, (bit 6, (bit 7, (bit 8, (bit 9, tt)))))))))
 
 bits_behind : (i : ℕ) (rows : List (ℕ × List ℕ)) → AreBits rows → AreBits (drop i rows)
 unfolding AreBits
