@@ -1,8 +1,28 @@
 //! What sections hold. The bytes and what is expected are typed by hand.
 
-use crate::{Content, CustomRole, Hint, Hints, SymbolFlags, custom_role, is_hint_section};
+use crate::{
+    Content, CustomRole, Dylink, Hint, Hints, Producers, SymbolFlags, custom_role, is_hint_section,
+};
 use bitflags::Flags;
 use std::test::Fail;
+
+/// The fields of a `producers` section whose bytes begin at the place; none where it has another role.
+fn fields_of<'a>(place: u64, bytes: &'a [u8]) -> Option<Producers<'a>> {
+    let role = custom_role("producers", place, bytes);
+    match &role {
+        CustomRole::Producers(fields) => Some(fields.iter()),
+        _ => None,
+    }
+}
+
+/// The subsections of a `dylink.0` section; none where it has another role.
+fn subsections_of<'a>(place: u64, bytes: &'a [u8]) -> Option<Dylink<'a>> {
+    let role = custom_role("dylink.0", place, bytes);
+    match &role {
+        CustomRole::Dylink(subsections) => Some(subsections.iter()),
+        _ => None,
+    }
+}
 
 #[test]
 fn values_of_producers_have_places(rt: HostRuntime) {
@@ -10,7 +30,7 @@ fn values_of_producers_have_places(rt: HostRuntime) {
     let bytes = b"\x02\x08language\x02\x04Rust\x00\x01C\x0211\x03sdk\x00";
     let mut listed = 0;
     let mut count = 0;
-    if let CustomRole::Producers(fields) = custom_role("producers", 0x100, bytes) {
+    if let Some(fields) = fields_of(0x100, bytes) {
         assert_eq!(rt; fields.len(), 2);
         for field in fields.iter() {
             let name = if count == 0 { "language" } else { "sdk" };
@@ -104,7 +124,7 @@ fn subsections_of_dylink_are_read(rt: HostRuntime) {
         b"\x01\x04\x10\x02\x03\x00\x02\x05\x02\x01a\x01b\x03\x04\x01\x01f\x21\x04\x07\x01\x01m\x01g\x88\x08\x05\x01\x00";
     let mut places = [0, 0, 0, 0, 0];
     let mut index = 0;
-    if let CustomRole::Dylink(subsections) = custom_role("dylink.0", 0x20, bytes) {
+    if let Some(subsections) = subsections_of(0x20, bytes) {
         for subsection in subsections.iter() {
             if index < places.len() {
                 places[index] = subsection.place();
