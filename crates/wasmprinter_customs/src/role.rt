@@ -20,7 +20,7 @@ const PRODUCERS_SECTION: &str = "producers";
 /// The name of sections for dynamic linking.
 const DYLINK_SECTION: &str = "dylink.0";
 
-/// What a custom section is to the text.
+/// What a custom section is to the text. (Match on a reference to it: its lists are given again by `iter`.)
 #[derive(Drop)]
 pub enum CustomRole<'a> {
     /// Its names stand in the text, or its hints.

@@ -1,33 +1,56 @@
 //! What sections hold. The bytes and what is expected are typed by hand.
 
-use crate::{Content, CustomRole, Hint, Hints, SymbolFlags, custom_role, is_hint_section};
+use crate::{
+    Content, CustomRole, Dylink, Hint, Hints, Producers, SymbolFlags, custom_role, is_hint_section,
+};
 use bitflags::Flags;
 use std::test::Fail;
 
+/// Where the bytes of a section begin.
+const PLACE: u64 = 0x100;
+
+/// The fields of a `producers` section; none where it has another role.
+fn fields_of<'a>(bytes: &'a [u8]) -> Option<Producers<'a>> {
+    let role = custom_role("producers", PLACE, bytes);
+    match &role {
+        CustomRole::Producers(fields) => Some(fields.iter()),
+        _ => None,
+    }
+}
+
+/// The subsections of a `dylink.0` section; none where it has another role.
+fn subsections_of<'a>(bytes: &'a [u8]) -> Option<Dylink<'a>> {
+    let role = custom_role("dylink.0", PLACE, bytes);
+    match &role {
+        CustomRole::Dylink(subsections) => Some(subsections.iter()),
+        _ => None,
+    }
+}
+
+/// The place, name and version of the second value of the first field.
+fn second_value(bytes: &[u8]) -> Option<(u64, &str, &str)> {
+    let mut fields = fields_of(bytes)?;
+    let field = fields.next()?;
+    let mut values = field.values();
+    values.next()?;
+    let value = values.next()?;
+    Some((value.place(), value.name(), value.version()))
+}
+
+/// The name of the second field.
+fn second_name(bytes: &[u8]) -> Option<&str> {
+    let mut fields = fields_of(bytes)?;
+    fields.next()?;
+    let field = fields.next()?;
+    Some(field.name())
+}
+
 #[test]
-fn values_of_producers_have_places(rt: HostRuntime) {
+fn fields_of_producers_are_read(rt: HostRuntime) {
     // `language` with `Rust` and `C` "11"; `sdk` without values
     let bytes = b"\x02\x08language\x02\x04Rust\x00\x01C\x0211\x03sdk\x00";
-    let mut listed = 0;
-    let mut count = 0;
-    if let CustomRole::Producers(fields) = custom_role("producers", 0x100, bytes) {
-        assert_eq!(rt; fields.len(), 2);
-        for field in fields.iter() {
-            let name = if count == 0 { "language" } else { "sdk" };
-            assert_eq!(rt; field.name(), name);
-            count = 1;
-            for value in field.values() {
-                let wanted = if listed == 0 {
-                    (0x10b, "Rust", "")
-                } else {
-                    (0x111, "C", "11")
-                };
-                assert_eq!(rt; (value.place(), value.name(), value.version()), wanted);
-                listed = 1;
-            }
-        }
-    }
-    assert_eq!(rt; (count, listed), (1, 1));
+    assert_eq!(rt; second_value(bytes), Some((0x111, "C", "11")));
+    assert_eq!(rt; second_name(bytes), Some("sdk"));
 }
 
 /// What a role is called here.
@@ -97,50 +120,79 @@ fn identifier_characters_are_known(rt: HostRuntime) {
     }
 }
 
+/// The place of the second subsection.
+fn second_place(bytes: &[u8]) -> Option<u64> {
+    let mut subsections = subsections_of(bytes)?;
+    subsections.next()?;
+    let subsection = subsections.next()?;
+    Some(subsection.place())
+}
+
+/// The sizes of memory and of the table, and their alignments, of the first subsection.
+fn sizes_of(bytes: &[u8]) -> Option<[u32; 4]> {
+    let mut subsections = subsections_of(bytes)?;
+    let subsection = subsections.next()?;
+    match subsection.content() {
+        Content::MemInfo(m) => Some([
+            m.memory_size(),
+            m.memory_alignment(),
+            m.table_size(),
+            m.table_alignment(),
+        ]),
+        _ => None,
+    }
+}
+
+/// The second name of the first subsection, of libraries or of paths.
+fn second_path(bytes: &[u8]) -> Option<&str> {
+    let mut subsections = subsections_of(bytes)?;
+    let subsection = subsections.next()?;
+    let mut names = match subsection.content() {
+        Content::Needed(names) | Content::RuntimePath(names) => names.iter(),
+        _ => return None,
+    };
+    names.next()?;
+    names.next()
+}
+
+/// The name of the first export, and its flags.
+fn export_of(bytes: &[u8]) -> Option<(&str, u32)> {
+    let mut subsections = subsections_of(bytes)?;
+    let subsection = subsections.next()?;
+    match subsection.content() {
+        Content::Exports(exports) => {
+            let export = exports.iter().next()?;
+            Some((export.name(), export.flags().bits()))
+        }
+        _ => None,
+    }
+}
+
+/// The module and the name of the first import, and its flags.
+fn import_of(bytes: &[u8]) -> Option<(&str, &str, u32)> {
+    let mut subsections = subsections_of(bytes)?;
+    let subsection = subsections.next()?;
+    match subsection.content() {
+        Content::Imports(imports) => {
+            let import = imports.iter().next()?;
+            Some((import.source(), import.name(), import.flags().bits()))
+        }
+        _ => None,
+    }
+}
+
 #[test]
 fn subsections_of_dylink_are_read(rt: HostRuntime) {
-    // sizes; libraries `a` and `b`; an export; an import with a flag that has no word; no paths
-    let bytes =
-        b"\x01\x04\x10\x02\x03\x00\x02\x05\x02\x01a\x01b\x03\x04\x01\x01f\x21\x04\x07\x01\x01m\x01g\x88\x08\x05\x01\x00";
-    let mut places = [0, 0, 0, 0, 0];
-    let mut index = 0;
-    if let CustomRole::Dylink(subsections) = custom_role("dylink.0", 0x20, bytes) {
-        for subsection in subsections.iter() {
-            if index < places.len() {
-                places[index] = subsection.place();
-                index += 1;
-            }
-            match subsection.content() {
-                Content::MemInfo(sizes) => {
-                    assert_eq!(rt; (sizes.memory_size(), sizes.memory_alignment()), (16, 2));
-                    assert_eq!(rt; (sizes.table_size(), sizes.table_alignment()), (3, 0));
-                }
-                Content::Needed(names) => {
-                    let mut names = names.iter();
-                    assert_eq!(rt; names.next(), Some("a"));
-                    assert_eq!(rt; names.next(), Some("b"));
-                    assert_eq!(rt; names.next(), None);
-                }
-                Content::Exports(exports) => {
-                    assert_eq!(rt; exports.len(), 1);
-                    for export in exports.iter() {
-                        assert_eq!(rt; (export.name(), export.flags().bits()), ("f", 0x21));
-                    }
-                }
-                Content::Imports(imports) => {
-                    assert_eq!(rt; imports.len(), 1);
-                    for import in imports.iter() {
-                        assert_eq!(rt; (import.source(), import.name()), ("m", "g"));
-                        assert_eq!(rt; import.flags().bits(), 0x408);
-                    }
-                }
-                Content::RuntimePath(paths) => {
-                    assert_eq!(rt; paths.iter().next(), None);
-                }
-            }
-        }
-    }
-    assert_eq!(rt; places, [0x20, 0x26, 0x2d, 0x33, 0x3c]);
+    let sizes = b"\x01\x04\x10\x02\x03\x00\x05\x01\x00";
+    assert_eq!(rt; second_place(sizes), Some(0x106));
+    assert_eq!(rt; sizes_of(sizes), Some([16, 2, 3, 0]));
+    assert_eq!(rt; second_path(b"\x02\x05\x02\x01a\x01b"), Some("b"));
+    assert_eq!(rt; second_path(b"\x05\x03\x01\x01a"), None);
+    assert_eq!(rt; export_of(b"\x03\x04\x01\x01f\x21"), Some(("f", 0x21)));
+    assert_eq!(rt;
+        import_of(b"\x04\x07\x01\x01m\x01g\x88\x08"),
+        Some(("m", "g", 0x408))
+    );
 }
 
 #[test]
