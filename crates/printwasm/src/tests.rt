@@ -99,7 +99,13 @@ fn prints_by_its_options(rt: HostRuntime) -> Result<(), Fail> {
     let orders: [&[&str]; 3] = [
         &["--offsets", "--skeleton", "--name-unnamed", file],
         &[file, "--name-unnamed", "--skeleton", "--offsets"],
-        &["--skeleton", "--offsets", "--skeleton", file, "--name-unnamed"],
+        &[
+            "--skeleton",
+            "--offsets",
+            "--skeleton",
+            file,
+            "--name-unnamed",
+        ],
     ];
     for words in orders {
         let printed = run_with(&rt, words)?;

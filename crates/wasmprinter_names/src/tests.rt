@@ -150,7 +150,10 @@ fn identifiers_are_given_or_made_up(rt: HostRuntime) -> Result<(), Fail> {
         given: "f",
         content: "f",
     };
-    assert_eq!(rt; given.item(Space::Func, 0, 0), Some(Identifier::Given(name)));
+    assert_eq!(rt;
+        given.item(Space::Func, 0, 0),
+        Some(Identifier::Given(name))
+    );
     assert_eq!(rt; given.item(Space::Func, 0, 1), None);
     assert_eq!(rt; all.item(Space::Func, 0, 0), Some(Identifier::Given(name)));
     assert_eq!(rt;

@@ -17,5 +17,5 @@ LabelsMeanTheirBlocks =
     (naming : Naming) → AreApart naming → (xs : List Label) → Opened naming xs →
     (l : ℕ) (n : Named) (further : List Label) → target l xs ≡ Around (Some n) further →
     (is_hidden n further ≡ false → (label_pieces [] xs l ≡ Gap ∷ label_name_pieces n.given l n)
-        × (depth n.content (map (λ x. option_map (λ m. m.content) x) xs) ≡ Some l))
+    × (depth n.content (map (λ x. option_map (λ m. m.content) x) xs) ≡ Some l))
     × (is_hidden n further ≡ true → label_pieces [] xs l ≡ Gap ∷ (Number l ∷ []))

@@ -160,10 +160,7 @@ fn prints_a_shadowed_label_by_its_number(rt: HostRuntime) -> Result<(), Fail> {
 #[test]
 fn takes_the_label_off_behind_delegate(rt: HostRuntime) -> Result<(), Fail> {
     let alloc = rt.alloc();
-    let wasm = one_function(
-        alloc,
-        b"\x06\x40\x18\x00\x02\x40\x0c\x00\x0c\x01\x0b",
-    )?;
+    let wasm = one_function(alloc, b"\x06\x40\x18\x00\x02\x40\x0c\x00\x0c\x01\x0b")?;
     let named = with_names(alloc, &wasm, b"\x03\x09\x01\x00\x02\x00\x01t\x01\x01u")?;
     let text = print_bytes(alloc, &named)?;
     assert_eq!(rt;

@@ -217,8 +217,9 @@ labels_write inner xs (m ∷ ms) l h hs small = then (label_writes inner xs m h 
 
 pub labels_mean_their_blocks : LabelsMeanTheirBlocks
 unfolding label_pieces
-labels_mean_their_blocks naming apart xs o l n further around =
-    (λ seen.
-        let shown : (is_hidden n further || is_hidden n []) ≡ false = rw seen refl in
-        (rw (around, shown) refl, depth-target naming apart l xs n further o around seen),
-    λ hidden. rw (around, hidden) refl)
+labels_mean_their_blocks naming apart xs o l n further around = (
+  λ seen.
+      let shown : (is_hidden n further || is_hidden n []) ≡ false = rw seen refl in
+      (rw (around, shown) refl, depth-target naming apart l xs n further o around seen),
+  λ hidden. rw (around, hidden) refl,
+)
