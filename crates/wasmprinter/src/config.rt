@@ -32,7 +32,7 @@ impl Model for Config {
 impl Config {
     ghost use Rattle.wasmprinter_spec.specs.Options.{defaults};
 
-    /// No places in front of lines, bodies in full, and an indent of two blanks. Takes no memory.
+    /// No places in front of lines, bodies in full, no identifiers made up, and an indent of two blanks. Takes no memory.
     pub fn new() -> Config
         ensures { result ≡ defaults }
     {

@@ -90,7 +90,8 @@ pub fn identifiers_resolve()
     ensures { IdentifiersResolve }
 {}
 
-/// A label that is printed by its identifier means the block that is meant; where a block further in has its name, it is printed by its number.
+/// A label that is printed by its identifier means the block that is meant; where a block further in has its name, it is printed by its
+/// number.
 pub fn labels_mean_their_blocks()
     ensures { LabelsMeanTheirBlocks }
 {}
