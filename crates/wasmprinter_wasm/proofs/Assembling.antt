@@ -180,8 +180,8 @@ module _ (bytes pre : List ℕ) (at : Input) (first : preamble.parse (input 0 by
           (record { same = whole.as_many; few = few.functions }, items_held g h.sections (sections_listed at h.sections h.read rest) h.held)
 
       -- the module that is put together
-      abbrev module_of_sections : PlacedModule
-      module_of_sections = record {
+      abbrev module_of_gathered : PlacedModule
+      module_of_gathered = record {
         types = g.types;
         imports = g.imports;
         tables = g.tables;
@@ -218,14 +218,14 @@ module _ (bytes pre : List ℕ) (at : Input) (first : preamble.parse (input 0 by
       read = rw (first, h.read, h.rise, counts, pairs) refl
 
       -- the bytes spell the module
-      pub module_spelled : AreBytes bytes → Spells bytes module_of_sections
+      pub module_spelled : AreBytes bytes → Spells bytes module_of_gathered
       module_spelled all =
-          let same_module : module_from size h.sections made.functions ≡ module_of_sections =
+          let same_module : module_from size h.sections made.functions ≡ module_of_gathered =
           alike (sym (h.held TypeSection)) (sym (h.held ImportSection)) (sym (h.held TableSection)) (sym (h.held MemorySection)) (sym (h.held TagSection)) (sym (h.held GlobalSection)) (sym (h.held ExportSection)) (sym (h.held StartSection)) (sym (h.held ElementSection)) (sym functions_made) (sym (h.held DataSection)) (sym (h.held CustomSection)) (omega arith) in
-          record { are_bytes = all; spelled = binary.sound (input 0 bytes) module_of_sections (read ∙ ap (λ (m : PlacedModule). Some m) same_module) }
+          record { are_bytes = all; spelled = binary.sound (input 0 bytes) module_of_gathered (read ∙ ap (λ (m : PlacedModule). Some m) same_module) }
 
       -- the module is within the limits
-      pub module_within : IsWithinLimits module_of_sections
+      pub module_within : IsWithinLimits module_of_gathered
       module_within =
           let p = paired_of g.type_indices g.bodies made.functions made.are in
           let locals : AllByRecursion HasFew (bodies_of made.functions) = subst (AllByRecursion HasFew) (sym made.bodies) few.locals in
