@@ -117,6 +117,55 @@ fn prints_by_its_options(rt: HostRuntime) -> Result<(), Fail> {
     Ok(())
 }
 
+/// The identity by each option alone.
+const BY_ONE_OPTION: [(&str, &str); 3] = [
+    (
+        "--offsets",
+        r#"(module
+(;@b     ;)  (type (;0;) (func (param i32) (result i32)))
+(;@17    ;)  (export "f" (func 0))
+(;@1f    ;)  (func (;0;) (type 0) (param i32) (result i32)
+(;@20    ;)    local.get 0
+(;@22    ;)  )
+(;@23    ;))
+"#,
+    ),
+    (
+        "--skeleton",
+        r#"(module
+  (type (;0;) (func (param i32) (result i32)))
+  (export "f" (func 0))
+  (func (;0;) (type 0) (param i32) (result i32) ...)
+)
+"#,
+    ),
+    (
+        "--name-unnamed",
+        r#"(module
+  (type $#type0 (;0;) (func (param i32) (result i32)))
+  (export "f" (func $#func0))
+  (func $#func0 (;0;) (type $#type0) (param $#local0 i32) (result i32)
+    local.get $#local0
+  )
+)
+"#,
+    ),
+];
+
+#[test]
+fn prints_by_one_option(rt: HostRuntime) -> Result<(), Fail> {
+    let file = "option.wasm";
+    fs::write(&rt, file, &IDENTITY)?;
+    for (option, text) in BY_ONE_OPTION {
+        let printed = run_with(&rt, &[option, file])?;
+        assert_eq!(rt; printed.status, 0);
+        assert_eq!(rt; printed.out.as_slice(), text.as_bytes());
+        assert_eq!(rt; printed.err.len(), 0);
+    }
+    fs::remove_file(&rt, file)?;
+    Ok(())
+}
+
 #[test]
 fn refuses_a_module_that_is_cut(rt: HostRuntime) -> Result<(), Fail> {
     // the preamble is blamed where it begins
@@ -182,13 +231,15 @@ fn refuses_a_file_that_is_missing(rt: HostRuntime) -> Result<(), Fail> {
 
 #[test]
 fn tells_its_usage(rt: HostRuntime) -> Result<(), Fail> {
-    let misuses: [&[&str]; 6] = [
+    let misuses: [&[&str]; 8] = [
         &[],
         &["a.wasm", "b.wasm"],
         &["a.wasm", "b.wasm", "c.wasm"],
         &["a.wasm", "b.wasm", "c.wasm", "d.wasm"],
         &["--offsets"],
         &["--offsets", "a.wasm", "--help"],
+        &["--", "a.wasm"],
+        &["a.wasm", "--offset"],
     ];
     for words in misuses {
         let misused = run_with(&rt, words)?;

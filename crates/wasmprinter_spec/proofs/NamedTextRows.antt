@@ -293,3 +293,63 @@ items_print = refl
 items_read : read items_text ≡ decoded items
 unfolding reading
 items_read = refl
+
+-- ---- labels of expressions outside functions
+
+-- one imported function and one defined: label 0 of the imported one is called a, of the defined one b
+abbrev label_of_global : List ℕ
+label_of_global =
+    head_bytes
+    ++ (section 0x01 (0x01 ∷ 0x60 ∷ 0x00 ∷ 0x00 ∷ [])
+    ++ (section 0x02 (0x01 ∷ 0x01 ∷ 0x6d ∷ 0x01 ∷ 0x66 ∷ 0x00 ∷ 0x00 ∷ [])
+    ++ (section 0x03 (0x01 ∷ 0x00 ∷ [])
+    ++ (section 0x06 (0x01 ∷ 0x7f ∷ 0x00 ∷ 0x02 ∷ 0x7f ∷ 0x41 ∷ 0x01 ∷ 0x0c ∷ 0x00 ∷ 0x0b ∷ 0x0b ∷ [])
+    ++ (section 0x0a (0x01 ∷ 0x02 ∷ 0x00 ∷ 0x0b ∷ [])
+    ++ name_section (0x03 ∷ 0x0b ∷ 0x02 ∷ 0x00 ∷ 0x01 ∷ 0x00 ∷ 0x01 ∷ 0x61 ∷ 0x01 ∷ 0x01 ∷ 0x00 ∷ 0x01 ∷ 0x62 ∷ []))))))
+
+abbrev label_of_global_text : List ℕ
+label_of_global_text = lines (
+    codes "(module"
+    ∷ codes "  (type (;0;) (func))"
+    ∷ codes "  (import \"m\" \"f\" (func (;0;) (type 0)))"
+    ∷ codes "  (global (;0;) i32 block $b (result i32) i32.const 1 br $b end)"
+    ∷ codes "  (func (;1;) (type 0))"
+    ∷ codes ")"
+    ∷ [])
+
+label_of_global_prints : printed_by defaults label_of_global ≡ Some label_of_global_text
+unfolding composing reading
+label_of_global_prints = refl
+
+label_of_global_reads : read label_of_global_text ≡ decoded label_of_global
+unfolding reading
+label_of_global_reads = refl
+
+-- one function: element segments go by its labels, data segments by those of the function that would be next
+abbrev labels_of_segments : List ℕ
+labels_of_segments =
+    head_bytes
+    ++ (section 0x01 (0x01 ∷ 0x60 ∷ 0x00 ∷ 0x00 ∷ [])
+    ++ (section 0x03 (0x01 ∷ 0x00 ∷ [])
+    ++ (section 0x09 (0x01 ∷ 0x00 ∷ 0x02 ∷ 0x7f ∷ 0x41 ∷ 0x01 ∷ 0x0b ∷ 0x0b ∷ 0x00 ∷ [])
+    ++ (section 0x0a (0x01 ∷ 0x02 ∷ 0x00 ∷ 0x0b ∷ [])
+    ++ (section 0x0b (0x01 ∷ 0x00 ∷ 0x02 ∷ 0x7f ∷ 0x41 ∷ 0x01 ∷ 0x0b ∷ 0x0b ∷ 0x01 ∷ 0x61 ∷ [])
+    ++ name_section (0x03 ∷ 0x0b ∷ 0x02 ∷ 0x00 ∷ 0x01 ∷ 0x00 ∷ 0x01 ∷ 0x61 ∷ 0x01 ∷ 0x01 ∷ 0x00 ∷ 0x01 ∷ 0x62 ∷ []))))))
+
+abbrev labels_of_segments_text : List ℕ
+labels_of_segments_text = lines (
+    codes "(module"
+    ∷ codes "  (type (;0;) (func))"
+    ∷ codes "  (elem (;0;) (offset block $a (result i32) i32.const 1 end) func)"
+    ∷ codes "  (func (;0;) (type 0))"
+    ∷ codes "  (data (;0;) (offset block $b (result i32) i32.const 1 end) \"a\")"
+    ∷ codes ")"
+    ∷ [])
+
+labels_of_segments_print : printed_by defaults labels_of_segments ≡ Some labels_of_segments_text
+unfolding composing reading
+labels_of_segments_print = refl
+
+labels_of_segments_read : read labels_of_segments_text ≡ decoded labels_of_segments
+unfolding reading
+labels_of_segments_read = refl
