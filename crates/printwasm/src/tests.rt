@@ -23,7 +23,7 @@ const MANY_LOCALS: [u8; 28] = [
     0x01, 0x00, 0x0a, 0x08, 0x01, 0x06, 0x01, 0xd1, 0x86, 0x03, 0x7f, 0x0b,
 ];
 
-const USAGE: &str = "usage: printwasm FILE\n";
+const USAGE: &str = "usage: printwasm [--offsets] [--skeleton] [--name-unnamed] FILE\n";
 
 /// What a run wrote, and its status.
 #[derive(Drop)]
@@ -81,6 +81,33 @@ fn prints_a_function(rt: HostRuntime) -> Result<(), Fail> {
     assert_eq!(rt; printed.status, 0);
     assert_eq!(rt; printed.out.as_slice(), text.as_bytes());
     assert_eq!(rt; printed.err.len(), 0);
+    Ok(())
+}
+
+/// The identity with places in front of lines, without its body, and with identifiers that are made up.
+const WITH_OPTIONS: &str = r#"(module
+(;@b     ;)  (type $#type0 (;0;) (func (param i32) (result i32)))
+(;@17    ;)  (export "f" (func $#func0))
+(;@1f    ;)  (func $#func0 (;0;) (type $#type0) (param $#local0 i32) (result i32) ...)
+(;@23    ;))
+"#;
+
+#[test]
+fn prints_by_its_options(rt: HostRuntime) -> Result<(), Fail> {
+    let file = "options.wasm";
+    fs::write(&rt, file, &IDENTITY)?;
+    let orders: [&[&str]; 3] = [
+        &["--offsets", "--skeleton", "--name-unnamed", file],
+        &[file, "--name-unnamed", "--skeleton", "--offsets"],
+        &["--skeleton", "--offsets", "--skeleton", file, "--name-unnamed"],
+    ];
+    for words in orders {
+        let printed = run_with(&rt, words)?;
+        assert_eq!(rt; printed.status, 0);
+        assert_eq!(rt; printed.out.as_slice(), WITH_OPTIONS.as_bytes());
+        assert_eq!(rt; printed.err.len(), 0);
+    }
+    fs::remove_file(&rt, file)?;
     Ok(())
 }
 
@@ -158,8 +185,8 @@ fn tells_its_usage(rt: HostRuntime) -> Result<(), Fail> {
         &["a.wasm", "b.wasm"],
         &["a.wasm", "b.wasm", "c.wasm"],
         &["a.wasm", "b.wasm", "c.wasm", "d.wasm"],
-        &["--offsets", "a.wasm"],
-        &["--help"],
+        &["--offsets"],
+        &["--offsets", "a.wasm", "--help"],
     ];
     for words in misuses {
         let misused = run_with(&rt, words)?;

@@ -1,15 +1,18 @@
 //! How a module is printed.
-ghost use Rattle.std.specs.Prelude.{◌≡◌, ◌↔◌, OnOk, IfErr, IsErrOf};
+ghost use Rattle.std.specs.Prelude.{◌≡◌, ◌↔◌, OnOk, IfOk, IfErr, IsErrOf, string_bytes};
 ghost use Rattle.wasmprinter_spec.specs.Binary.{IsComponent};
-ghost use Rattle.wasmprinter.specs.Printed.{Printed};
-ghost use Rattle.wasmprinter.specs.Outcome.{HasCause, IsTrueOf, Leaves};
+ghost use Rattle.wasmprinter.specs.Printed.{Printed, HasTextBy};
+ghost use Rattle.wasmprinter.specs.Outcome.{HasCause, HasTextCause, IsTrueOf, IsTrueOfText, Leaves};
 
+use crate::in_memory::without_printer;
 use std::alloc::Global;
 use std::marker::Model;
 use wasmprinter_error::Error;
 use wasmprinter_fields::modules::write_module;
+use wasmprinter_labels::OpenLabels;
 use wasmprinter_lines::options::PrintOptions;
-use wasmprinter_print::Print;
+use wasmprinter_names::Identifiers;
+use wasmprinter_print::{Print, PrintFmtWrite};
 use wasmprinter_wasm::decode;
 
 /// What is printed of a module, and how.
@@ -38,16 +41,43 @@ impl Config {
         }
     }
 
+    /// Whether each line begins with the place of what stands on it. Takes no memory.
+    pub fn print_offsets(&mut self, print: bool) -> &mut Self
+        ensures itself { result.ghost_name ≡ self.entry.ghost_name }
+        ensures options { result.now ≡ record self.old { offsets = print } }
+    {
+        self.options.offsets = print;
+        self
+    }
+
+    /// Whether bodies, items of element segments and bytes of data segments are left out. Takes no memory.
+    pub fn print_skeleton(&mut self, print: bool) -> &mut Self
+        ensures itself { result.ghost_name ≡ self.entry.ghost_name }
+        ensures options { result.now ≡ record self.old { skeleton = print } }
+    {
+        self.options.skeleton = print;
+        self
+    }
+
+    /// Whether identifiers are made up for items without a name, as `$#func3`. Takes no memory.
+    pub fn name_unnamed(&mut self, name: bool) -> &mut Self
+        ensures itself { result.ghost_name ≡ self.entry.ghost_name }
+        ensures options { result.now ≡ record self.old { invents = name } }
+    {
+        self.options.invents = name;
+        self
+    }
+
     /// Prints the text of a module in the binary format to a printer.
     ///
-    /// The module is read and checked whole before the first call on the printer.
+    /// The module is read and checked whole, and its names are read, before the first call on the printer.
     ///
     /// # Errors
     ///
     /// `Component`, `Malformed`, `TooManyLocals`, `TooManyFunctions` and `EmptyTableInit` as `decode` answers them, `Component`
     /// before all others;
-    /// `Printer` where a call on the printer failed, with that call's error; `Memory` where a growth was refused to the decoder. The
-    /// printer took no call before an error other than `Printer`.
+    /// `Printer` where a call on the printer failed, with that call's error; `Memory` where a growth was refused to the decoder or to
+    /// what keeps the names. The printer took no call before an error other than `Printer`.
     pub fn print<P: Print>(&self, alloc: Global, wasm: &[u8], printer: &mut P) -> Result<(), Error>
         ensures printed { OnOk result (Printed P.meaning self.now wasm.now printer.old printer.new) }
         ensures caused { IfErr result (HasCause P.meaning wasm.now printer.old printer.new) }
@@ -56,8 +86,32 @@ impl Config {
         ensures component { IsErrOf result Error.Component ↔ IsComponent wasm.now }
     {
         let module = decode(alloc, wasm)?;
-        write_module(printer, &self.options, &module)?;
+        let names = module.names(alloc)?;
+        let identifiers = Identifiers {
+            names: &names,
+            invents: self.options.invents,
+        };
+        let labels = OpenLabels::new(alloc, identifiers)?;
+        write_module(printer, &self.options, &module, labels)?;
         Ok(())
+    }
+
+    /// The text of a module in the binary format.
+    ///
+    /// # Errors
+    ///
+    /// As [`Config::print`], with `Memory` where the text can't grow, and never `Printer`.
+    pub fn print_to_string(&self, alloc: Global, wasm: &[u8]) -> Result<String, Error>
+        ensures printed { IfOk result (λ text. HasTextBy self.now wasm.now (string_bytes text)) }
+        ensures caused { IfErr result (HasTextCause wasm.now) }
+        ensures refused { IfErr result (IsTrueOfText wasm.now) }
+        ensures component { IsErrOf result Error.Component ↔ IsComponent wasm.now }
+    {
+        let mut printer = PrintFmtWrite(String::new(alloc));
+        match self.print(alloc, wasm, &mut printer) {
+            Ok(()) => Ok(printer.0),
+            Err(error) => Err(without_printer(error)),
+        }
     }
 }
 
@@ -76,7 +130,6 @@ impl Default for Config {
 mod tests {
     use super::*;
     use std::test::Fail;
-    use wasmprinter_print::PrintFmtWrite;
 
     /// A function that answers its parameter, exported.
     const EXPORTED: [u8; 35] = [
@@ -211,7 +264,7 @@ mod tests {
         let shown = format!(in rt.alloc(); "{config:?}")?;
         assert_eq!(rt;
             shown.as_str(),
-            "Config { options: PrintOptions { offsets: false, skeleton: false, indent: TwoBlanks } }"
+            "Config { options: PrintOptions { offsets: false, skeleton: false, invents: false, indent: TwoBlanks } }"
         );
         Ok(())
     }

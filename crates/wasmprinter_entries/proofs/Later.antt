@@ -1,8 +1,9 @@
 -- Reading that has come to a later place.
-use Rattle.std.proofs.Common.{◌≡◌, ℕ, ◌+◌, List, [], ◌∷◌, ◌++◌, length, Some, refl, sym, ap, ◌∙◌, arith, append_assoc, append-nil, length-append}
-use Rattle.wasmprinter_spec.specs.Grammar.{Input, Grammar}
-use Rattle.wasmprinter_spec.specs.Sections.{Kind}
-use Rattle.wasmprinter_entries.specs.Refusals.{HasManyLocals, HasEmptyInit, BeginsSection, BeginsItems}
+use Rattle.std.proofs.Common.{◌≡◌, ℕ, ◌+◌, inl, inr, List, [], ◌∷◌, ◌++◌, length, Some, refl, sym, ap, subst, ◌∙◌, arith, append_assoc, append-nil, length-append}
+use Rattle.wasmprinter_spec.specs.Grammar.{Input, Grammar, Placed}
+use Rattle.wasmprinter_spec.specs.Placed.{Custom}
+use Rattle.wasmprinter_spec.specs.Sections.{Kind, CustomSection, holds, section}
+use Rattle.wasmprinter_entries.specs.Refusals.{HasManyLocals, HasEmptyInit, BeginsSection, BeginsItems, HasCustom, KeepsSome}
 
 -- the bytes from the second place on end those from the first
 pub record Later (start at : Input) : Type 0 where
@@ -79,3 +80,32 @@ section_later start at kind count l h = record {
 -- and of one with items that are kept
 pub items_later : (start at : Input) → Later start at → BeginsItems at → BeginsItems start
 items_later start at l h = record { kind = h.kind; listed = h.listed; count = h.count; some = h.some; begins = section_later start at h.kind h.count l h.begins }
+
+-- and of a custom section
+pub custom_later : (start at : Input) → Later start at → HasCustom at → HasCustom start
+custom_later start at l h = record {
+  before = l.text ++ h.before;
+  text = h.text;
+  behind = h.behind;
+  parts = l.parts ∙ ap (λ (bs : List ℕ). l.text ++ bs) h.parts ∙ sym (append_assoc l.text h.before (h.text ++ h.behind));
+  custom = h.custom;
+  spelled = subst (λ (p : ℕ). section.spells p h.text (holds CustomSection h.custom)) (omega (arith, l.begins, length-append l.text h.before)) h.spelled;
+}
+
+-- so what is kept of the later bytes is kept of all of them
+pub kept_later : (start at : Input) → Later start at → KeepsSome at → KeepsSome start
+kept_later start at l (inl items) = inl (items_later start at l items)
+kept_later start at l (inr custom) = inr (custom_later start at l custom)
+
+-- a custom section that was read
+pub custom_read : (at after : Input) (c : Placed Custom) → section.parse at ≡ Some (holds CustomSection c, after) → HasCustom at
+custom_read at after c e =
+    let s = section.sound at (holds CustomSection c, after) e in
+    record {
+      before = [];
+      text = s.text;
+      behind = after.bytes;
+      parts = s.parts;
+      custom = c;
+      spelled = subst (λ (p : ℕ). section.spells p s.text (holds CustomSection c)) (omega arith) s.spelled;
+    }

@@ -1,5 +1,5 @@
 -- What the number of a label means to a printer.
-use Rattle.std.specs.Prelude.{ℕ, ◌-◌, List, Bool, true, false, ◌||◌, length, Option, Some, None}
+use Rattle.std.specs.Prelude.{ℕ, ◌-◌, List, Bool, true, false, ◌||◌, length, Some, None}
 use Rattle.wasmprinter_spec.specs.Labels.{Label, Named, is_hidden, Target, Around, Own, Nothing, target}
 
 pub data Found : Type 0 where

@@ -14,6 +14,8 @@ pub struct PrintOptions {
     pub offsets: bool,
     /// Bodies are left out.
     pub skeleton: bool,
+    /// Items without a name have identifiers made up for them.
+    pub invents: bool,
     /// The text that stands once for each level of nesting.
     indent: Indent,
 }
@@ -24,20 +26,21 @@ impl Model for PrintOptions {
 
     ghost Value = { Options };
 
-    ghost view = { λ o. record { offsets = o.offsets; skeleton = o.skeleton; indent = indent_text o.indent } };
+    ghost view = { λ o. record { offsets = o.offsets; skeleton = o.skeleton; invents = o.invents; indent = indent_text o.indent } };
 }
 
 impl PrintOptions {
     ghost use Rattle.std.specs.Prelude.{◌≡◌};
     ghost use Rattle.wasmprinter_spec.specs.Options.{defaults};
 
-    /// No places in front of lines, bodies in full, and an indent of two blanks. Takes no memory.
+    /// No places in front of lines, bodies in full, no identifiers made up, and an indent of two blanks. Takes no memory.
     pub fn new() -> PrintOptions
         ensures { result ≡ defaults }
     {
         PrintOptions {
             offsets: false,
             skeleton: false,
+            invents: false,
             indent: Indent::TwoBlanks,
         }
     }

@@ -11,7 +11,7 @@ mod subsection;
 pub use identifiers::{Identifier, Identifiers};
 pub use read::read_names;
 pub use space::Space;
-pub use store::{Name, Names, NamesBuilder};
+pub use store::{LabelName, Name, Names, NamesBuilder};
 
 #[cfg(test)]
 mod tests;

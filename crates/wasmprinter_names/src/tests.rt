@@ -1,6 +1,6 @@
 //! Names of a few name sections. The bytes and what is expected are typed by hand.
 
-use crate::{Identifier, Identifiers, Name, Names, NamesBuilder, Space, read_names};
+use crate::{Identifier, Identifiers, LabelName, Name, Names, NamesBuilder, Space, read_names};
 use std::alloc::Global;
 use std::test::Fail;
 use wasmprinter_bytes::bytes::Cursor;
@@ -174,5 +174,29 @@ fn no_identifier_is_made_up_for_a_module(rt: HostRuntime) -> Result<(), Fail> {
         invents: true,
     };
     assert_eq!(rt; all.module(), None);
+    Ok(())
+}
+
+#[test]
+fn labels_are_listed_by_function_and_number(rt: HostRuntime) -> Result<(), Fail> {
+    // labels of function 2: 1 `b`, 0 `a`; of function 0: 7 `c`; a local and a function have names too
+    let labels = b"\x03\x0e\x02\x02\x02\x01\x01b\x00\x01a\x00\x01\x07\x01c";
+    let others = b"\x02\x06\x01\x00\x01\x00\x01x\x01\x04\x01\x00\x01f";
+    let names = names_of(rt.alloc(), &[labels, others])?;
+    let listed = names.labels(rt.alloc())?;
+    let expected = [(0, 7, "c"), (2, 0, "a"), (2, 1, "b")];
+    assert_eq!(rt; listed.len(), expected.len());
+    for (label, (function, number, name)) in listed.iter().zip(expected) {
+        let name = Name {
+            given: name,
+            content: name,
+        };
+        let expected = LabelName {
+            function,
+            number,
+            name,
+        };
+        assert_eq!(rt; *label, expected);
+    }
     Ok(())
 }

@@ -1,20 +1,55 @@
 -- What sections in order hold together.
-use Rattle.std.proofs.Common.{◌≡◌, ℕ, ◌<◌, ◌≤◌, lit≤, true, List, [], ◌∷◌, ◌++◌, length, refl, sym, ap, subst, ◌∙◌, arith}
+use Rattle.std.proofs.Common.{◌≡◌, ℕ, ◌<◌, ◌≤◌, lit≤, true, List, [], ◌∷◌, ◌++◌, length, Option, Some, None, refl, sym, ap, subst, ◌∙◌, arith, append-nil}
 use Rattle.std.specs.List.{AllByRecursion}
-use Rattle.wasmprinter_spec.specs.Sections.{TypeSection, ImportSection, FunctionSection, TableSection, MemorySection, TagSection, GlobalSection}
+use Rattle.wasmprinter_spec.specs.Grammar.{Placed}
+use Rattle.wasmprinter_spec.specs.Placed.{Custom}
+use Rattle.wasmprinter_spec.specs.Repeated.{some_or}
+use Rattle.wasmprinter_spec.specs.Sections.{CustomSection, TypeSection, ImportSection, FunctionSection, TableSection, MemorySection, TagSection, GlobalSection}
 use Rattle.wasmprinter_spec.specs.Sections.{ExportSection, StartSection, ElementSection, DataCountSection, CodeSection, DataSection}
-use Rattle.wasmprinter_spec.specs.Sections.{Kind, Section, holds, section_kind, rank, rank_behind, are_above}
-use Rattle.wasmprinter_spec.specs.Binary.{type_indices_in, tables_in, bodies_in}
+use Rattle.wasmprinter_spec.specs.Sections.{Kind, Section, holds, section_kind, content_of, rank, rank_behind, are_above}
+use Rattle.wasmprinter_spec.specs.Binary.{type_indices_in, tables_in, bodies_in, customs_in}
 use Rattle.wasmprinter_spec.specs.Limits.{most_functions}
-use Rattle.wasmprinter_spec.proofs.Ordered.{with_one, held_each, held_midst, held_picked}
+use Rattle.wasmprinter_spec.proofs.Ordered.{with_one, held_push, held_each, held_midst, held_picked}
 use Rattle.wasmprinter_entries.specs.Refusals.{AnyIsOver, FirstIsEmpty}
 use Rattle.wasmprinter_entries.specs.Contents.{HasFew, HasNoEmpty, IsSmall, HasCount, HasOver, HasEmpty, item_count}
-use Rattle.wasmprinter_wasm.specs.Gathering.{Gathered, content_kept, with_section, IsHeld, item_count_in}
+use Rattle.wasmprinter_wasm.specs.Gathering.{Gathered, none_gathered, Kept, kept, kept_in, with_section, IsHeld, item_count_in}
+
+-- ---- custom sections
+
+-- one more in front, if there is one
+abbrev in_front : Option (Placed Custom) → List (Placed Custom) → List (Placed Custom)
+in_front o cs = some_or o cs (λ c. c ∷ cs)
+
+front_push : (o : Option (Placed Custom)) (cs ds more : List (Placed Custom)) → ds ≡ cs ++ more → in_front o ds ≡ in_front o cs ++ more
+front_push None cs ds more e = e
+front_push (Some c) cs ds more e = ap (λ (xs : List (Placed Custom)). c ∷ xs) e
+
+front_length : (o : Option (Placed Custom)) (cs : List (Placed Custom)) → length cs ≤ length (in_front o cs)
+front_length None cs = omega arith
+front_length (Some c) cs = omega arith
+
+-- one more section behind others
+customs_push : (ss : List Section) (s : Section) → customs_in (ss ++ s ∷ []) ≡ customs_in ss ++ in_front (content_of CustomSection s) []
+customs_push [] s = refl
+customs_push (x ∷ xs) s = front_push (content_of CustomSection x) (customs_in xs) (customs_in (xs ++ s ∷ [])) (in_front (content_of CustomSection s) []) (customs_push xs s)
+
+-- one among others
+customs_midst : (xs : List Section) (c : Placed Custom) (ys : List Section) → 0 < length (customs_in (xs ++ holds CustomSection c ∷ ys))
+customs_midst [] c ys = omega arith
+customs_midst (x ∷ xs) c ys =
+    let rest : List (Placed Custom) = customs_in (xs ++ holds CustomSection c ∷ ys) in
+    omega (arith, customs_midst xs c ys, front_length (content_of CustomSection x) rest)
+
+-- a section that is a custom one
+pub custom_kind : (s : Section) → section_kind s ≡ CustomSection → (c : Placed Custom) × (s ≡ holds CustomSection c)
+custom_kind (holds CustomSection c) e = (c, refl)
+custom_kind (holds _ x) e = absurd cc
 
 -- ---- of each kind
 
 -- the rank that is kept is that of the last section that has one
 pub rank_added : (g : Gathered) (s : Section) → (with_section g s).rank ≡ rank_behind g.rank (rank (section_kind s))
+rank_added g (holds CustomSection x) = refl
 rank_added g (holds TypeSection x) = refl
 rank_added g (holds ImportSection x) = refl
 rank_added g (holds FunctionSection x) = refl
@@ -29,8 +64,25 @@ rank_added g (holds DataCountSection x) = refl
 rank_added g (holds CodeSection x) = refl
 rank_added g (holds DataSection x) = refl
 
--- a section sets what is kept of its kind, and leaves the rest
-pub kept_added : (kind : Kind) (g : Gathered) (s : Section) → content_kept kind (with_section g s) ≡ with_one kind (content_kept kind g) s
+-- before any section nothing is kept
+pub kept_none : (kind : Kind) → kept kind none_gathered ≡ kept_in kind []
+kept_none CustomSection = refl
+kept_none _ = refl
+
+-- what is kept of a kind, with one more section
+abbrev pub kept_with : (kind : Kind) → Kept kind → Section → Kept kind
+kept_with CustomSection cs s = cs ++ in_front (content_of CustomSection s) []
+kept_with kind c s = with_one kind c s
+
+-- it is what sections hold with one more behind them
+pub kept_push : (kind : Kind) (ss : List Section) (s : Section) → kept_in kind (ss ++ s ∷ []) ≡ kept_with kind (kept_in kind ss) s
+kept_push CustomSection ss s = customs_push ss s
+kept_push kind ss s = held_push kind (kept kind none_gathered) ss s
+
+-- a section sets what is kept of its kind, or adds to it, and leaves the rest
+pub kept_added : (kind : Kind) (g : Gathered) (s : Section) → kept kind (with_section g s) ≡ kept_with kind (kept kind g) s
+kept_added CustomSection g (holds CustomSection x) = refl
+kept_added CustomSection g (holds _ x) = sym (append-nil g.customs)
 kept_added TypeSection g (holds TypeSection x) = refl
 kept_added ImportSection g (holds ImportSection x) = refl
 kept_added FunctionSection g (holds FunctionSection x) = refl
@@ -48,6 +100,7 @@ kept_added _ g _ = refl
 
 -- sections in order among which one holds an item hold one
 pub some_midst : (xs : List Section) (s : Section) (ys : List Section) → are_above 0 (xs ++ s ∷ ys) ≡ true → 0 < item_count s → 0 < item_count_in (xs ++ s ∷ ys)
+some_midst xs (holds CustomSection x) ys up some = omega (arith, customs_midst xs x ys)
 some_midst xs (holds TypeSection x) ys up some = omega (arith, ap length (held_midst TypeSection 1 refl [] 0 xs x ys up))
 some_midst xs (holds ImportSection x) ys up some = omega (arith, ap length (held_midst ImportSection 2 refl [] 0 xs x ys up))
 some_midst xs (holds FunctionSection x) ys up some = omega (arith, ap length (held_midst FunctionSection 3 refl [] 0 xs x ys up))

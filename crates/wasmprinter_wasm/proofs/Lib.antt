@@ -7,3 +7,4 @@ pub mod Listed
 pub mod Gathering
 pub mod Assembling
 pub mod Imported
+pub mod Naming
