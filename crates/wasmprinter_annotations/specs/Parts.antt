@@ -4,7 +4,7 @@ use Rattle.wasmprinter_error.specs.declared.error.Error.{Error}
 use Rattle.wasmprinter_error.specs.declared.error.Error.TheVariants.{Malformed, Component, TooManyLocals, TooManyFunctions, EmptyTableInit, FoldLegacy, FoldHint, DylinkSubsection, Unreadable, Printer, Memory}
 use Rattle.wasmprinter_spec.specs.Meaning.{Meaning}
 use Rattle.wasmprinter_spec.specs.Options.{Options}
-use Rattle.wasmprinter_spec.specs.Layout.Customs.{Part, Laid, joined}
+use Rattle.wasmprinter_spec.specs.Layout.Customs.{Part, Laid, laid_parts}
 use Rattle.wasmprinter_print.specs.Emits.{Ending, Through, AtCall, Never}
 use Rattle.wasmprinter_print.specs.Prints.{Written}
 
@@ -42,4 +42,4 @@ pub record PrintsLaid {P T : Type 0} (m : Meaning P) (o : Options) (old new : P)
   pub refused : IsRefused r l.refused
 
 abbrev pub PrintsParts : {P T : Type 0} → Meaning P → Options → P → P → Result T Error → List Part → Type 0
-PrintsParts m o old new r parts = PrintsLaid m o old new r (joined parts)
+PrintsParts m o old new r parts = PrintsLaid m o old new r (laid_parts parts)

@@ -92,9 +92,9 @@ may_follow Bound p = begins p
 may_follow Opened p = starts p
 may_follow Ended p = feeds p
 
-abbrev pub joined : Edge → List Piece → Bool
-joined e [] = true
-joined e (p ∷ ps) = may_follow e p && joined (leaves p) ps
+abbrev pub pieces_follow : Edge → List Piece → Bool
+pieces_follow e [] = true
+pieces_follow e (p ∷ ps) = may_follow e p && pieces_follow (leaves p) ps
 
 -- what a piece holds is what its kind holds
 abbrev pub IsPiece : Piece → Type 0
@@ -403,21 +403,21 @@ pub text_of-all_calls : (o : Options) (ps : List Piece) → text_of (all_calls o
 text_of-all_calls o [] = refl
 text_of-all_calls o (p ∷ ps) = text_of-append (calls o p) (all_calls o ps) ∙ ap (λ t. text o p ++ t) (text_of-all_calls o ps)
 
-follows_first : (o : Options) (e : Edge) (ps : List Piece) → joined e ps ≡ true → ArePieces ps → follows e (all_text o ps) ≡ true
+follows_first : (o : Options) (e : Edge) (ps : List Piece) → pieces_follow e ps ≡ true → ArePieces ps → follows e (all_text o ps) ≡ true
 follows_first o Free ps h a = refl
 follows_first o Bound [] h a = refl
 follows_first o Bound (p ∷ ps) h a =
-    let parts : (begins p ≡ true) × (joined (leaves p) ps ≡ true) = and_parts (begins p) (joined (leaves p) ps) h in
+    let parts : (begins p ≡ true) × (pieces_follow (leaves p) ps ≡ true) = and_parts (begins p) (pieces_follow (leaves p) ps) h in
     begins_delimited o p (all_text o ps) parts.0 (follows_first o (leaves p) ps parts.1 a.1)
 follows_first o Opened [] h a = refl
-follows_first o Opened (p ∷ ps) h a = starts_item o p (all_text o ps) (and_parts (starts p) (joined (leaves p) ps) h).0 a.0
+follows_first o Opened (p ∷ ps) h a = starts_item o p (all_text o ps) (and_parts (starts p) (pieces_follow (leaves p) ps) h).0 a.0
 follows_first o Ended [] h a = refl
-follows_first o Ended (p ∷ ps) h a = feeds_ends_line o p (all_text o ps) (and_parts (feeds p) (joined (leaves p) ps) h).0
+follows_first o Ended (p ∷ ps) h a = feeds_ends_line o p (all_text o ps) (and_parts (feeds p) (pieces_follow (leaves p) ps) h).0
 
-pub pieces_lex : (o : Options) → IsBlank o.indent → (e : Edge) (ps : List Piece) → joined e ps ≡ true → ArePieces ps → lex Clear (all_text o ps) ≡ all_tokens ps
+pub pieces_lex : (o : Options) → IsBlank o.indent → (e : Edge) (ps : List Piece) → pieces_follow e ps ≡ true → ArePieces ps → lex Clear (all_text o ps) ≡ all_tokens ps
 unfolding lex
 pieces_lex o blank e [] h a = refl
 pieces_lex o blank e (p ∷ ps) h a =
-    let parts : (may_follow e p ≡ true) × (joined (leaves p) ps ≡ true) = and_parts (may_follow e p) (joined (leaves p) ps) h in
+    let parts : (may_follow e p ≡ true) × (pieces_follow (leaves p) ps ≡ true) = and_parts (may_follow e p) (pieces_follow (leaves p) ps) h in
     piece_lexes o (all_blank-IsBlank o.indent blank) p (all_text o ps) a.0 (follows_first o (leaves p) ps parts.1 a.1)
     ∙ ap (λ t. piece_tokens p ++ t) (pieces_lex o blank (leaves p) ps parts.1 a.1)

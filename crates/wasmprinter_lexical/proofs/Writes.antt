@@ -22,10 +22,10 @@ use Rattle.wasmprinter_lexical.proofs.Grown.{flat-onto, one-flat, cut-onto}
 use Rattle.wasmprinter_lexical.proofs.Noted.{Noted, no_items, a_word, a_name, a_noted_name, a_string, a_group, a_note, noted-same, noted-onto}
 use Rattle.wasmprinter_lexical.proofs.Notes.{Beginning, InGroup, InNote, beginning_tokens, beginning, run_tokens}
 use Rattle.wasmprinter_lexical.proofs.Printed.{is_remark}
-use Rattle.wasmprinter_lexical.proofs.Pieces.{Edge, Free, Bound, Opened, Ended, begins, starts, feeds, leaves, may_follow, joined, ArePieces, text_of-all_calls, pieces_lex}
+use Rattle.wasmprinter_lexical.proofs.Pieces.{Edge, Free, Bound, Opened, Ended, begins, starts, feeds, leaves, may_follow, pieces_follow, ArePieces, text_of-all_calls, pieces_lex}
 
 pub record WritesNoted (a : Edge) (ps : List Piece) (b : Edge) (f k : Forest) : Type 0 where
-  pub joins : (qs : List Piece) → joined b qs ≡ true → joined a (ps ++ qs) ≡ true
+  pub joins : (qs : List Piece) → pieces_follow b qs ≡ true → pieces_follow a (ps ++ qs) ≡ true
   pub are : ArePieces ps
   pub whole : Forest
   pub tokens : all_tokens ps ≡ flat whole
@@ -39,11 +39,11 @@ Writes a ps b f = WritesNoted a ps b f f
 -- ---- what follows from it
 
 -- The text of pieces that may stand so reads as their tokens.
-pub pieces_tokens : (o : Options) → IsBlank o.indent → (ps : List Piece) → joined Free ps ≡ true → ArePieces ps → tokens (text_of (all_calls o ps)) ≡ all_tokens ps
+pub pieces_tokens : (o : Options) → IsBlank o.indent → (ps : List Piece) → pieces_follow Free ps ≡ true → ArePieces ps → tokens (text_of (all_calls o ps)) ≡ all_tokens ps
 pieces_tokens o blank ps j a = ap tokens (text_of-all_calls o ps) ∙ pieces_lex o blank Free ps j a
 
-pub writes_joined : {a b : Edge} {ps : List Piece} {f k : Forest} → WritesNoted a ps b f k → joined a ps ≡ true
-writes_joined {a = a} {ps = ps} w = subst (λ t. joined a t ≡ true) (append-nil ps) (w.joins [] refl)
+pub writes_joined : {a b : Edge} {ps : List Piece} {f k : Forest} → WritesNoted a ps b f k → pieces_follow a ps ≡ true
+writes_joined {a = a} {ps = ps} w = subst (λ t. pieces_follow a t ≡ true) (append-nil ps) (w.joins [] refl)
 
 pub writes_tokens : {b : Edge} {f k : Forest} (o : Options) → IsBlank o.indent → (ps : List Piece) → WritesNoted Free ps b f k → tokens (text_of (all_calls o ps)) ≡ all_tokens ps
 writes_tokens o blank ps w = pieces_tokens o blank ps (writes_joined w) w.are
@@ -66,7 +66,7 @@ ArePieces-append (p ∷ ps) qs a b = (a.0, ArePieces-append ps qs a.1 b)
 -- one and another, where the second may stand behind a word
 pub both_write : {a b c : Edge} {ps qs : List Piece} {f g k h : Forest} → WritesNoted a ps b f k → WritesNoted b qs c g h → WritesNoted a (ps ++ qs) c (onto f g) (onto k h)
 both_write {a = a} {ps = ps} {qs = qs} {k = k} {h = h} v w = record {
-  joins = λ rs j. subst (λ t. joined a t ≡ true) (sym (append_assoc ps qs rs)) (v.joins (qs ++ rs) (w.joins rs j));
+  joins = λ rs j. subst (λ t. pieces_follow a t ≡ true) (sym (append_assoc ps qs rs)) (v.joins (qs ++ rs) (w.joins rs j));
   are = ArePieces-append ps qs v.are w.are;
   whole = onto v.whole w.whole;
   tokens = all_tokens-append ps qs ∙ ap (λ t. t ++ all_tokens qs) v.tokens ∙ ap (λ t. flat v.whole ++ t) w.tokens ∙ sym (flat-onto v.whole w.whole);
@@ -76,9 +76,9 @@ both_write {a = a} {ps = ps} {qs = qs} {k = k} {h = h} v w = record {
 
 -- ---- the rules for pieces. Each holds at every edge at which it can, so that a search has nothing to choose.
 
-loosen : (b : Edge) (qs : List Piece) → joined b qs ≡ true → joined Free qs ≡ true
+loosen : (b : Edge) (qs : List Piece) → pieces_follow b qs ≡ true → pieces_follow Free qs ≡ true
 loosen b [] h = refl
-loosen b (q ∷ qs) h = (and_parts (may_follow b q) (joined (leaves q) qs) h).1
+loosen b (q ∷ qs) h = (and_parts (may_follow b q) (pieces_follow (leaves q) qs) h).1
 
 -- a token, and behind it something on the line
 abbrev pub is_open : Edge → Bool
@@ -114,18 +114,18 @@ loosened {ps = ps} w = record {
 }
 
 -- a piece that may stand behind a word may stand where the line goes on
-joins_anywhere : (a : Edge) (p : Piece) (ps : List Piece) → is_open a ≡ true → begins p ≡ true → joined (leaves p) ps ≡ true → joined a (p ∷ ps) ≡ true
-joins_anywhere a p ps o b j = and_from (may_follow a p) (joined (leaves p) ps) (begins_all a p o b) j
+joins_anywhere : (a : Edge) (p : Piece) (ps : List Piece) → is_open a ≡ true → begins p ≡ true → pieces_follow (leaves p) ps ≡ true → pieces_follow a (p ∷ ps) ≡ true
+joins_anywhere a p ps o b j = and_from (may_follow a p) (pieces_follow (leaves p) ps) (begins_all a p o b) j
 
 -- the end of a line may stand anywhere
-joins_line : (a : Edge) (p : Piece) (ps : List Piece) → feeds p ≡ true → joined (leaves p) ps ≡ true → joined a (p ∷ ps) ≡ true
-joins_line a p ps f j = and_from (may_follow a p) (joined (leaves p) ps) (feeds_all a p f) j
+joins_line : (a : Edge) (p : Piece) (ps : List Piece) → feeds p ≡ true → pieces_follow (leaves p) ps ≡ true → pieces_follow a (p ∷ ps) ≡ true
+joins_line a p ps f j = and_from (may_follow a p) (pieces_follow (leaves p) ps) (feeds_all a p f) j
 
 -- what may stand where the line must end may stand anywhere
-pub ended_joins : (a : Edge) (ps : List Piece) → joined Ended ps ≡ true → joined a ps ≡ true
+pub ended_joins : (a : Edge) (ps : List Piece) → pieces_follow Ended ps ≡ true → pieces_follow a ps ≡ true
 ended_joins a [] j = refl
 ended_joins a (p ∷ ps) j =
-    let parts : (feeds p ≡ true) × (joined (leaves p) ps ≡ true) = and_parts (feeds p) (joined (leaves p) ps) j in
+    let parts : (feeds p ≡ true) × (pieces_follow (leaves p) ps ≡ true) = and_parts (feeds p) (pieces_follow (leaves p) ps) j in
     joins_line a p ps parts.0 parts.1
 
 pub nothing_writes : {a : Edge} → WritesNoted a [] a End End
@@ -415,7 +415,7 @@ before_line b w = record {
 -- what begins so may stand there
 pub opened_writes : {b : Edge} {p : Piece} {ps : List Piece} {f k : Forest} → starts p ≡ true → WritesNoted Free (p ∷ ps) b f k → WritesNoted Opened (p ∷ ps) b f k
 opened_writes {p = p} {ps = ps} s w = record {
-  joins = λ qs h. and_from (starts p) (joined (leaves p) (ps ++ qs)) s (w.joins qs h);
+  joins = λ qs h. and_from (starts p) (pieces_follow (leaves p) (ps ++ qs)) s (w.joins qs h);
   are = w.are;
   whole = w.whole;
   tokens = w.tokens;
@@ -434,7 +434,7 @@ abbrev pub may_close : Edge → Bool → Bool
 may_close Ended t = t
 may_close _ t = true
 
-close_joins : (c : Edge) (place : Option ℕ) (nesting : ℕ) (t : Bool) (qs : List Piece) → may_close c t ≡ true → joined Free qs ≡ true → joined c (close place nesting t ++ qs) ≡ true
+close_joins : (c : Edge) (place : Option ℕ) (nesting : ℕ) (t : Bool) (qs : List Piece) → may_close c t ≡ true → pieces_follow Free qs ≡ true → pieces_follow c (close place nesting t ++ qs) ≡ true
 close_joins Free place nesting true qs m h = h
 close_joins Free place nesting false qs m h = h
 close_joins Bound place nesting true qs m h = h
@@ -519,8 +519,8 @@ closed_writes : {b e c : Edge} {f k : Forest} {around kept : Forest → Forest} 
     WritesNoted a (p ∷ (ps ++ close place nesting t)) b (kept f) (around k)
 closed_writes {b = b} {e = e} {c = c} {k = k} {around = around} {kept = kept} p place nesting t ps a o m i w = record {
   joins = λ qs g. joins_anywhere a p ((ps ++ close place nesting t) ++ qs) o i.delimits
-      (subst (λ x. joined x ((ps ++ close place nesting t) ++ qs) ≡ true) (sym i.leaves_it)
-      (subst (λ x. joined e x ≡ true) (sym (append_assoc ps (close place nesting t) qs))
+      (subst (λ x. pieces_follow x ((ps ++ close place nesting t) ++ qs) ≡ true) (sym i.leaves_it)
+      (subst (λ x. pieces_follow e x ≡ true) (sym (append_assoc ps (close place nesting t) qs))
       (w.joins (close place nesting t ++ qs) (close_joins c place nesting t qs m (loosen b qs g)))));
   are = (i.is.0, ArePieces-append ps (close place nesting t) w.are (close_are place nesting t));
   whole = around w.whole;

@@ -17,7 +17,7 @@ use Rattle.wasmprinter_spec.specs.Layout.Declarations.{Scope}
 use Rattle.wasmprinter_spec.specs.Layout.Functions.{header_pieces, inner_pieces, function_pieces, functions_pieces, function_group}
 use Rattle.wasmprinter_spec.specs.Layout.Elements.{element_pieces}
 use Rattle.wasmprinter_spec.specs.Layout.DataSegments.{data_pieces}
-use Rattle.wasmprinter_spec.specs.Layout.Customs.{Part, Shown, Stops, parts_at, Laid, joined}
+use Rattle.wasmprinter_spec.specs.Layout.Customs.{Part, Shown, Stops, parts_at, Laid, laid_parts}
 use Rattle.wasmprinter_spec.specs.Layout.{early_scope, late_scope, module_parts, module_pieces_of, module_pieces_with, module_pieces}
 use Rattle.wasmprinter_lexical.proofs.Writes.{all_tokens-append, close_tokens}
 
@@ -75,11 +75,11 @@ record LaidAlike (a b : Laid) : Type 0 where
   tokens : all_tokens a.pieces ≡ all_tokens b.pieces
   refused : a.refused ≡ b.refused
 
-joined_alike : {xs ys : List Part} → PartsStay xs ys → LaidAlike (joined xs) (joined ys)
+joined_alike : {xs ys : List Part} → PartsStay xs ys → LaidAlike (laid_parts xs) (laid_parts ys)
 joined_alike no_parts = record { tokens = refl; refused = refl }
 joined_alike (both_shown {ps} {qs} {xs} {ys} e v) =
-    let rest : LaidAlike (joined xs) (joined ys) = joined_alike v in
-    record { tokens = both_stay ps qs (joined xs).pieces (joined ys).pieces e rest.tokens; refused = rest.refused }
+    let rest : LaidAlike (laid_parts xs) (laid_parts ys) = joined_alike v in
+    record { tokens = both_stay ps qs (laid_parts xs).pieces (laid_parts ys).pieces e rest.tokens; refused = rest.refused }
 joined_alike (both_stop v) = record { tokens = refl; refused = refl }
 
 -- ---- the module
@@ -139,8 +139,8 @@ module _ (o p : Options) (same : o.skeleton ≡ p.skeleton) where
     pub module_pieces_with_stay : all_tokens (module_pieces_with o answers names m) ≡ all_tokens (module_pieces_with p answers names m)
     unfolding module_pieces_with
     module_pieces_with_stay =
-        let a : Laid = joined (module_parts o answers names m) in
-        let b : Laid = joined (module_parts p answers names m) in
+        let a : Laid = laid_parts (module_parts o answers names m) in
+        let b : Laid = laid_parts (module_parts p answers names m) in
         let alike : LaidAlike a b = joined_alike parts_stay in
         ap (λ r. all_tokens (module_pieces_of o names m.size a.pieces r)) alike.refused ∙ pieces_stay b.refused a.pieces b.pieces alike.tokens
 

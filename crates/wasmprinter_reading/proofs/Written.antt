@@ -13,7 +13,7 @@ use Rattle.wasmprinter_spec.specs.Names.{Names, AreNamed}
 use Rattle.wasmprinter_spec.specs.Module.{without_places, imported, func_import, table_import, memory_import, global_import, tag_import}
 use Rattle.wasmprinter_spec.specs.Layout.Groups.{numbered}
 use Rattle.wasmprinter_spec.specs.Layout.Identifiers.{leading_mark_pieces}
-use Rattle.wasmprinter_spec.specs.Layout.Customs.{Shown, Laid, joined, parts_at}
+use Rattle.wasmprinter_spec.specs.Layout.Customs.{Shown, Laid, laid_parts, parts_at}
 use Rattle.wasmprinter_spec.specs.Layout.Types.{type_section_pieces}
 use Rattle.wasmprinter_spec.specs.Layout.Functions.{function_pieces, functions_pieces}
 use Rattle.wasmprinter_spec.specs.Layout.Imports.{no_numbers, imports_pieces}
@@ -172,7 +172,7 @@ module _ (o : Options) (names : Names) (named : AreNamed names) (m : PlacedModul
     -- ---- the module
 
     abbrev pub laid : Laid
-    laid = joined (module_parts o answers names m)
+    laid = laid_parts (module_parts o answers names m)
 
     pub module_writes : laid.refused ≡ None → WritesNoted Free (module_pieces_with o answers names m) Free
         (Group (Word (codes "module") (onto (id_items names.module_name) (module_items names m o.skeleton))) End)
@@ -187,14 +187,14 @@ module _ (o : Options) (names : Names) (named : AreNamed names) (m : PlacedModul
         (Group (Word (codes "module") (onto (id_items names.module_name) module_noted)) End)) (sym none) written
 
     -- whole or not, its pieces may stand so
-    pub module_stands : (pieces.joined Free (module_pieces_with o answers names m) ≡ true) × ArePieces (module_pieces_with o answers names m)
+    pub module_stands : (pieces.laid_parts Free (module_pieces_with o answers names m) ≡ true) × ArePieces (module_pieces_with o answers names m)
     unfolding module_pieces_with class
     module_stands = by laid.refused
       where
         held : IsWritten Bound (leading_mark_pieces names.module_name ++ laid.pieces) Bound
         held = written (both_write (leading_mark_writes names.module_name named.module_name) (parts_partly parts_write).writes)
 
-        by : (r : Option ℕ) → (pieces.joined Free (module_pieces_of o names m.size laid.pieces r) ≡ true) × ArePieces (module_pieces_of o names m.size laid.pieces r)
+        by : (r : Option ℕ) → (pieces.laid_parts Free (module_pieces_of o names m.size laid.pieces r) ≡ true) × ArePieces (module_pieces_of o names m.size laid.pieces r)
         by None =
             let last : Writes Bound (Feed ∷ []) Free End = feed_writes nothing_writes in
             let w = begin_writes {place = 0} (group_at_then o.offsets m.size 0 (codes "module") (leading_mark_pieces names.module_name ++ laid.pieces) (Feed ∷ []) refl refl held.writes last) in

@@ -25,7 +25,7 @@ use Rattle.wasmprinter_spec.specs.Layout.Globals.{global_pieces}
 use Rattle.wasmprinter_spec.specs.Layout.Exports.{export_pieces}
 use Rattle.wasmprinter_spec.specs.Layout.Elements.{element_pieces}
 use Rattle.wasmprinter_spec.specs.Layout.DataSegments.{data_pieces}
-use Rattle.wasmprinter_spec.specs.Layout.Customs.{Part, Shown, parts_at, Laid, joined}
+use Rattle.wasmprinter_spec.specs.Layout.Customs.{Part, Shown, parts_at, Laid, laid_parts}
 pub mod Groups
 pub mod Identifiers
 pub mod ValTypes
@@ -93,7 +93,7 @@ module_pieces_of o names size ps (Some id) =
 -- a module with these identifiers
 unfoldable pub module_pieces_with : Options → Answers → Names → PlacedModule → List Piece
 module_pieces_with o answers names m =
-    let laid : Laid = joined (module_parts o answers names m) in
+    let laid : Laid = laid_parts (module_parts o answers names m) in
     module_pieces_of o names m.size laid.pieces laid.refused
 
 -- a module with the identifiers that its name sections give
@@ -106,4 +106,4 @@ layout o answers m = all_calls o (module_pieces o answers m)
 
 -- the id of the first subsection that isn't known of an unclaimed `dylink.0` section, behind whose claim the layout ends
 abbrev pub refusal : Options → Answers → PlacedModule → Option ℕ
-refusal o answers m = (joined (module_parts o answers (module_names o.invents m) m)).refused
+refusal o answers m = (laid_parts (module_parts o answers (module_names o.invents m) m)).refused

@@ -62,22 +62,22 @@ module _ {A : Type 0} (w : Remainder A) where
     exactly = record { spells = Exactly; parse = exactly_at; sound = exactly_sound; complete = exactly_complete }
 
 -- the value, if nothing stands behind it
-abbrev pub ended : {A : Type 0} → List ℕ → A → Option A
-ended [] a = Some a
-ended (b ∷ bs) a = None
+abbrev pub value_at_end : {A : Type 0} → List ℕ → A → Option A
+value_at_end [] a = Some a
+value_at_end (b ∷ bs) a = None
 
 -- a value and nothing behind it
 module _ {A : Type 0} (g : Grammar A) where
   abbrev pub alone_at : Input → Option A
-  alone_at at = g.parse at >>= λ x. ended x.1.bytes x.0
+  alone_at at = g.parse at >>= λ x. value_at_end x.1.bytes x.0
 
-  ended_some : (bytes : List ℕ) (a b : A) → ended bytes a ≡ Some b → (bytes ≡ []) × (a ≡ b)
+  ended_some : (bytes : List ℕ) (a b : A) → value_at_end bytes a ≡ Some b → (bytes ≡ []) × (a ≡ b)
   ended_some [] a b e = (refl, some_is a b e)
   ended_some (c ∷ cs) a b e = absurd cc
 
   pub alone_sound : (at : Input) (a : A) → alone_at at ≡ Some a → g.spells at.place at.bytes a
   alone_sound at a e =
-      let x = bind_some (g.parse at) (λ x. ended x.1.bytes x.0) a e in
+      let x = bind_some (g.parse at) (λ x. value_at_end x.1.bytes x.0) a e in
       let d = ended_some x.0.1.bytes x.0.0 a x.2 in
       let s = g.sound at x.0 x.1 in
       let t : s.text ≡ at.bytes = sym (s.parts ∙ ap (λ (r : List ℕ). s.text ++ r) d.0 ∙ append-nil s.text) in

@@ -26,10 +26,10 @@ use Rattle.wasmprinter_entries.specs.Contents.{HasFew, HasNoEmpty}
 use Rattle.wasmprinter_wasm.specs.Gathering.{Gathered, IsWhole, sections_at, item_count_in, HoldsSections, sections_reasons}
 use Rattle.wasmprinter_wasm.specs.Modules.{functions_of, bodies_of, IsPaired, HasFewItems}
 use Rattle.wasmprinter_wasm.specs.Decoding.{HoldsSome, HoldsNothing, module_reasons, IsFaultOf, TakesModule}
-use Rattle.wasmprinter_entries.proofs.Later.{Later, later_none, later_more, many_later, empty_later, section_later, kept_later}
+use Rattle.wasmprinter_entries.proofs.LaterPlaces.{IsLater, later_none, later_more, many_later, empty_later, section_later, kept_later}
 use Rattle.wasmprinter_segments.proofs.Emptied.{not_empty}
 use Rattle.wasmprinter_wasm.proofs.Pairing.{Paired, Pairs, paired_of, paired_length, pairs_of}
-use Rattle.wasmprinter_wasm.proofs.Held.{HoldsFew, few_held}
+use Rattle.wasmprinter_wasm.proofs.OrderedSections.{HoldsFew, few_held}
 use Rattle.wasmprinter_wasm.proofs.Listed.{bytes_apart, sections_listed, items_held}
 
 -- what the bytes of a module are: a preamble, and sections in order with as many type indices as bodies, and as many data segments as are counted
@@ -94,7 +94,7 @@ module _ (bytes pre : List ℕ) (at : Input) (first : preamble.parse (input 0 by
       assembled_of c.0 m (ap sections_at (sym there) ∙ c.1) (ap (module_of_sections size) same ∙ a.2)
 
   -- the sections stand behind the preamble
-  later : Later (input 0 bytes) at
+  later : IsLater (input 0 bytes) at
   later = later_more preamble (input 0 bytes) (input 0 bytes) at pre first (later_none (input 0 bytes))
 
   -- the functions are those of its sections
@@ -163,7 +163,7 @@ module _ (bytes pre : List ℕ) (at : Input) (first : preamble.parse (input 0 by
           let counted : counts_data (data_count_in h.sections) (length (datas_in h.sections)) ≡ true =
           subst (λ (ss : List Section). counts_data (data_count_in ss) (length (datas_in ss)) ≡ true) same p.counted in
           ne (record {
-            paired = ap length (h.held FunctionSection ∙ ap type_indices_in (sym same)) ∙ lengths ∙ ap length (ap bodies_in same ∙ sym (h.held CodeSection));
+            as_many = ap length (h.held FunctionSection ∙ ap type_indices_in (sym same)) ∙ lengths ∙ ap length (ap bodies_in same ∙ sym (h.held CodeSection));
             counted =
                 ap₂ (λ (n : Option ℕ) (ds : List (Placed (Data (Placed Operator)))). counts_data n (length ds)) (h.held DataCountSection) (h.held DataSection) ∙ counted;
           }),
@@ -177,11 +177,11 @@ module _ (bytes pre : List ℕ) (at : Input) (first : preamble.parse (input 0 by
       module_kept all =
           let s = preamble.sound (input 0 bytes) (pre, at) first in
           let rest : AreBytes at.bytes = (bytes_apart s.text at.bytes (subst AreBytes s.parts all)).1 in
-          (record { same = whole.paired; few = few.functions }, items_held g h.sections (sections_listed at h.sections h.read rest) h.held)
+          (record { same = whole.as_many; few = few.functions }, items_held g h.sections (sections_listed at h.sections h.read rest) h.held)
 
       -- the module that is put together
-      abbrev seen : PlacedModule
-      seen = record {
+      abbrev module_of_gathered : PlacedModule
+      module_of_gathered = record {
         types = g.types;
         imports = g.imports;
         tables = g.tables;
@@ -199,7 +199,7 @@ module _ (bytes pre : List ℕ) (at : Input) (first : preamble.parse (input 0 by
 
       -- the functions that are paired
       made : Pairs g.type_indices g.bodies
-      made = pairs_of g.type_indices g.bodies whole.paired
+      made = pairs_of g.type_indices g.bodies whole.as_many
 
       -- they are those of the module
       functions_made : functions_of g.type_indices g.bodies ≡ made.functions
@@ -218,14 +218,14 @@ module _ (bytes pre : List ℕ) (at : Input) (first : preamble.parse (input 0 by
       read = rw (first, h.read, h.rise, counts, pairs) refl
 
       -- the bytes spell the module
-      pub module_spelled : AreBytes bytes → Spells bytes seen
+      pub module_spelled : AreBytes bytes → Spells bytes module_of_gathered
       module_spelled all =
-          let same_module : module_from size h.sections made.functions ≡ seen =
+          let same_module : module_from size h.sections made.functions ≡ module_of_gathered =
           alike (sym (h.held TypeSection)) (sym (h.held ImportSection)) (sym (h.held TableSection)) (sym (h.held MemorySection)) (sym (h.held TagSection)) (sym (h.held GlobalSection)) (sym (h.held ExportSection)) (sym (h.held StartSection)) (sym (h.held ElementSection)) (sym functions_made) (sym (h.held DataSection)) (sym (h.held CustomSection)) (omega arith) in
-          record { are_bytes = all; spelled = binary.sound (input 0 bytes) seen (read ∙ ap (λ (m : PlacedModule). Some m) same_module) }
+          record { are_bytes = all; spelled = binary.sound (input 0 bytes) module_of_gathered (read ∙ ap (λ (m : PlacedModule). Some m) same_module) }
 
       -- the module is within the limits
-      pub module_within : IsWithinLimits seen
+      pub module_within : IsWithinLimits module_of_gathered
       module_within =
           let p = paired_of g.type_indices g.bodies made.functions made.are in
           let locals : AllByRecursion HasFew (bodies_of made.functions) = subst (AllByRecursion HasFew) (sym made.bodies) few.locals in

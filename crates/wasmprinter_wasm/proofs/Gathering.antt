@@ -13,9 +13,9 @@ use Rattle.wasmprinter_entries.specs.Refusals.{AnyIsOver, FirstIsEmpty}
 use Rattle.wasmprinter_entries.specs.Contents.{IsSmall, HasCount, HasOver, HasEmpty, item_count}
 use Rattle.wasmprinter_wasm.specs.Sections.{section_reasons}
 use Rattle.wasmprinter_wasm.specs.Gathering.{Gathered, none_gathered, Kept, kept, with_section, IsHeld, sections_at, item_count_in, HoldsSections, sections_reasons}
-use Rattle.wasmprinter_entries.proofs.Later.{Later, later_none, later_more, many_later, empty_later, section_later, kept_later, custom_read}
-use Rattle.wasmprinter_wasm.proofs.Until.{in_front, until_item, until_fault, until_done}
-use Rattle.wasmprinter_wasm.proofs.Held.{custom_kind, rank_added, kept_none, kept_with, kept_push, kept_added, some_midst, count_midst, over_midst, empty_midst}
+use Rattle.wasmprinter_entries.proofs.LaterPlaces.{IsLater, later_none, later_more, many_later, empty_later, section_later, kept_later, custom_read}
+use Rattle.wasmprinter_wasm.proofs.ItemsToEnd.{in_front, until_item, until_fault, until_done}
+use Rattle.wasmprinter_wasm.proofs.OrderedSections.{custom_kind, rank_added, kept_none, kept_with, kept_push, kept_added, some_midst, count_midst, over_midst, empty_midst}
 
 -- a section takes a byte
 pub takes_byte : (at : Input) (x : Section × Input) → section.parse at ≡ Some x → length x.1.bytes < length at.bytes
@@ -32,7 +32,7 @@ pub record Gathering (start at : Input) (g : Gathered) : Type 0 where
   pub small : AllByRecursion IsSmall sections
   pub rank : g.rank ≡ last_rank 0 sections
   pub held : IsHeld g sections
-  pub later : Later start at
+  pub later : IsLater start at
   pub ends : end_of at ≡ end_of start
 
 -- no sections in front change nothing

@@ -1,8 +1,8 @@
 pub mod Contents
 pub mod Pairing
 pub mod Functions
-pub mod Until
-pub mod Held
+pub mod ItemsToEnd
+pub mod OrderedSections
 pub mod Listed
 pub mod Gathering
 pub mod Assembling

@@ -116,7 +116,7 @@ IsHeld g ss = (kind : Kind) → kept kind g ≡ kept_in kind ss
 
 -- there are as many bodies as type indices, and as many data segments as are counted
 pub record IsWhole (g : Gathered) : Type 0 where
-  pub paired : length g.type_indices ≡ length g.bodies
+  pub as_many : length g.type_indices ≡ length g.bodies
   pub counted : counts_data g.data_count (length g.datas) ≡ true
 
 -- sections up to the end of the bytes

@@ -2,7 +2,7 @@
 use Rattle.std.proofs.Common.{◌≡◌, ℕ, List, [], ◌∷◌, ◌++◌, None, sym, subst, append_assoc}
 use Rattle.wasmprinter_spec.specs.Forest.{Forest, End, onto}
 use Rattle.wasmprinter_spec.specs.Piece.{Piece}
-use Rattle.wasmprinter_spec.specs.Layout.Customs.{Part, Shown, Stops, joined}
+use Rattle.wasmprinter_spec.specs.Layout.Customs.{Part, Shown, Stops, laid_parts}
 use Rattle.wasmprinter_lexical.proofs.Grown.{onto_assoc}
 use Rattle.wasmprinter_lexical.proofs.Pieces.{Bound}
 use Rattle.wasmprinter_lexical.proofs.Writes.{WritesNoted, IsWritten, written, both_write, nothing_writes}
@@ -32,12 +32,12 @@ parts_then {xs = xs} {zs = zs} {f = f} {k = k} {g = g} {h = h} v w = record {
   before = λ {ys} {g = x} {h = y} u. subst (λ t. PartsWrite t (f (g x)) (k (h y))) (sym (append_assoc xs zs ys)) (v.before (w.before u));
 }
 
-pub parts_whole : {parts : List Part} {f k : Forest} → PartsWrite parts f k → (joined parts).refused ≡ None → WritesNoted Bound (joined parts).pieces Bound f k
+pub parts_whole : {parts : List Part} {f k : Forest} → PartsWrite parts f k → (laid_parts parts).refused ≡ None → WritesNoted Bound (laid_parts parts).pieces Bound f k
 parts_whole no_parts e = nothing_writes
 parts_whole (shown x rest) e = both_write x (parts_whole rest e)
 parts_whole (stopped x rest) e = absurd cc
 
-pub parts_partly : {parts : List Part} {f k : Forest} → PartsWrite parts f k → IsWritten Bound (joined parts).pieces Bound
+pub parts_partly : {parts : List Part} {f k : Forest} → PartsWrite parts f k → IsWritten Bound (laid_parts parts).pieces Bound
 parts_partly no_parts = written nothing_writes
 parts_partly (shown x rest) = written (both_write x (parts_partly rest).writes)
 parts_partly (stopped x rest) = written x

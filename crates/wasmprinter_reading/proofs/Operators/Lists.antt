@@ -17,7 +17,7 @@ use Rattle.wasmprinter_spec.specs.Indexed.{Counts, AreDeclared, AreDeclaredBy, I
 use Rattle.wasmprinter_spec.specs.Code.{Chunk, chunk, Instruction, Flat, code_of, with_word, code, flattened, unfolded}
 use Rattle.wasmprinter_spec.specs.Names.{IsNamedIfAny, AreNamed, AreApart}
 use Rattle.wasmprinter_spec.specs.IndexSpaces.{Context}
-use Rattle.wasmprinter_spec.specs.Text.Operators.{id_of, immediates, seen, open_behind, operators, are_nested, read_operators}
+use Rattle.wasmprinter_spec.specs.Text.Operators.{id_of, immediates, labels_in_sight, open_behind, operators, are_nested, read_operators}
 use Rattle.wasmprinter_spec.specs.Layout.Operators.{Setting, level, operator_pieces, operators_pieces, expression_pieces}
 use Rattle.wasmprinter_lexical.proofs.Runs.{is_word}
 use Rattle.wasmprinter_lexical.proofs.Writes.{Writes, WritesNoted, both_write, word_writes}
@@ -137,8 +137,8 @@ module _ (s : Setting) (c : Context) (k : Counts) (types : HaveSameTypes s c k) 
       let role : is ≡ r.row.role = ap role_of_row r.found in
       let written : a ≡ immediate_items s (inside is xs) (outside is xs) own r.row.shape p.immediates =
       ap (λ x. items_by s (inside is xs) (outside is xs) own (shape_of_row x) p.immediates) r.found in
-      let i : immediates c (seen r.row.role (ids xs)) r.row.shape a ≡ Some p.immediates =
-      ap (λ x. immediates c (seen x (ids xs)) r.row.shape a) (sym role)
+      let i : immediates c (labels_in_sight r.row.role (ids xs)) r.row.shape a ≡ Some p.immediates =
+      ap (λ x. immediates c (labels_in_sight x (ids xs)) r.row.shape a) (sym role)
       ∙ ap (λ x. immediates c x r.row.shape a) (outside_ids is xs)
       ∙ ap (immediates c (ids (outside is xs)) r.row.shape) written
       ∙ immediates_read s c k types same apart (inside is xs) (outside is xs) (outside_opened (s.names.labels s.function) is xs o) own
@@ -148,9 +148,9 @@ module _ (s : Setting) (c : Context) (k : Counts) (types : HaveSameTypes s c k) 
       ap (λ x. open_behind x (id_of a) (ids xs)) (sym role)
       ∙ ap (λ x. open_behind is (id_of x) (ids xs)) written
       ∙ after_ids s c (inside is xs) (outside is xs) is r.row.shape own xs p.immediates fit r.shape in
-      let refused : (x : Row) → refuses x.shape r.row.shape ≡ true → immediates c (seen x.role (ids xs)) x.shape a ≡ None =
-      λ x no. ap (immediates c (seen x.role (ids xs)) x.shape) written
-      ∙ immediates_refused s c k types same apart (inside is xs) (outside is xs) (outside_opened (s.names.labels s.function) is xs o) own (seen x.role (ids xs)) x.shape
+      let refused : (x : Row) → refuses x.shape r.row.shape ≡ true → immediates c (labels_in_sight x.role (ids xs)) x.shape a ≡ None =
+      λ x no. ap (immediates c (labels_in_sight x.role (ids xs)) x.shape) written
+      ∙ immediates_refused s c k types same apart (inside is xs) (outside is xs) (outside_opened (s.names.labels s.function) is xs o) own (labels_in_sight x.role (ids xs)) x.shape
       r.row.shape p.immediates no r.shape h.0.range (declared_by_row k p r.row r.found d.0) in
       rw (
         row_word p r,

@@ -7,7 +7,7 @@ use Rattle.wasmprinter_spec.specs.Labels.{Label, Naming, labels_after, outside}
 use Rattle.wasmprinter_spec.specs.Names.{IsNamedIfAny}
 use Rattle.wasmprinter_spec.specs.IndexSpaces.{Context}
 use Rattle.wasmprinter_spec.specs.Layout.Operators.{Setting}
-use Rattle.wasmprinter_spec.specs.Text.Operators.{id_of, seen, open_behind}
+use Rattle.wasmprinter_spec.specs.Text.Operators.{id_of, labels_in_sight, open_behind}
 use Rattle.wasmprinter_reading.specs.Listed.{has_shape}
 use Rattle.wasmprinter_reading.proofs.Tabled.{fits}
 use Rattle.wasmprinter_reading.proofs.Operators.Labels.{ids, Opened}
@@ -15,7 +15,7 @@ use Rattle.wasmprinter_reading.proofs.Operators.Immediates.{immediate_items, id_
 
 -- ---- the labels that immediates may mean
 
-pub outside_ids : (r : Role) (xs : List Label) → seen r (ids xs) ≡ ids (outside r xs)
+pub outside_ids : (r : Role) (xs : List Label) → labels_in_sight r (ids xs) ≡ ids (outside r xs)
 outside_ids Delegates [] = refl
 outside_ids Delegates (x ∷ xs) = refl
 outside_ids _ xs = refl

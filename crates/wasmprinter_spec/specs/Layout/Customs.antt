@@ -177,7 +177,7 @@ pub record Laid : Type 0 where
 abbrev pub before_laid : List Piece → Laid → Laid
 before_laid ps l = record l { pieces = ps ++ l.pieces }
 
-abbrev pub joined : List Part → Laid
-joined [] = record { pieces = []; refused = None }
-joined (Shown ps ∷ parts) = before_laid ps (joined parts)
-joined (Stops ps id ∷ parts) = record { pieces = ps; refused = Some id }
+abbrev pub laid_parts : List Part → Laid
+laid_parts [] = record { pieces = []; refused = None }
+laid_parts (Shown ps ∷ parts) = before_laid ps (laid_parts parts)
+laid_parts (Stops ps id ∷ parts) = record { pieces = ps; refused = Some id }

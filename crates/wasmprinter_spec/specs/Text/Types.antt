@@ -4,7 +4,7 @@ use Rattle.wasmprinter_spec.specs.Grammar.{◌>>=◌}
 use Rattle.wasmprinter_spec.specs.Forest.{Forest, End, Word, Name, Group}
 use Rattle.wasmprinter_spec.specs.Types.{HeapType, Exn, Array, Struct, I31, Eq, Any, Extern, Func, NoAny, NoExtern, NoFunc, NoExn, Index, RefType, ref_type, ValType, I32, I64, F32, F64, V128, Ref, StorageType, Val, I8, I16, FieldType, field_type, FuncType, CompositeType, FuncComposite, ArrayComposite, StructComposite, SubType, sub_type, final_type, concat}
 use Rattle.wasmprinter_spec.specs.IndexSpaces.{Identifiers, index_space, index}
-use Rattle.wasmprinter_spec.specs.Text.Items.{or_else, lookup, each, one_word, one_item, all_items, identified, ended, groups, Declaration, declarations, ids_of, types_of}
+use Rattle.wasmprinter_spec.specs.Text.Items.{or_else, lookup, each, one_word, one_item, all_items, identified, value_at_end, groups, Declaration, declarations, ids_of, types_of}
 
 -- ---- value types
 
@@ -121,9 +121,9 @@ module _ (ids : Identifiers) where
 
   abbrev pub composite : Forest → Option (Declared CompositeType)
   composite (Word w f) =
-      if bytes_eq w (codes "func") then signature f >>= ended >>= (λ s. Some (with_fields [] (FuncComposite (type_of s)))) else
+      if bytes_eq w (codes "func") then signature f >>= value_at_end >>= (λ s. Some (with_fields [] (FuncComposite (type_of s)))) else
       (if bytes_eq w (codes "array") then option_map (λ t. with_fields [] (ArrayComposite t)) (field ids f) else
-      (if bytes_eq w (codes "struct") then groups (declarations (fields ids)) (codes "field") f >>= ended >>= struct_of else None))
+      (if bytes_eq w (codes "struct") then groups (declarations (fields ids)) (codes "field") f >>= value_at_end >>= struct_of else None))
   composite _ = None
 
   -- ---- subtypes

@@ -6,17 +6,17 @@ use Rattle.wasmprinter_spec.specs.Sections.{Kind, CustomSection, holds, section}
 use Rattle.wasmprinter_entries.specs.Refusals.{HasManyLocals, HasEmptyInit, BeginsSection, BeginsItems, HasCustom, KeepsSome}
 
 -- the bytes from the second place on end those from the first
-pub record Later (start at : Input) : Type 0 where
+pub record IsLater (start at : Input) : Type 0 where
   pub text : List ℕ
   pub parts : start.bytes ≡ text ++ at.bytes
   pub begins : at.place ≡ start.place + length text
 
 -- where nothing was read
-pub later_none : (at : Input) → Later at at
+pub later_none : (at : Input) → IsLater at at
 later_none at = record { text = []; parts = refl; begins = omega arith }
 
 -- behind what was read
-pub later_more : {A : Type 0} (g : Grammar A) (start at after : Input) (x : A) → g.parse at ≡ Some (x, after) → Later start at → Later start after
+pub later_more : {A : Type 0} (g : Grammar A) (start at after : Input) (x : A) → g.parse at ≡ Some (x, after) → IsLater start at → IsLater start after
 later_more g start at after x e l =
     let s = g.sound at (x, after) e in
     record {
@@ -55,15 +55,15 @@ empty_in_part at part t r place parts begins h = record {
 }
 
 -- what is among the later bytes is among all of them
-pub many_later : (start at : Input) (place : ℕ) → Later start at → HasManyLocals at place → HasManyLocals start place
+pub many_later : (start at : Input) (place : ℕ) → IsLater start at → HasManyLocals at place → HasManyLocals start place
 many_later start at place l m = many_in_part start at l.text [] place (l.parts ∙ ap (λ (bs : List ℕ). l.text ++ bs) (sym (append-nil at.bytes))) l.begins m
 
 -- the same of a table
-pub empty_later : (start at : Input) (place : ℕ) → Later start at → HasEmptyInit at place → HasEmptyInit start place
+pub empty_later : (start at : Input) (place : ℕ) → IsLater start at → HasEmptyInit at place → HasEmptyInit start place
 empty_later start at place l h = empty_in_part start at l.text [] place (l.parts ∙ ap (λ (bs : List ℕ). l.text ++ bs) (sym (append-nil at.bytes))) l.begins h
 
 -- the same of a section that begins
-pub section_later : (start at : Input) (kind : Kind) (count : ℕ) → Later start at → BeginsSection at kind count → BeginsSection start kind count
+pub section_later : (start at : Input) (kind : Kind) (count : ℕ) → IsLater start at → BeginsSection at kind count → BeginsSection start kind count
 section_later start at kind count l h = record {
   id = h.id;
   of_kind = h.of_kind;
@@ -78,11 +78,11 @@ section_later start at kind count l h = record {
 }
 
 -- and of one with items that are kept
-pub items_later : (start at : Input) → Later start at → BeginsItems at → BeginsItems start
+pub items_later : (start at : Input) → IsLater start at → BeginsItems at → BeginsItems start
 items_later start at l h = record { kind = h.kind; listed = h.listed; count = h.count; some = h.some; begins = section_later start at h.kind h.count l h.begins }
 
 -- and of a custom section
-pub custom_later : (start at : Input) → Later start at → HasCustom at → HasCustom start
+pub custom_later : (start at : Input) → IsLater start at → HasCustom at → HasCustom start
 custom_later start at l h = record {
   before = l.text ++ h.before;
   text = h.text;
@@ -93,7 +93,7 @@ custom_later start at l h = record {
 }
 
 -- so what is kept of the later bytes is kept of all of them
-pub kept_later : (start at : Input) → Later start at → KeepsSome at → KeepsSome start
+pub kept_later : (start at : Input) → IsLater start at → KeepsSome at → KeepsSome start
 kept_later start at l (inl items) = inl (items_later start at l items)
 kept_later start at l (inr custom) = inr (custom_later start at l custom)
 

@@ -9,7 +9,7 @@ use Rattle.wasmprinter_spec.specs.Instructions.{Closed, expression}
 use Rattle.wasmprinter_spec.specs.Binary.Code.{local_entry, body, body_from, code_entry}
 use Rattle.wasmprinter_spec.specs.Limits.{local_count, most_locals}
 use Rattle.wasmprinter_entries.proofs.Parts.{alone_some, alone_none, sized, sized_none, sized_some, old_parts, part_within}
-use Rattle.wasmprinter_entries.proofs.Later.{many_in_part}
+use Rattle.wasmprinter_entries.proofs.LaterPlaces.{many_in_part}
 use Rattle.wasmprinter_bytes.specs.Lists.{reader_reasons}
 use Rattle.wasmprinter_bytes.specs.Reads.{end_of}
 use Rattle.wasmprinter_ops.specs.Operators.{HasBlock}
