@@ -3,7 +3,7 @@ ghost use Rattle.std.specs.Prelude.{◌≡◌, ℕ, ◌⊎◌, List, ◌∷◌, 
 ghost use Rattle.std.specs.Iterator.{IsFinite};
 ghost use Rattle.std.specs.Process.{exit_status};
 ghost use Rattle.std.specs.declared.io.Error.{Error as IoError};
-ghost use Rattle.printwasm.specs.Words.{AreWordsOf, WantsWords, is_known, named_file, has, chosen};
+ghost use Rattle.printwasm.specs.Words.{AreWordsOf, WantsWords, is_option, is_known, named_file, has, chosen};
 ghost use Rattle.printwasm.specs.Outcome.{GivesText, GivesNoText, WritesText, FailsToWrite, Tells, HasOutcome, error_line};
 
 use crate::system::{Sink, Source};
@@ -25,8 +25,8 @@ const REFUSED: u8 = 1;
 /// The words aren't those of the usage line.
 const MISUSED: u8 = 2;
 
-/// With which words begin that choose an option.
-const OPTION: &str = "--";
+/// With what words begin that choose an option.
+const OPTION_START: &str = "--";
 
 /// Each line begins with the place of what stands on it.
 const OFFSETS: &str = "--offsets";
@@ -36,6 +36,9 @@ const SKELETON: &str = "--skeleton";
 
 /// Identifiers are made up for items without a name.
 const NAME_UNNAMED: &str = "--name-unnamed";
+
+/// All options that there are.
+const OPTIONS: [&str; 3] = [OFFSETS, SKELETON, NAME_UNNAMED];
 
 /// The program over all words that it is started with, its own name first.
 pub fn start<S: Source, I: Iterator<Item = String>, O: Sink, E: Sink>(
@@ -97,11 +100,18 @@ pub fn run<S: Source, O: Sink, E: Sink>(
     }
 }
 
+/// Whether a word chooses an option.
+fn is_option(word: &str) -> bool
+    ensures { result ≡ is_option word.now }
+{
+    word.starts_with(OPTION_START)
+}
+
 /// Whether a word is a file, or an option that there is.
 fn is_known(word: &str) -> bool
     ensures { result ≡ is_known word.now }
 {
-    !word.starts_with(OPTION) || matches!(word, OFFSETS | SKELETON | NAME_UNNAMED)
+    !is_option(word) || OPTIONS.contains(&word)
 }
 
 /// The file that the words name, if they name one alone, and each other word is an option that there is.
@@ -113,7 +123,7 @@ fn file_of(words: &[String]) -> Option<&str>
         if !is_known(word) {
             return None;
         }
-        if !word.starts_with(OPTION) && file.replace(word.as_str()).is_some() {
+        if !is_option(word) && file.replace(word.as_str()).is_some() {
             return None;
         }
     }

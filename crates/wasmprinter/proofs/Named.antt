@@ -54,13 +54,13 @@ custom_among p before text (x ∷ xs) s some =
           (subst (λ (cs : List (Placed Custom)). 0 < length cs) (ap (λ (o : Option (Placed Custom)). some_or o (contents_in CustomSection xs) (λ c. c ∷ contents_in CustomSection xs)) other) some) in
           subst (λ (bs : List ℕ). HasCustom (input p bs)) (append_assoc before s.0 s.1 ∙ ap (λ (r : List ℕ). before ++ r) (sym s.2)) rest
       | inr own ↦ record {
-          before = before;
-          text = s.0;
-          behind = s.1;
-          parts = ap (λ (r : List ℕ). before ++ r) s.2;
-          custom = own.0;
-          spelled = subst (λ (y : Section). section.spells (p + length before) s.0 y) own.1 s.4;
-        }
+        before = before;
+        text = s.0;
+        behind = s.1;
+        parts = ap (λ (r : List ℕ). before ++ r) s.2;
+        custom = own.0;
+        spelled = subst (λ (y : Section). section.spells (p + length before) s.0 y) own.1 s.4;
+      }
     ]
 
 -- a module with custom sections, of which something is kept

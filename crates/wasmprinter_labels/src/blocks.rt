@@ -83,8 +83,10 @@ impl<'n> NamedBlocks<'n> {
         requires room { length self.old.blocks < self.old.limit }
         requires number { alike < self.old.limit }
         requires inside { AreBelow depth (depths self.old.blocks) }
-        ensures { self.new
-            ≡ record { blocks = record { depth = depth; alike = alike; name = name_view name.entry } ∷ self.old.blocks; limit = self.old.limit } }
+        ensures { self.new ≡ record {
+          blocks = record { depth = depth; alike = alike; name = name_view name.entry } ∷ self.old.blocks;
+          limit = self.old.limit;
+        } }
     {
         let block = NamedBlock {
             depth,

@@ -150,7 +150,10 @@ fn identifiers_are_given_or_made_up(rt: HostRuntime) -> Result<(), Fail> {
         given: "f",
         content: "f",
     };
-    assert_eq!(rt; given.item(Space::Func, 0, 0), Some(Identifier::Given(name)));
+    assert_eq!(rt;
+        given.item(Space::Func, 0, 0),
+        Some(Identifier::Given(name))
+    );
     assert_eq!(rt; given.item(Space::Func, 0, 1), None);
     assert_eq!(rt; all.item(Space::Func, 0, 0), Some(Identifier::Given(name)));
     assert_eq!(rt;
@@ -198,5 +201,67 @@ fn labels_are_listed_by_function_and_number(rt: HostRuntime) -> Result<(), Fail>
         };
         assert_eq!(rt; *label, expected);
     }
+    Ok(())
+}
+
+/// A number of fewer than 14 bits in two bytes, as the binary format may spell it.
+fn two_bytes(n: u16) -> [u8; 2] {
+    [(n & 0x7f) as u8 | 0x80, (n >> 7) as u8]
+}
+
+/// A name map in which as many items, the first ones, are called `a`.
+fn map_of(alloc: Global, count: u16) -> Result<Vec<u8>, Error> {
+    let mut map = Vec::from_slice(alloc, &two_bytes(count))?;
+    for index in 0..count {
+        map.extend_from_slice(&two_bytes(index))?;
+        map.extend_from_slice(b"\x01a")?;
+    }
+    Ok(map)
+}
+
+/// A subsection that holds this.
+fn subsection_of(alloc: Global, id: u8, content: &[u8]) -> Result<Vec<u8>, Error> {
+    let mut subsection = Vec::from_slice(alloc, &[id])?;
+    subsection.extend_from_slice(&two_bytes(content.len() as u16))?;
+    subsection.extend_from_slice(content)?;
+    Ok(subsection)
+}
+
+#[test]
+fn many_names_are_kept(rt: HostRuntime) -> Result<(), Fail> {
+    let alloc = rt.alloc();
+    let map = map_of(alloc, 300)?;
+    for id in [1, 4, 5, 6, 7, 8, 9, 11] {
+        let bytes = subsection_of(alloc, id, &map)?;
+        let names = names_of(alloc, &[&bytes])?;
+        assert_eq!(rt; names.module(), None);
+    }
+    let bytes = subsection_of(alloc, 1, &map)?;
+    let names = names_of(alloc, &[&bytes])?;
+    assert_eq!(rt; names.identifier(Space::Func, 0, 0), Some("a"));
+    assert_eq!(rt; names.identifier(Space::Func, 0, 299), Some("#func299 a"));
+    assert_eq!(rt; names.identifier(Space::Func, 0, 300), None);
+    Ok(())
+}
+
+#[test]
+fn many_names_of_many_functions_are_kept(rt: HostRuntime) -> Result<(), Fail> {
+    let alloc = rt.alloc();
+    let map = map_of(alloc, 20)?;
+    let mut maps = Vec::from_slice(alloc, &[40])?;
+    for outer in 0..40 {
+        maps.push(outer)?;
+        maps.extend_from_slice(&map)?;
+    }
+    for id in [2, 3, 10] {
+        let bytes = subsection_of(alloc, id, &maps)?;
+        let names = names_of(alloc, &[&bytes])?;
+        assert_eq!(rt; names.module(), None);
+    }
+    let bytes = subsection_of(alloc, 2, &maps)?;
+    let names = names_of(alloc, &[&bytes])?;
+    assert_eq!(rt; names.identifier(Space::Local, 39, 0), Some("a"));
+    assert_eq!(rt; names.identifier(Space::Local, 39, 19), Some("#local19 a"));
+    assert_eq!(rt; names.identifier(Space::Local, 40, 0), None);
     Ok(())
 }

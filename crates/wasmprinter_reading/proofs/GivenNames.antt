@@ -9,8 +9,9 @@ use Rattle.wasmprinter_spec.specs.Names.{AreApart, AreNamed}
 use Rattle.wasmprinter_spec.specs.Names.Section.{Entry}
 use Rattle.wasmprinter_spec.specs.ModuleNames.{entries_given, custom_entries, name_entries, module_names}
 use Rattle.wasmprinter_spec.proofs.NameSections.{gives_some}
-use Rattle.wasmprinter_reading.specs.NameLaws.{AreEntries}
+use Rattle.wasmprinter_reading.specs.NameLaws.{AreEntries, EntriesAreGiven, ModulesHaveIdentifiers}
 use Rattle.wasmprinter_reading.proofs.Ranged.{IsRangedCustom, IsRanged}
+use Rattle.wasmprinter_reading.proofs.Ranges.{ranged}
 use Rattle.wasmprinter_reading.proofs.Names.Distinct.{identifiers_are_apart}
 use Rattle.wasmprinter_reading.proofs.Names.Fits.{bytes_give_entries}
 use Rattle.wasmprinter_reading.proofs.Names.Named.{identifiers_are_named}
@@ -35,3 +36,12 @@ module_names_apart invents m h = identifiers_are_apart invents (name_entries m.c
 
 pub module_names_named : (invents : Bool) (m : PlacedModule) → IsRanged m → AreNamed (module_names invents m)
 module_names_named invents m h = identifiers_are_named invents (name_entries m.customs) (name_entries-are m.customs h.each_custom)
+
+-- the entries by which items have their names are those that the data give
+pub entries_are_given : EntriesAreGiven
+entries_are_given d = gives_some (input d.place d.value)
+
+pub modules_have_identifiers : ModulesHaveIdentifiers
+modules_have_identifiers bytes m invents spelled =
+    let held = ranged bytes m spelled in
+    (module_names_apart invents m held, module_names_named invents m held)

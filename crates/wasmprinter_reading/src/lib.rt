@@ -5,8 +5,8 @@
 ghost use Rattle.wasmprinter_spec.specs.Laws.{SpellsOne, TakesNested, ReadsBack, TokensStay, HintsStay};
 ghost use Rattle.wasmprinter_spec.specs.Laws.{PrintsPlainText, PlainTextIsUtf8, PlainTextHasNoColour, PlainTextsJoin};
 ghost use Rattle.wasmprinter_reading.specs.OperatorLaws.{OperatorsReadBack, NamedOperatorsReadBack};
-ghost use Rattle.wasmprinter_reading.specs.NameLaws.{NamesAreOneList, NameMapsAreListed, BytesGiveEntries};
-ghost use Rattle.wasmprinter_reading.specs.NameLaws.{IdentifiersAreApart, IdentifiersAreNamed, IdentifiersResolve};
+ghost use Rattle.wasmprinter_reading.specs.NameLaws.{NamesAreOneList, EntriesAreGiven, NameMapsAreListed, BytesGiveEntries};
+ghost use Rattle.wasmprinter_reading.specs.NameLaws.{IdentifiersAreApart, IdentifiersAreNamed, ModulesHaveIdentifiers, IdentifiersResolve};
 ghost use Rattle.wasmprinter_reading.specs.LabelLaws.{LabelsMeanTheirBlocks};
 
 /// Given bytes spell at most one module with its places (section 5.5 of the standard, "Modules").
@@ -72,6 +72,11 @@ pub fn name_sections_give_one_list()
     ensures { NamesAreOneList }
 {}
 
+/// That list is the one by which a module's items have their names.
+pub fn entries_are_given()
+    ensures { EntriesAreGiven }
+{}
+
 /// The entries of a name map are spelled one after the other, and then the count is reached or none is spelled behind them.
 pub fn name_maps_are_listed()
     ensures { NameMapsAreListed }
@@ -92,12 +97,19 @@ pub fn identifiers_are_named()
     ensures { IdentifiersAreNamed }
 {}
 
+/// Both hold of each module that bytes spell: its name sections give identifiers of which none means two items of one space, of one function
+/// or of one type.
+pub fn modules_have_identifiers()
+    ensures { ModulesHaveIdentifiers }
+{}
+
 /// Identifiers of which no two items of a space have one are distinct as declarations, and each is resolved to its item.
 pub fn identifiers_resolve()
     ensures { IdentifiersResolve }
 {}
 
-/// A label that is printed by its identifier means the block that is meant; where a block further in has its name, it is printed by its number.
+/// A label that is printed by its identifier means the block that is meant; where a block further in has its name, it is printed by its
+/// number.
 pub fn labels_mean_their_blocks()
     ensures { LabelsMeanTheirBlocks }
 {}

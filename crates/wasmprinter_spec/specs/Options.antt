@@ -5,7 +5,7 @@ use Rattle.std.specs.List.{AllByRecursion}
 pub record Options : Type 0 where
   -- each line begins with the place of what stands on it
   pub offsets : Bool
-  -- bodies are left out
+  -- bodies, the items of element segments and the bytes of data segments are left out
   pub skeleton : Bool
   -- items without a name have identifiers made up for them
   pub invents : Bool

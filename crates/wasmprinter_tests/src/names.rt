@@ -4,19 +4,17 @@ use crate::sections::add_section;
 use std::alloc::{AllocError, Global};
 use std::test::Fail;
 use wasmprinter::wasm::{Space, decode};
-use wasmprinter::{Config, Error, PrintFmtWrite, print_bytes};
-use wasmprinter_samples::{IDENTITY, IDENTITY_TEXT, PREAMBLE};
+use wasmprinter::{Config, Error, print_bytes};
+use wasmprinter_samples::{EVERY_SPACE, EVERY_SPACE_NAMES, IDENTITY, IDENTITY_TEXT, PREAMBLE};
 
 /// The number of custom sections.
 const CUSTOM: u8 = 0;
 
 /// The text of a module with identifiers made up for what has no name.
 fn invented(alloc: Global, wasm: &[u8]) -> Result<String, Error> {
-    let mut config = Config::new();
-    config.name_unnamed(true);
-    let mut printer = PrintFmtWrite(String::new(alloc));
-    config.print(alloc, wasm, &mut printer)?;
-    Ok(printer.0)
+    Config::new()
+        .name_unnamed(true)
+        .print_to_string(alloc, wasm)
 }
 
 /// Adds a name section with these subsections.
@@ -160,10 +158,7 @@ fn prints_a_shadowed_label_by_its_number(rt: HostRuntime) -> Result<(), Fail> {
 #[test]
 fn takes_the_label_off_behind_delegate(rt: HostRuntime) -> Result<(), Fail> {
     let alloc = rt.alloc();
-    let wasm = one_function(
-        alloc,
-        b"\x06\x40\x18\x00\x02\x40\x0c\x00\x0c\x01\x0b",
-    )?;
+    let wasm = one_function(alloc, b"\x06\x40\x18\x00\x02\x40\x0c\x00\x0c\x01\x0b")?;
     let named = with_names(alloc, &wasm, b"\x03\x09\x01\x00\x02\x00\x01t\x01\x01u")?;
     let text = print_bytes(alloc, &named)?;
     assert_eq!(rt;
@@ -215,5 +210,157 @@ fn makes_up_labels(rt: HostRuntime) -> Result<(), Fail> {
 "#
         )
     );
+    Ok(())
+}
+
+/// `EVERY_SPACE` with its names: what has none goes by its number.
+const EVERY_SPACE_TEXT: &str = r#"(module $all
+  (type $sig (;0;) (func (param i32) (result i32)))
+  (type (;1;) (struct (field i32) (field $x (mut i64))))
+  (type (;2;) (func (param i32)))
+  (type (;3;) (func))
+  (import "a" "f" (func (;0;) (type $sig) (param $arg i32) (result i32)))
+  (table (;0;) 1 funcref)
+  (table $tab (;1;) 2 funcref)
+  (memory (;0;) 1)
+  (memory $mem (;1;) 2)
+  (tag (;0;) (type 3))
+  (tag $exc (;1;) (type 2) (param i32))
+  (global (;0;) i32 i32.const 3)
+  (global $var (;1;) i32 global.get 0)
+  (export "f" (func $run))
+  (export "a" (table $tab))
+  (export "m" (memory $mem))
+  (export "g" (global $var))
+  (export "t" (tag 1))
+  (start $init)
+  (elem (;0;) (table $tab) (i32.const 0) func $run)
+  (elem $els (;1;) func $run)
+  (func $run (;1;) (type $sig) (param $arg i32) (result i32)
+    (local $tmp i32) (local i64 i64)
+    block $out (result i32)
+      try_table (catch $exc $out) ;; label = @2
+        local.get $arg
+        br_if 0 (;@2;)
+        local.get $arg
+        throw $exc
+      end
+      i32.const 1
+      br $out
+    end
+    local.tee $tmp
+    call $run
+    i32.const 0
+    call_indirect $tab (type $sig)
+    drop
+    i32.const 0
+    table.get $tab
+    drop
+    memory.size $mem
+    i32.load $mem offset=4
+    drop
+    i32.const 0
+    i32.const 0
+    i32.const 0
+    table.init $tab $els
+    elem.drop $els
+    i32.const 0
+    i32.const 0
+    i32.const 0
+    memory.init $mem $raw
+    data.drop $raw
+    struct.new_default 1
+    struct.get 1 $x
+    drop
+    ref.func $run
+    drop
+    global.get $var
+  )
+  (func $init (;2;) (type 3))
+  (data (;0;) (memory $mem) (global.get $var) "hi")
+  (data $raw (;1;) "!")
+)
+"#;
+
+/// `EVERY_SPACE` without its name section, with identifiers made up.
+const EVERY_SPACE_INVENTED: &str = r#"(module
+  (type $#type0 (;0;) (func (param i32) (result i32)))
+  (type $#type1 (;1;) (struct (field $#field0 i32) (field $#field1 (mut i64))))
+  (type $#type2 (;2;) (func (param i32)))
+  (type $#type3 (;3;) (func))
+  (import "a" "f" (func $#func0 (;0;) (type $#type0) (param $#local0 i32) (result i32)))
+  (table $#table0 (;0;) 1 funcref)
+  (table $#table1 (;1;) 2 funcref)
+  (memory $#memory0 (;0;) 1)
+  (memory $#memory1 (;1;) 2)
+  (tag $#tag0 (;0;) (type $#type3))
+  (tag $#tag1 (;1;) (type $#type2) (param i32))
+  (global $#global0 (;0;) i32 i32.const 3)
+  (global $#global1 (;1;) i32 global.get $#global0)
+  (export "f" (func $#func1))
+  (export "a" (table $#table1))
+  (export "m" (memory $#memory1))
+  (export "g" (global $#global1))
+  (export "t" (tag 1))
+  (start $#func2)
+  (elem $#elem0 (;0;) (table $#table1) (i32.const 0) func $#func1)
+  (elem $#elem1 (;1;) func $#func1)
+  (func $#func1 (;1;) (type $#type0) (param $#local0 i32) (result i32)
+    (local $#local1 i32) (local $#local2 i64) (local $#local3 i64)
+    block $#label0 (result i32)
+      try_table $#label1 (catch $#tag1 $#label0)
+        local.get $#local0
+        br_if $#label1
+        local.get $#local0
+        throw $#tag1
+      end
+      i32.const 1
+      br $#label0
+    end
+    local.tee $#local1
+    call $#func1
+    i32.const 0
+    call_indirect $#table1 (type $#type0)
+    drop
+    i32.const 0
+    table.get $#table1
+    drop
+    memory.size $#memory1
+    i32.load $#memory1 offset=4
+    drop
+    i32.const 0
+    i32.const 0
+    i32.const 0
+    table.init $#table1 $#elem1
+    elem.drop $#elem1
+    i32.const 0
+    i32.const 0
+    i32.const 0
+    memory.init $#memory1 $#data1
+    data.drop $#data1
+    struct.new_default $#type1
+    struct.get $#type1 $#field1
+    drop
+    ref.func $#func1
+    drop
+    global.get $#global1
+  )
+  (func $#func2 (;2;) (type $#type3))
+  (data $#data0 (;0;) (memory $#memory1) (global.get $#global1) "hi")
+  (data $#data1 (;1;) "!")
+)
+"#;
+
+#[test]
+fn names_an_item_of_each_space(rt: HostRuntime) -> Result<(), Fail> {
+    let text = print_bytes(rt.alloc(), &EVERY_SPACE)?;
+    assert_eq!(rt; text.as_str(), EVERY_SPACE_TEXT);
+    Ok(())
+}
+
+#[test]
+fn makes_up_identifiers_in_each_space(rt: HostRuntime) -> Result<(), Fail> {
+    let text = invented(rt.alloc(), &EVERY_SPACE[..EVERY_SPACE_NAMES])?;
+    assert_eq!(rt; text.as_str(), EVERY_SPACE_INVENTED);
     Ok(())
 }

@@ -1,5 +1,5 @@
 -- Labels: a label that is printed by its identifier means the block that is meant, and one that is printed by its number too.
-use Rattle.std.proofs.Common.{◌≡◌, ℕ, zero, suc, ◌<◌, ◌-◌, ◌^◌, Bool, true, false, ◌||◌, cond, List, [], ◌∷◌, Option, Some, None, refl, ap, ◌∙◌, subst, map, length, bytes_eq, decimal, arith, option_map}
+use Rattle.std.proofs.Common.{◌≡◌, ℕ, zero, suc, ◌<◌, ◌-◌, ◌^◌, Bool, true, false, ◌||◌, cond, List, [], ◌∷◌, ◌++◌, Option, Some, None, refl, sym, ap, ◌∙◌, subst, map, length, bytes_eq, decimal, arith, option_map}
 use Rattle.std.specs.List.{AllByRecursion}
 use Rattle.std.proofs.lemmas.Bool.{or_parts, both_ways, false_from_ne_true, lt-ltb}
 use Rattle.wasmprinter_spec.specs.Character.{class}
@@ -215,11 +215,27 @@ labels_write inner xs (m ∷ ms) l h hs small = then (label_writes inner xs m h 
 
 -- ---- the law
 
+-- what stands further in hides, or what stands further in still
+hidden-append : (n : Named) (inner further : List Label) → is_hidden n (inner ++ further) ≡ (is_hidden n further || is_hidden n inner)
+hidden-append n [] further = by (is_hidden n further)
+  where
+    by : (b : Bool) → b ≡ (b || false)
+    by true = refl
+    by false = refl
+hidden-append n (x ∷ xs) further = ap (λ b. hides n x || b) (hidden-append n xs further) ∙ by (hides n x) (is_hidden n further)
+  where
+    by : (b c : Bool) → (b || (c || is_hidden n xs)) ≡ (c || (b || is_hidden n xs))
+    by true true = refl
+    by true false = refl
+    by false c = refl
+
 pub labels_mean_their_blocks : LabelsMeanTheirBlocks
 unfolding label_pieces
-labels_mean_their_blocks naming apart xs o l n further around = (
-  λ seen.
-      let shown : (is_hidden n further || is_hidden n []) ≡ false = rw seen refl in
-      (rw (around, shown) refl, depth-target naming apart l xs n further o around seen),
-  λ hidden. rw (around, hidden) refl,
+labels_mean_their_blocks naming apart inner xs o l n further around = (
+  λ clear.
+      let shown : (is_hidden n further || is_hidden n inner) ≡ false = sym (hidden-append n inner further) ∙ clear in
+      (rw (around, shown) refl, depth-target naming apart l xs n further o around (or_parts (is_hidden n further) (is_hidden n inner) shown).0),
+  λ hidden.
+      let numbered : (is_hidden n further || is_hidden n inner) ≡ true = sym (hidden-append n inner further) ∙ hidden in
+      rw (around, numbered) refl,
 )
