@@ -146,7 +146,10 @@ impl<'a> Gathered<'a> {
         self.rank = section.rank().unwrap_or(self.rank);
         self.behind = section.place().or(self.behind);
         match section {
-            Section::Custom(section) => self.customs.push(CustomEntry { behind: self.behind, section })?,
+            Section::Custom(section) => self.customs.push(CustomEntry {
+                behind: self.behind,
+                section,
+            })?,
             Section::Types(types) => self.types.replace(types),
             Section::Imports(imports) => self.imports = imports,
             Section::Functions(type_indices) => self.type_indices = type_indices,

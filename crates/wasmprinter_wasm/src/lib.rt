@@ -33,6 +33,8 @@ mod custom_tests;
 #[cfg(test)]
 mod fault_tests;
 #[cfg(test)]
+mod place_tests;
+#[cfg(test)]
 mod segment_tests;
 #[cfg(test)]
 mod tests;
