@@ -9,7 +9,8 @@ ghost use Rattle.wasmprinter_spec.specs.Types.{FuncType};
 ghost use Rattle.wasmprinter_spec.specs.Names.{Names};
 ghost use Rattle.wasmprinter_spec.specs.Customs.Hints.{Hint as HintValue, next_hint, hint_behind};
 ghost use Rattle.wasmprinter_spec.specs.Layout.Groups.{has_break};
-ghost use Rattle.wasmprinter_spec.specs.Layout.Operators.{pieces_by, level as level_of, before_word, operator_pieces, hint_pieces, operators_pieces};
+ghost use Rattle.wasmprinter_spec.specs.Layout.Operators.{pieces_by, level as level_of, before_word};
+ghost use Rattle.wasmprinter_spec.specs.Layout.Operators.{operator_pieces, hint_pieces, operators_pieces};
 ghost use Rattle.wasmprinter_print.specs.Prints.{Prints};
 ghost use Rattle.wasmprinter_ops.specs.Shapes.{role_view};
 ghost use Rattle.wasmprinter_labels.specs.Scan.{names_of, own_label};
@@ -197,8 +198,8 @@ pub fn has_operators(expression: &Expression<'_>) -> bool
     expression.operators().next().is_some()
 }
 
-/// Writes the operators of an expression, each behind its hint if it has one. `labels` may be anywhere before; its identifiers are those that
-/// are printed.
+/// Writes the operators of an expression, each behind its hint if it has one. `labels` may be anywhere before; its identifiers are those
+/// that are printed.
 pub fn write_operators<P: Print, S: Signatures>(
     p: &mut P,
     options: &PrintOptions,
