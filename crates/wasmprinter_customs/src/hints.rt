@@ -126,7 +126,7 @@ impl<'a> Model for FunctionHints<'a> {
 
 impl<'a> FunctionHints<'a> {
     /// No hints.
-    fn none() -> Self
+    pub fn none() -> Self
         ensures { result ≡ [] }
     {
         FunctionHints {

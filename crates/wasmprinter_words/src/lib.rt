@@ -3,6 +3,7 @@
 #![tactic(auto)]
 
 pub mod comments;
+pub mod hints;
 pub mod identifiers;
 pub mod limits;
 pub mod numbers;
