@@ -7,6 +7,7 @@ ghost use Rattle.wasmprinter_fields.specs.Scopes.{scope_view};
 
 use crate::scope::Scope;
 use std::io;
+use wasmprinter_customs::FunctionHints;
 use wasmprinter_flat::operators::{Form, Setting, write_operators};
 use wasmprinter_lines::options::PrintOptions;
 use wasmprinter_ops::expression::Expression;
@@ -30,8 +31,10 @@ pub(crate) fn write_constant<P: Print>(
         types: &scope.types,
         nesting: 0,
         function: scope.function,
+        body: 0,
     };
-    write_operators(p, options, &setting, &mut scope.labels, expression)
+    let labels = &mut scope.labels;
+    write_operators(p, options, &setting, labels, FunctionHints::none(), expression)
 }
 
 /// Whether the expression has exactly one operator.
