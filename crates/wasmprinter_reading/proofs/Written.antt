@@ -187,14 +187,14 @@ module _ (o : Options) (names : Names) (named : AreNamed names) (m : PlacedModul
         (Group (Word (codes "module") (onto (id_items names.module_name) module_noted)) End)) (sym none) written
 
     -- whole or not, its pieces may stand so
-    pub module_stands : (pieces.laid_parts Free (module_pieces_with o answers names m) ≡ true) × ArePieces (module_pieces_with o answers names m)
+    pub module_stands : (pieces.pieces_follow Free (module_pieces_with o answers names m) ≡ true) × ArePieces (module_pieces_with o answers names m)
     unfolding module_pieces_with class
     module_stands = by laid.refused
       where
         held : IsWritten Bound (leading_mark_pieces names.module_name ++ laid.pieces) Bound
         held = written (both_write (leading_mark_writes names.module_name named.module_name) (parts_partly parts_write).writes)
 
-        by : (r : Option ℕ) → (pieces.laid_parts Free (module_pieces_of o names m.size laid.pieces r) ≡ true) × ArePieces (module_pieces_of o names m.size laid.pieces r)
+        by : (r : Option ℕ) → (pieces.pieces_follow Free (module_pieces_of o names m.size laid.pieces r) ≡ true) × ArePieces (module_pieces_of o names m.size laid.pieces r)
         by None =
             let last : Writes Bound (Feed ∷ []) Free End = feed_writes nothing_writes in
             let w = begin_writes {place = 0} (group_at_then o.offsets m.size 0 (codes "module") (leading_mark_pieces names.module_name ++ laid.pieces) (Feed ∷ []) refl refl held.writes last) in
