@@ -48,7 +48,7 @@ section_parts o s m answers k = Shown (fields_of o s m k) ∷ parts_at o.skeleto
 
 -- those of sections of these kinds, each with answers of its own
 abbrev pub sections_parts : Options → Scope → PlacedModule → List Answers → List Kind → List Part
-sections_parts o s m (a ∷ as) (k ∷ ks) = section_parts o s m a k ++ sections_parts o s m as ks
+sections_parts o s m (a ∷ answers) (k ∷ ks) = section_parts o s m a k ++ sections_parts o s m answers ks
 sections_parts o s m _ _ = []
 
 -- the kinds behind which custom sections can stand, in the order of the sections

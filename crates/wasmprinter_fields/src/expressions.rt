@@ -15,7 +15,7 @@ use wasmprinter_print::Print;
 use wasmprinter_words::words::{gap, open_bare, shut, word};
 
 /// Writes the operators of an expression, a blank between two.
-#[tactic(auto, unfolding(wasmprinter_spec::specs::Layout::Expressions::constant_pieces))]
+#[tactic(auto, unfolding(wasmprinter_spec::specs::Layout::Expressions::constant_pieces, wasmprinter_spec::specs::Layout::Operators::expression_pieces))]
 pub(crate) fn write_constant<P: Print>(
     p: &mut P,
     options: &PrintOptions,
@@ -34,7 +34,14 @@ pub(crate) fn write_constant<P: Print>(
         body: 0,
     };
     let labels = &mut scope.labels;
-    write_operators(p, options, &setting, labels, FunctionHints::none(), expression)
+    write_operators(
+        p,
+        options,
+        &setting,
+        labels,
+        FunctionHints::none(),
+        expression,
+    )
 }
 
 /// Whether the expression has exactly one operator.

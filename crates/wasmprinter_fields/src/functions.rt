@@ -98,7 +98,14 @@ fn write_body<P: Print>(
         function: number,
         body: body.place(),
     };
-    write_operators(p, options, &setting, &mut scope.labels, hints, body.expression())
+    write_operators(
+        p,
+        options,
+        &setting,
+        &mut scope.labels,
+        hints,
+        body.expression(),
+    )
 }
 
 /// Writes what a function holds behind its type.
