@@ -1,0 +1,15 @@
+use Rattle.std.proofs.Common.{sym, ap, ◌∙◌}
+use Rattle.std.specs.Prelude.{length}
+use Rattle.wasmprinter_annotations.proofs.Lists.{fields-break-some, fields-break-passed, fields-break-none}
+use Rattle.wasmprinter_annotations.proofs.producers.has_lines.Goals as goal
+
+pub returns-then-len-ne0 : goal.returns-then-len-ne0
+returns-then-len-ne0 c =
+    let some = λ e. c.if-len-ne0.true (c.len.ensures ∙ ap (λ vs. length vs) c.values.ensures ∙ e) in
+    sym (sym c.loop-field.invariant.rest ∙ fields-break-some _ _ _ c.in-Some.ensures.steps some)
+
+pub loop-field-preserved : goal.loop-field-preserved
+loop-field-preserved c = ?
+
+pub returns : goal.returns
+returns c = sym (sym c.loop-field.invariant.rest ∙ fields-break-none _ c.in-None.ensures.steps.0)
