@@ -13,7 +13,7 @@ use Rattle.wasmprinter_print.specs.Emits.{Through, AtCall, Never}
 use Rattle.wasmprinter_print.specs.Prints.{Written}
 use Rattle.wasmprinter_print.specs.PrintsLaws.{written, no_piece, both_pieces, pieces_end}
 use Rattle.wasmprinter_lines.proofs.Groups.{has_break-append}
-use Rattle.wasmprinter_annotations.specs.Parts.{stop, PrintsLaid, PrintsParts}
+use Rattle.wasmprinter_annotations.specs.Parts.{PrintsLaid, PrintsParts}
 use Rattle.wasmprinter_annotations.specs.Lines.{PrintsPartLines}
 
 -- ---- layouts, one behind the other
@@ -50,9 +50,9 @@ module _ {P : Type 0} (m : Meaning P) {o : Options} where
   laid_then v w = record { written = both_pieces m v w.written; refused = w.refused }
 
   -- shown pieces, and then other parts
-  pub shown_then : {T : Type 0} {a s t : P} {r : Result T Error} {ps : List Piece} {parts : List Part} →
+  pub shown_then : {T : Type 0} {a s t : P} {r : Result T Error} {ps : List Piece} (parts : List Part) →
       Written m o a s Through ps → PrintsParts m o s t r parts → PrintsParts m o a t r (Shown ps ∷ parts)
-  shown_then v w = laid_then v w
+  shown_then parts v w = laid_then v w
 
   shown_ends : {T : Type 0} {a t : P} {e : IoError} {ps : List Piece} (l : Laid) → Written m o a t (AtCall e) ps → PrintsLaid {T = T} m o a t (Err (Printer e)) (before_laid ps l)
   shown_ends {e = e} l v =
@@ -67,10 +67,14 @@ module _ {P : Type 0} (m : Meaning P) {o : Options} where
       subst (λ (z : Error). PrintsParts {T = T} m o a t (Err z) (Shown ps ∷ parts)) (sym f) (shown_ends (joined parts) v)
 
   -- parts, and then other parts
-  pub parts_then : {T U : Type 0} {a s t : P} {x : T} {r : Result U Error} {xs ys : List Part} →
+  pub parts_then : {T U : Type 0} {a s t : P} {x : T} {r : Result U Error} (xs ys : List Part) →
       PrintsParts m o a s (Ok x) xs → PrintsParts m o s t r ys → PrintsParts m o a t r (xs ++ ys)
-  parts_then {a = a} {t = t} {r = r} {xs} {ys} v w =
+  parts_then {a = a} {t = t} {r = r} xs ys v w =
       subst (λ (l : Laid). PrintsLaid m o a t r l) (sym (joined-through xs ys v.refused)) (laid_then v.written w)
+
+  -- the value of a function that went through doesn't matter
+  answered : {T U : Type 0} {a t : P} {x : T} {y : U} {l : Laid} → PrintsLaid m o a t (Ok x) l → PrintsLaid m o a t (Ok y) l
+  answered v = record { written = v.written; refused = v.refused }
 
   never : {a t : P} {ps : List Piece} → Written m o a t Never ps → ⊥
   never v = (written m v).made
@@ -99,10 +103,10 @@ module _ {P : Type 0} (m : Meaning P) {o : Options} where
   laid_ends Memory l k v = absurd (never v.written)
 
   -- parts at which it ended, whatever parts would have come after them
-  pub parts_end : {T U : Type 0} {a t : P} (r : Result U Error) {e : Error} {xs : List Part} (ys : List Part) →
+  pub parts_end : {T U : Type 0} {a t : P} (r : Result U Error) {e : Error} (xs ys : List Part) →
       IsErrAnd r (λ y. y ≡ e) → PrintsParts {T = T} m o a t (Err e) xs → PrintsParts m o a t r (xs ++ ys)
-  parts_end (Ok x) ys f v = absurd f
-  parts_end {T} {U} {a} {t} (Err y) {xs = xs} ys f v =
+  parts_end (Ok x) xs ys f v = absurd f
+  parts_end {T} {U} {a} {t} (Err y) xs ys f v =
       subst (λ (l : Laid). PrintsLaid {T = U} m o a t (Err y) l) (sym (joined-append xs ys))
       (laid_ends y (joined xs) (joined ys) (subst (λ (z : Error). PrintsParts {T = T} m o a t (Err z) xs) (sym f) v))
 
@@ -116,7 +120,7 @@ module _ {P : Type 0} (m : Meaning P) {o : Options} where
   pub part_lines_then : {a s t : P} {b c : Bool} {xs ys : List Part} →
       PrintsPartLines m o a s (Ok b) xs → PrintsPartLines m o s t (Ok c) ys → PrintsPartLines m o a t (Ok (b || c)) (xs ++ ys)
   part_lines_then {b = b} {c} {xs} {ys} v w = record {
-    prints = parts_then v.prints w.prints;
+    prints = answered (parts_then xs ys v.prints w.prints);
     lines =
         ap (λ (x : Bool). x || c) v.lines ∙ ap (λ (y : Bool). has_break (joined xs).pieces || y) w.lines
         ∙ sym (ap (λ (l : Laid). has_break l.pieces) (joined-through xs ys v.prints.refused) ∙ has_break-append (joined xs).pieces (joined ys).pieces);
@@ -126,4 +130,5 @@ module _ {P : Type 0} (m : Meaning P) {o : Options} where
   pub part_lines_end : {a s t : P} {b : Bool} (r : Result Bool Error) {e : Error} {xs ys : List Part} (zs : List Part) → IsErrAnd r (λ y. y ≡ e) →
       PrintsPartLines m o a s (Ok b) xs → PrintsPartLines m o s t (Err e) ys → PrintsPartLines m o a t r (xs ++ (ys ++ zs))
   part_lines_end (Ok x) zs f v w = absurd f
-  part_lines_end (Err y) zs f v w = record { prints = parts_then v.prints (parts_end (Err y) zs f w.prints); lines = tt }
+  part_lines_end (Err y) {xs = xs} {ys} zs f v w =
+      record { prints = parts_then xs (ys ++ zs) v.prints (parts_end (Err y) ys zs f w.prints); lines = tt }

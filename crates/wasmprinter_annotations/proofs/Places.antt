@@ -1,5 +1,5 @@
 -- Custom sections at one place: which answers decide what is made of them.
-use Rattle.std.specs.Prelude.{◌≡◌, ℕ, zero, suc, ◌+◌, ◌==◌, ◌<◌, List, [], ◌∷◌, ◌++◌, Bool, true, false, Option, Some, None, slice_get, cond, refl}
+use Rattle.std.specs.Prelude.{◌≡◌, ℕ, suc, ◌+◌, ◌==◌, List, [], ◌∷◌, Bool, true, false, Option, Some, None, slice_get, cond, refl}
 use Rattle.std.proofs.Common.{sym, ap, ap₂, ◌∙◌, arith}
 use Rattle.std.proofs.lemmas.Bool.{eq-eqb, ne_eqb}
 use Rattle.wasmprinter_spec.specs.Kinds.{Kind, CustomSection, TypeSection, ImportSection, FunctionSection, TableSection, MemorySection, TagSection, GlobalSection, ExportSection, StartSection, ElementSection, DataCountSection, CodeSection, DataSection, same_kind}
@@ -71,20 +71,20 @@ module _ (skeleton : Bool) (place : Option Kind) where
       ((i : ℕ) (c : CustomEntry) → slice_get cs i ≡ Some c → same_place c.behind place ≡ true → a (n + i) ≡ b (n + i)) →
       parts_at skeleton a place n cs ≡ parts_at skeleton b place n cs
   parts_at-agree a b n [] agree = refl
-  parts_at-agree a b n (c ∷ cs) agree = by (same_place c.behind place) refl
+  parts_at-agree a b n (c ∷ cs) agree =
+      let others : parts_at skeleton a place (n + 1) cs ≡ parts_at skeleton b place (n + 1) cs =
+      parts_at-agree a b (n + 1) cs (λ i d at same.
+      let number : (n + 1) + i ≡ n + suc i = omega arith in
+      ap a number ∙ agree (suc i) d at same ∙ sym (ap b number)) in
+      by (same_place c.behind place) refl others
     where
-      others : parts_at skeleton a place (n + 1) cs ≡ parts_at skeleton b place (n + 1) cs
-      others =
-          parts_at-agree a b (n + 1) cs (λ i d at same.
-          let number : (n + 1) + i ≡ n + suc i = omega arith in
-          ap a number ∙ agree (suc i) d at same ∙ sym (ap b number))
-
-      by : (t : Bool) → same_place c.behind place ≡ t → parts_at skeleton a place n (c ∷ cs) ≡ parts_at skeleton b place n (c ∷ cs)
-      by true e =
+      by : (t : Bool) → same_place c.behind place ≡ t → parts_at skeleton a place (n + 1) cs ≡ parts_at skeleton b place (n + 1) cs →
+          parts_at skeleton a place n (c ∷ cs) ≡ parts_at skeleton b place n (c ∷ cs)
+      by true e others =
           let number : n + 0 ≡ n = omega arith in
           let first : a n ≡ b n = sym (ap a number) ∙ agree 0 c refl e ∙ ap b number in
           rw (e, first, others) refl
-      by false e = rw (e, others) refl
+      by false e others = rw (e, others) refl
 
   -- ---- one section, and those behind it
 
@@ -120,7 +120,7 @@ parts_at-answered skeleton place answer others n c cs here =
 
 -- ---- one table of answers for all places
 
-answer_of : (Option Kind → Answers) → ℕ → Option CustomEntry → Bool
+abbrev answer_of : (Option Kind → Answers) → ℕ → Option CustomEntry → Bool
 answer_of table n None = false
 answer_of table n (Some c) = table c.behind n
 

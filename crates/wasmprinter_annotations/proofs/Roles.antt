@@ -1,5 +1,5 @@
 -- One custom section: its claim, and what stands behind it.
-use Rattle.std.specs.Prelude.{◌≡◌, ℕ, List, [], ◌∷◌, ◌++◌, Bool, true, false, Result, Ok, Err, IsErrAnd, IfOk, refl}
+use Rattle.std.specs.Prelude.{◌≡◌, ℕ, List, [], ◌∷◌, Bool, true, false, Result, Ok, Err, IsErrAnd, IfOk, refl}
 use Rattle.std.proofs.Common.{sym, ap, ◌∙◌, subst, append-nil}
 use Rattle.std.specs.declared.io.Error.{Error as IoError}
 use Rattle.wasmprinter_error.specs.declared.error.Error.{Error}
@@ -12,7 +12,7 @@ use Rattle.wasmprinter_spec.specs.Customs.{Role, Silent, Listed, Linked, Refused
 use Rattle.wasmprinter_spec.specs.Piece.{Piece, Claimed}
 use Rattle.wasmprinter_spec.specs.Layout.Groups.{has_break}
 use Rattle.wasmprinter_spec.specs.Layout.Customs.{Shown, Stops, Laid, before_laid, joined, raw_pieces, faulted_pieces, role_part, custom_part}
-use Rattle.wasmprinter_print.specs.Emits.{Through, AtCall, ending}
+use Rattle.wasmprinter_print.specs.Emits.{Through}
 use Rattle.wasmprinter_print.specs.EmitsLaws.{called, call_fails}
 use Rattle.wasmprinter_print.specs.Prints.{Written, Prints}
 use Rattle.wasmprinter_print.specs.PrintsLaws.{no_piece, one_piece}
@@ -53,7 +53,7 @@ module _ {P : Type 0} (m : Meaning P) (o : Options) where
   wrote_part {a} {t} answer r {ps} e breaks v = subst (λ (q : Result Bool Error). PrintsPart m o a t q (Shown ps)) (sym e) (by r v)
     where
       by : (r : Result (Unit {0}) IoError) → Prints m o a t r ps → PrintsPart m o a t (lines_answer r) (Shown ps)
-      by (Ok x) v = record { prints = shown_then m v (no_parts m); lines = sym (ap has_break (append-nil ps) ∙ breaks) }
+      by (Ok x) v = record { prints = shown_then m [] v (no_parts m); lines = sym (ap has_break (append-nil ps) ∙ breaks) }
       by (Err e) v = record { prints = shown_fails m (Err (Printer e)) [] refl v; lines = tt }
 
   -- nothing
@@ -74,7 +74,7 @@ module _ {P : Type 0} (m : Meaning P) (o : Options) where
     -- the printer takes the section
     pub taken : {a t : P} → let s : Custom = c.section.value in
         Succeeded m a (Claim s.name s.bytes.place s.bytes.value true) t → PrintsPart m o a t (Ok false) (custom_part skeleton true c)
-    taken v = record { prints = shown_then m (claimed true v) (no_parts m); lines = refl }
+    taken v = record { prints = shown_then m [] (claimed true v) (no_parts m); lines = refl }
 
     -- it doesn't
     pub left_to_us : {a s t : P} {r : Result Bool Error} → let x : Custom = c.section.value in

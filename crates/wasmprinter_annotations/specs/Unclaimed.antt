@@ -1,8 +1,8 @@
 -- What stands behind the claim of a custom section that the printer doesn't take.
-use Rattle.std.specs.Prelude.{[], ◌∷◌, ◌++◌, Bool, codes, Some, List}
+use Rattle.std.specs.Prelude.{[], ◌∷◌, Bool, codes, Some}
 use Rattle.wasmprinter_spec.specs.Placed.{CustomEntry}
 use Rattle.wasmprinter_spec.specs.Customs.{Role, Silent, Listed, Linked, Refused, Raw, Faulted}
-use Rattle.wasmprinter_spec.specs.Piece.{Piece, Break}
+use Rattle.wasmprinter_spec.specs.Piece.{Break}
 use Rattle.wasmprinter_spec.specs.Layout.Customs.{Part, Shown, Stops, note, fields_pieces, subsections_pieces, raw_pieces, faulted_pieces}
 
 -- by the section's role

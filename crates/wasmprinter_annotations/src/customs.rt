@@ -41,13 +41,13 @@ fn write_role<P: Print>(
     p: &mut P,
     options: &PrintOptions,
     entry: &CustomEntry<'_>,
-    role: &CustomRole<'_>,
+    role: CustomRole<'_>,
 ) -> Result<bool, Error>
     ensures { PrintsPart P.meaning options.now p.old p.new result
-        (unclaimed_part options.now.skeleton entry.now (role_view role.now)) }
+        (unclaimed_part options.now.skeleton entry.now (role_view role.entry)) }
 {
     let place = entry.section.place();
-    match role {
+    match &role {
         CustomRole::Silent => Ok(false),
         CustomRole::Producers(fields) => with_lines(write_producers(p, options, place, fields)),
         CustomRole::Dylink(subsections) => with_lines(write_dylink(p, options, place, subsections)),
@@ -75,7 +75,7 @@ pub fn write_custom<P: Print>(
     if p.print_custom_section(section.name(), section.bytes_place(), section.bytes())? {
         return Ok(false);
     }
-    write_role(p, options, entry, &role_of(section))
+    write_role(p, options, entry, role_of(section))
 }
 
 /// Whether a section stands behind one of the kind, or in front of all others.

@@ -1,4 +1,4 @@
-use Rattle.std.proofs.Common.{◌≡◌, ℕ, true, sym, ap, ◌∙◌, ⊎_elim}
+use Rattle.std.proofs.Common.{◌≡◌, ℕ, sym, ap, ◌∙◌, ⊎_elim}
 use Rattle.wasmprinter_spec.specs.Layout.Groups.{has_break}
 use Rattle.wasmprinter_spec.specs.Layout.Customs.{content_pieces}
 use Rattle.wasmprinter_customs.specs.Contents.{content_view}

@@ -1,4 +1,3 @@
-use Rattle.std.specs.Prelude.{codes}
 use Rattle.wasmprinter_spec.specs.Layout.Customs.{sizes_pieces}
 use Rattle.wasmprinter_print.specs.PrintsLaws.{both_pieces, pieces_end}
 use Rattle.wasmprinter_annotations.proofs.dylink.write_sizes.Goals as goal

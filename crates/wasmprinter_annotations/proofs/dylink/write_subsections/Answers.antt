@@ -16,3 +16,13 @@ pub loop-subsection-preserved : goal.loop-subsection-preserved
 loop-subsection-preserved g c =
     let step = subsections-next _ _ _ c.in-Some.ensures.steps in
     next_written g.P.Print.meaning _ _ (rw step at c.loop-subsection.invariant) (rw (c.place.ensures, c.content.ensures) at c.in_ok-write_content.ensures)
+
+pub loop-subsection-preserved-in_ok-write_content : goal.loop-subsection-preserved-in_ok-write_content
+loop-subsection-preserved-in_ok-write_content g c =
+    let step = subsections-next _ _ _ c.in-Some.ensures.steps in
+    next_written g.P.Print.meaning _ _ (rw step at c.loop-subsection.invariant) (rw (c.place.ensures, c.content.ensures) at c.in_ok-write_content.ensures)
+
+pub loop-subsection-preserved-in_ok-write_content-2 : goal.loop-subsection-preserved-in_ok-write_content-2
+loop-subsection-preserved-in_ok-write_content-2 g c =
+    let step = subsections-next _ _ _ c.in-Some.ensures.steps in
+    next_written g.P.Print.meaning _ _ (rw step at c.loop-subsection.invariant) (rw (c.place.ensures, c.content.ensures) at c.in_ok-write_content.ensures)

@@ -1,4 +1,4 @@
-use Rattle.std.specs.Prelude.{[], false, codes}
+use Rattle.std.specs.Prelude.{[], false}
 use Rattle.std.specs.Fmt.{digits}
 use Rattle.wasmprinter_print.specs.EmitsLaws.{then_text, ends_text}
 use Rattle.wasmprinter_print.specs.PrintsLaws.{one_piece}
