@@ -2,6 +2,7 @@
 //! over any printer.
 #![tactic(auto)]
 
+pub mod annotations;
 pub mod comments;
 pub mod hints;
 pub mod identifiers;
