@@ -8,7 +8,7 @@ use Rattle.wasmprinter_spec.specs.Meaning.{Meaning}
 use Rattle.wasmprinter_spec.specs.Options.{Options}
 use Rattle.wasmprinter_spec.specs.Piece.{Piece}
 use Rattle.wasmprinter_spec.specs.Layout.Groups.{has_break}
-use Rattle.wasmprinter_spec.specs.Layout.Customs.{Part, Shown, Stops, Laid, before_laid, joined}
+use Rattle.wasmprinter_spec.specs.Layout.Customs.{Part, Shown, Stops, Laid, before_laid, laid_parts}
 use Rattle.wasmprinter_print.specs.Emits.{Through, AtCall, Never}
 use Rattle.wasmprinter_print.specs.Prints.{Written}
 use Rattle.wasmprinter_print.specs.PrintsLaws.{written, no_piece, both_pieces, pieces_end}
@@ -28,14 +28,14 @@ before-behind ps qs None l = ap (λ (xs : List Piece). record l { pieces = xs })
 before-behind ps qs (Some id) l = refl
 
 -- parts in two lists
-pub joined-append : (xs ys : List Part) → joined (xs ++ ys) ≡ laid_behind (joined xs).pieces (joined xs).refused (joined ys)
+pub joined-append : (xs ys : List Part) → laid_parts (xs ++ ys) ≡ laid_behind (laid_parts xs).pieces (laid_parts xs).refused (laid_parts ys)
 joined-append [] ys = refl
-joined-append (Shown ps ∷ xs) ys = ap (before_laid ps) (joined-append xs ys) ∙ before-behind ps (joined xs).pieces (joined xs).refused (joined ys)
+joined-append (Shown ps ∷ xs) ys = ap (before_laid ps) (joined-append xs ys) ∙ before-behind ps (laid_parts xs).pieces (laid_parts xs).refused (laid_parts ys)
 joined-append (Stops ps id ∷ xs) ys = refl
 
 -- parts that go through, and others
-pub joined-through : (xs ys : List Part) → (joined xs).refused ≡ None → joined (xs ++ ys) ≡ before_laid (joined xs).pieces (joined ys)
-joined-through xs ys e = joined-append xs ys ∙ ap (λ (q : Option ℕ). laid_behind (joined xs).pieces q (joined ys)) e
+pub joined-through : (xs ys : List Part) → (laid_parts xs).refused ≡ None → laid_parts (xs ++ ys) ≡ before_laid (laid_parts xs).pieces (laid_parts ys)
+joined-through xs ys e = joined-append xs ys ∙ ap (λ (q : Option ℕ). laid_behind (laid_parts xs).pieces q (laid_parts ys)) e
 
 -- ---- what was made of them
 
@@ -64,7 +64,7 @@ module _ {P : Type 0} (m : Meaning P) {o : Options} where
       IsErrAnd r (λ y. y ≡ Printer e) → Written m o a t (AtCall e) ps → PrintsParts m o a t r (Shown ps ∷ parts)
   shown_fails (Ok x) parts f v = absurd f
   shown_fails {T} {a} {t} (Err y) {ps = ps} parts f v =
-      subst (λ (z : Error). PrintsParts {T = T} m o a t (Err z) (Shown ps ∷ parts)) (sym f) (shown_ends (joined parts) v)
+      subst (λ (z : Error). PrintsParts {T = T} m o a t (Err z) (Shown ps ∷ parts)) (sym f) (shown_ends (laid_parts parts) v)
 
   -- parts, and then other parts
   pub parts_then : {T U : Type 0} {a s t : P} {x : T} {r : Result U Error} (xs ys : List Part) →
@@ -108,7 +108,7 @@ module _ {P : Type 0} (m : Meaning P) {o : Options} where
   parts_end (Ok x) xs ys f v = absurd f
   parts_end {T} {U} {a} {t} (Err y) xs ys f v =
       subst (λ (l : Laid). PrintsLaid {T = U} m o a t (Err y) l) (sym (joined-append xs ys))
-      (laid_ends y (joined xs) (joined ys) (subst (λ (z : Error). PrintsParts {T = T} m o a t (Err z) xs) (sym f) v))
+      (laid_ends y (laid_parts xs) (laid_parts ys) (subst (λ (z : Error). PrintsParts {T = T} m o a t (Err z) xs) (sym f) v))
 
   -- ---- with an answer whether lines were written
 
@@ -122,8 +122,8 @@ module _ {P : Type 0} (m : Meaning P) {o : Options} where
   part_lines_then {b = b} {c} {xs} {ys} v w = record {
     prints = answered (parts_then xs ys v.prints w.prints);
     lines =
-        ap (λ (x : Bool). x || c) v.lines ∙ ap (λ (y : Bool). has_break (joined xs).pieces || y) w.lines
-        ∙ sym (ap (λ (l : Laid). has_break l.pieces) (joined-through xs ys v.prints.refused) ∙ has_break-append (joined xs).pieces (joined ys).pieces);
+        ap (λ (x : Bool). x || c) v.lines ∙ ap (λ (y : Bool). has_break (laid_parts xs).pieces || y) w.lines
+        ∙ sym (ap (λ (l : Laid). has_break l.pieces) (joined-through xs ys v.prints.refused) ∙ has_break-append (laid_parts xs).pieces (laid_parts ys).pieces);
   }
 
   -- parts, and then parts at which it ended, whatever would have come after them

@@ -11,7 +11,7 @@ use Rattle.wasmprinter_spec.specs.Placed.{Custom, CustomEntry}
 use Rattle.wasmprinter_spec.specs.Customs.{Role, Silent, Listed, Linked, Refused, Raw, Faulted, role_of}
 use Rattle.wasmprinter_spec.specs.Piece.{Piece, Claimed}
 use Rattle.wasmprinter_spec.specs.Layout.Groups.{has_break}
-use Rattle.wasmprinter_spec.specs.Layout.Customs.{Shown, Stops, Laid, before_laid, joined, raw_pieces, faulted_pieces, role_part, custom_part}
+use Rattle.wasmprinter_spec.specs.Layout.Customs.{Shown, Stops, Laid, before_laid, laid_parts, raw_pieces, faulted_pieces, role_part, custom_part}
 use Rattle.wasmprinter_print.specs.Emits.{Through}
 use Rattle.wasmprinter_print.specs.EmitsLaws.{called, call_fails}
 use Rattle.wasmprinter_print.specs.Prints.{Written, Prints}
@@ -27,7 +27,7 @@ claim_of s answer = Claimed s.name s.bytes.place s.bytes.value answer
 
 -- what stands behind the claim, by the section's role
 behind_claim : (skeleton : Bool) (claim : Piece) (c : CustomEntry) (r : Role) →
-    joined (role_part skeleton claim c r ∷ []) ≡ before_laid (claim ∷ []) (joined (unclaimed_part skeleton c r ∷ []))
+    laid_parts (role_part skeleton claim c r ∷ []) ≡ before_laid (claim ∷ []) (laid_parts (unclaimed_part skeleton c r ∷ []))
 behind_claim skeleton claim c Silent = refl
 behind_claim skeleton claim c (Listed fields) = refl
 behind_claim skeleton claim c (Linked ss) = refl
