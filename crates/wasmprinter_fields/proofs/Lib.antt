@@ -6,3 +6,5 @@ pub mod LineGroups
 pub mod Constants
 pub mod ImportLines
 pub mod Declared
+pub mod Walking
+pub mod Breaking

@@ -37,7 +37,11 @@ fn hints_of<'a>(customs: &[CustomEntry<'a>]) -> Hints<'a>
         }
     }
     match last {
-        Some(section) => Hints::given(section.bytes_place(), section.bytes()),
+        Some(section) => {
+            let content = section.cursor();
+            prove!(content.end() <= u64::MAX);
+            Hints::given(content.place(), content.rest())
+        }
         None => Hints::none(),
     }
 }
