@@ -8,3 +8,4 @@ pub mod ImportLines
 pub mod Declared
 pub mod Walking
 pub mod Breaking
+pub mod SectionParts

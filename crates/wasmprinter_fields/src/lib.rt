@@ -13,7 +13,7 @@ mod imports;
 mod limits;
 mod locals;
 mod memories;
-// pub mod modules;
+pub mod modules;
 mod scope;
 mod sections;
 mod start;

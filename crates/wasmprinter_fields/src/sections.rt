@@ -1,16 +1,16 @@
 //! The fields of sections by their kinds (section 6.6 of the WebAssembly Core Specification, "Modules").
 ghost use Rattle.std.specs.Prelude.{◌≡◌, ◌+◌, ◌<◌, ◌^◌, length};
-ghost use Rattle.wasmprinter_spec.specs.Names.{Names};
 ghost use Rattle.wasmprinter_spec.specs.Types.{FuncKind};
 ghost use Rattle.wasmprinter_spec.specs.Customs.Hints.{hints_of};
 ghost use Rattle.wasmprinter_spec.specs.Options.{Options};
+ghost use Rattle.wasmprinter_spec.specs.Layout.Declarations.{Scope as FieldScope};
 ghost use Rattle.wasmprinter_spec.specs.Layout.DataSegments.{data_pieces};
 ghost use Rattle.wasmprinter_spec.specs.Layout.Functions.{functions_pieces};
 ghost use Rattle.wasmprinter_spec.specs.Layout.Groups.{has_break, numbered};
 ghost use Rattle.wasmprinter_print.specs.Prints.{Prints};
 ghost use Rattle.wasmprinter_entries.specs.Externs.{kind_view, imported_count};
 ghost use Rattle.wasmprinter_entries.specs.Places.{section_kind_view};
-ghost use Rattle.wasmprinter_fields.specs.FieldGroups.{first_scope, fields_of};
+ghost use Rattle.wasmprinter_fields.specs.FieldGroups.{fields_of};
 ghost use Rattle.wasmprinter_fields.specs.Parts.{field_line, within};
 ghost use Rattle.wasmprinter_fields.specs.Scopes.{scope_view};
 
@@ -145,8 +145,7 @@ pub(crate) fn write_fields_of<P: Print>(
 
 /// Whether the section of a kind has fields, each of which begins a line.
 pub(crate) fn has_fields(module: &Module<'_>, kind: SectionKind) -> bool
-    ensures { (o : Options) (names : Names) →
-        result ≡ has_break (fields_of o (first_scope names module.now) module.now (section_kind_view kind)) }
+    ensures { (o : Options) (s : FieldScope) → result ≡ has_break (fields_of o s module.now (section_kind_view kind)) }
 {
     match kind {
         SectionKind::Type => !module.types().is_empty(),
