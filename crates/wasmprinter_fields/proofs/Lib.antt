@@ -9,3 +9,4 @@ pub mod Declared
 pub mod Walking
 pub mod Breaking
 pub mod SectionParts
+pub mod SectionWalk

@@ -1,6 +1,5 @@
 use Rattle.std.proofs.Common.{◌+◌, ◌≤◌, ◌∙◌, ◌≡◌, length, arith}
 use Rattle.wasmprinter_spec.specs.Types.{FuncKind}
-use Rattle.wasmprinter_spec.specs.Layout.Functions.{function_pieces}
 use Rattle.wasmprinter_print.specs.PrintsLaws.{lacks_none, next_written, next_fails}
 use Rattle.wasmprinter_entries.specs.Externs.{imported_count}
 use Rattle.wasmprinter_fields.specs.Scopes.{scope_view}
