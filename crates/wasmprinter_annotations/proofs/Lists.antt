@@ -139,12 +139,17 @@ subsections-break : (ss rest : List Subsection) (s : Subsection) → ss ≡ s �
     has_break (subsections_pieces ss) ≡ (has_break (content_pieces s.place s.value) || has_break (subsections_pieces rest))
 subsections-break ss rest s e = ap has_break (subsections-next ss rest s e) ∙ has_break-append (content_pieces s.place s.value) (subsections_pieces rest)
 
-pub subsections-break-some : (ss rest : List Subsection) (s : Subsection) → ss ≡ s ∷ rest → has_break (content_pieces s.place s.value) ≡ true → has_break (subsections_pieces ss) ≡ true
-subsections-break-some ss rest s e some = subsections-break ss rest s e ∙ ap (λ b. b || has_break (subsections_pieces rest)) some
+-- by a test of the first one, as it is shown
+module _ (ss rest : List Subsection) (s : Subsection) (shown : Content) (test : Bool) (next : ss ≡ s ∷ rest) (is : shown ≡ s.value)
+    (tells : (place : ℕ) → test ≡ has_break (content_pieces place shown)) where
+  first-break : has_break (content_pieces s.place s.value) ≡ test
+  first-break = sym (ap (λ (c : Content). has_break (content_pieces s.place c)) is) ∙ sym (tells s.place)
 
-pub subsections-break-passed : (ss rest : List Subsection) (s : Subsection) → ss ≡ s ∷ rest → has_break (content_pieces s.place s.value) ≡ false →
-    has_break (subsections_pieces rest) ≡ has_break (subsections_pieces ss)
-subsections-break-passed ss rest s e none = sym (subsections-break ss rest s e ∙ ap (λ b. b || has_break (subsections_pieces rest)) none)
+  pub subsections-break-found : test ≡ true → has_break (subsections_pieces ss) ≡ true
+  subsections-break-found e = subsections-break ss rest s next ∙ ap (λ b. b || has_break (subsections_pieces rest)) (first-break ∙ e)
+
+  pub subsections-break-passed : test ≡ false → has_break (subsections_pieces rest) ≡ has_break (subsections_pieces ss)
+  subsections-break-passed e = sym (subsections-break ss rest s next ∙ ap (λ b. b || has_break (subsections_pieces rest)) (first-break ∙ e))
 
 pub subsections-break-none : (ss : List Subsection) → ss ≡ [] → has_break (subsections_pieces ss) ≡ false
 subsections-break-none ss e = ap has_break (subsections-none ss e)

@@ -1,5 +1,5 @@
-//! Custom sections as text: annotations for raw ones (appendix "Custom Annotations" of the WebAssembly Core Specification), and lines of their own for
-//! `producers` and `dylink.0` (tool conventions).
+//! Custom sections as text: annotations for raw ones (appendix "Custom Annotations" of the WebAssembly Core Specification), and lines of
+//! their own for `producers` and `dylink.0` (tool conventions).
 #![tactic(auto)]
 
 mod customs;

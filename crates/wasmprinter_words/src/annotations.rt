@@ -1,4 +1,5 @@
-//! Annotations (section 6.2 of the WebAssembly Core Specification, "Annotations"), and the line that tells of a custom section with a fault.
+//! Annotations (section 6.2 of the WebAssembly Core Specification, "Annotations"), and the line that tells of a custom section with a
+//! fault.
 ghost use Rattle.std.specs.Prelude.{[], ◌∷◌, ◌++◌};
 ghost use Rattle.wasmprinter_spec.specs.Options.{Options};
 ghost use Rattle.wasmprinter_spec.specs.Piece.{OpenNote, OpenNoteGap, OpenRun, PlainEnding};
