@@ -1,12 +1,13 @@
 -- What a run leads to: what it writes of a module, why it writes none, what it tells of that, and its status.
-use Rattle.std.specs.Prelude.{◌≡◌, ℕ, ◌≤◌, ◌⊎◌, ◌↔◌, List, [], ◌∷◌, ◌++◌, false, Option, Some, None, Result, Ok, Err, codes}
+use Rattle.std.specs.Prelude.{◌≡◌, ℕ, ◌≤◌, ◌⊎◌, ◌↔◌, List, [], ◌∷◌, ◌++◌, Option, Some, None, Result, Ok, Err, codes}
 use Rattle.std.specs.Fmt.{◌++?◌}
 use Rattle.std.specs.declared.io.Error.{Error as IoError}
 use Rattle.wasmprinter_error.specs.declared.error.Error.{Error}
 use Rattle.wasmprinter_error.specs.declared.error.Error.TheVariants.{Unreadable, Printer}
-use Rattle.wasmprinter.specs.Printed.{HasText}
+use Rattle.wasmprinter_spec.specs.Options.{Options}
+use Rattle.wasmprinter.specs.Printed.{HasTextBy}
 use Rattle.wasmprinter.specs.Outcome.{HasTextCause, IsTrueOfText}
-use Rattle.printwasm.specs.Words.{name_one_file}
+use Rattle.printwasm.specs.Words.{named_file, chosen}
 
 -- what a read of one file may give: bytes, or `None` where it fails
 abbrev pub Reading : Type 1
@@ -16,9 +17,9 @@ Reading = Option (List ℕ) → Type 0
 abbrev pub Writing : Type 0 → Type 1
 Writing W = W → Option (List ℕ) → Result (Unit {0}) IoError → W → Type 0
 
--- the file gives bytes that spell a module with this text
-abbrev pub GivesText : Reading → List ℕ → Type 0
-GivesText gives text = (wasm : List ℕ) × gives (Some wasm) × HasText wasm text
+-- the file gives bytes that spell a module with this text, by these options
+abbrev pub GivesText : Options → Reading → List ℕ → Type 0
+GivesText o gives text = (wasm : List ℕ) × gives (Some wasm) × HasTextBy o wasm text
 
 -- there is no text of the file: it can't be read, or its module can't be printed for a cause that is true of its bytes
 abbrev pub GivesNoText : Reading → Error → Type 0
@@ -26,13 +27,13 @@ GivesNoText gives error =
     (gives None × (error ≡ Unreadable)) ⊎ ((wasm : List ℕ) × gives (Some wasm) × IsTrueOfText wasm error × HasTextCause wasm error)
 
 -- the text of the file's module was written once, and the write answered this
-abbrev pub WritesText : {W : Type 0} → Reading → Writing W → W → W → Result (Unit {0}) IoError → Type 0
-WritesText gives takes old new answer = (text : List ℕ) × GivesText gives text × takes old (Some text) answer new
+abbrev pub WritesText : {W : Type 0} → Options → Reading → Writing W → W → W → Result (Unit {0}) IoError → Type 0
+WritesText o gives takes old new answer = (text : List ℕ) × GivesText o gives text × takes old (Some text) answer new
 
 -- the module isn't printed: there is no text of it, and nothing was written; or the one write of its text failed
-abbrev pub FailsToWrite : {W : Type 0} → Reading → Writing W → W → W → Error → Type 0
-FailsToWrite gives takes old new error = (GivesNoText gives error × (new ≡ old))
-    ⊎ ((failure : IoError) × WritesText gives takes old new (Err failure) × (error ≡ Printer failure))
+abbrev pub FailsToWrite : {W : Type 0} → Options → Reading → Writing W → W → W → Error → Type 0
+FailsToWrite o gives takes old new error = (GivesNoText gives error × (new ≡ old))
+    ⊎ ((failure : IoError) × WritesText o gives takes old new (Err failure) × (error ≡ Printer failure))
 
 -- the text was written once, whatever the write answered
 abbrev pub Tells : {W : Type 0} → Writing W → W → W → Option (List ℕ) → Type 0
@@ -40,22 +41,22 @@ Tells takes old new text = (answer : Result (Unit {0}) IoError) × takes old tex
 
 -- the line that tells how the program is used
 abbrev pub usage_line : List ℕ
-usage_line = codes "usage: printwasm FILE" ++ (10 ∷ [])
+usage_line = codes "usage: printwasm [--offsets] [--skeleton] [--name-unnamed] FILE" ++ (10 ∷ [])
 
 -- the line that tells an error, where the error's text is told
 abbrev pub error_line : Option (List ℕ) → Option (List ℕ)
 error_line text = Some (codes "error: ") ++? (text ++? Some (10 ∷ []))
 
 -- What a run with these words leads to, where `text_of` tells the texts of errors: the status is 2 exactly where the words don't name one
--- file, and then the output stays as it was and the usage line is told; it is 0 only where the text of the module in the named file was
--- written whole and nothing was told; and 1 only where it wasn't, and the error was told.
+-- file beside options that there are, and then the output stays as it was and the usage line is told; it is 0 only where the text of the module in the
+-- named file, by the options that the words choose, was written whole and nothing was told; and 1 only where it wasn't, and the error was told.
 pub record HasOutcome {W V : Type 0} (gives : List ℕ → Reading) (takes : Writing W) (tells : Writing V) (text_of : Error → Option (List ℕ))
     (words : List (List ℕ)) (out new_out : W) (err new_err : V) (status : ℕ) : Type 0 where
-  pub usage : (status ≡ 2) ↔ (name_one_file words ≡ false)
+  pub usage : (status ≡ 2) ↔ (named_file words ≡ None)
   pub bound : status ≤ 2
   pub silent : status ≡ 2 → new_out ≡ out
   pub misused : status ≡ 2 → Tells tells err new_err (Some usage_line)
-  pub printed : status ≡ 0 → (file : List ℕ) × (words ≡ file ∷ []) × WritesText (gives file) takes out new_out (Ok tt)
+  pub printed : status ≡ 0 → (file : List ℕ) × (named_file words ≡ Some file) × WritesText (chosen words) (gives file) takes out new_out (Ok tt)
   pub quiet : status ≡ 0 → new_err ≡ err
-  pub refused : status ≡ 1 → (file : List ℕ) × (error : Error) × (words ≡ file ∷ []) × FailsToWrite (gives file) takes out new_out error
+  pub refused : status ≡ 1 → (file : List ℕ) × (error : Error) × (named_file words ≡ Some file) × FailsToWrite (chosen words) (gives file) takes out new_out error
       × Tells tells err new_err (error_line (text_of error))

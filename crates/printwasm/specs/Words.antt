@@ -1,16 +1,53 @@
 -- The words of the program, its own name not among them.
-use Rattle.std.specs.Prelude.{◌≡◌, ℕ, ◌⊎◌, List, [], ◌∷◌, map, drop, Bool, false, not, nat_eq, codes, Option, Result, IsOk, IsOkAnd, IsErrAnd, string_bytes}
-use Rattle.std.specs.List.{starts_with}
+use Rattle.std.specs.Prelude.{◌≡◌, ℕ, ◌⊎◌, List, [], ◌∷◌, map, drop, filter, Bool, not, ◌||◌, bytes_eq, nat_eq, codes, Option, Some, None, if◌then◌else◌, Result, IsOk, IsOkAnd, IsErrAnd, string_bytes}
+use Rattle.std.specs.List.{starts_with, list_any, list_all}
+use Rattle.wasmprinter_spec.specs.Options.{Options, defaults}
 use Rattle.std.specs.IoError.{error_kind}
 use Rattle.std.specs.Iterator.Runs.{WholeRun}
 use Rattle.std.specs.declared.io.Error.{Error as IoError}
 use Rattle.std.specs.declared.io.ErrorKind.TheVariants.{OutOfMemory}
 use Rattle.std.specs.declared.string.String.{String}
 
--- one word that is no option: the file
-abbrev pub name_one_file : List (List ℕ) → Bool
-name_one_file (word ∷ []) = not (starts_with nat_eq word (codes "--"))
-name_one_file words = false
+-- a word that begins so chooses an option
+abbrev pub is_option : List ℕ → Bool
+is_option word = starts_with nat_eq word (codes "--")
+
+-- a word stands among these
+abbrev pub has : List (List ℕ) → List ℕ → Bool
+has words word = list_any (λ w. bytes_eq w word) words
+
+abbrev pub offsets_option : List ℕ
+offsets_option = codes "--offsets"
+
+abbrev pub skeleton_option : List ℕ
+skeleton_option = codes "--skeleton"
+
+abbrev pub name_unnamed_option : List ℕ
+name_unnamed_option = codes "--name-unnamed"
+
+-- an option that there is, or a file
+abbrev pub is_known : List ℕ → Bool
+is_known word = not (is_option word) || has (offsets_option ∷ (skeleton_option ∷ (name_unnamed_option ∷ []))) word
+
+-- the words that are files
+abbrev pub files : List (List ℕ) → List (List ℕ)
+files words = filter (λ w. not (is_option w)) words
+
+abbrev pub the_only : {A : Type 0} → List A → Option A
+the_only (x ∷ []) = Some x
+the_only _ = None
+
+-- the file that the words name: one alone, in any place, and each other word is an option that there is
+abbrev pub named_file : List (List ℕ) → Option (List ℕ)
+named_file words = if list_all is_known words then the_only (files words) else None
+
+-- what the options choose, wherever and however often they stand
+abbrev pub chosen : List (List ℕ) → Options
+chosen words = record defaults {
+  offsets = has words offsets_option;
+  skeleton = has words skeleton_option;
+  invents = has words name_unnamed_option;
+}
 
 -- all that the iterator gives to its end, in order, but the first, which is the program's name
 abbrev pub AreWordsOf : {I A : Type 0} → (I → Option (String A) → I → Type 0) → Result I IoError → List (List ℕ) → Type 0

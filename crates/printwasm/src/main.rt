@@ -1,4 +1,4 @@
-//! `printwasm FILE` prints a WebAssembly module as text.
+//! `printwasm [--offsets] [--skeleton] [--name-unnamed] FILE` prints a WebAssembly module as text.
 #![tactic(auto)]
 
 mod program;

@@ -1,9 +1,9 @@
 //! What the program does with its words, over any source of files and any two sinks.
-ghost use Rattle.std.specs.Prelude.{◌≡◌, ℕ, ◌⊎◌, List, ◌∷◌, [], Ok, map, is_some, IfSome, OnOk, IfOk, IfErr, string_bytes};
+ghost use Rattle.std.specs.Prelude.{◌≡◌, ℕ, ◌⊎◌, List, ◌∷◌, [], Ok, map, option_copied, OnOk, IfOk, IfErr, string_bytes};
 ghost use Rattle.std.specs.Iterator.{IsFinite};
 ghost use Rattle.std.specs.Process.{exit_status};
 ghost use Rattle.std.specs.declared.io.Error.{Error as IoError};
-ghost use Rattle.printwasm.specs.Words.{AreWordsOf, WantsWords, name_one_file};
+ghost use Rattle.printwasm.specs.Words.{AreWordsOf, WantsWords, is_option, is_known, named_file, has, chosen};
 ghost use Rattle.printwasm.specs.Outcome.{GivesText, GivesNoText, WritesText, FailsToWrite, Tells, HasOutcome, error_line};
 
 use crate::system::{Sink, Source};
@@ -12,9 +12,9 @@ use std::fmt::Display;
 use std::io;
 use std::path::Path;
 use std::process::ExitCode;
-use wasmprinter::Error;
+use wasmprinter::{Config, Error};
 
-const USAGE: &str = "usage: printwasm FILE\n";
+const USAGE: &str = "usage: printwasm [--offsets] [--skeleton] [--name-unnamed] FILE\n";
 
 /// The module was printed.
 const PRINTED: u8 = 0;
@@ -25,8 +25,20 @@ const REFUSED: u8 = 1;
 /// The words aren't those of the usage line.
 const MISUSED: u8 = 2;
 
-/// With which words begin that choose an option.
-const OPTION: &str = "--";
+/// With what words begin that choose an option.
+const OPTION_START: &str = "--";
+
+/// Each line begins with the place of what stands on it.
+const OFFSETS: &str = "--offsets";
+
+/// Bodies, items of element segments and bytes of data segments are left out.
+const SKELETON: &str = "--skeleton";
+
+/// Identifiers are made up for items without a name.
+const NAME_UNNAMED: &str = "--name-unnamed";
+
+/// All options that there are.
+const OPTIONS: [&str; 3] = [OFFSETS, SKELETON, NAME_UNNAMED];
 
 /// The program over all words that it is started with, its own name first.
 pub fn start<S: Source, I: Iterator<Item = String>, O: Sink, E: Sink>(
@@ -82,44 +94,88 @@ pub fn run<S: Source, O: Sink, E: Sink>(
         let _ = err.write_text(USAGE);
         return MISUSED;
     };
-    match write_file(source, alloc, file, out) {
+    match write_file(source, alloc, &config_of(words), file, out) {
         Ok(()) => PRINTED,
         Err(error) => refuse(err, error),
     }
 }
 
-/// The file that the words name, if they name one file and nothing else. No option is known yet.
-fn file_of(words: &[String]) -> Option<&str>
-    ensures named { is_some result ≡ name_one_file (map string_bytes words.now) }
-    ensures whole { IfSome result (λ file. map string_bytes words.now ≡ file.now ∷ []) }
+/// Whether a word chooses an option.
+fn is_option(word: &str) -> bool
+    ensures { result ≡ is_option word.now }
 {
-    match words {
-        [file] if !file.starts_with(OPTION) => Some(file.as_str()),
-        _ => None,
+    word.starts_with(OPTION_START)
+}
+
+/// Whether a word is a file, or an option that there is.
+fn is_known(word: &str) -> bool
+    ensures { result ≡ is_known word.now }
+{
+    !is_option(word) || OPTIONS.contains(&word)
+}
+
+/// The file that the words name, if they name one alone, and each other word is an option that there is.
+fn file_of(words: &[String]) -> Option<&str>
+    ensures { option_copied result ≡ named_file (map string_bytes words.now) }
+{
+    let mut file = None;
+    for word in words {
+        if !is_known(word) {
+            return None;
+        }
+        if !is_option(word) && file.replace(word.as_str()).is_some() {
+            return None;
+        }
     }
+    file
+}
+
+/// Whether a word stands among these.
+fn has(words: &[String], option: &str) -> bool
+    ensures { result ≡ has (map string_bytes words.now) option.now }
+{
+    words.iter().any(|word| word.as_str() == option)
+}
+
+/// What the words choose.
+fn config_of(words: &[String]) -> Config
+    ensures { result ≡ chosen (map string_bytes words.now) }
+{
+    let mut config = Config::new();
+    config
+        .print_offsets(has(words, OFFSETS))
+        .print_skeleton(has(words, SKELETON))
+        .name_unnamed(has(words, NAME_UNNAMED));
+    config
 }
 
 /// Writes the text of the module in a file. The text is made whole before it is written.
 fn write_file<S: Source, O: Sink>(
     source: &S,
     alloc: Global,
+    config: &Config,
     file: &str,
     out: &mut O,
 ) -> Result<(), Error>
-    ensures written { OnOk result (WritesText (S.gives source.now file.now) O.takes out.old out.new (Ok tt)) }
-    ensures refused { IfErr result (FailsToWrite (S.gives source.now file.now) O.takes out.old out.new) }
+    ensures written { OnOk result (WritesText config.now (S.gives source.now file.now) O.takes out.old out.new (Ok tt)) }
+    ensures refused { IfErr result (FailsToWrite config.now (S.gives source.now file.now) O.takes out.old out.new) }
 {
-    let text = print_file(source, alloc, file)?;
+    let text = print_file(source, alloc, config, file)?;
     out.write_text(text.as_str()).map_err(Error::Printer)
 }
 
 /// The text of the module in a file.
-fn print_file<S: Source>(source: &S, alloc: Global, file: &str) -> Result<String, Error>
-    ensures printed { IfOk result (λ text. GivesText (S.gives source.now file.now) (string_bytes text)) }
+fn print_file<S: Source>(
+    source: &S,
+    alloc: Global,
+    config: &Config,
+    file: &str,
+) -> Result<String, Error>
+    ensures printed { IfOk result (λ text. GivesText config.now (S.gives source.now file.now) (string_bytes text)) }
     ensures refused { IfErr result (GivesNoText (S.gives source.now file.now)) }
 {
     let wasm = source.read(Path::new(file)).map_err(|_| Error::Unreadable)?;
-    wasmprinter::print_bytes(alloc, &wasm)
+    config.print_to_string(alloc, &wasm)
 }
 
 /// Tells an error in a line of its own, and answers the status of a refusal, also where the line can't be written.

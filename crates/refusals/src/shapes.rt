@@ -9,7 +9,7 @@ pub struct Shape {
     pub functions: u32,
 }
 
-pub const SHAPES: [Shape; 8] = [
+pub const SHAPES: [Shape; 9] = [
     Shape {
         name: "empty",
         wasm: &EMPTY,
@@ -51,6 +51,12 @@ pub const SHAPES: [Shape; 8] = [
         wasm: &FIELDS,
         text: FIELDS_TEXT,
         functions: 0,
+    },
+    Shape {
+        name: "names",
+        wasm: &NAMES,
+        text: NAMES_TEXT,
+        functions: 1,
     },
     Shape {
         name: "everything",
@@ -215,6 +221,30 @@ const FIELDS_TEXT: &str = r#"(module
   (data (;1;) "")
 )
 "#;
+
+const NAMES: [u8; 67] = [
+    0x00, 0x61, 0x73, 0x6d, 0x01, 0x00, 0x00, 0x00, // preamble
+    0x01, 0x05, 0x01, 0x60, 0x01, 0x7f, 0x00, // types
+    0x03, 0x02, 0x01, 0x00, // functions
+    0x0a, 0x0b, 0x01, 0x09, 0x00, 0x02, 0x40, 0x0c, 0x00, 0x0b, 0x41, 0x00, // code
+    0x0b, // its end
+    0x00, 0x21, 0x04, 0x6e, 0x61, 0x6d, 0x65, // names
+    0x01, 0x03, 0x01, 0x00, 0x00, // of the function, without a letter
+    0x02, 0x06, 0x01, 0x00, 0x01, 0x00, 0x01, 0x78, // of the parameter
+    0x03, 0x09, 0x01, 0x00, 0x02, 0x00, 0x01, 0x6c, 0x01, 0x01, 0x6c, // of two labels, one of which is no block's
+    0x04, 0x02, 0x01, 0x00, // of a type, which is cut
+];
+
+const NAMES_TEXT: &str = r##"(module
+  (type (;0;) (func (param i32)))
+  (func $"#func0 " (@name "") (;0;) (type 0) (param $x i32)
+    block $l
+      br $l
+    end
+    i32.const 0
+  )
+)
+"##;
 
 const EVERYTHING: [u8; 40] = [
     0x00, 0x61, 0x73, 0x6d, 0x01, 0x00, 0x00, 0x00, // preamble

@@ -1,3 +1,4 @@
 pub mod Headline
 pub mod Outcomes
 pub mod Texts
+pub mod Named

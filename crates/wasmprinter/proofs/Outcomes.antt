@@ -8,7 +8,7 @@ use Rattle.wasmprinter_spec.specs.Placed.{PlacedModule}
 use Rattle.wasmprinter_spec.specs.Limits.{IsWithinLimits}
 use Rattle.wasmprinter_spec.specs.Meaning.{Meaning}
 use Rattle.wasmprinter_spec.specs.Options.{Options}
-use Rattle.wasmprinter_spec.specs.Layout.{module_pieces, layout}
+use Rattle.wasmprinter_spec.specs.Layout.{module_pieces_with, module_pieces, layout}
 use Rattle.wasmprinter_print.specs.Emits.{Made, Ending, Through, AtCall}
 use Rattle.wasmprinter_print.specs.Prints.{Written}
 use Rattle.wasmprinter_print.specs.PrintsLaws.{written}
@@ -18,7 +18,13 @@ use Rattle.std.specs.declared.io.Error.{Error as IoError}
 use Rattle.wasmprinter_wasm.specs.Decoding.{IsRefusal}
 use Rattle.wasmprinter.specs.Printed.{Printed, unclaimed}
 use Rattle.wasmprinter.specs.Outcome.{HasCause, HasTextCause, IsTrueOf, IsTrueOfText, Leaves, as_growth}
+use Rattle.wasmprinter_spec.specs.Piece.{Piece}
+use Rattle.wasmprinter_spec.specs.Names.Content.{name_of}
+use Rattle.wasmprinter_spec.specs.ModuleNames.{name_entries}
+use Rattle.wasmprinter_names.specs.Views.{NamedItem, name_at}
+use Rattle.wasmprinter_labels.specs.Scan.{Scan, names_of}
 use Rattle.wasmprinter.proofs.Headline.{printed}
+use Rattle.wasmprinter.proofs.Named.{shown_names, own_pieces}
 
 -- bytes that spell a module are not marked as a component
 not_component : (bytes : List ℕ) (placed : PlacedModule) → Spells bytes placed → IsComponent bytes → ⊥
@@ -65,6 +71,13 @@ module _ {P : Type 0} (m : Meaning P) (o : Options) (bytes : List ℕ) (placed :
   made : (r : Ending) → Written m o old new r (module_pieces o placed) → Made m old new r (layout o unclaimed placed)
   unfolding layout
   made r v = written m v
+
+  -- written by the names that the module's sections give
+  pub own_written : (r : Ending) (s : Scan) (items : List NamedItem) → s.named ≡ items → s.invents ≡ o.invents →
+      ((t outer index : ℕ) → name_at items t outer index ≡ name_of (name_entries placed.customs) t outer index) →
+      Written m o old new r (module_pieces_with o (names_of s) placed) → Written m o old new r (module_pieces o placed)
+  own_written r s items same invents given v =
+      subst (λ (ps : List Piece). Written m o old new r ps) (own_pieces o placed (names_of s) (shown_names o placed s items same invents given)) v
 
   -- what the writer of modules wrote is printed
   pub written_printed : Written m o old new Through (module_pieces o placed) → Printed m o bytes old new

@@ -1,5 +1,6 @@
 -- The text that a printer over a writer of text hands over.
-use Rattle.std.specs.Prelude.{◌≡◌, ℕ, List, [], ◌∷◌, ◌++◌, refl}
+use Rattle.std.specs.Prelude.{◌≡◌, ℕ, List, [], ◌∷◌, ◌++◌, Result, Ok, Err, IfOk, refl}
+use Rattle.wasmprinter_error.specs.declared.error.Error.{Error}
 use Rattle.std.proofs.Common.{sym, ap, subst, ◌∙◌, append_assoc, append-nil, inl}
 use Rattle.wasmprinter_spec.specs.Call.{Call, Text, Newline, Line, Start, Claim, call_text, text_of}
 use Rattle.wasmprinter_spec.specs.Meaning.{Meaning, Run}
@@ -11,7 +12,7 @@ use Rattle.wasmprinter_print.specs.Writers.{FmtAfter}
 use Rattle.wasmprinter_lexical.proofs.Alike.{alike_texts}
 use Rattle.wasmprinter_reading.proofs.Main.{reads_back, prints_plain_text}
 use Rattle.wasmprinter_spec.specs.Read.{read}
-use Rattle.wasmprinter.specs.Printed.{Printed, HasText, unclaimed}
+use Rattle.wasmprinter.specs.Printed.{Printed, HasTextBy, HasText, unclaimed}
 
 -- a view that each call extends by its text is extended by the text of a run
 run_text : {P : Type 0} (m : Meaning P) (view : P → List ℕ) → ((s : P) (c : Call) (t : P) → m.after s c t → view t ≡ view s ++ call_text c) →
@@ -34,21 +35,36 @@ answers_alike : (o : Options) (a b : Answers) (placed : PlacedModule) → layout
 unfolding layout
 answers_alike o a b placed = refl
 
-two_blanks : IsBlank defaults.indent
-two_blanks = (inl refl, (inl refl, tt))
-
--- what was printed with the defaults to a writer that was empty is its text
-pub printed_text : {P : Type 0} (m : Meaning P) (view : P → List ℕ) → ((s : P) (c : Call) (t : P) → m.after s c t → view t ≡ view s ++ call_text c) →
-    (bytes : List ℕ) (old new : P) → view old ≡ [] → Printed m defaults bytes old new → HasText bytes (view new)
-printed_text m view grows bytes old new empty v =
+-- what was printed to a writer that was empty is its text
+pub printed_text : {P : Type 0} (m : Meaning P) (o : Options) (view : P → List ℕ) → ((s : P) (c : Call) (t : P) → m.after s c t → view t ≡ view s ++ call_text c) →
+    (bytes : List ℕ) (old new : P) → view old ≡ [] → Printed m o bytes old new → HasTextBy o bytes (view new)
+printed_text m o view grows bytes old new empty v =
     let handed : view new ≡ text_of v.calls = run_text m view grows old new v.calls v.run ∙ ap (λ t. t ++ text_of v.calls) empty in
-    let is : view new ≡ text_of (layout defaults unclaimed v.placed) =
-    handed ∙ alike_texts v.calls (layout defaults v.answers v.placed) v.alike ∙ ap text_of (answers_alike defaults v.answers unclaimed v.placed) in
+    let is : view new ≡ text_of (layout o unclaimed v.placed) =
+    handed ∙ alike_texts v.calls (layout o v.answers v.placed) v.alike ∙ ap text_of (answers_alike o v.answers unclaimed v.placed) in
     record {
       placed = v.placed;
       spelled = v.spelled;
       within = v.within;
       is = is;
-      plain = subst IsPlainText (sym is) (prints_plain_text bytes v.placed defaults unclaimed v.spelled two_blanks);
-      reads = λ indexed. ap read is ∙ reads_back bytes v.placed defaults unclaimed v.spelled indexed v.within.tables refl two_blanks (λ n. refl);
+      plain = λ blank. subst IsPlainText (sym is) (prints_plain_text bytes v.placed o unclaimed v.spelled blank);
+      reads = λ indexed whole blank. ap read is ∙ reads_back bytes v.placed o unclaimed v.spelled indexed v.within.tables whole blank (λ n. refl);
     }
+
+two_blanks : IsBlank defaults.indent
+two_blanks = (inl refl, (inl refl, tt))
+
+-- the same with the defaults
+pub default_text : (bytes text : List ℕ) → HasTextBy defaults bytes text → HasText bytes text
+default_text bytes text v = record {
+  placed = v.placed;
+  spelled = v.spelled;
+  within = v.within;
+  is = v.is;
+  plain = v.plain two_blanks;
+  reads = λ indexed. v.reads indexed refl two_blanks;
+}
+
+pub default_if_ok : {T : Type 0} (view : T → List ℕ) (bytes : List ℕ) (r : Result T Error) → IfOk r (λ t. HasTextBy defaults bytes (view t)) → IfOk r (λ t. HasText bytes (view t))
+default_if_ok view bytes (Ok t) h = default_text bytes (view t) h
+default_if_ok view bytes (Err e) h = tt

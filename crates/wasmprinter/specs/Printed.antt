@@ -38,6 +38,16 @@ pub record Printed {P : Type 0} (m : Meaning P) (o : Options) (bytes : List ℕ)
       read (uncolour (text_of calls)) ≡ Some (module_of placed)
   pub plain : IsBlank o.indent → IsPlainText (text_of calls)
 
+-- The text is that of the layout of the module that the bytes spell. Where the indent is blank it is plain, and reads as exactly that module, where
+-- every used index is declared and bodies are printed.
+pub record HasTextBy (o : Options) (bytes text : List ℕ) : Type 0 where
+  pub placed : PlacedModule
+  pub spelled : Spells bytes placed
+  pub within : IsWithinLimits placed
+  pub is : text ≡ text_of (layout o unclaimed placed)
+  pub plain : IsBlank o.indent → IsPlainText text
+  pub reads : IsIndexed (module_of placed) → o.skeleton ≡ false → IsBlank o.indent → read text ≡ Some (module_of placed)
+
 -- The text is that of the layout with the defaults, of the module that the bytes spell. It is plain, and reads as exactly that module, where
 -- every used index is declared.
 pub record HasText (bytes text : List ℕ) : Type 0 where

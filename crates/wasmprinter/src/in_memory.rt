@@ -7,10 +7,9 @@ ghost use Rattle.wasmprinter.specs.Outcome.{as_growth, HasTextCause, IsTrueOfTex
 use crate::config::Config;
 use std::alloc::Global;
 use wasmprinter_error::Error;
-use wasmprinter_print::PrintFmtWrite;
 
 /// A string that is printed to fails only where it can't grow.
-fn without_printer(error: Error) -> Error
+pub(crate) fn without_printer(error: Error) -> Error
     ensures { result ≡ as_growth error }
 {
     match error {
@@ -23,16 +22,12 @@ fn without_printer(error: Error) -> Error
 ///
 /// # Errors
 ///
-/// As `Config::print`, with `Memory` where the text can't grow, and never `Printer`.
+/// As `Config::print_to_string`.
 pub fn print_bytes(alloc: Global, wasm: &[u8]) -> Result<String, Error>
     ensures printed { IfOk result (λ text. HasText wasm.now (string_bytes text)) }
     ensures caused { IfErr result (HasTextCause wasm.now) }
     ensures refused { IfErr result (IsTrueOfText wasm.now) }
     ensures component { IsErrOf result Error.Component ↔ IsComponent wasm.now }
 {
-    let mut printer = PrintFmtWrite(String::new(alloc));
-    match Config::new().print(alloc, wasm, &mut printer) {
-        Ok(()) => Ok(printer.0),
-        Err(error) => Err(without_printer(error)),
-    }
+    Config::new().print_to_string(alloc, wasm)
 }

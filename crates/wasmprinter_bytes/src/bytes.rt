@@ -113,6 +113,13 @@ impl<'a> Cursor<'a> {
         self.rest.is_empty()
     }
 
+    /// The bytes that are left.
+    pub fn rest(&self) -> &'a [u8]
+        ensures { result.now ≡ self.now.bytes }
+    {
+        self.rest
+    }
+
     /// A second cursor that stands at the same place.
     pub fn fork(&self) -> Cursor<'a>
         ensures same { result ≡ self.now }

@@ -1,6 +1,6 @@
 pub mod Parts
-pub mod Later
+pub mod LaterPlaces
 pub mod Counting
-pub mod Wholes
+pub mod SectionLists
 pub mod GroupPlaces
 pub mod Flattening

@@ -1,7 +1,7 @@
 -- A size, and a value of exactly so many bytes, which are cut out and read apart.
 use Rattle.std.proofs.Common.{◌≡◌, ℕ, ◌+◌, ◌≤◌, List, [], ◌∷◌, ◌++◌, length, Option, Some, None, refl, sym, ap, ◌∙◌, arith, length-append}
 use Rattle.wasmprinter_spec.specs.Grammar.{Input, input, Grammar, Remainder, ◌>>=◌, bind_some, some_is, seq}
-use Rattle.wasmprinter_spec.specs.Sized.{front_at, front_sound, exactly, alone, ended}
+use Rattle.wasmprinter_spec.specs.Sized.{front_at, front_sound, exactly, alone, value_at_end}
 use Rattle.wasmprinter_spec.specs.Name.{u32}
 use Rattle.wasmprinter_bytes.specs.Reads.{end_of}
 
@@ -9,14 +9,14 @@ use Rattle.wasmprinter_bytes.specs.Reads.{end_of}
 
 module _ {A : Type 0} (g : Grammar A) (at : Input) where
   -- it is what was read
-  ended_is : (bytes : List ℕ) (a b : A) → ended bytes a ≡ Some b → a ≡ b
+  ended_is : (bytes : List ℕ) (a b : A) → value_at_end bytes a ≡ Some b → a ≡ b
   ended_is [] a b e = some_is a b e
   ended_is (c ∷ cs) a b e = absurd cc
 
   -- where a value stands alone, it stands
   pub alone_some : (a : A) → (alone g).parse at ≡ Some a → (after : Input) × (g.parse at ≡ Some (a, after))
   alone_some a e =
-      let b = bind_some (g.parse at) (λ y. ended y.1.bytes y.0) a e in
+      let b = bind_some (g.parse at) (λ y. value_at_end y.1.bytes y.0) a e in
       (b.0.1, b.1 ∙ ap (λ (v : A). Some (v, b.0.1)) (ended_is b.0.1.bytes b.0.0 a b.2))
 
   -- where none stands, none stands alone
@@ -28,7 +28,7 @@ module _ {A : Type 0} (g : Grammar A) (at : Input) where
   alone_read a after e none = rw (e, none) refl
 
   -- something is left behind the value
-  left_none : (bytes : List ℕ) (a : A) → (bytes ≡ [] → ⊥) → ended bytes a ≡ None
+  left_none : (bytes : List ℕ) (a : A) → (bytes ≡ [] → ⊥) → value_at_end bytes a ≡ None
   left_none [] a some = absurd (some refl)
   left_none (c ∷ cs) a some = refl
 

@@ -4,7 +4,7 @@ use Rattle.std.specs.List.{AllByRecursion}
 use Rattle.wasmprinter_spec.specs.Grammar.{Input, Remainder, Placed}
 use Rattle.wasmprinter_spec.specs.Name.{u32, vec}
 use Rattle.wasmprinter_spec.specs.Placed.{Body}
-use Rattle.wasmprinter_spec.specs.Sections.{TypeSection, ImportSection, FunctionSection, TableSection, MemorySection, TagSection, GlobalSection}
+use Rattle.wasmprinter_spec.specs.Sections.{CustomSection, TypeSection, ImportSection, FunctionSection, TableSection, MemorySection, TagSection, GlobalSection}
 use Rattle.wasmprinter_spec.specs.Sections.{ExportSection, StartSection, ElementSection, DataCountSection, CodeSection, DataSection}
 use Rattle.wasmprinter_spec.specs.Sections.{Kind, Content, content, holds, content_of, Section as SectionValue}
 use Rattle.wasmprinter_spec.specs.Limits.{local_count, most_locals, most_functions, HasNoEmptyInit}
@@ -32,8 +32,9 @@ IsSmall (holds TableSection ts) = AllByRecursion HasNoEmpty ts
 IsSmall (holds CodeSection bs) = AllByRecursion HasFew bs
 IsSmall _ = Unit {0}
 
--- how many items the section holds; the start function and the data count are none
+-- how many items the section holds; a custom section is one itself, and the start function and the data count are none
 abbrev pub item_count : SectionValue → ℕ
+item_count (holds CustomSection c) = 1
 item_count (holds TypeSection ts) = length ts
 item_count (holds ImportSection is) = length is
 item_count (holds FunctionSection is) = length is

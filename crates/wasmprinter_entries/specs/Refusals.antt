@@ -5,8 +5,8 @@ use Rattle.wasmprinter_spec.specs.Grammar.{Input, Placed, placed}
 use Rattle.wasmprinter_spec.specs.Name.{u32, vec}
 use Rattle.wasmprinter_spec.specs.Types.{TableType}
 use Rattle.wasmprinter_spec.specs.Operator.{Operator}
-use Rattle.wasmprinter_spec.specs.Placed.{LocalEntry, Table, table_of, Body}
-use Rattle.wasmprinter_spec.specs.Sections.{Kind, StartSection, DataCountSection, kind_of}
+use Rattle.wasmprinter_spec.specs.Placed.{LocalEntry, Table, table_of, Body, Custom}
+use Rattle.wasmprinter_spec.specs.Sections.{Kind, CustomSection, StartSection, DataCountSection, kind_of, holds, section}
 use Rattle.wasmprinter_spec.specs.Binary.Tables.{table}
 use Rattle.wasmprinter_spec.specs.Binary.Code.{local_entry}
 use Rattle.wasmprinter_spec.specs.Limits.{local_count, most_locals, HasNoEmptyInit}
@@ -37,6 +37,7 @@ pub record BeginsSection (at : Input) (kind : Kind) (count : ℕ) : Type 0 where
 
 -- sections of the kind hold a list of items
 abbrev pub HoldsItems : Kind → Type 0
+HoldsItems CustomSection = ⊥
 HoldsItems StartSection = ⊥
 HoldsItems DataCountSection = ⊥
 HoldsItems _ = Unit {0}
@@ -48,6 +49,19 @@ pub record BeginsItems (at : Input) : Type 0 where
   pub count : ℕ
   pub some : 0 < count
   pub begins : BeginsSection at kind count
+
+-- among the bytes stands a custom section
+pub record HasCustom (at : Input) : Type 0 where
+  pub before : List ℕ
+  pub text : List ℕ
+  pub behind : List ℕ
+  pub parts : at.bytes ≡ before ++ (text ++ behind)
+  pub custom : Placed Custom
+  pub spelled : section.spells (at.place + length before) text (holds CustomSection custom)
+
+-- among the bytes is something that is kept: such a section with items, or a custom section
+abbrev pub KeepsSome : Input → Type 0
+KeepsSome at = BeginsItems at ⊎ HasCustom at
 
 -- the body begins at the place, and has more locals than are allowed
 abbrev pub IsOver : ℕ → Placed Body → Type 0

@@ -2,6 +2,7 @@
 //! of functions, memories, tags, exports and the start function, and the types of tables and globals, which imports have too.
 #![tactic(auto)]
 
+pub mod customs;
 pub mod expected;
 pub mod exports;
 pub mod flags;

@@ -4,9 +4,10 @@ use Rattle.std.proofs.Common.{sym, ap, ◌∙◌, get_or, arith}
 use Rattle.std.proofs.Math.ListN.{drop_of_length-le}
 use Rattle.std.proofs.lemmas.List.{at_drop_more}
 use Rattle.wasmprinter_spec.specs.Grammar.{Placed}
-use Rattle.wasmprinter_spec.specs.Types.{SubType, ExternType, FuncExtern, TableExtern, MemoryExtern, GlobalExtern, TagExtern}
+use Rattle.wasmprinter_spec.specs.Types.{ExternType, FuncExtern, TableExtern, MemoryExtern, GlobalExtern, TagExtern}
 use Rattle.wasmprinter_spec.specs.Placed.{Import}
 use Rattle.wasmprinter_spec.specs.Piece.{Piece}
+use Rattle.wasmprinter_spec.specs.Layout.Declarations.{Scope}
 use Rattle.wasmprinter_spec.specs.Layout.Imports.{Numbers, number_of, numbers_behind, extern_pieces, import_pieces, imports_pieces}
 use Rattle.wasmprinter_spec.specs.Layout.Exports.{kind_word}
 use Rattle.wasmprinter_spec.specs.Layout.Groups.{line_group_gap}
@@ -14,21 +15,21 @@ use Rattle.wasmprinter_entries.specs.Externs.{kind_of_type}
 use Rattle.wasmprinter_fields.specs.Parts.{field_line, extern_parts, import_parts}
 
 -- no import is left behind k
-pub imports-none : (ts : List SubType) (n : Numbers) (k : ℕ) (is : List (Placed Import)) → length is ≤ k → imports_pieces ts n (drop k is) ≡ []
+pub imports-none : (s : Scope) (n : Numbers) (k : ℕ) (is : List (Placed Import)) → length is ≤ k → imports_pieces s n (drop k is) ≡ []
 unfolding imports_pieces
-imports-none ts n k is le = ap (imports_pieces ts n) (drop_of_length-le is le)
+imports-none s n k is le = ap (imports_pieces s n) (drop_of_length-le is le)
 
 -- an import with its number among those of its kind
-abbrev pub import_line : List SubType → ℕ → Placed Import → List Piece
-import_line ts = field_line (codes "import") (λ i. i.place) (λ n i. import_parts ts n i.value)
+abbrev pub import_line : Scope → ℕ → Placed Import → List Piece
+import_line s = field_line (codes "import") (λ i. i.place) (λ n i. import_parts s n i.value)
 
 -- behind k the next import, and the others
-pub imports-next : (ts : List SubType) (n : Numbers) (k : ℕ) (is : List (Placed Import)) (i d : Placed Import) → k < length is → i ≡ get_or is k d →
-    imports_pieces ts n (drop k is) ≡ import_line ts (number_of i.value.type n) i ++ imports_pieces ts (numbers_behind i.value.type n) (drop (k + 1) is)
+pub imports-next : (s : Scope) (n : Numbers) (k : ℕ) (is : List (Placed Import)) (i d : Placed Import) → k < length is → i ≡ get_or is k d →
+    imports_pieces s n (drop k is) ≡ import_line s (number_of i.value.type n) i ++ imports_pieces s (numbers_behind i.value.type n) (drop (k + 1) is)
 unfolding imports_pieces import_pieces
-imports-next ts n k is i d lt e =
-    at_drop_more (imports_pieces ts n) is k d lt
-    ∙ ap (λ (x : Placed Import). import_line ts (number_of x.value.type n) x ++ imports_pieces ts (numbers_behind x.value.type n) (drop (k + 1) is)) (sym e)
+imports-next s n k is i d lt e =
+    at_drop_more (imports_pieces s n) is k d lt
+    ∙ ap (λ (x : Placed Import). import_line s (number_of x.value.type n) x ++ imports_pieces s (numbers_behind x.value.type n) (drop (k + 1) is)) (sym e)
 
 -- how many stand in front, of whatever kind
 abbrev pub total : Numbers → ℕ
@@ -51,10 +52,10 @@ number-total (GlobalExtern t) n = omega arith
 number-total (TagExtern i) n = omega arith
 
 -- what is imported, as a group
-pub extern-group : (ts : List SubType) (n : ℕ) (t : ExternType) → extern_pieces ts n t ≡ line_group_gap (kind_word (kind_of_type t)) (extern_parts ts n t)
+pub extern-group : (s : Scope) (n : ℕ) (t : ExternType) → extern_pieces s n t ≡ line_group_gap (kind_word (kind_of_type t)) (extern_parts s n t)
 unfolding extern_pieces kind_word
-extern-group ts n (FuncExtern i) = refl
-extern-group ts n (TableExtern t) = refl
-extern-group ts n (MemoryExtern t) = refl
-extern-group ts n (GlobalExtern t) = refl
-extern-group ts n (TagExtern i) = refl
+extern-group s n (FuncExtern i) = refl
+extern-group s n (TableExtern t) = refl
+extern-group s n (MemoryExtern t) = refl
+extern-group s n (GlobalExtern t) = refl
+extern-group s n (TagExtern i) = refl

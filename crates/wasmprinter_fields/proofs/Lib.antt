@@ -7,3 +7,4 @@ pub mod LineGroups
 pub mod Constants
 pub mod ImportLines
 pub mod FieldGroups
+pub mod Declared

@@ -1,54 +1,50 @@
--- The layouts of functions, and of what stands at their head, by their groups.
-use Rattle.std.specs.Prelude.{◌≡◌, ℕ, List, [], ◌∷◌, ◌++◌, Bool, true, false, ◌||◌, codes, Option, Some, None, refl}
+-- The layouts of functions by their groups.
+use Rattle.std.specs.Prelude.{◌≡◌, ℕ, List, ◌∷◌, Bool, true, false, ◌||◌, codes, Option, Some, refl}
 use Rattle.std.proofs.Common.{ap, ◌∙◌}
-use Rattle.wasmprinter_spec.specs.Types.{FuncType, SubType, signature_at}
+use Rattle.wasmprinter_spec.specs.Types.{signature_at}
+use Rattle.wasmprinter_spec.specs.Row.{Space, Func}
 use Rattle.wasmprinter_spec.specs.Placed.{PlacedFunction}
-use Rattle.wasmprinter_spec.specs.Piece.{Piece, Number}
-use Rattle.wasmprinter_spec.specs.Layout.Types.{signature_if_any}
-use Rattle.wasmprinter_spec.specs.Layout.Functions.{header_pieces, local_pieces, body_pieces, function_group}
+use Rattle.wasmprinter_spec.specs.Piece.{Piece, Gap}
+use Rattle.wasmprinter_spec.specs.Layout.Declarations.{Scope, item_declaration, type_use}
+use Rattle.wasmprinter_spec.specs.Layout.Functions.{header_pieces, local_pieces, body_pieces, inner_pieces, function_group}
 use Rattle.wasmprinter_spec.specs.Layout.Groups.{has_break, group_gap_at, line_group_gap}
 use Rattle.wasmprinter_lines.proofs.Groups.{has_break-append, line-append}
-use Rattle.wasmprinter_text.proofs.Signatures.{signature-line}
-use Rattle.wasmprinter_fields.specs.Parts.{header_parts, outline_parts, definition_parts}
+use Rattle.wasmprinter_text.proofs.Signatures.{declaration-line, type_use-line}
+use Rattle.wasmprinter_fields.specs.Parts.{parameter_count_of, function_header, outline_parts, definition_parts}
 
-signature-line_if_any : (t : Option FuncType) → has_break (signature_if_any t) ≡ false
-signature-line_if_any None = refl
-signature-line_if_any (Some t) = signature-line t
-
-header-line : (ts : List SubType) (i n : ℕ) → has_break (header_parts ts i n) ≡ false
-unfolding header_pieces line_group_gap
-header-line ts i n =
-    line-append (line_group_gap (codes "type") (Number n ∷ [])) (signature_if_any (signature_at ts n)) refl (signature-line_if_any (signature_at ts n))
+-- the head of a function or a tag stands on one line
+header-line : (s : Scope) (space : Space) (f : Option ℕ) (i n : ℕ) → has_break (header_pieces s space f i n) ≡ false
+unfolding header_pieces
+header-line s space f i n =
+    line-append (item_declaration s space i) (Gap ∷ type_use s f n) (declaration-line (s.names.items space i) i)
+    (type_use-line s.names f n (signature_at s.types n))
 
 -- a function without its body stands on one line
-outline-out : (offsets : Bool) (ts : List SubType) (i : ℕ) (f : PlacedFunction) →
-    function_group true offsets ts (signature_at ts f.type_index) i f ≡ line_group_gap (codes "func") (outline_parts ts i f)
+outline-out : (offsets : Bool) (s : Scope) (f : PlacedFunction) → function_group true offsets s f ≡ line_group_gap (codes "func") (outline_parts s f)
 unfolding function_group
-outline-out offsets ts i f =
-    refl
+outline-out offsets s f = refl
 
-definition-out : (offsets : Bool) (ts : List SubType) (i : ℕ) (f : PlacedFunction) →
-    function_group false offsets ts (signature_at ts f.type_index) i f ≡ group_gap_at offsets f.body.value.end 1 (codes "func") (definition_parts ts i f)
+definition-out : (offsets : Bool) (s : Scope) (f : PlacedFunction) →
+    function_group false offsets s f ≡ group_gap_at offsets f.body.value.end 1 (codes "func") (definition_parts s f)
 unfolding function_group
-definition-out offsets ts i f = refl
+definition-out offsets s f = refl
 
 -- a function in a skeleton
-pub skeleton-group : (skeleton offsets : Bool) (ts : List SubType) (i : ℕ) (f : PlacedFunction) → skeleton ≡ true →
-    function_group skeleton offsets ts (signature_at ts f.type_index) i f ≡ line_group_gap (codes "func") (outline_parts ts i f)
-skeleton-group skeleton offsets ts i f e =
-    ap (λ b. function_group b offsets ts (signature_at ts f.type_index) i f) e ∙ outline-out offsets ts i f
+pub skeleton-group : (skeleton offsets : Bool) (s : Scope) (f : PlacedFunction) → skeleton ≡ true →
+    function_group skeleton offsets s f ≡ line_group_gap (codes "func") (outline_parts s f)
+skeleton-group skeleton offsets s f e = ap (λ b. function_group b offsets s f) e ∙ outline-out offsets s f
 
 -- a function elsewhere
-pub whole-group : (skeleton offsets : Bool) (ts : List SubType) (i : ℕ) (f : PlacedFunction) → skeleton ≡ false →
-    function_group skeleton offsets ts (signature_at ts f.type_index) i f ≡ group_gap_at offsets f.body.value.end 1 (codes "func") (definition_parts ts i f)
-whole-group skeleton offsets ts i f e =
-    ap (λ b. function_group b offsets ts (signature_at ts f.type_index) i f) e ∙ definition-out offsets ts i f
+pub whole-group : (skeleton offsets : Bool) (s : Scope) (f : PlacedFunction) → skeleton ≡ false →
+    function_group skeleton offsets s f ≡ group_gap_at offsets f.body.value.end 1 (codes "func") (definition_parts s f)
+whole-group skeleton offsets s f e = ap (λ b. function_group b offsets s f) e ∙ definition-out offsets s f
 
 -- whether lines change for a function
-pub definition-break : (ts : List SubType) (i : ℕ) (f : PlacedFunction) →
-    has_break (definition_parts ts i f) ≡ (has_break (local_pieces f.body.value.locals) || has_break (body_pieces ts f.body.value.operators))
-definition-break ts i f =
-    let head : List Piece = header_parts ts i f.type_index in
-    let locals : List Piece = local_pieces f.body.value.locals in
-    let body : List Piece = body_pieces ts f.body.value.operators in
-    has_break-append head (locals ++ body) ∙ ap (λ b. b || has_break (locals ++ body)) (header-line ts i f.type_index) ∙ has_break-append locals body
+pub definition-break : (s : Scope) (f : PlacedFunction) → has_break (definition_parts s f)
+    ≡ (has_break (local_pieces s.names s.function (parameter_count_of s.types f.type_index) f.body.value.locals) || has_break (body_pieces s f.body.value.operators))
+unfolding inner_pieces
+definition-break s f =
+    let head : List Piece = function_header s f in
+    let inner : List Piece = inner_pieces s f in
+    has_break-append head inner ∙ ap (λ b. b || has_break inner) (header-line s Func (Some s.function) s.function f.type_index)
+    ∙ has_break-append (local_pieces s.names s.function (parameter_count_of s.types f.type_index) f.body.value.locals) (body_pieces s f.body.value.operators)

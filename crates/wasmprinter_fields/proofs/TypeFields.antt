@@ -6,6 +6,7 @@ use Rattle.std.proofs.Math.ListN.{drop_of_length-le}
 use Rattle.std.proofs.lemmas.List.{at_drop_more}
 use Rattle.wasmprinter_spec.specs.Grammar.{Placed}
 use Rattle.wasmprinter_spec.specs.Types.{SubType, all_types}
+use Rattle.wasmprinter_spec.specs.Names.{Names}
 use Rattle.wasmprinter_spec.specs.Placed.{TypeGroup}
 use Rattle.wasmprinter_spec.specs.Module.{groups_of}
 use Rattle.wasmprinter_spec.specs.Piece.{Piece, Open}
@@ -26,37 +27,37 @@ unfolding numbered
 types-next f i ts rest t e = ap (numbered f i) e
 
 -- each type of a written group begins a line
-members-break : (place i : ℕ) (ts : List SubType) → has_break (numbered (member_pieces place) i ts) ≡ not (length ts == 0)
+members-break : (names : Names) (place i : ℕ) (ts : List SubType) → has_break (numbered (member_pieces names place) i ts) ≡ not (length ts == 0)
 unfolding numbered member_pieces
-members-break place i [] = refl
-members-break place i (t ∷ ts) = sym (ap not (eqb-suc-zero (length ts)))
+members-break names place i [] = refl
+members-break names place i (t ∷ ts) = sym (ap not (eqb-suc-zero (length ts)))
 
 -- a written group
-pub group-written : (written : Bool) (place i : ℕ) (ts : List SubType) → written ≡ true →
-    group_pieces_by written place i ts ≡ Open (codes "rec") ∷ (numbered (listed_pieces written place) i ts ++ close None 1 (not (length ts == 0)))
+pub group-written : (names : Names) (written : Bool) (place i : ℕ) (ts : List SubType) → written ≡ true →
+    group_pieces_by names written place i ts ≡ Open (codes "rec") ∷ (numbered (listed_pieces names written place) i ts ++ close None 1 (not (length ts == 0)))
 unfolding group
-group-written true place i ts e = ap (λ b. Open (codes "rec") ∷ (numbered (member_pieces place) i ts ++ close None 1 b)) (members-break place i ts)
-group-written false place i ts e = absurd cc
+group-written names true place i ts e = ap (λ b. Open (codes "rec") ∷ (numbered (member_pieces names place) i ts ++ close None 1 b)) (members-break names place i ts)
+group-written names false place i ts e = absurd cc
 
 -- a type by itself
-pub group-bare : (written : Bool) (place i : ℕ) (ts : List SubType) → written ≡ false → group_pieces_by written place i ts ≡ numbered (listed_pieces written place) i ts
-group-bare true place i ts e = absurd cc
-group-bare false place i ts e = refl
+pub group-bare : (names : Names) (written : Bool) (place i : ℕ) (ts : List SubType) → written ≡ false → group_pieces_by names written place i ts ≡ numbered (listed_pieces names written place) i ts
+group-bare names true place i ts e = absurd cc
+group-bare names false place i ts e = refl
 
 -- ---- groups
 
 -- what is left behind k groups: the next group, and the others
-pub groups-next : (i k : ℕ) (gs : List (Placed TypeGroup)) (g d : Placed TypeGroup) → k < length gs → g ≡ get_or gs k d →
-    type_section_pieces i (drop k gs) ≡ type_group_pieces i g ++ type_section_pieces (i + length g.value.types) (drop (k + 1) gs)
+pub groups-next : (names : Names) (i k : ℕ) (gs : List (Placed TypeGroup)) (g d : Placed TypeGroup) → k < length gs → g ≡ get_or gs k d →
+    type_section_pieces names i (drop k gs) ≡ type_group_pieces names i g ++ type_section_pieces names (i + length g.value.types) (drop (k + 1) gs)
 unfolding type_section_pieces
-groups-next i k gs g d lt is =
-    at_drop_more (type_section_pieces i) gs k d lt
-    ∙ ap (λ (x : Placed TypeGroup). type_group_pieces i x ++ type_section_pieces (i + length x.value.types) (drop (k + 1) gs)) (sym is)
+groups-next names i k gs g d lt is =
+    at_drop_more (type_section_pieces names i) gs k d lt
+    ∙ ap (λ (x : Placed TypeGroup). type_group_pieces names i x ++ type_section_pieces names (i + length x.value.types) (drop (k + 1) gs)) (sym is)
 
 -- nothing is left
-pub groups-none : (i k : ℕ) (gs : List (Placed TypeGroup)) → length gs ≤ k → type_section_pieces i (drop k gs) ≡ []
+pub groups-none : (names : Names) (i k : ℕ) (gs : List (Placed TypeGroup)) → length gs ≤ k → type_section_pieces names i (drop k gs) ≡ []
 unfolding type_section_pieces
-groups-none i k gs le = ap (type_section_pieces i) (drop_of_length-le gs le)
+groups-none names i k gs le = ap (type_section_pieces names i) (drop_of_length-le gs le)
 
 -- how many types there are behind k groups
 abbrev pub types_behind : ℕ → List (Placed TypeGroup) → ℕ

@@ -1,3 +1,5 @@
 pub mod Parts
+pub mod Scopes
+pub mod LocalWalk
 pub mod TypeLines
 pub mod FieldGroups

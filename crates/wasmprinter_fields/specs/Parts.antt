@@ -1,14 +1,17 @@
 -- What stands in the groups of a module's fields.
-use Rattle.std.specs.Prelude.{ℕ, ◌^◌, Bool, true, false, List, [], ◌∷◌, ◌++◌, codes, chars, Some}
+use Rattle.std.specs.Prelude.{ℕ, ◌^◌, Bool, true, false, List, [], ◌∷◌, ◌++◌, codes, chars, Some, None}
 use Rattle.std.specs.Fmt.{digits}
 use Rattle.wasmprinter_spec.specs.Grammar.{Placed}
-use Rattle.wasmprinter_spec.specs.Types.{SubType, MemoryType, ExternType, FuncExtern, TableExtern, MemoryExtern, GlobalExtern, TagExtern, all_types, signature_at}
+use Rattle.wasmprinter_spec.specs.Types.{SubType, MemoryType, TableType, GlobalType, ExternType, FuncExtern, TableExtern, MemoryExtern, GlobalExtern, TagExtern, all_types, signature_at}
+use Rattle.wasmprinter_spec.specs.Row as row
+use Rattle.wasmprinter_spec.specs.Indexed.{parameter_count}
 use Rattle.wasmprinter_spec.specs.Operator.{Operator}
 use Rattle.wasmprinter_spec.specs.Placed.{Import, Table, Global, Export, ElementEntry, Data, PlacedFunction, PlacedModule}
 use Rattle.wasmprinter_spec.specs.Module.{groups_of}
-use Rattle.wasmprinter_spec.specs.Piece.{Piece, Break, Gap, Word, Mark, Quoted}
+use Rattle.wasmprinter_spec.specs.Piece.{Piece, Break, Gap, Word, Quoted}
 use Rattle.wasmprinter_spec.specs.Layout.Groups.{line_group_gap}
-use Rattle.wasmprinter_spec.specs.Layout.Functions.{header_pieces, local_pieces, body_pieces}
+use Rattle.wasmprinter_spec.specs.Layout.Declarations.{Scope, item_declaration}
+use Rattle.wasmprinter_spec.specs.Layout.Functions.{header_pieces, inner_pieces}
 use Rattle.wasmprinter_spec.specs.Layout.Imports.{extern_pieces}
 use Rattle.wasmprinter_spec.specs.Layout.Tables.{table_type_pieces, init_pieces}
 use Rattle.wasmprinter_spec.specs.Layout.Memories.{memory_type_pieces}
@@ -22,6 +25,10 @@ use Rattle.wasmprinter_spec.specs.Layout.DataSegments.{data_mode_pieces, shown_b
 abbrev pub types_of : PlacedModule → List SubType
 types_of m = all_types (groups_of m.types)
 
+-- the same types and identifiers, for the locals and labels of a function
+abbrev pub within : Scope → ℕ → Scope
+within s f = record s { function = f }
+
 -- a field that is a group on one line, with its number
 abbrev pub field_line : {A : Type 0} → List ℕ → (A → ℕ) → (ℕ → A → List Piece) → ℕ → A → List Piece
 field_line keyword place parts i x = Break (Some (place x)) 1 ∷ line_group_gap keyword (parts i x)
@@ -30,42 +37,46 @@ field_line keyword place parts i x = Break (Some (place x)) 1 ∷ line_group_gap
 abbrev pub page_parts : ℕ → List Piece
 page_parts e = Word (codes "0x" ++ digits 16 false (2 ^ e)) ∷ []
 
--- a memory with its number
-abbrev pub memory_parts : ℕ → MemoryType → List Piece
-memory_parts i m = Mark i ∷ (Gap ∷ memory_type_pieces m)
+-- a declaration and a table's type
+abbrev pub declared_table : Scope → ℕ → TableType → List Piece
+declared_table s i t = item_declaration s row.Table i ++ (Gap ∷ table_type_pieces s.names t)
 
--- a function's or a tag's number, its type's index and its signature
-abbrev pub header_parts : List SubType → ℕ → ℕ → List Piece
-header_parts ts i type_index = header_pieces i type_index (signature_at ts type_index)
+-- a declaration and a memory's type
+abbrev pub declared_memory : Scope → ℕ → MemoryType → List Piece
+declared_memory s i m = item_declaration s row.Memory i ++ (Gap ∷ memory_type_pieces m)
 
--- what is imported, with its number
-abbrev pub extern_parts : List SubType → ℕ → ExternType → List Piece
-extern_parts ts n (FuncExtern i) = header_parts ts n i
-extern_parts ts n (TableExtern t) = Mark n ∷ (Gap ∷ table_type_pieces t)
-extern_parts ts n (MemoryExtern m) = memory_parts n m
-extern_parts ts n (GlobalExtern g) = Mark n ∷ (Gap ∷ global_type_pieces g)
-extern_parts ts n (TagExtern i) = header_parts ts n i
+-- a declaration and a global's type
+abbrev pub declared_global : Scope → ℕ → GlobalType → List Piece
+declared_global s i g = item_declaration s row.Global i ++ (Gap ∷ global_type_pieces s.names g)
+
+-- what is imported, with its number; only the parameters of functions have identifiers
+abbrev pub extern_parts : Scope → ℕ → ExternType → List Piece
+extern_parts s n (FuncExtern i) = header_pieces s row.Func (Some n) n i
+extern_parts s n (TableExtern t) = declared_table s n t
+extern_parts s n (MemoryExtern m) = declared_memory s n m
+extern_parts s n (GlobalExtern g) = declared_global s n g
+extern_parts s n (TagExtern i) = header_pieces s row.Tag None n i
 
 -- an import with its number among those of its kind
-abbrev pub import_parts : List SubType → ℕ → Import → List Piece
-import_parts ts n i = Quoted (chars i.source) ∷ (Gap ∷ (Quoted (chars i.name) ∷ (Gap ∷ extern_pieces ts n i.type)))
+abbrev pub import_parts : Scope → ℕ → Import → List Piece
+import_parts s n i = Quoted (chars i.source) ∷ (Gap ∷ (Quoted (chars i.name) ∷ (Gap ∷ extern_pieces s n i.type)))
 
 -- a table with its number
-abbrev pub table_parts : List SubType → ℕ → Table (Placed Operator) → List Piece
-table_parts ts i t = Mark i ∷ (Gap ∷ (table_type_pieces t.type ++ init_pieces ts t.init))
+abbrev pub table_parts : Scope → ℕ → Table (Placed Operator) → List Piece
+table_parts s i t = item_declaration s row.Table i ++ (Gap ∷ (table_type_pieces s.names t.type ++ init_pieces s t.init))
 
 -- a global with its number
-abbrev pub global_parts : List SubType → ℕ → Global (Placed Operator) → List Piece
-global_parts ts i g = Mark i ∷ (Gap ∷ (global_type_pieces g.type ++ (Gap ∷ constant_pieces ts g.init)))
+abbrev pub global_parts : Scope → ℕ → Global (Placed Operator) → List Piece
+global_parts s i g = item_declaration s row.Global i ++ (Gap ∷ (global_type_pieces s.names g.type ++ (Gap ∷ constant_pieces s g.init)))
 
 -- an element segment with its number
-abbrev pub element_parts : Bool → List SubType → ℕ → ElementEntry → List Piece
-element_parts skeleton ts i e =
-    Mark i ∷ (mode_pieces ts e.names_table e.element.mode ++ (Gap ∷ shown_items skeleton ts e.element.items))
+abbrev pub element_parts : Bool → Scope → ℕ → ElementEntry → List Piece
+element_parts skeleton s i e =
+    item_declaration s row.Elem i ++ (mode_pieces s e.names_table e.element.mode ++ (Gap ∷ shown_items skeleton s e.element.items))
 
 -- a data segment with its number
-abbrev pub data_parts : Bool → List SubType → ℕ → Data (Placed Operator) → List Piece
-data_parts skeleton ts i d = Mark i ∷ (Gap ∷ (data_mode_pieces ts d.mode ++ shown_bytes skeleton d.bytes))
+abbrev pub data_parts : Bool → Scope → ℕ → Data (Placed Operator) → List Piece
+data_parts skeleton s i d = item_declaration s row.Data i ++ (Gap ∷ (data_mode_pieces s d.mode ++ shown_bytes skeleton d.bytes))
 
 -- whether a list has exactly one item
 abbrev pub is_one : {A : Type 0} → List A → Bool
@@ -73,14 +84,21 @@ is_one (x ∷ []) = true
 is_one _ = false
 
 -- the name of an export, and what it gives out
-abbrev pub export_parts : Export → List Piece
-export_parts e = Quoted (chars e.name) ∷ (Gap ∷ line_group_gap (kind_word e.kind) (extern_index_pieces e.kind e.index))
+abbrev pub export_parts : Scope → Export → List Piece
+export_parts s e = Quoted (chars e.name) ∷ (Gap ∷ line_group_gap (kind_word e.kind) (extern_index_pieces s e.kind e.index))
+
+-- how many parameters a type has, 0 unless it is a function type
+abbrev pub parameter_count_of : List SubType → ℕ → ℕ
+parameter_count_of ts i = parameter_count (signature_at ts i)
+
+-- the head of a function: its declaration and its type
+abbrev pub function_header : Scope → PlacedFunction → List Piece
+function_header s f = header_pieces s row.Func (Some s.function) s.function f.type_index
 
 -- a function without its body
-abbrev pub outline_parts : List SubType → ℕ → PlacedFunction → List Piece
-outline_parts ts i f = header_parts ts i f.type_index ++ (Gap ∷ (Word (codes "...") ∷ []))
+abbrev pub outline_parts : Scope → PlacedFunction → List Piece
+outline_parts s f = function_header s f ++ (Gap ∷ (Word (codes "...") ∷ []))
 
 -- a function with its body
-abbrev pub definition_parts : List SubType → ℕ → PlacedFunction → List Piece
-definition_parts ts i f =
-    header_parts ts i f.type_index ++ (local_pieces f.body.value.locals ++ body_pieces ts f.body.value.operators)
+abbrev pub definition_parts : Scope → PlacedFunction → List Piece
+definition_parts s f = function_header s f ++ inner_pieces s f

@@ -1,29 +1,31 @@
 //! Data segments (section 6.6 of the WebAssembly Core Specification, "Data Segments").
-ghost use Rattle.std.specs.Prelude.{codes};
+ghost use Rattle.std.specs.Prelude.{◌≡◌, codes};
 ghost use Rattle.wasmprinter_spec.specs.Options.{Options};
 ghost use Rattle.wasmprinter_spec.specs.Layout.DataSegments.{named_memory, data_mode_pieces, shown_bytes};
 ghost use Rattle.wasmprinter_print.specs.Prints.{Prints};
 ghost use Rattle.wasmprinter_segments.specs.Segments.{data_mode_view};
-ghost use Rattle.wasmprinter_fields.specs.Parts.{types_of, data_parts};
+ghost use Rattle.wasmprinter_fields.specs.Parts.{data_parts};
+ghost use Rattle.wasmprinter_fields.specs.Scopes.{scope_view};
 
 use crate::expressions::write_constant_group;
 use crate::fields::Field;
+use crate::scope::{Scope, write_declaration, write_index_group};
 use std::io;
 use wasmprinter_lines::options::PrintOptions;
+use wasmprinter_names::Space;
 use wasmprinter_print::Print;
-use wasmprinter_wasm::{Data, DataMode, Module};
-use wasmprinter_words::numbers::{mark, write_index_group};
+use wasmprinter_wasm::{Data, DataMode};
 use wasmprinter_words::strings::write_byte_string;
 use wasmprinter_words::words::{gap, word};
 
 /// Writes the memory of a segment and a blank, and nothing for memory 0.
-fn write_named_memory<P: Print>(p: &mut P, memory: u32) -> io::Result<()>
-    ensures { (o : Options) → Prints P.meaning o p.old p.new result (named_memory memory) }
+fn write_named_memory<P: Print>(p: &mut P, scope: &Scope<'_, '_>, memory: u32) -> io::Result<()>
+    ensures { (o : Options) → Prints P.meaning o p.old p.new result (named_memory (scope_view scope.now) memory) }
 {
     if memory == 0 {
         return Ok(());
     }
-    write_index_group(p, "memory", memory)?;
+    write_index_group(p, scope, "memory", Space::Memory, memory)?;
     gap(p)
 }
 
@@ -32,17 +34,18 @@ fn write_named_memory<P: Print>(p: &mut P, memory: u32) -> io::Result<()>
 fn write_data_mode<P: Print>(
     p: &mut P,
     options: &PrintOptions,
-    module: &Module<'_>,
+    scope: &mut Scope<'_, '_>,
     mode: &DataMode<'_>,
 ) -> io::Result<()>
-    ensures { Prints P.meaning options.now p.old p.new result
-        (data_mode_pieces (types_of module.now) (data_mode_view mode.now)) }
+    ensures pieces { Prints P.meaning options.now p.old p.new result
+        (data_mode_pieces (scope_view scope.old) (data_mode_view mode.now)) }
+    ensures scope { scope_view scope.new ≡ scope_view scope.old }
 {
     match mode {
         DataMode::Passive => Ok(()),
         DataMode::Active { memory, offset } => {
-            write_named_memory(p, *memory)?;
-            write_constant_group(p, options, module, "offset", offset)?;
+            write_named_memory(p, scope, *memory)?;
+            write_constant_group(p, options, scope, "offset", offset)?;
             gap(p)
         }
     }
@@ -64,7 +67,7 @@ impl<'a> Field for Data<'a> {
 
     ghost line_place = { λ d. d.place };
 
-    ghost parts = { λ o ts i d. data_parts o.skeleton ts i d.value };
+    ghost parts = { λ o s i d. data_parts o.skeleton s i d.value };
 
     fn keyword(&self) -> &'static str {
         "data"
@@ -78,12 +81,12 @@ impl<'a> Field for Data<'a> {
         &self,
         p: &mut P,
         options: &PrintOptions,
-        module: &Module<'_>,
+        scope: &mut Scope<'_, '_>,
         number: u64,
     ) -> io::Result<()> {
-        mark(p, number)?;
+        write_declaration(p, scope, Space::Data, number)?;
         gap(p)?;
-        write_data_mode(p, options, module, self.mode())?;
+        write_data_mode(p, options, scope, self.mode())?;
         write_shown_bytes(p, options, self.bytes())
     }
 }

@@ -1,35 +1,43 @@
 //! Element segments (section 6.6 of the WebAssembly Core Specification, "Element Segments").
-ghost use Rattle.std.specs.Prelude.{Bool, ◌∷◌, codes};
+ghost use Rattle.std.specs.Prelude.{◌≡◌, ◌∷◌, codes};
+ghost use Rattle.wasmprinter_spec.specs.Row as row;
 ghost use Rattle.wasmprinter_spec.specs.Options.{Options};
 ghost use Rattle.wasmprinter_spec.specs.Piece.{Gap};
+ghost use Rattle.wasmprinter_spec.specs.Layout.Declarations.{item_index};
 ghost use Rattle.wasmprinter_spec.specs.Layout.Expressions.{constant_group};
 ghost use Rattle.wasmprinter_spec.specs.Layout.Elements.{named_table, mode_pieces, function_items, expression_items};
 ghost use Rattle.wasmprinter_spec.specs.Layout.Elements.{items_pieces, shown_items};
 ghost use Rattle.wasmprinter_print.specs.Prints.{Prints};
 ghost use Rattle.wasmprinter_segments.specs.Segments.{element_mode_view, element_items_view, constants_of};
-ghost use Rattle.wasmprinter_fields.specs.Parts.{types_of, element_parts};
+ghost use Rattle.wasmprinter_fields.specs.Parts.{element_parts};
+ghost use Rattle.wasmprinter_fields.specs.Scopes.{scope_view};
 
 use crate::expressions::write_constant_group;
 use crate::fields::Field;
+use crate::scope::{Scope, write_declaration, write_index, write_index_group, write_ref_type};
 use std::io;
 use wasmprinter_bytes::lists::Items;
 use wasmprinter_lines::options::PrintOptions;
+use wasmprinter_names::Space;
 use wasmprinter_ops::expression::Expression;
 use wasmprinter_print::Print;
-use wasmprinter_text::types::write_ref_type;
-use wasmprinter_wasm::{Element, ElementItems, ElementMode, Module};
-use wasmprinter_words::numbers::{gap_index, mark, write_index_group};
+use wasmprinter_wasm::{Element, ElementItems, ElementMode};
 use wasmprinter_words::words::{gap, word};
 
 /// Writes a blank and the table of a segment, where the bytes name it.
-fn write_named_table<P: Print>(p: &mut P, is_named: bool, table: u32) -> io::Result<()>
-    ensures { (o : Options) → Prints P.meaning o p.old p.new result (named_table is_named table) }
+fn write_named_table<P: Print>(
+    p: &mut P,
+    scope: &Scope<'_, '_>,
+    is_named: bool,
+    table: u32,
+) -> io::Result<()>
+    ensures { (o : Options) → Prints P.meaning o p.old p.new result (named_table (scope_view scope.now) is_named table) }
 {
     if !is_named {
         return Ok(());
     }
     gap(p)?;
-    write_index_group(p, "table", table)
+    write_index_group(p, scope, "table", Space::Table, table)
 }
 
 /// Writes what becomes of a segment, with a blank in front; `names_table` is whether the bytes name its table.
@@ -37,12 +45,13 @@ fn write_named_table<P: Print>(p: &mut P, is_named: bool, table: u32) -> io::Res
 fn write_element_mode<P: Print>(
     p: &mut P,
     options: &PrintOptions,
-    module: &Module<'_>,
+    scope: &mut Scope<'_, '_>,
     names_table: bool,
     mode: &ElementMode<'_>,
 ) -> io::Result<()>
-    ensures { Prints P.meaning options.now p.old p.new result
-        (mode_pieces (types_of module.now) names_table (element_mode_view mode.now)) }
+    ensures pieces { Prints P.meaning options.now p.old p.new result
+        (mode_pieces (scope_view scope.old) names_table (element_mode_view mode.now)) }
+    ensures scope { scope_view scope.new ≡ scope_view scope.old }
 {
     match mode {
         ElementMode::Passive => Ok(()),
@@ -51,19 +60,32 @@ fn write_element_mode<P: Print>(
             word(p, "declare")
         }
         ElementMode::Active { table, offset } => {
-            write_named_table(p, names_table, *table)?;
+            write_named_table(p, scope, names_table, *table)?;
             gap(p)?;
-            write_constant_group(p, options, module, "offset", offset)
+            write_constant_group(p, options, scope, "offset", offset)
         }
     }
 }
 
+/// Writes a blank and the index of a function.
+fn write_function_item<P: Print>(p: &mut P, scope: &Scope<'_, '_>, function: u32) -> io::Result<()>
+    ensures { (o : Options) → Prints P.meaning o p.old p.new result
+        (Gap ∷ item_index (scope_view scope.now) row.Func function) }
+{
+    gap(p)?;
+    write_index(p, scope, Space::Func, function)
+}
+
 /// Writes the indices of functions, a blank before each.
-fn write_function_items<P: Print>(p: &mut P, functions: &Items<'_, u32>) -> io::Result<()>
-    ensures { (o : Options) → Prints P.meaning o p.old p.new result (function_items functions.now) }
+fn write_function_items<P: Print>(
+    p: &mut P,
+    scope: &Scope<'_, '_>,
+    functions: &Items<'_, u32>,
+) -> io::Result<()>
+    ensures { (o : Options) → Prints P.meaning o p.old p.new result (function_items (scope_view scope.now) functions.now) }
 {
     for index in functions.iter() {
-        gap_index(p, index)?;
+        write_function_item(p, scope, index)?;
     }
     Ok(())
 }
@@ -72,28 +94,30 @@ fn write_function_items<P: Print>(p: &mut P, functions: &Items<'_, u32>) -> io::
 fn write_expression_item<P: Print>(
     p: &mut P,
     options: &PrintOptions,
-    module: &Module<'_>,
+    scope: &mut Scope<'_, '_>,
     expression: &Expression<'_>,
 ) -> io::Result<()>
-    ensures { Prints P.meaning options.now p.old p.new result
-        (Gap ∷ constant_group (types_of module.now) (codes "item") expression.now.items) }
+    ensures pieces { Prints P.meaning options.now p.old p.new result
+        (Gap ∷ constant_group (scope_view scope.old) (codes "item") expression.now.items) }
+    ensures scope { scope_view scope.new ≡ scope_view scope.old }
 {
     gap(p)?;
-    write_constant_group(p, options, module, "item", expression)
+    write_constant_group(p, options, scope, "item", expression)
 }
 
 /// Writes expressions as groups, a blank before each.
 fn write_expression_items<P: Print>(
     p: &mut P,
     options: &PrintOptions,
-    module: &Module<'_>,
+    scope: &mut Scope<'_, '_>,
     expressions: &[Expression<'_>],
 ) -> io::Result<()>
-    ensures { Prints P.meaning options.now p.old p.new result
-        (expression_items (types_of module.now) (constants_of expressions.now)) }
+    ensures pieces { Prints P.meaning options.now p.old p.new result
+        (expression_items (scope_view scope.old) (constants_of expressions.now)) }
+    ensures scope { scope_view scope.new ≡ scope_view scope.old }
 {
     for expression in expressions {
-        write_expression_item(p, options, module, expression)?;
+        write_expression_item(p, options, scope, expression)?;
     }
     Ok(())
 }
@@ -103,20 +127,21 @@ fn write_expression_items<P: Print>(
 fn write_items<P: Print>(
     p: &mut P,
     options: &PrintOptions,
-    module: &Module<'_>,
+    scope: &mut Scope<'_, '_>,
     items: &ElementItems<'_>,
 ) -> io::Result<()>
-    ensures { Prints P.meaning options.now p.old p.new result
-        (items_pieces (types_of module.now) (element_items_view items.now)) }
+    ensures pieces { Prints P.meaning options.now p.old p.new result
+        (items_pieces (scope_view scope.old) (element_items_view items.now)) }
+    ensures scope { scope_view scope.new ≡ scope_view scope.old }
 {
     match items {
         ElementItems::Functions(functions) => {
             word(p, "func")?;
-            write_function_items(p, functions)
+            write_function_items(p, scope, functions)
         }
         ElementItems::Expressions(ref_type, expressions) => {
-            write_ref_type(p, *ref_type)?;
-            write_expression_items(p, options, module, expressions)
+            write_ref_type(p, scope, *ref_type)?;
+            write_expression_items(p, options, scope, expressions)
         }
     }
 }
@@ -125,16 +150,17 @@ fn write_items<P: Print>(
 fn write_shown_items<P: Print>(
     p: &mut P,
     options: &PrintOptions,
-    module: &Module<'_>,
+    scope: &mut Scope<'_, '_>,
     items: &ElementItems<'_>,
 ) -> io::Result<()>
-    ensures { Prints P.meaning options.now p.old p.new result
-        (shown_items options.now.skeleton (types_of module.now) (element_items_view items.now)) }
+    ensures pieces { Prints P.meaning options.now p.old p.new result
+        (shown_items options.now.skeleton (scope_view scope.old) (element_items_view items.now)) }
+    ensures scope { scope_view scope.new ≡ scope_view scope.old }
 {
     if options.skeleton {
         word(p, "...")
     } else {
-        write_items(p, options, module, items)
+        write_items(p, options, scope, items)
     }
 }
 
@@ -143,7 +169,7 @@ impl<'a> Field for Element<'a> {
 
     ghost line_place = { λ e. e.place };
 
-    ghost parts = { λ o ts i e. element_parts o.skeleton ts i e.value };
+    ghost parts = { λ o s i e. element_parts o.skeleton s i e.value };
 
     fn keyword(&self) -> &'static str {
         "elem"
@@ -157,12 +183,12 @@ impl<'a> Field for Element<'a> {
         &self,
         p: &mut P,
         options: &PrintOptions,
-        module: &Module<'_>,
+        scope: &mut Scope<'_, '_>,
         number: u64,
     ) -> io::Result<()> {
-        mark(p, number)?;
-        write_element_mode(p, options, module, self.names_table(), self.mode())?;
+        write_declaration(p, scope, Space::Elem, number)?;
+        write_element_mode(p, options, scope, self.names_table(), self.mode())?;
         gap(p)?;
-        write_shown_items(p, options, module, self.items())
+        write_shown_items(p, options, scope, self.items())
     }
 }

@@ -1,18 +1,23 @@
 //! Exports (section 6.6 of the WebAssembly Core Specification, "Exports").
-ghost use Rattle.std.specs.Prelude.{◌≡◌, codes};
+ghost use Rattle.std.specs.Prelude.{◌≡◌, ℕ, codes};
+ghost use Rattle.wasmprinter_spec.specs.Indexed.{space_of};
 ghost use Rattle.wasmprinter_spec.specs.Options.{Options};
 ghost use Rattle.wasmprinter_spec.specs.Layout.Exports.{kind_word, extern_index_pieces};
 ghost use Rattle.wasmprinter_spec.specs.Layout.Groups.{line_group_gap};
 ghost use Rattle.wasmprinter_print.specs.Prints.{Prints};
 ghost use Rattle.wasmprinter_entries.specs.Externs.{kind_view};
+ghost use Rattle.wasmprinter_labels.specs.Scan.{Scan, names_of};
 ghost use Rattle.wasmprinter_fields.specs.Parts.{export_parts};
+ghost use Rattle.wasmprinter_fields.specs.Scopes.{scope_view, item_in};
 
 use crate::fields::Field;
+use crate::scope::{Scope, write_index};
 use std::io;
 use wasmprinter_lines::options::PrintOptions;
+use wasmprinter_names::Space;
 use wasmprinter_print::Print;
-use wasmprinter_wasm::{Export, ExternKind, Module};
-use wasmprinter_words::numbers::{number, number_word};
+use wasmprinter_wasm::{Export, ExternKind};
+use wasmprinter_words::numbers::number_word;
 use wasmprinter_words::strings::write_string;
 use wasmprinter_words::words::{gap, open_gap, shut};
 
@@ -30,26 +35,49 @@ pub(crate) fn kind_word(kind: ExternKind) -> &'static str
     }
 }
 
-/// Writes the index of what is given out: that of a tag has no style.
+/// The space of what is given out.
+fn space_of(kind: ExternKind) -> Space
+    ensures { (l : Scan) (n : ℕ) → item_in l result n ≡ (names_of l).items (space_of (kind_view kind)) n }
+{
+    match kind {
+        ExternKind::Func => Space::Func,
+        ExternKind::Table => Space::Table,
+        ExternKind::Memory => Space::Memory,
+        ExternKind::Global => Space::Global,
+        ExternKind::Tag => Space::Tag,
+    }
+}
+
+/// Writes the index of what is given out: that of a tag as a number, which has no style.
 #[tactic(auto, unfolding(wasmprinter_spec::specs::Layout::Exports::extern_index_pieces))]
-fn write_extern_index<P: Print>(p: &mut P, kind: ExternKind, index: u32) -> io::Result<()>
+fn write_extern_index<P: Print>(
+    p: &mut P,
+    scope: &Scope<'_, '_>,
+    kind: ExternKind,
+    index: u32,
+) -> io::Result<()>
     ensures { (o : Options) → Prints P.meaning o p.old p.new result
-        (extern_index_pieces (kind_view kind) index) }
+        (extern_index_pieces (scope_view scope.now) (kind_view kind) index) }
 {
     match kind {
         ExternKind::Tag => number_word(p, u64::from(index)),
-        _ => number(p, u64::from(index)),
+        _ => write_index(p, scope, space_of(kind), index),
     }
 }
 
 /// Writes what is given out, as a group.
 #[tactic(auto, using(crate::proofs::LineGroups::groups))]
-fn write_extern<P: Print>(p: &mut P, kind: ExternKind, index: u32) -> io::Result<()>
+fn write_extern<P: Print>(
+    p: &mut P,
+    scope: &Scope<'_, '_>,
+    kind: ExternKind,
+    index: u32,
+) -> io::Result<()>
     ensures { (o : Options) → Prints P.meaning o p.old p.new result
-        (line_group_gap (kind_word (kind_view kind)) (extern_index_pieces (kind_view kind) index)) }
+        (line_group_gap (kind_word (kind_view kind)) (extern_index_pieces (scope_view scope.now) (kind_view kind) index)) }
 {
     open_gap(p, kind_word(kind))?;
-    write_extern_index(p, kind, index)?;
+    write_extern_index(p, scope, kind, index)?;
     shut(p)
 }
 
@@ -58,7 +86,7 @@ impl<'a> Field for Export<'a> {
 
     ghost line_place = { λ e. e.place };
 
-    ghost parts = { λ o ts i e. export_parts e.value };
+    ghost parts = { λ o s i e. export_parts s e.value };
 
     fn keyword(&self) -> &'static str {
         "export"
@@ -72,11 +100,11 @@ impl<'a> Field for Export<'a> {
         &self,
         p: &mut P,
         _options: &PrintOptions,
-        _module: &Module<'_>,
+        scope: &mut Scope<'_, '_>,
         _number: u64,
     ) -> io::Result<()> {
         write_string(p, self.name())?;
         gap(p)?;
-        write_extern(p, self.kind(), self.index())
+        write_extern(p, scope, self.kind(), self.index())
     }
 }

@@ -2,15 +2,15 @@
 ghost use Rattle.std.specs.Prelude.{◌≡◌, Bool, true, false};
 ghost use Rattle.wasmprinter_spec.specs.Layout.Expressions.{constant_pieces, word_unless_one, constant_group};
 ghost use Rattle.wasmprinter_print.specs.Prints.{Prints};
-ghost use Rattle.wasmprinter_fields.specs.Parts.{types_of, is_one};
+ghost use Rattle.wasmprinter_fields.specs.Parts.{is_one};
+ghost use Rattle.wasmprinter_fields.specs.Scopes.{scope_view};
 
-use crate::types::ModuleTypes;
+use crate::scope::Scope;
 use std::io;
 use wasmprinter_flat::operators::{Form, Setting, write_operators};
 use wasmprinter_lines::options::PrintOptions;
 use wasmprinter_ops::expression::Expression;
 use wasmprinter_print::Print;
-use wasmprinter_wasm::Module;
 use wasmprinter_words::words::{gap, open_bare, shut, word};
 
 /// Writes the operators of an expression, a blank between two.
@@ -18,19 +18,20 @@ use wasmprinter_words::words::{gap, open_bare, shut, word};
 pub(crate) fn write_constant<P: Print>(
     p: &mut P,
     options: &PrintOptions,
-    module: &Module<'_>,
+    scope: &mut Scope<'_, '_>,
     expression: &Expression<'_>,
 ) -> io::Result<()>
-    ensures { Prints P.meaning options.now p.old p.new result
-        (constant_pieces (types_of module.now) expression.now.items) }
+    ensures pieces { Prints P.meaning options.now p.old p.new result
+        (constant_pieces (scope_view scope.old) expression.now.items) }
+    ensures scope { scope_view scope.new ≡ scope_view scope.old }
 {
-    let types = ModuleTypes { module };
     let setting = Setting {
         form: Form::InLine,
-        types: &types,
+        types: &scope.types,
         nesting: 0,
+        function: scope.function,
     };
-    write_operators(p, options, &setting, expression)
+    write_operators(p, options, &setting, &mut scope.labels, expression)
 }
 
 /// Whether the expression has exactly one operator.
@@ -62,15 +63,16 @@ fn write_word_unless_one<P: Print>(
 pub(crate) fn write_constant_group<P: Print>(
     p: &mut P,
     options: &PrintOptions,
-    module: &Module<'_>,
+    scope: &mut Scope<'_, '_>,
     keyword: &str,
     expression: &Expression<'_>,
 ) -> io::Result<()>
-    ensures { Prints P.meaning options.now p.old p.new result
-        (constant_group (types_of module.now) keyword.now expression.now.items) }
+    ensures pieces { Prints P.meaning options.now p.old p.new result
+        (constant_group (scope_view scope.old) keyword.now expression.now.items) }
+    ensures scope { scope_view scope.new ≡ scope_view scope.old }
 {
     open_bare(p)?;
     write_word_unless_one(p, options, keyword, expression)?;
-    write_constant(p, options, module, expression)?;
+    write_constant(p, options, scope, expression)?;
     shut(p)
 }

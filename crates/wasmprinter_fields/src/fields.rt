@@ -3,8 +3,10 @@ ghost use Rattle.std.specs.Prelude.{◌≡◌, ◌+◌, ◌<◌, ◌^◌, length
 ghost use Rattle.wasmprinter_spec.specs.Layout.Groups.{numbered};
 ghost use Rattle.wasmprinter_print.specs.Prints.{Prints};
 ghost use Rattle.wasmprinter_entries.specs.Externs.{kind_view, imported_count};
-ghost use Rattle.wasmprinter_fields.specs.Parts.{types_of, field_line};
+ghost use Rattle.wasmprinter_fields.specs.Parts.{field_line};
+ghost use Rattle.wasmprinter_fields.specs.Scopes.{scope_view};
 
+use crate::scope::Scope;
 use std::io;
 use wasmprinter_lines::lines::break_line;
 use wasmprinter_lines::options::PrintOptions;
@@ -18,16 +20,16 @@ pub(crate) const FIELD_NESTING: u64 = 1;
 /// A field of a module that is a group on one line.
 pub(crate) trait Field {
     ghost use Rattle.std.specs.Prelude.{ℕ, List};
-    ghost use Rattle.wasmprinter_spec.specs.Types.{SubType};
     ghost use Rattle.wasmprinter_spec.specs.Piece.{Piece};
     ghost use Rattle.wasmprinter_spec.specs.Options.{Options};
+    ghost use Rattle.wasmprinter_spec.specs.Layout.Declarations.{Scope as FieldScope};
 
     ghost keyword: { List ℕ };
 
     ghost line_place: { Self → ℕ };
 
-    /// What stands in the group, by the options, the types of the module and the field's number among those of its kind.
-    ghost parts: { Options → List SubType → ℕ → Self → List Piece };
+    /// What stands in the group, by the options, the scope and the field's number among those of its kind.
+    ghost parts: { Options → FieldScope → ℕ → Self → List Piece };
 
     /// The keyword of the group.
     fn keyword(&self) -> &'static str
@@ -42,11 +44,12 @@ pub(crate) trait Field {
         &self,
         p: &mut P,
         options: &PrintOptions,
-        module: &Module<'_>,
+        scope: &mut Scope<'_, '_>,
         number: u64,
     ) -> io::Result<()>
-        ensures { Prints P.meaning options.now p.old p.new result
-            (parts options.now (types_of module.now) number self.now) };
+        ensures pieces { Prints P.meaning options.now p.old p.new result
+            (parts options.now (scope_view scope.old) number self.now) }
+        ensures scope { scope_view scope.new ≡ scope_view scope.old };
 }
 
 /// Writes the field with the number, on a line of its own.
@@ -54,16 +57,17 @@ pub(crate) trait Field {
 pub(crate) fn write_field<P: Print, F: Field>(
     p: &mut P,
     options: &PrintOptions,
-    module: &Module<'_>,
+    scope: &mut Scope<'_, '_>,
     number: u64,
     field: &F,
 ) -> io::Result<()>
-    ensures { Prints P.meaning options.now p.old p.new result
-        (field_line F.keyword F.line_place (F.parts options.now (types_of module.now)) number field.now) }
+    ensures pieces { Prints P.meaning options.now p.old p.new result
+        (field_line F.keyword F.line_place (F.parts options.now (scope_view scope.old)) number field.now) }
+    ensures scope { scope_view scope.new ≡ scope_view scope.old }
 {
     break_line(p, options, Some(field.line_place()), FIELD_NESTING)?;
     open_gap(p, field.keyword())?;
-    field.write_parts(p, options, module, number)?;
+    field.write_parts(p, options, scope, number)?;
     shut(p)
 }
 
@@ -71,16 +75,17 @@ pub(crate) fn write_field<P: Print, F: Field>(
 pub(crate) fn write_each<P: Print, F: Field>(
     p: &mut P,
     options: &PrintOptions,
-    module: &Module<'_>,
+    scope: &mut Scope<'_, '_>,
     first: u64,
     fields: &[F],
 ) -> io::Result<()>
     requires { first + length fields.now < 2 ^ 64 }
-    ensures { Prints P.meaning options.now p.old p.new result
-        (numbered (field_line F.keyword F.line_place (F.parts options.now (types_of module.now))) first fields.now) }
+    ensures pieces { Prints P.meaning options.now p.old p.new result
+        (numbered (field_line F.keyword F.line_place (F.parts options.now (scope_view scope.old))) first fields.now) }
+    ensures scope { scope_view scope.new ≡ scope_view scope.old }
 {
     for (index, field) in fields.iter().enumerate() {
-        write_field(p, options, module, first + index as u64, field)?;
+        write_field(p, options, scope, first + index as u64, field)?;
     }
     Ok(())
 }
@@ -92,20 +97,4 @@ pub(crate) fn first_number(module: &Module<'_>, kind: ExternKind) -> u64
 {
     prove!(module.imports().len() <= u32::MAX as usize);
     module.imported_count(kind)
-}
-
-/// Writes the fields of a kind that may be imported too: their numbers begin behind the imports of the kind.
-pub(crate) fn write_behind_imports<P: Print, F: Field>(
-    p: &mut P,
-    options: &PrintOptions,
-    module: &Module<'_>,
-    kind: ExternKind,
-    fields: &[F],
-) -> io::Result<()>
-    requires { length fields.now < 2 ^ 32 }
-    ensures { Prints P.meaning options.now p.old p.new result
-        (numbered (field_line F.keyword F.line_place (F.parts options.now (types_of module.now)))
-        (imported_count (kind_view kind) module.now.imports) fields.now) }
-{
-    write_each(p, options, module, first_number(module, kind), fields)
 }

@@ -1,23 +1,25 @@
 //! Imports (section 6.6 of the WebAssembly Core Specification, "Imports").
-ghost use Rattle.std.specs.Prelude.{◌≡◌, ◌+◌, ◌<◌, ◌^◌, codes};
+ghost use Rattle.std.specs.Prelude.{◌≡◌, ◌+◌, ◌<◌, ◌^◌, codes, length};
 ghost use Rattle.wasmprinter_spec.specs.Options.{Options};
 ghost use Rattle.wasmprinter_spec.specs.Layout.Imports.{number_of, numbers_behind, no_numbers};
 ghost use Rattle.wasmprinter_spec.specs.Layout.Imports.{extern_pieces, imports_pieces};
 ghost use Rattle.wasmprinter_print.specs.Prints.{Prints};
 ghost use Rattle.wasmprinter_entries.specs.Externs.{extern_view, HasPage};
-ghost use Rattle.wasmprinter_fields.specs.Parts.{types_of, extern_parts, import_parts};
+ghost use Rattle.wasmprinter_fields.specs.Parts.{extern_parts, import_parts};
+ghost use Rattle.wasmprinter_fields.specs.Scopes.{scope_view};
 
 use crate::exports::kind_word;
 use crate::fields::{Field, write_field};
-use crate::globals::write_numbered_global_type;
-use crate::headers::write_header;
-use crate::memories::write_numbered_memory_type;
-use crate::tables::write_numbered_table_type;
+use crate::globals::write_declared_global;
+use crate::headers::{write_function_header, write_tag_header};
+use crate::memories::write_declared_memory;
+use crate::scope::Scope;
+use crate::tables::write_declared_table;
 use std::io;
 use std::marker::Model;
 use wasmprinter_lines::options::PrintOptions;
 use wasmprinter_print::Print;
-use wasmprinter_wasm::{ExternType, Import, Module};
+use wasmprinter_wasm::{ExternType, Import};
 use wasmprinter_words::strings::write_string;
 use wasmprinter_words::words::{gap, open_gap, shut};
 
@@ -87,38 +89,39 @@ impl Numbers {
     }
 }
 
-/// Writes the number of what is imported, and its type.
+/// Writes what is imported where it is declared, and its type.
 fn write_extern_parts<P: Print>(
     p: &mut P,
-    module: &Module<'_>,
+    scope: &Scope<'_, '_>,
     number: u64,
     extern_type: ExternType,
 ) -> io::Result<()>
     requires { HasPage extern_type }
     ensures { (o : Options) → Prints P.meaning o p.old p.new result
-        (extern_parts (types_of module.now) number (extern_view extern_type)) }
+        (extern_parts (scope_view scope.now) number (extern_view extern_type)) }
 {
     match extern_type {
-        ExternType::Func(index) | ExternType::Tag(index) => write_header(p, module, number, index),
-        ExternType::Table(table_type) => write_numbered_table_type(p, number, table_type),
-        ExternType::Memory(memory_type) => write_numbered_memory_type(p, number, memory_type),
-        ExternType::Global(global_type) => write_numbered_global_type(p, number, global_type),
+        ExternType::Func(index) => write_function_header(p, scope, number, index),
+        ExternType::Table(table_type) => write_declared_table(p, scope, number, table_type),
+        ExternType::Memory(memory_type) => write_declared_memory(p, scope, number, memory_type),
+        ExternType::Global(global_type) => write_declared_global(p, scope, number, global_type),
+        ExternType::Tag(index) => write_tag_header(p, scope, number, index),
     }
 }
 
 /// Writes what is imported with its number, as a group.
 fn write_extern_type<P: Print>(
     p: &mut P,
-    module: &Module<'_>,
+    scope: &Scope<'_, '_>,
     number: u64,
     extern_type: ExternType,
 ) -> io::Result<()>
     requires { HasPage extern_type }
     ensures { (o : Options) → Prints P.meaning o p.old p.new result
-        (extern_pieces (types_of module.now) number (extern_view extern_type)) }
+        (extern_pieces (scope_view scope.now) number (extern_view extern_type)) }
 {
     open_gap(p, kind_word(extern_type.kind()))?;
-    write_extern_parts(p, module, number, extern_type)?;
+    write_extern_parts(p, scope, number, extern_type)?;
     shut(p)
 }
 
@@ -127,7 +130,7 @@ impl<'a> Field for Import<'a> {
 
     ghost line_place = { λ i. i.place };
 
-    ghost parts = { λ o ts n i. import_parts ts n i.value };
+    ghost parts = { λ o s n i. import_parts s n i.value };
 
     fn keyword(&self) -> &'static str {
         "import"
@@ -141,14 +144,14 @@ impl<'a> Field for Import<'a> {
         &self,
         p: &mut P,
         _options: &PrintOptions,
-        module: &Module<'_>,
+        scope: &mut Scope<'_, '_>,
         number: u64,
     ) -> io::Result<()> {
         write_string(p, self.module())?;
         gap(p)?;
         write_string(p, self.name())?;
         gap(p)?;
-        write_extern_type(p, module, number, self.ty())
+        write_extern_type(p, scope, number, self.ty())
     }
 }
 
@@ -156,14 +159,17 @@ impl<'a> Field for Import<'a> {
 pub(crate) fn write_imports<P: Print>(
     p: &mut P,
     options: &PrintOptions,
-    module: &Module<'_>,
+    scope: &mut Scope<'_, '_>,
+    imports: &[Import<'_>],
 ) -> io::Result<()>
-    ensures { Prints P.meaning options.now p.old p.new result
-        (imports_pieces (types_of module.now) no_numbers module.now.imports) }
+    requires { length imports.now < 2 ^ 32 }
+    ensures pieces { Prints P.meaning options.now p.old p.new result
+        (imports_pieces (scope_view scope.old) no_numbers imports.now) }
+    ensures scope { scope_view scope.new ≡ scope_view scope.old }
 {
     let mut numbers = Numbers::none();
-    for import in module.imports() {
-        write_field(p, options, module, numbers.of(import.ty()), import)?;
+    for import in imports {
+        write_field(p, options, scope, numbers.of(import.ty()), import)?;
         numbers.count(import.ty());
     }
     Ok(())

@@ -14,6 +14,7 @@ mod limits;
 mod locals;
 mod memories;
 pub mod modules;
+mod scope;
 mod start;
 mod tables;
 mod tags;

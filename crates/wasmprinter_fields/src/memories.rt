@@ -6,16 +6,18 @@ ghost use Rattle.wasmprinter_spec.specs.Layout.Groups.{line_group_gap};
 ghost use Rattle.wasmprinter_spec.specs.Layout.Memories.{shared_pieces, page_pieces, memory_type_pieces};
 ghost use Rattle.wasmprinter_print.specs.Prints.{Prints};
 ghost use Rattle.wasmprinter_entries.specs.Externs.{memory_type_view, IsPage};
-ghost use Rattle.wasmprinter_fields.specs.Parts.{page_parts, memory_parts};
+ghost use Rattle.wasmprinter_fields.specs.Scopes.{scope_view};
+ghost use Rattle.wasmprinter_fields.specs.Parts.{page_parts, declared_memory};
 
 use crate::fields::Field;
 use crate::limits::{write_sizes, write_wide};
+use crate::scope::{Scope, write_declaration};
 use std::io;
 use wasmprinter_lines::options::PrintOptions;
+use wasmprinter_names::Space;
 use wasmprinter_print::Print;
-use wasmprinter_wasm::{Memory, MemoryType, Module};
+use wasmprinter_wasm::{Memory, MemoryType};
 use wasmprinter_words::limits::page_size;
-use wasmprinter_words::numbers::mark;
 use wasmprinter_words::words::{gap, gap_type_word, open_gap, shut};
 
 /// Writes that threads may share a memory, if they may.
@@ -68,17 +70,18 @@ fn write_memory_type<P: Print>(p: &mut P, memory_type: MemoryType) -> io::Result
     write_page(p, memory_type.page)
 }
 
-/// Writes a number and the type of a memory.
-pub(crate) fn write_numbered_memory_type<P: Print>(
+/// Writes a memory where it is declared, with its type.
+pub(crate) fn write_declared_memory<P: Print>(
     p: &mut P,
+    scope: &Scope<'_, '_>,
     number: u64,
     memory_type: MemoryType,
 ) -> io::Result<()>
     requires { IsPage memory_type.page }
     ensures { (o : Options) → Prints P.meaning o p.old p.new result
-        (memory_parts number (memory_type_view memory_type)) }
+        (declared_memory (scope_view scope.now) number (memory_type_view memory_type)) }
 {
-    mark(p, number)?;
+    write_declaration(p, scope, Space::Memory, number)?;
     gap(p)?;
     write_memory_type(p, memory_type)
 }
@@ -88,7 +91,7 @@ impl Field for Memory {
 
     ghost line_place = { λ m. m.place };
 
-    ghost parts = { λ o ts i m. memory_parts i m.value };
+    ghost parts = { λ o s i m. declared_memory s i m.value };
 
     fn keyword(&self) -> &'static str {
         "memory"
@@ -102,9 +105,9 @@ impl Field for Memory {
         &self,
         p: &mut P,
         _options: &PrintOptions,
-        _module: &Module<'_>,
+        scope: &mut Scope<'_, '_>,
         number: u64,
     ) -> io::Result<()> {
-        write_numbered_memory_type(p, number, self.ty())
+        write_declared_memory(p, scope, number, self.ty())
     }
 }

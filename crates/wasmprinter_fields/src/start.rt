@@ -1,22 +1,25 @@
 //! The start function (section 6.6 of the WebAssembly Core Specification, "Start Function").
-ghost use Rattle.std.specs.Prelude.{[], ◌∷◌, codes};
-ghost use Rattle.wasmprinter_spec.specs.Piece.{Number};
+ghost use Rattle.std.specs.Prelude.{◌≡◌, codes};
+ghost use Rattle.wasmprinter_spec.specs.Row as row;
 ghost use Rattle.wasmprinter_spec.specs.Layout.{start_pieces};
+ghost use Rattle.wasmprinter_spec.specs.Layout.Declarations.{item_index};
 ghost use Rattle.wasmprinter_print.specs.Prints.{Prints};
+ghost use Rattle.wasmprinter_fields.specs.Scopes.{scope_view};
 
 use crate::fields::{Field, write_field};
+use crate::scope::{Scope, write_index};
 use std::io;
 use wasmprinter_lines::options::PrintOptions;
+use wasmprinter_names::Space;
 use wasmprinter_print::Print;
-use wasmprinter_wasm::{Module, Start};
-use wasmprinter_words::numbers::number;
+use wasmprinter_wasm::Start;
 
 impl Field for Start {
     ghost keyword = { codes "start" };
 
-    ghost line_place = { λ s. s.place };
+    ghost line_place = { λ f. f.place };
 
-    ghost parts = { λ o ts i s. Number s.value ∷ [] };
+    ghost parts = { λ o s i f. item_index s row.Func f.value };
 
     fn keyword(&self) -> &'static str {
         "start"
@@ -30,10 +33,10 @@ impl Field for Start {
         &self,
         p: &mut P,
         _options: &PrintOptions,
-        _module: &Module<'_>,
+        scope: &mut Scope<'_, '_>,
         _number: u64,
     ) -> io::Result<()> {
-        number(p, u64::from(self.function()))
+        write_index(p, scope, Space::Func, self.function())
     }
 }
 
@@ -42,13 +45,14 @@ impl Field for Start {
 pub(crate) fn write_start<P: Print>(
     p: &mut P,
     options: &PrintOptions,
-    module: &Module<'_>,
+    scope: &mut Scope<'_, '_>,
     start: Option<Start>,
 ) -> io::Result<()>
-    ensures { Prints P.meaning options.now p.old p.new result (start_pieces start) }
+    ensures pieces { Prints P.meaning options.now p.old p.new result (start_pieces (scope_view scope.old) start) }
+    ensures scope { scope_view scope.new ≡ scope_view scope.old }
 {
     match start {
-        Some(start) => write_field(p, options, module, 0, &start),
+        Some(start) => write_field(p, options, scope, 0, &start),
         None => Ok(()),
     }
 }

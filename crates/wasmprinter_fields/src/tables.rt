@@ -1,46 +1,53 @@
 //! Tables (section 6.6 of the WebAssembly Core Specification, "Tables"), and their types (section 6.4, "Table Types").
-ghost use Rattle.std.specs.Prelude.{◌∷◌, codes};
+ghost use Rattle.std.specs.Prelude.{◌≡◌, codes};
 ghost use Rattle.wasmprinter_spec.specs.Options.{Options};
-ghost use Rattle.wasmprinter_spec.specs.Piece.{Mark, Gap};
 ghost use Rattle.wasmprinter_spec.specs.Layout.Tables.{table_type_pieces, init_pieces};
 ghost use Rattle.wasmprinter_print.specs.Prints.{Prints};
 ghost use Rattle.wasmprinter_entries.specs.Externs.{table_type_view};
-ghost use Rattle.wasmprinter_fields.specs.Parts.{types_of, table_parts};
+ghost use Rattle.wasmprinter_labels.specs.Scan.{names_of};
+ghost use Rattle.wasmprinter_fields.specs.Parts.{declared_table, table_parts};
+ghost use Rattle.wasmprinter_fields.specs.Scopes.{scope_view};
 
 use crate::expressions::write_constant;
 use crate::fields::Field;
 use crate::limits::{write_sizes, write_wide};
+use crate::scope::{Scope, write_declaration, write_ref_type};
 use std::io;
 use wasmprinter_lines::options::PrintOptions;
+use wasmprinter_names::Space;
 use wasmprinter_print::Print;
-use wasmprinter_text::types::write_ref_type;
-use wasmprinter_wasm::{Module, Table, TableType};
-use wasmprinter_words::numbers::mark;
+use wasmprinter_wasm::{Table, TableType};
 use wasmprinter_words::words::gap;
 
 /// Writes the type of a table.
 #[tactic(auto, unfolding(wasmprinter_spec::specs::Layout::Tables::table_type_pieces))]
-fn write_table_type<P: Print>(p: &mut P, table_type: TableType) -> io::Result<()>
-    ensures { (o : Options) → Prints P.meaning o p.old p.new result (table_type_pieces (table_type_view table_type)) }
+fn write_table_type<P: Print>(
+    p: &mut P,
+    scope: &Scope<'_, '_>,
+    table_type: TableType,
+) -> io::Result<()>
+    ensures { (o : Options) → Prints P.meaning o p.old p.new result
+        (table_type_pieces (names_of scope.now.labels) (table_type_view table_type)) }
 {
     write_wide(p, table_type.wide)?;
     write_sizes(p, table_type.limits)?;
     gap(p)?;
-    write_ref_type(p, table_type.element)
+    write_ref_type(p, scope, table_type.element)
 }
 
-/// Writes a number and the type of a table.
-pub(crate) fn write_numbered_table_type<P: Print>(
+/// Writes a table where it is declared, with its type.
+pub(crate) fn write_declared_table<P: Print>(
     p: &mut P,
+    scope: &Scope<'_, '_>,
     number: u64,
     table_type: TableType,
 ) -> io::Result<()>
     ensures { (o : Options) → Prints P.meaning o p.old p.new result
-        (Mark number ∷ (Gap ∷ table_type_pieces (table_type_view table_type))) }
+        (declared_table (scope_view scope.now) number (table_type_view table_type)) }
 {
-    mark(p, number)?;
+    write_declaration(p, scope, Space::Table, number)?;
     gap(p)?;
-    write_table_type(p, table_type)
+    write_table_type(p, scope, table_type)
 }
 
 /// Writes a blank and the initialiser, if there is one.
@@ -48,15 +55,16 @@ pub(crate) fn write_numbered_table_type<P: Print>(
 fn write_init<P: Print>(
     p: &mut P,
     options: &PrintOptions,
-    module: &Module<'_>,
+    scope: &mut Scope<'_, '_>,
     table: &Table<'_>,
 ) -> io::Result<()>
-    ensures { Prints P.meaning options.now p.old p.new result (init_pieces (types_of module.now) table.now.value.init) }
+    ensures pieces { Prints P.meaning options.now p.old p.new result (init_pieces (scope_view scope.old) table.now.value.init) }
+    ensures scope { scope_view scope.new ≡ scope_view scope.old }
 {
     match table.init() {
         Some(init) => {
             gap(p)?;
-            write_constant(p, options, module, init)
+            write_constant(p, options, scope, init)
         }
         None => Ok(()),
     }
@@ -67,7 +75,7 @@ impl<'a> Field for Table<'a> {
 
     ghost line_place = { λ t. t.place };
 
-    ghost parts = { λ o ts i t. table_parts ts i t.value };
+    ghost parts = { λ o s i t. table_parts s i t.value };
 
     fn keyword(&self) -> &'static str {
         "table"
@@ -81,10 +89,10 @@ impl<'a> Field for Table<'a> {
         &self,
         p: &mut P,
         options: &PrintOptions,
-        module: &Module<'_>,
+        scope: &mut Scope<'_, '_>,
         number: u64,
     ) -> io::Result<()> {
-        write_numbered_table_type(p, number, self.ty())?;
-        write_init(p, options, module, self)
+        write_declared_table(p, scope, number, self.ty())?;
+        write_init(p, options, scope, self)
     }
 }

@@ -1,20 +1,22 @@
 //! Tags (section 6.6 of the WebAssembly Core Specification, "Tags").
-ghost use Rattle.std.specs.Prelude.{codes};
-ghost use Rattle.wasmprinter_fields.specs.Parts.{header_parts};
+ghost use Rattle.std.specs.Prelude.{codes, None};
+ghost use Rattle.wasmprinter_spec.specs.Row as row;
+ghost use Rattle.wasmprinter_spec.specs.Layout.Functions.{header_pieces};
 
 use crate::fields::Field;
-use crate::headers::write_header;
+use crate::headers::write_tag_header;
+use crate::scope::Scope;
 use std::io;
 use wasmprinter_lines::options::PrintOptions;
 use wasmprinter_print::Print;
-use wasmprinter_wasm::{Module, Tag};
+use wasmprinter_wasm::Tag;
 
 impl Field for Tag {
     ghost keyword = { codes "tag" };
 
     ghost line_place = { λ t. t.place };
 
-    ghost parts = { λ o ts i t. header_parts ts i t.value };
+    ghost parts = { λ o s i t. header_pieces s row.Tag None i t.value };
 
     fn keyword(&self) -> &'static str {
         "tag"
@@ -28,9 +30,9 @@ impl Field for Tag {
         &self,
         p: &mut P,
         _options: &PrintOptions,
-        module: &Module<'_>,
+        scope: &mut Scope<'_, '_>,
         number: u64,
     ) -> io::Result<()> {
-        write_header(p, module, number, self.type_index())
+        write_tag_header(p, scope, number, self.type_index())
     }
 }

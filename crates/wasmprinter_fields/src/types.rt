@@ -7,69 +7,56 @@ ghost use Rattle.wasmprinter_spec.specs.Piece.{Open};
 ghost use Rattle.wasmprinter_spec.specs.Layout.Groups.{close, numbered};
 ghost use Rattle.wasmprinter_spec.specs.Layout.Types.{member_pieces, group_pieces_by, type_group_pieces, type_section_pieces};
 ghost use Rattle.wasmprinter_print.specs.Prints.{Prints};
+ghost use Rattle.wasmprinter_labels.specs.Scan.{names_of};
 ghost use Rattle.wasmprinter_fields.specs.TypeLines.{listed_pieces};
 
 use crate::fields::FIELD_NESTING;
+use crate::scope::{Scope, write_type};
 use std::io;
 use wasmprinter_lines::lines::break_line;
 use wasmprinter_lines::options::PrintOptions;
-use wasmprinter_ops::types::composite::{FuncType, SubType};
+use wasmprinter_ops::types::composite::SubType;
 use wasmprinter_print::Print;
-use wasmprinter_text::signature::Signatures;
-use wasmprinter_text::types::composite::type_field;
-use wasmprinter_wasm::{Module, TypeGroup};
+use wasmprinter_wasm::TypeGroup;
 use wasmprinter_words::words::{open, shut};
 
 /// How deep the types of a written group are nested.
 const MEMBER_NESTING: u64 = 2;
-
-/// The types of a module, as blocks name them.
-#[derive(Drop)]
-pub(crate) struct ModuleTypes<'m, 'a> {
-    pub(crate) module: &'m Module<'a>,
-}
-
-impl<'m, 'a> Signatures for ModuleTypes<'m, 'a> {
-    ghost use Rattle.wasmprinter_spec.specs.Types.{all_types, signature_at as signature_of_type};
-    ghost use Rattle.wasmprinter_spec.specs.Module.{groups_of};
-
-    ghost signature_at = { λ s n. signature_of_type (all_types (groups_of s.module.now.types)) n };
-
-    fn signature(&self, index: u32) -> Option<FuncType<'_>> {
-        self.module.signature(index)
-    }
-}
 
 /// Writes a type of a written group on a line of its own.
 #[tactic(auto, unfolding(wasmprinter_spec::specs::Layout::Types::member_pieces))]
 fn write_member<P: Print>(
     p: &mut P,
     options: &PrintOptions,
+    scope: &Scope<'_, '_>,
     group: &TypeGroup<'_>,
     number: u64,
     sub_type: &SubType<'_>,
 ) -> io::Result<()>
     requires { group.now.value.written ≡ true }
-    ensures { Prints P.meaning options.now p.old p.new result (member_pieces group.now.place number sub_type.now) }
+    ensures { Prints P.meaning options.now p.old p.new result
+        (member_pieces (names_of scope.now.labels) group.now.place number sub_type.now) }
 {
     break_line(p, options, Some(group.types_place()), MEMBER_NESTING)?;
-    type_field(p, number, sub_type)
+    write_type(p, scope, number, sub_type)
 }
 
 /// Writes a type of a group.
 fn write_listed<P: Print>(
     p: &mut P,
     options: &PrintOptions,
+    scope: &Scope<'_, '_>,
     group: &TypeGroup<'_>,
     number: u64,
     sub_type: &SubType<'_>,
 ) -> io::Result<()>
-    ensures { Prints P.meaning options.now p.old p.new result (listed_pieces group.now.value.written group.now.place number sub_type.now) }
+    ensures { Prints P.meaning options.now p.old p.new result
+        (listed_pieces (names_of scope.now.labels) group.now.value.written group.now.place number sub_type.now) }
 {
     if group.is_written() {
-        write_member(p, options, group, number, sub_type)
+        write_member(p, options, scope, group, number, sub_type)
     } else {
-        type_field(p, number, sub_type)
+        write_type(p, scope, number, sub_type)
     }
 }
 
@@ -77,16 +64,17 @@ fn write_listed<P: Print>(
 fn write_types<P: Print>(
     p: &mut P,
     options: &PrintOptions,
+    scope: &Scope<'_, '_>,
     group: &TypeGroup<'_>,
     first: u64,
 ) -> io::Result<()>
     requires { first + length group.now.value.types < 2 ^ 64 }
     ensures { Prints P.meaning options.now p.old p.new result
-        (numbered (listed_pieces group.now.value.written group.now.place) first group.now.value.types) }
+        (numbered (listed_pieces (names_of scope.now.labels) group.now.value.written group.now.place) first group.now.value.types) }
 {
     let mut number = first;
     for sub_type in group.types() {
-        write_listed(p, options, group, number, &sub_type)?;
+        write_listed(p, options, scope, group, number, &sub_type)?;
         number += 1;
     }
     Ok(())
@@ -115,16 +103,18 @@ fn close_group<P: Print>(p: &mut P, options: &PrintOptions, changed: bool) -> io
 fn write_rec<P: Print>(
     p: &mut P,
     options: &PrintOptions,
+    scope: &Scope<'_, '_>,
     group: &TypeGroup<'_>,
     first: u64,
 ) -> io::Result<()>
     requires { first + length group.now.value.types < 2 ^ 64 }
     ensures { Prints P.meaning options.now p.old p.new result
-        (Open (codes "rec") ∷ (numbered (listed_pieces group.now.value.written group.now.place) first group.now.value.types
+        (Open (codes "rec")
+        ∷ (numbered (listed_pieces (names_of scope.now.labels) group.now.value.written group.now.place) first group.now.value.types
         ++ close None 1 (not (length group.now.value.types == 0)))) }
 {
     open(p, "rec")?;
-    write_types(p, options, group, first)?;
+    write_types(p, options, scope, group, first)?;
     close_group(p, options, group.types().len() != 0)
 }
 
@@ -132,17 +122,18 @@ fn write_rec<P: Print>(
 fn write_group_behind<P: Print>(
     p: &mut P,
     options: &PrintOptions,
+    scope: &Scope<'_, '_>,
     group: &TypeGroup<'_>,
     first: u64,
 ) -> io::Result<()>
     requires { first + length group.now.value.types < 2 ^ 64 }
     ensures { Prints P.meaning options.now p.old p.new result
-        (group_pieces_by group.now.value.written group.now.place first group.now.value.types) }
+        (group_pieces_by (names_of scope.now.labels) group.now.value.written group.now.place first group.now.value.types) }
 {
     if group.is_written() {
-        write_rec(p, options, group, first)
+        write_rec(p, options, scope, group, first)
     } else {
-        write_types(p, options, group, first)
+        write_types(p, options, scope, group, first)
     }
 }
 
@@ -151,28 +142,30 @@ fn write_group_behind<P: Print>(
 fn write_group<P: Print>(
     p: &mut P,
     options: &PrintOptions,
+    scope: &Scope<'_, '_>,
     group: &TypeGroup<'_>,
     first: u64,
 ) -> io::Result<()>
     requires { first + length group.now.value.types < 2 ^ 64 }
-    ensures { Prints P.meaning options.now p.old p.new result (type_group_pieces first group.now) }
+    ensures { Prints P.meaning options.now p.old p.new result (type_group_pieces (names_of scope.now.labels) first group.now) }
 {
     break_line(p, options, Some(group.place()), FIELD_NESTING)?;
-    write_group_behind(p, options, group, first)
+    write_group_behind(p, options, scope, group, first)
 }
 
 /// Writes groups of types, which are numbered over all of them.
 pub(crate) fn write_type_groups<P: Print>(
     p: &mut P,
     options: &PrintOptions,
+    scope: &Scope<'_, '_>,
     groups: &[TypeGroup<'_>],
 ) -> io::Result<()>
     requires { length (all_types (groups_of groups.now)) < 2 ^ 64 }
-    ensures { Prints P.meaning options.now p.old p.new result (type_section_pieces 0 groups.now) }
+    ensures { Prints P.meaning options.now p.old p.new result (type_section_pieces (names_of scope.now.labels) 0 groups.now) }
 {
     let mut number = 0;
     for group in groups {
-        write_group(p, options, group, number)?;
+        write_group(p, options, scope, group, number)?;
         number += u64::from(group.types().len());
     }
     Ok(())

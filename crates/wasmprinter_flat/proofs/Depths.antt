@@ -1,14 +1,8 @@
 -- How many blocks are open.
-use Rattle.std.specs.Prelude.{◌≡◌, ℕ, suc, ◌≤◌, List, [], ◌∷◌, length, None}
-use Rattle.std.proofs.Common.{ap, arith}
-use Rattle.std.proofs.lemmas.List.{length-replicate}
+use Rattle.std.specs.Prelude.{◌≡◌, ℕ, suc, ◌-◌, ◌≤◌, List, [], ◌∷◌, length}
+use Rattle.std.proofs.Common.{arith}
 use Rattle.wasmprinter_spec.specs.Row.{Role, Plain, Opens, OpensIf, OpensTry, Turns, Catches, CatchesAll, Delegates, Ends}
-use Rattle.wasmprinter_spec.specs.Labels.{Label, labels_after, outside}
-use Rattle.wasmprinter_flat.specs.Open.{unnamed}
-
--- as many labels as blocks
-pub unnamed-length : (d : ℕ) → length (unnamed d) ≡ d
-unnamed-length d = length-replicate d None
+use Rattle.wasmprinter_spec.specs.Labels.{Label, labels_after, count_after, outside}
 
 -- an operator opens one block at most
 pub after-length : (r : Role) (x : Label) (xs : List Label) → length (labels_after r x xs) ≤ suc (length xs)
@@ -24,13 +18,24 @@ after-length Delegates x (y ∷ ys) = omega arith
 after-length Ends x [] = omega arith
 after-length Ends x (y ∷ ys) = omega arith
 
--- the same of blocks without identifiers
-pub after-depth : (r : Role) (d e : ℕ) → unnamed e ≡ labels_after r None (unnamed d) → e ≤ suc d
-after-depth r d e same =
-    omega (arith, unnamed-length e, unnamed-length d, ap length same, after-length r None (unnamed d))
+pub after-count : (r : Role) (n : ℕ) → count_after r n ≤ suc n
+after-count Plain n = omega arith
+after-count Opens n = omega arith
+after-count OpensIf n = omega arith
+after-count OpensTry n = omega arith
+after-count Turns n = omega arith
+after-count Catches n = omega arith
+after-count CatchesAll n = omega arith
+after-count Delegates n = omega arith
+after-count Ends n = omega arith
+
+-- `delegate` means no label of its own block
+pub outside-own : (xs : List Label) → length (outside Delegates xs) ≡ length xs - 1
+outside-own [] = omega arith
+outside-own (y ∷ ys) = omega arith
 
 -- no operator means more labels than are open
-outside-length : (r : Role) (xs : List Label) → length (outside r xs) ≤ length xs
+pub outside-length : (r : Role) (xs : List Label) → length (outside r xs) ≤ length xs
 outside-length Plain xs = omega arith
 outside-length Opens xs = omega arith
 outside-length OpensIf xs = omega arith
@@ -41,8 +46,3 @@ outside-length CatchesAll xs = omega arith
 outside-length Delegates [] = omega arith
 outside-length Delegates (y ∷ ys) = omega arith
 outside-length Ends xs = omega arith
-
--- the same of blocks without identifiers
-pub outside-depth : (r : Role) (d e : ℕ) → unnamed e ≡ outside r (unnamed d) → e ≤ d
-outside-depth r d e same =
-    omega (arith, unnamed-length e, unnamed-length d, ap length same, outside-length r (unnamed d))

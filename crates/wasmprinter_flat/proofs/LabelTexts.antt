@@ -1,60 +1,41 @@
--- Labels of blocks, none of which has an identifier.
-use Rattle.std.specs.Prelude.{◌≡◌, ℕ, zero, suc, ◌<◌, ◌-◌, List, [], ◌∷◌, ◌++◌, true, false, codes, decimal, None}
-use Rattle.std.proofs.Common.{refl, ap, arith}
-use Rattle.wasmprinter_spec.specs.Labels.{Label, Target, Around, Own, Nothing, target, behind}
-use Rattle.wasmprinter_spec.specs.Piece.{Gap, Word, Number, Remark}
-use Rattle.wasmprinter_spec.specs.Layout.Operators.{label_pieces, labels_pieces}
-use Rattle.wasmprinter_flat.specs.Open.{unnamed}
-use Rattle.wasmprinter_flat.proofs.Depths.{unnamed-length}
+-- Labels, by what they mean to a printer.
+use Rattle.std.specs.Prelude.{◌≡◌, ℕ, List, [], ◌∷◌, ◌++◌, Bool, true, false, ◌||◌, codes, decimal, length, Some, None}
+use Rattle.std.proofs.Common.{refl, ap}
+use Rattle.wasmprinter_spec.specs.Labels.{Label, Named, is_hidden, Target, Around, Own, Nothing, target}
+use Rattle.wasmprinter_spec.specs.Piece.{Piece, Gap, Word, Number, Remark}
+use Rattle.wasmprinter_spec.specs.Layout.Operators.{label_name_pieces, named_pieces, target_pieces, label_pieces, labels_pieces}
+use Rattle.wasmprinter_labels.specs.Found.{Found, ByName, ByNumber, ToBlock, ToNothing, found_named, found_by, found}
 
 -- ---- what a label means
 
-record IsUnnamed (t : Target) : Type 0 where
-  pub further : List Label
-  pub is : t ≡ Around None further
+abbrev pub found_pieces : ℕ → Found → List Piece
+found_pieces l (ByName n) = label_name_pieces n.given l n
+found_pieces l ByNumber = Number l ∷ []
+found_pieces l (ToBlock block) = Number l ∷ (Remark true (64 ∷ decimal block) ∷ [])
+found_pieces l ToNothing = Word (decimal l) ∷ (Remark false (codes " INVALID ") ∷ [])
 
-target-around : (l d : ℕ) → l < d → IsUnnamed (target l (unnamed d))
-target-around l zero h = absurd (omega arith)
-target-around zero (suc d) h = record { further = []; is = refl }
-target-around (suc l) (suc d) h =
-    let t = target-around l d (omega arith) in
-    record { further = None ∷ t.further; is = ap (behind None) t.is }
+named-out : (l : ℕ) (n : Named) (hidden : Bool) → named_pieces l n hidden ≡ found_pieces l (found_named n hidden)
+named-out l n true = refl
+named-out l n false = refl
 
-target-own : (d : ℕ) → target d (unnamed d) ≡ Own
-target-own zero = refl
-target-own (suc d) = ap (behind None) (target-own d)
+target-out : (inner : List Label) (d l : ℕ) (t : Target) → target_pieces inner d l t ≡ found_pieces l (found_by inner d l t)
+target-out inner d l (Around (Some n) further) = named-out l n (is_hidden n further || is_hidden n inner)
+target-out inner d l (Around None further) = refl
+target-out inner d l Own = refl
+target-out inner d l Nothing = refl
 
-target-nothing : (l d : ℕ) → d < l → target l (unnamed d) ≡ Nothing
-target-nothing zero d h = absurd (omega arith)
-target-nothing (suc l) zero h = refl
-target-nothing (suc l) (suc d) h = ap (behind None) (target-nothing l d (omega arith))
-
--- the label of a block around
-pub label-around : (inner : List Label) (d l : ℕ) → l < d → label_pieces inner (unnamed d) l ≡ Gap ∷ (Number l ∷ (Remark true (64 ∷ decimal (d - l)) ∷ []))
+-- a label, written by what it means
+pub label-out : (inner xs : List Label) (l : ℕ) → label_pieces inner xs l ≡ Gap ∷ found_pieces l (found inner xs l)
 unfolding label_pieces
-label-around inner d l h = let t = target-around l d h in rw (unnamed-length d, t.is) refl
-
--- the body's own label
-pub label-own : (inner : List Label) (d l : ℕ) → l ≡ d → label_pieces inner (unnamed d) l ≡ Gap ∷ (Number l ∷ [])
-unfolding label_pieces
-label-own inner d l e = rw (e, unnamed-length d, target-own d) refl
-
--- no label
-pub label-nothing : (inner : List Label) (d l : ℕ) → d < l → label_pieces inner (unnamed d) l ≡ Gap ∷ (Word (decimal l) ∷ (Remark false (codes " INVALID ") ∷ []))
-unfolding label_pieces
-label-nothing inner d l h = rw (unnamed-length d, target-nothing l d h) refl
+label-out inner xs l = ap (λ ps. Gap ∷ ps) (target-out inner (length xs) l (target l xs))
 
 -- ---- several labels
-
-labels-of : (inner xs : List Label) (ls rest : List ℕ) (l last : ℕ) → ls ≡ l ∷ rest →
-    labels_pieces inner xs ls last ≡ label_pieces inner xs l ++ labels_pieces inner xs rest last
-unfolding labels_pieces
-labels-of inner xs ls rest l last e = ap (λ ms. labels_pieces inner xs ms last) e
 
 -- the next label, and the others
 pub labels-next : (inner xs : List Label) (ls rest : List ℕ) (l last : ℕ) → ls ≡ l ∷ rest →
     labels_pieces inner xs ls last ≡ label_pieces inner xs l ++ labels_pieces inner xs rest last
-labels-next inner xs ls rest l last e = labels-of inner xs ls rest l last e
+unfolding labels_pieces
+labels-next inner xs ls rest l last e = ap (λ ms. labels_pieces inner xs ms last) e
 
 -- the last label is left
 pub labels-last : (inner xs : List Label) (ls : List ℕ) (last : ℕ) → ls ≡ [] → labels_pieces inner xs ls last ≡ label_pieces inner xs last

@@ -3,9 +3,10 @@ use Rattle.std.specs.Prelude.{◌≡◌, List, [], ◌∷◌, length, codes, Opt
 use Rattle.std.specs.Iterator.{YieldsFirst}
 use Rattle.std.proofs.Common.{sym, ap, arith}
 use Rattle.wasmprinter_spec.specs.Grammar.{some_is}
+use Rattle.wasmprinter_spec.specs.Names.{Names}
 use Rattle.wasmprinter_spec.specs.Piece.{Gap}
 use Rattle.wasmprinter_spec.specs.Layout.Groups.{line_group, line_group_gap}
-use Rattle.wasmprinter_spec.specs.Layout.Types.{val_pieces, type_list}
+use Rattle.wasmprinter_spec.specs.Layout.ValTypes.{val_pieces, type_list}
 use Rattle.wasmprinter_spec.specs.Layout.Operators.{select_pieces}
 use Rattle.wasmprinter_ops.specs.ValTypes.{type_view, types_view}
 use Rattle.wasmprinter_ops.specs.declared.types.ValType.{ValType}
@@ -24,16 +25,17 @@ only-none (x ∷ []) h = absurd (h refl)
 only-none (x ∷ (y ∷ xs)) h = refl
 
 -- one type
-pub select-one : (ts : List ValType) (t : ValType) → only ts ≡ Some t →
-    select_pieces (types_view ts) ≡ Gap ∷ line_group_gap (codes "result") (val_pieces (type_view t))
+pub select-one : (names : Names) (ts : List ValType) (t : ValType) → only ts ≡ Some t →
+    select_pieces names (types_view ts) ≡ Gap ∷ line_group_gap (codes "result") (val_pieces names (type_view t))
 unfolding select_pieces
-select-one [] t e = absurd cc
-select-one (x ∷ []) t e = ap (λ (y : ValType). Gap ∷ line_group_gap (codes "result") (val_pieces (type_view y))) (some_is x t e)
-select-one (x ∷ (y ∷ ts)) t e = absurd cc
+select-one names [] t e = absurd cc
+select-one names (x ∷ []) t e = ap (λ (y : ValType). Gap ∷ line_group_gap (codes "result") (val_pieces names (type_view y))) (some_is x t e)
+select-one names (x ∷ (y ∷ ts)) t e = absurd cc
 
 -- another number of types
-pub select-others : (ts : List ValType) → only ts ≡ None → select_pieces (types_view ts) ≡ Gap ∷ line_group (codes "result") (type_list (types_view ts))
+pub select-others : (names : Names) (ts : List ValType) → only ts ≡ None →
+    select_pieces names (types_view ts) ≡ Gap ∷ line_group (codes "result") (type_list names (types_view ts))
 unfolding select_pieces
-select-others [] e = refl
-select-others (x ∷ []) e = absurd cc
-select-others (x ∷ (y ∷ ts)) e = refl
+select-others names [] e = refl
+select-others names (x ∷ []) e = absurd cc
+select-others names (x ∷ (y ∷ ts)) e = refl

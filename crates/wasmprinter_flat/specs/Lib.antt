@@ -1,3 +1,3 @@
 pub mod Only
-pub mod Open
 pub mod Settings
+pub mod Contexts

@@ -3,6 +3,7 @@
 
 mod blocks;
 mod constants;
+mod context;
 mod immediates;
 mod indices;
 mod labels;

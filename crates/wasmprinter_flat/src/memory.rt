@@ -5,11 +5,15 @@ ghost use Rattle.wasmprinter_spec.specs.Options.{Options};
 ghost use Rattle.wasmprinter_spec.specs.Piece.{Gap, Word};
 ghost use Rattle.wasmprinter_spec.specs.Layout.Operators.{offset_pieces, align_pieces, mem_arg_pieces};
 ghost use Rattle.wasmprinter_print.specs.Prints.{Prints};
+ghost use Rattle.wasmprinter_flat.specs.Contexts.{setting_in};
 
+use crate::context::Context;
 use crate::indices::write_default_index;
 use std::io;
+use wasmprinter_ops::opcode::Space;
 use wasmprinter_ops::operands::MemArg;
 use wasmprinter_print::Print;
+use wasmprinter_text::signature::Signatures;
 use wasmprinter_words::numbers::{numbered_word, power};
 use wasmprinter_words::words::gap;
 
@@ -50,11 +54,16 @@ fn write_align<P: Print>(p: &mut P, natural: u32, exponent: u32) -> io::Result<(
 
 /// Writes a memory operand of an operator with this exponent of its natural alignment.
 #[tactic(auto, unfolding(wasmprinter_spec::specs::Layout::Operators::mem_arg_pieces))]
-pub(crate) fn write_mem_arg<P: Print>(p: &mut P, natural: u32, operand: MemArg) -> io::Result<()>
+pub(crate) fn write_mem_arg<P: Print, S: Signatures>(
+    p: &mut P,
+    context: &Context<'_, '_, '_, '_, S>,
+    natural: u32,
+    operand: MemArg,
+) -> io::Result<()>
     ensures { (o : Options) → Prints P.meaning o p.old p.new result
-        (mem_arg_pieces natural operand) }
+        (mem_arg_pieces (setting_in S.signature_at context.now) natural operand) }
 {
-    write_default_index(p, operand.memory)?;
+    write_default_index(p, context, Space::Memory, operand.memory)?;
     write_offset(p, operand.offset)?;
     write_align(p, natural, operand.exponent)
 }

@@ -1,22 +1,23 @@
 //! Operators (section 6.5 of the WebAssembly Core Specification), each on a line of its own or all
 //! in one line.
-ghost use Rattle.std.specs.Prelude.{◌≡◌, ◌+◌, ◌<◌, ◌^◌, [], ◌∷◌, ℕ, List, Option, Some, None};
-ghost use Rattle.wasmprinter_spec.specs.Labels.{Label};
+ghost use Rattle.std.specs.Prelude.{◌≡◌, ◌+◌, ◌<◌, ◌^◌, [], ◌∷◌, ℕ, length, Option, Some};
 ghost use Rattle.wasmprinter_spec.specs.Options.{Options};
 ghost use Rattle.wasmprinter_spec.specs.Piece.{Break};
 ghost use Rattle.wasmprinter_spec.specs.Table.{shape_of};
 ghost use Rattle.wasmprinter_spec.specs.Types.{FuncType};
-ghost use Rattle.wasmprinter_spec.specs.LabelNames.{no_label_names};
+ghost use Rattle.wasmprinter_spec.specs.Names.{Names};
 ghost use Rattle.wasmprinter_spec.specs.Layout.Groups.{has_break};
 ghost use Rattle.wasmprinter_spec.specs.Layout.Operators.{pieces_by, level as level_of, before_word, operator_pieces, expression_pieces};
 ghost use Rattle.wasmprinter_print.specs.Prints.{Prints};
 ghost use Rattle.wasmprinter_ops.specs.Shapes.{role_view};
-ghost use Rattle.wasmprinter_flat.specs.Open.{unnamed};
+ghost use Rattle.wasmprinter_labels.specs.Scan.{names_of, own_label};
+ghost use Rattle.wasmprinter_flat.specs.Contexts.{setting_in, around, within, own_in};
 ghost use Rattle.wasmprinter_flat.specs.Settings.{form_view, setting_view, over_lines};
 
+use crate::context::Context;
 use crate::immediates::write_immediates;
-use crate::labels::{depth_behind, depth_outside};
 use std::io;
+use wasmprinter_labels::OpenLabels;
 use wasmprinter_lines::lines::break_line;
 use wasmprinter_lines::options::PrintOptions;
 use wasmprinter_ops::expression::Expression;
@@ -44,6 +45,8 @@ pub struct Setting<'s, S: Signatures> {
     pub types: &'s S,
     /// How deep the list is nested.
     pub nesting: u64,
+    /// The function whose locals and labels the operators use.
+    pub function: u64,
 }
 
 /// How deep an operator stands in so many blocks: what ends a block or a part of it stands further
@@ -96,68 +99,82 @@ fn write_before<P: Print, S: Signatures>(
     }
 }
 
-/// Writes what stands behind an operator's word, where so many blocks are open that it may mean.
+/// Writes what stands behind an operator's word.
 fn write_behind<P: Print, S: Signatures>(
     p: &mut P,
-    setting: &Setting<'_, S>,
-    depth: u64,
+    context: &Context<'_, '_, '_, '_, S>,
     operator: &Operator<'_>,
 ) -> io::Result<()>
-    requires { depth + 1 < 2 ^ 64 }
-    ensures { (o : Options) (inner : List Label) → Prints P.meaning o p.old p.new result
-        (pieces_by (setting_view S.signature_at setting.now) inner (unnamed depth) None
+    requires { length context.now.labels.now.labels + 1 < 2 ^ 64 }
+    ensures { (o : Options) → Prints P.meaning o p.old p.new result
+        (pieces_by (setting_in S.signature_at context.now) (within context.now) (around context.now) (own_in context.now)
         (shape_of operator.now.opcode) operator.now.immediates) }
 {
     match operator.opcode.shape() {
-        Some(shape) => write_immediates(p, setting, shape, depth, &operator.immediates),
+        Some(shape) => write_immediates(p, context, shape, &operator.immediates),
         None => Ok(()),
     }
 }
 
-/// Writes an operator, with so many blocks open around it: the first of its list or a later one.
+/// Writes an operator, in front of which these labels are open: the first of its list or a later one.
 fn write_operator<P: Print, S: Signatures>(
     p: &mut P,
     options: &PrintOptions,
     setting: &Setting<'_, S>,
+    labels: &OpenLabels<'_, '_>,
     first: bool,
-    depth: u64,
     place: u64,
     operator: &Operator<'_>,
 ) -> io::Result<()>
-    requires { depth + 1 < 2 ^ 64 }
+    requires { length labels.now.labels + 1 < 2 ^ 64 }
     ensures { Prints P.meaning options.now p.old p.new result
-        (operator_pieces (setting_view S.signature_at setting.now) first None (unnamed depth)
+        (operator_pieces (setting_view S.signature_at setting.now (names_of labels.now)) first (own_label labels.now) labels.now.labels
         (record { place = place; value = operator.now })) }
 {
     let role = operator.opcode.role();
-    write_before(p, options, setting, first, place, level(role, depth))?;
+    let context = Context {
+        setting,
+        labels,
+        role,
+    };
+    write_before(
+        p,
+        options,
+        setting,
+        first,
+        place,
+        level(role, labels.depth()),
+    )?;
     word(p, operator.opcode.word())?;
-    write_behind(p, setting, depth_outside(role, depth), operator)
+    write_behind(p, &context, operator)
 }
 
 /// Whether an expression has operators, which begin lines where they stand over lines.
 pub fn has_operators(expression: &Expression<'_>) -> bool
-    ensures { (signature : ℕ → Option FuncType) (nesting : ℕ) →
-        result ≡ has_break (over_lines signature nesting expression.now.items) }
+    ensures { (signature : ℕ → Option FuncType) (nesting : ℕ) (names : Names) (function : ℕ) →
+        result ≡ has_break (over_lines signature nesting names function expression.now.items) }
 {
     expression.operators().next().is_some()
 }
 
-/// Writes the operators of an expression, none of whose labels has an identifier.
+/// Writes the operators of an expression. `labels` may be anywhere before; its identifiers are those that are printed.
 pub fn write_operators<P: Print, S: Signatures>(
     p: &mut P,
     options: &PrintOptions,
     setting: &Setting<'_, S>,
+    labels: &mut OpenLabels<'_, '_>,
     expression: &Expression<'_>,
 ) -> io::Result<()>
-    ensures { Prints P.meaning options.now p.old p.new result
-        (expression_pieces (setting_view S.signature_at setting.now) no_label_names expression.now.items) }
+    ensures prints { Prints P.meaning options.now p.old p.new result
+        (expression_pieces (setting_view S.signature_at setting.now (names_of labels.old)) expression.now.items) }
+    ensures named { labels.new.named ≡ labels.old.named }
+    ensures invents { labels.new.invents ≡ labels.old.invents }
 {
+    labels.begin(setting.function);
     let mut first = true;
-    let mut depth = 0;
     for (place, operator) in expression.operators() {
-        write_operator(p, options, setting, first, depth, place, &operator)?;
-        depth = depth_behind(operator.opcode.role(), depth);
+        write_operator(p, options, setting, labels, first, place, &operator)?;
+        labels.advance(operator.opcode.role());
         first = false;
     }
     Ok(())

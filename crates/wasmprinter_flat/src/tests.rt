@@ -5,7 +5,9 @@ use crate::operators::{Form, Setting, write_operators};
 use std::alloc::Global;
 use std::test::Fail;
 use wasmprinter_bytes::bytes::Cursor;
+use wasmprinter_labels::OpenLabels;
 use wasmprinter_lines::options::PrintOptions;
+use wasmprinter_names::{Identifiers, NamesBuilder, read_names};
 use wasmprinter_ops::expression::Expression;
 use wasmprinter_ops::types::composite::FuncType;
 use wasmprinter_print::PrintFmtWrite;
@@ -23,17 +25,37 @@ impl Signatures for NoTypes {
     }
 }
 
-/// The operators of an expression, printed in one line.
-fn in_line(alloc: Global, bytes: &[u8]) -> Result<String, Fail> {
+/// The operators of an expression of function 0, printed in one line, in a module with the names of this section.
+fn with_names(alloc: Global, section: &[u8], invents: bool, bytes: &[u8]) -> Result<String, Fail> {
+    let mut builder = NamesBuilder::new(alloc);
+    read_names(alloc, &mut builder, Cursor::new(0, section))?;
+    let names = builder.finish();
+    let identifiers = Identifiers {
+        names: &names,
+        invents,
+    };
+    let mut labels = OpenLabels::new(alloc, identifiers)?;
     let expression = Expression::read(alloc, &mut Cursor::new(0, bytes))?;
     let setting = Setting {
         form: Form::InLine,
         types: &NoTypes,
         nesting: 0,
+        function: 0,
     };
     let mut printer = PrintFmtWrite(String::new(alloc));
-    write_operators(&mut printer, &PrintOptions::new(), &setting, &expression)?;
+    write_operators(
+        &mut printer,
+        &PrintOptions::new(),
+        &setting,
+        &mut labels,
+        &expression,
+    )?;
     Ok(printer.0)
+}
+
+/// The same without names.
+fn in_line(alloc: Global, bytes: &[u8]) -> Result<String, Fail> {
+    with_names(alloc, &[], false, bytes)
 }
 
 #[test]
@@ -66,6 +88,67 @@ fn blocks_stand_in_the_line(rt: HostRuntime) -> Result<(), Fail> {
     assert_eq!(rt;
         two.as_str(),
         "block  (; label = @1 ;) i32.const 1 if  (; label = @2 ;) br 1 (;@1;) else br 0 (;@2;) end end"
+    );
+    Ok(())
+}
+
+#[test]
+fn names_stand_for_indices(rt: HostRuntime) -> Result<(), Fail> {
+    // local 0 of function 0 is `x`, labels 0 and 1 of it are `a`; memory 0 is `m`, global 0 is `g`
+    let section =
+        b"\x02\x06\x01\x00\x01\x00\x01x\x03\x09\x01\x00\x02\x00\x01a\x01\x01a\x06\x04\x01\x00\x01m\x07\x04\x01\x00\x01g";
+    let plain = with_names(
+        rt.alloc(),
+        section,
+        false,
+        &[
+            0x20, 0x00, 0x20, 0x01, 0x23, 0x00, 0x28, 0x02, 0x00, 0xfc, 0x0a, 0x00, 0x01, 0x0b,
+        ],
+    )?;
+    assert_eq!(rt;
+        plain.as_str(),
+        "local.get $x local.get 1 global.get $g i32.load memory.copy $m 1"
+    );
+    // the inner `a` hides the outer one, and the third block has no name
+    let blocks = with_names(
+        rt.alloc(),
+        section,
+        false,
+        &[
+            0x02, 0x40, 0x02, 0x40, 0x0c, 0x00, 0x0c, 0x01, 0x0c, 0x02, 0x0b, 0x02, 0x40, 0x0c,
+            0x00, 0x0c, 0x01, 0x0b, 0x0b, 0x0b,
+        ],
+    )?;
+    assert_eq!(rt;
+        blocks.as_str(),
+        "block $a block $a br $a br 1 br 2 end block  (; label = @2 ;) br 0 (;@2;) br $a end end"
+    );
+    Ok(())
+}
+
+#[test]
+fn identifiers_are_made_up(rt: HostRuntime) -> Result<(), Fail> {
+    let plain = with_names(
+        rt.alloc(),
+        &[],
+        true,
+        &[0x20, 0x02, 0x10, 0x05, 0xfb, 0x02, 0x03, 0x01, 0x0b],
+    )?;
+    assert_eq!(rt;
+        plain.as_str(),
+        "local.get $#local2 call $#func5 struct.get $#type3 $#field1"
+    );
+    let blocks = with_names(
+        rt.alloc(),
+        &[],
+        true,
+        &[
+            0x02, 0x40, 0x06, 0x40, 0x18, 0x00, 0x0c, 0x00, 0x0c, 0x01, 0x0b, 0x0b,
+        ],
+    )?;
+    assert_eq!(rt;
+        blocks.as_str(),
+        "block $#label0 try $#label1 delegate $#label0 br $#label0 br 1 end"
     );
     Ok(())
 }

@@ -11,7 +11,7 @@ use Rattle.wasmprinter_spec.specs.Options.{Options, IsBlank}
 use Rattle.wasmprinter_spec.specs.Float.{IsWidth, sign_bit}
 use Rattle.wasmprinter_spec.specs.Quoted.{char_text, quoted_text, quoted_bytes, identifier_text}
 use Rattle.wasmprinter_spec.specs.Token.{Clear, word, is_name, lex}
-use Rattle.wasmprinter_spec.specs.Piece.{Piece, Begin, Feed, Break, Gap, Open, OpenGap, OpenPlain, OpenBare, OpenTypeGap, Shut, Word, TypeWord, TypeWordGap, GapTypeWord, Number, Constant, Literals, GapLiterals, Float, Mark, Quoted, QuotedBytes, Identifier, NameNote, Remark, Ending, repeated, left_in, place_text, place_calls, most_indents, behind_blanks, word_tokens, calls, text, piece_tokens, all_calls, all_tokens}
+use Rattle.wasmprinter_spec.specs.Piece.{Piece, Begin, Feed, Break, Gap, Open, OpenGap, OpenPlain, OpenBare, OpenTypeGap, Shut, Word, TypeWord, TypeWordGap, GapTypeWord, Number, Constant, Literals, GapLiterals, Float, NumberRemark, BeginName, EndStyle, Quoted, QuotedBytes, Identifier, NameNote, Remark, Ending, repeated, left_in, place_text, place_calls, most_indents, behind_blanks, word_tokens, calls, text, piece_tokens, all_calls, all_tokens}
 use Rattle.wasmprinter_lexical.proofs.Runs.{is_quiet, ends_line, ending_lexes, is_word, are_words, all_quiet, all_blank, is_blank_class, delimited, begins_item, begins_item-word, left_lexes, word_lexes, open_lexes, blanks_lex, comment_lexes}
 use Rattle.wasmprinter_lexical.proofs.Numbers.{is_word-decimal, is_word-signed_decimal, all_quiet-decimal}
 use Rattle.wasmprinter_lexical.proofs.FloatPieces.{float_lexes}
@@ -36,6 +36,7 @@ begins (Word w) = false
 begins (TypeWord w) = false
 begins (TypeWordGap w) = false
 begins (Number n) = false
+begins BeginName = false
 begins (Literals w ws) = false
 begins (Float w bits) = false
 begins (Quoted cs) = false
@@ -48,6 +49,8 @@ abbrev pub starts : Piece → Bool
 starts (Begin place) = false
 starts (GapLiterals ws) = false
 starts (Float w bits) = false
+starts BeginName = false
+starts EndStyle = false
 starts (Ending s) = false
 starts _ = true
 
@@ -69,6 +72,7 @@ leaves (Constant z) = Bound
 leaves (Literals w ws) = Bound
 leaves (GapLiterals ws) = Bound
 leaves (Float w bits) = Bound
+leaves EndStyle = Bound
 leaves (Quoted cs) = Bound
 leaves (QuotedBytes bs) = Bound
 leaves (Identifier cs) = Bound
@@ -81,9 +85,9 @@ may_follow Bound p = begins p
 may_follow Opened p = starts p
 may_follow Ended p = feeds p
 
-abbrev pub joined : Edge → List Piece → Bool
-joined e [] = true
-joined e (p ∷ ps) = may_follow e p && joined (leaves p) ps
+abbrev pub pieces_follow : Edge → List Piece → Bool
+pieces_follow e [] = true
+pieces_follow e (p ∷ ps) = may_follow e p && pieces_follow (leaves p) ps
 
 -- what a piece holds is what its kind holds
 abbrev pub IsPiece : Piece → Type 0
@@ -100,7 +104,7 @@ IsPiece (Constant z) = mag z < 2 ^ 63
 IsPiece (Literals w ws) = are_words (w ∷ ws) ≡ true
 IsPiece (GapLiterals ws) = are_words ws ≡ true
 IsPiece (Float w bits) = IsWidth w × (bits < 2 * sign_bit w)
-IsPiece (Mark n) = n < 2 ^ 64
+IsPiece (NumberRemark n) = n < 2 ^ 64
 IsPiece (Quoted cs) = scalars cs ≡ true
 IsPiece (QuotedBytes bs) = AllByRecursion (λ b. b < 256) bs
 IsPiece (Identifier cs) = (scalars cs ≡ true) × (is_name (encode_utf8_all cs) ≡ true)
@@ -251,7 +255,9 @@ module _ (o : Options) (blank : all_blank o.indent ≡ true) where
   piece_lexes (Literals w ws) rest h d = ap (λ t. lex Clear (t ++ rest)) (append-nil (w ++ behind_blanks ws)) ∙ words_lex w ws rest h d
   piece_lexes (GapLiterals ws) rest h d = ap (λ t. lex Clear (t ++ rest)) (append-nil (behind_blanks ws)) ∙ behind_blanks_lex ws rest h d
   piece_lexes (Float w bits) rest h d = float_lexes w h.0 bits rest h.1 d
-  piece_lexes (Mark n) rest h d =
+  piece_lexes BeginName rest h d = refl
+  piece_lexes EndStyle rest h d = refl
+  piece_lexes (NumberRemark n) rest h d =
       ap (λ t. lex Clear (40 ∷ (59 ∷ (t ++ rest)))) (append-nil (decimal n ++ codes ";)"))
       ∙ ap (λ t. lex Clear (40 ∷ (59 ∷ t))) (append_assoc (decimal n) (codes ";)") rest)
       ∙ comment_lexes (decimal n) rest (all_quiet-decimal n h)
@@ -298,7 +304,9 @@ begins_delimited o (Literals w ws) rest h d = absurd (true≢false (sym h))
 begins_delimited o (GapLiterals ws) rest h d =
     ap (λ t. delimited (t ++ rest)) (append-nil (behind_blanks ws)) ∙ behind_blanks_delimited ws rest d
 begins_delimited o (Float w bits) rest h d = absurd (true≢false (sym h))
-begins_delimited o (Mark n) rest h d = refl
+begins_delimited o (NumberRemark n) rest h d = refl
+begins_delimited o BeginName rest h d = absurd (true≢false (sym h))
+begins_delimited o EndStyle rest h d = d
 begins_delimited o (Quoted cs) rest h d = absurd (true≢false (sym h))
 begins_delimited o (QuotedBytes bs) rest h d = absurd (true≢false (sym h))
 begins_delimited o (Identifier cs) rest h d = absurd (true≢false (sym h))
@@ -331,7 +339,9 @@ starts_item o (Literals w ws) rest h i =
     ∙ begins_item-word w (behind_blanks ws) rest (and_parts (is_word w) (are_words ws) i).0
 starts_item o (GapLiterals ws) rest h i = absurd (true≢false (sym h))
 starts_item o (Float w bits) rest h i = absurd (true≢false (sym h))
-starts_item o (Mark n) rest h i = refl
+starts_item o (NumberRemark n) rest h i = refl
+starts_item o BeginName rest h i = absurd (true≢false (sym h))
+starts_item o EndStyle rest h i = absurd (true≢false (sym h))
 starts_item o (Quoted cs) rest h i = refl
 starts_item o (QuotedBytes bs) rest h i = refl
 starts_item o (Identifier cs) rest h i = refl
@@ -356,21 +366,21 @@ pub text_of-all_calls : (o : Options) (ps : List Piece) → text_of (all_calls o
 text_of-all_calls o [] = refl
 text_of-all_calls o (p ∷ ps) = text_of-append (calls o p) (all_calls o ps) ∙ ap (λ t. text o p ++ t) (text_of-all_calls o ps)
 
-follows_first : (o : Options) (e : Edge) (ps : List Piece) → joined e ps ≡ true → ArePieces ps → follows e (all_text o ps) ≡ true
+follows_first : (o : Options) (e : Edge) (ps : List Piece) → pieces_follow e ps ≡ true → ArePieces ps → follows e (all_text o ps) ≡ true
 follows_first o Free ps h a = refl
 follows_first o Bound [] h a = refl
 follows_first o Bound (p ∷ ps) h a =
-    let parts : (begins p ≡ true) × (joined (leaves p) ps ≡ true) = and_parts (begins p) (joined (leaves p) ps) h in
+    let parts : (begins p ≡ true) × (pieces_follow (leaves p) ps ≡ true) = and_parts (begins p) (pieces_follow (leaves p) ps) h in
     begins_delimited o p (all_text o ps) parts.0 (follows_first o (leaves p) ps parts.1 a.1)
 follows_first o Opened [] h a = refl
-follows_first o Opened (p ∷ ps) h a = starts_item o p (all_text o ps) (and_parts (starts p) (joined (leaves p) ps) h).0 a.0
+follows_first o Opened (p ∷ ps) h a = starts_item o p (all_text o ps) (and_parts (starts p) (pieces_follow (leaves p) ps) h).0 a.0
 follows_first o Ended [] h a = refl
-follows_first o Ended (p ∷ ps) h a = feeds_ends_line o p (all_text o ps) (and_parts (feeds p) (joined (leaves p) ps) h).0
+follows_first o Ended (p ∷ ps) h a = feeds_ends_line o p (all_text o ps) (and_parts (feeds p) (pieces_follow (leaves p) ps) h).0
 
-pub pieces_lex : (o : Options) → IsBlank o.indent → (e : Edge) (ps : List Piece) → joined e ps ≡ true → ArePieces ps → lex Clear (all_text o ps) ≡ all_tokens ps
+pub pieces_lex : (o : Options) → IsBlank o.indent → (e : Edge) (ps : List Piece) → pieces_follow e ps ≡ true → ArePieces ps → lex Clear (all_text o ps) ≡ all_tokens ps
 unfolding lex
 pieces_lex o blank e [] h a = refl
 pieces_lex o blank e (p ∷ ps) h a =
-    let parts : (may_follow e p ≡ true) × (joined (leaves p) ps ≡ true) = and_parts (may_follow e p) (joined (leaves p) ps) h in
+    let parts : (may_follow e p ≡ true) × (pieces_follow (leaves p) ps ≡ true) = and_parts (may_follow e p) (pieces_follow (leaves p) ps) h in
     piece_lexes o (all_blank-IsBlank o.indent blank) p (all_text o ps) a.0 (follows_first o (leaves p) ps parts.1 a.1)
     ∙ ap (λ t. piece_tokens p ++ t) (pieces_lex o blank (leaves p) ps parts.1 a.1)

@@ -7,7 +7,7 @@ use Rattle.wasmprinter_spec.specs.Call.{Text, text_of}
 use Rattle.wasmprinter_spec.specs.Options.{Options, IsBlank}
 use Rattle.wasmprinter_spec.specs.Plain.{IsPlainText}
 use Rattle.wasmprinter_spec.specs.Quoted.{char_text, byte_text, is_plain, quoted_text, quoted_bytes, is_run, identifier_text}
-use Rattle.wasmprinter_spec.specs.Piece.{Piece, Begin, Feed, Break, Gap, Open, OpenGap, OpenPlain, OpenBare, OpenTypeGap, Shut, Word, TypeWord, TypeWordGap, GapTypeWord, Number, Constant, Literals, GapLiterals, Float, Mark, Quoted, QuotedBytes, Identifier, NameNote, Remark, Ending, behind_blanks, repeated, left_in, place_text, place_calls, most_indents, text, all_calls}
+use Rattle.wasmprinter_spec.specs.Piece.{Piece, Begin, Feed, Break, Gap, Open, OpenGap, OpenPlain, OpenBare, OpenTypeGap, Shut, Word, TypeWord, TypeWordGap, GapTypeWord, Number, Constant, Literals, GapLiterals, Float, NumberRemark, BeginName, EndStyle, Quoted, QuotedBytes, Identifier, NameNote, Remark, Ending, behind_blanks, repeated, left_in, place_text, place_calls, most_indents, text, all_calls}
 use Rattle.wasmprinter_lexical.proofs.Runs.{is_word, are_words}
 use Rattle.wasmprinter_lexical.proofs.Numbers.{is_word-decimal, is_word-signed_decimal}
 use Rattle.wasmprinter_lexical.proofs.FloatPieces.{printed_float}
@@ -125,7 +125,9 @@ module _ (o : Options) (blank : IsBlank o.indent) where
       printed_styled (w ++ behind_blanks ws) (all_printed-append w (behind_blanks ws) (printed_word w parts.0) (printed_words ws parts.1))
   printed_piece (GapLiterals ws) h = printed_styled (behind_blanks ws) (printed_words ws h)
   printed_piece (Float w bits) h = printed_float w h.0 bits h.1
-  printed_piece (Mark n) h =
+  printed_piece BeginName h = refl
+  printed_piece EndStyle h = refl
+  printed_piece (NumberRemark n) h =
       printed_styled (decimal n ++ codes ";)") (all_printed-append (decimal n) (codes ";)") (printed_word (decimal n) (is_word-decimal n h)) refl)
   printed_piece (Quoted cs) h = printed_styled (quoted_text cs) (printed_quoted cs)
   printed_piece (QuotedBytes bs) h = printed_styled (quoted_bytes bs) (printed_quoted_bytes bs h)

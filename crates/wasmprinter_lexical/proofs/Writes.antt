@@ -14,15 +14,15 @@ use Rattle.wasmprinter_spec.specs.Options.{Options, IsBlank}
 use Rattle.wasmprinter_spec.specs.Token.{left, left_note, right, word, name, string, is_name, tokens}
 use Rattle.wasmprinter_spec.specs.Forest.{Forest, End, Word, Name, String, Group, Note, flat, onto, cut, row_customs, customs, forest, the_one, grow}
 use Rattle.wasmprinter_spec.specs.Piece as piece
-use Rattle.wasmprinter_spec.specs.Piece.{Piece, Begin, Feed, Break, Gap, Open, OpenGap, OpenPlain, OpenBare, OpenTypeGap, Shut, TypeWord, TypeWordGap, GapTypeWord, Number, Constant, Literals, GapLiterals, Float, Mark, Quoted, QuotedBytes, Identifier, NameNote, Remark, Ending, word_tokens, all_calls, all_tokens, piece_tokens}
+use Rattle.wasmprinter_spec.specs.Piece.{Piece, Begin, Feed, Break, Gap, Open, OpenGap, OpenPlain, OpenBare, OpenTypeGap, Shut, TypeWord, TypeWordGap, GapTypeWord, Number, Constant, Literals, GapLiterals, Float, NumberRemark, BeginName, EndStyle, Quoted, QuotedBytes, Identifier, NameNote, Remark, Ending, word_tokens, all_calls, all_tokens, piece_tokens}
 use Rattle.wasmprinter_spec.specs.Layout.Groups.{group, line_group_gap, group_at, group_gap_at, line_group, close, has_break}
 use Rattle.wasmprinter_lexical.proofs.Runs.{is_word, are_words}
 use Rattle.wasmprinter_lexical.proofs.Grown.{flat-onto, one-flat, cut-onto, row_customs-onto, customs-onto}
 use Rattle.wasmprinter_lexical.proofs.Printed.{is_remark}
-use Rattle.wasmprinter_lexical.proofs.Pieces.{Edge, Free, Bound, Opened, Ended, begins, starts, feeds, leaves, may_follow, joined, ArePieces, text_of-all_calls, pieces_lex}
+use Rattle.wasmprinter_lexical.proofs.Pieces.{Edge, Free, Bound, Opened, Ended, begins, starts, feeds, leaves, may_follow, pieces_follow, ArePieces, text_of-all_calls, pieces_lex}
 
 pub record Writes (a : Edge) (ps : List Piece) (b : Edge) (f : Forest) : Type 0 where
-  pub joins : (qs : List Piece) → joined b qs ≡ true → joined a (ps ++ qs) ≡ true
+  pub joins : (qs : List Piece) → pieces_follow b qs ≡ true → pieces_follow a (ps ++ qs) ≡ true
   pub are : ArePieces ps
   pub whole : Forest
   pub tokens : all_tokens ps ≡ flat whole
@@ -34,7 +34,7 @@ pub record Writes (a : Edge) (ps : List Piece) (b : Edge) (f : Forest) : Type 0 
 
 pub writes_tokens : {b : Edge} {f : Forest} (o : Options) → IsBlank o.indent → (ps : List Piece) → Writes Free ps b f → tokens (text_of (all_calls o ps)) ≡ all_tokens ps
 writes_tokens o blank ps w =
-    let j : joined Free ps ≡ true = subst (λ t. joined Free t ≡ true) (append-nil ps) (w.joins [] refl) in
+    let j : pieces_follow Free ps ≡ true = subst (λ t. pieces_follow Free t ≡ true) (append-nil ps) (w.joins [] refl) in
     ap tokens (text_of-all_calls o ps) ∙ pieces_lex o blank Free ps j w.are
 
 -- The text of pieces grows into what they write.
@@ -55,7 +55,7 @@ ArePieces-append (p ∷ ps) qs a b = (a.0, ArePieces-append ps qs a.1 b)
 -- one and another, where the second may stand behind a word
 pub both_write : {a b c : Edge} {ps qs : List Piece} {f g : Forest} → Writes a ps b f → Writes b qs c g → Writes a (ps ++ qs) c (onto f g)
 both_write {a = a} {ps = ps} {qs = qs} {f = f} {g = g} v w = record {
-  joins = λ rs h. subst (λ t. joined a t ≡ true) (sym (append_assoc ps qs rs)) (v.joins (qs ++ rs) (w.joins rs h));
+  joins = λ rs h. subst (λ t. pieces_follow a t ≡ true) (sym (append_assoc ps qs rs)) (v.joins (qs ++ rs) (w.joins rs h));
   are = ArePieces-append ps qs v.are w.are;
   whole = onto v.whole w.whole;
   tokens = all_tokens-append ps qs ∙ ap (λ t. t ++ all_tokens qs) v.tokens ∙ ap (λ t. flat v.whole ++ t) w.tokens ∙ sym (flat-onto v.whole w.whole);
@@ -66,9 +66,9 @@ both_write {a = a} {ps = ps} {qs = qs} {f = f} {g = g} v w = record {
 
 -- ---- the rules for pieces. Each holds at every edge at which it can, so that a search has nothing to choose.
 
-loosen : (b : Edge) (qs : List Piece) → joined b qs ≡ true → joined Free qs ≡ true
+loosen : (b : Edge) (qs : List Piece) → pieces_follow b qs ≡ true → pieces_follow Free qs ≡ true
 loosen b [] h = refl
-loosen b (q ∷ qs) h = (and_parts (may_follow b q) (joined (leaves q) qs) h).1
+loosen b (q ∷ qs) h = (and_parts (may_follow b q) (pieces_follow (leaves q) qs) h).1
 
 -- a token, and behind it something on the line
 abbrev pub is_open : Edge → Bool
@@ -105,18 +105,18 @@ loosened {ps = ps} w = record {
 }
 
 -- a piece that may stand behind a word may stand where the line goes on
-joins_anywhere : (a : Edge) (p : Piece) (ps : List Piece) → is_open a ≡ true → begins p ≡ true → joined (leaves p) ps ≡ true → joined a (p ∷ ps) ≡ true
-joins_anywhere a p ps o b j = and_from (may_follow a p) (joined (leaves p) ps) (begins_all a p o b) j
+joins_anywhere : (a : Edge) (p : Piece) (ps : List Piece) → is_open a ≡ true → begins p ≡ true → pieces_follow (leaves p) ps ≡ true → pieces_follow a (p ∷ ps) ≡ true
+joins_anywhere a p ps o b j = and_from (may_follow a p) (pieces_follow (leaves p) ps) (begins_all a p o b) j
 
 -- the end of a line may stand anywhere
-joins_line : (a : Edge) (p : Piece) (ps : List Piece) → feeds p ≡ true → joined (leaves p) ps ≡ true → joined a (p ∷ ps) ≡ true
-joins_line a p ps f j = and_from (may_follow a p) (joined (leaves p) ps) (feeds_all a p f) j
+joins_line : (a : Edge) (p : Piece) (ps : List Piece) → feeds p ≡ true → pieces_follow (leaves p) ps ≡ true → pieces_follow a (p ∷ ps) ≡ true
+joins_line a p ps f j = and_from (may_follow a p) (pieces_follow (leaves p) ps) (feeds_all a p f) j
 
 -- what may stand where the line must end may stand anywhere
-pub ended_joins : (a : Edge) (ps : List Piece) → joined Ended ps ≡ true → joined a ps ≡ true
+pub ended_joins : (a : Edge) (ps : List Piece) → pieces_follow Ended ps ≡ true → pieces_follow a ps ≡ true
 ended_joins a [] j = refl
 ended_joins a (p ∷ ps) j =
-    let parts : (feeds p ≡ true) × (joined (leaves p) ps ≡ true) = and_parts (feeds p) (joined (leaves p) ps) j in
+    let parts : (feeds p ≡ true) × (pieces_follow (leaves p) ps ≡ true) = and_parts (feeds p) (pieces_follow (leaves p) ps) j in
     joins_line a p ps parts.0 parts.1
 
 pub nothing_writes : {a : Edge} → Writes a [] a End
@@ -161,10 +161,33 @@ gap_writes {a = a} {ps = ps} e w = record {
   in_groups = w.in_groups;
 }
 
-pub mark_writes : {a b : Edge} {n : ℕ} {ps : List Piece} {f : Forest} → is_open a ≡ true → n < 2 ^ 64 → Writes Free ps b f → Writes a (Mark n ∷ ps) b f
-mark_writes {a = a} {n = n} {ps = ps} e h w = record {
-  joins = λ qs g. joins_anywhere a (Mark n) (ps ++ qs) e refl (w.joins qs g);
+pub number_remark_writes : {a b : Edge} {n : ℕ} {ps : List Piece} {f : Forest} → is_open a ≡ true → n < 2 ^ 64 → Writes Free ps b f → Writes a (NumberRemark n ∷ ps) b f
+number_remark_writes {a = a} {n = n} {ps = ps} e h w = record {
+  joins = λ qs g. joins_anywhere a (NumberRemark n) (ps ++ qs) e refl (w.joins qs g);
   are = (h, w.are);
+  whole = w.whole;
+  tokens = w.tokens;
+  without = w.without;
+  in_row = w.in_row;
+  in_groups = w.in_groups;
+}
+
+-- no text, and no item
+pub begin_name_writes : {b : Edge} {ps : List Piece} {f : Forest} → Writes Free ps b f → Writes Free (BeginName ∷ ps) b f
+begin_name_writes w = record {
+  joins = w.joins;
+  are = (tt, w.are);
+  whole = w.whole;
+  tokens = w.tokens;
+  without = w.without;
+  in_row = w.in_row;
+  in_groups = w.in_groups;
+}
+
+pub end_style_writes : {a b : Edge} {ps : List Piece} {f : Forest} → is_open a ≡ true → Writes Bound ps b f → Writes a (EndStyle ∷ ps) b f
+end_style_writes {a = a} {ps = ps} e w = record {
+  joins = λ qs h. joins_anywhere a EndStyle (ps ++ qs) e refl (w.joins qs h);
+  are = (tt, w.are);
   whole = w.whole;
   tokens = w.tokens;
   without = w.without;
@@ -396,7 +419,7 @@ before_line b w = record {
 -- what begins so may stand there
 pub opened_writes : {b : Edge} {p : Piece} {ps : List Piece} {f : Forest} → starts p ≡ true → Writes Free (p ∷ ps) b f → Writes Opened (p ∷ ps) b f
 opened_writes {p = p} {ps = ps} s w = record {
-  joins = λ qs h. and_from (starts p) (joined (leaves p) (ps ++ qs)) s (w.joins qs h);
+  joins = λ qs h. and_from (starts p) (pieces_follow (leaves p) (ps ++ qs)) s (w.joins qs h);
   are = w.are;
   whole = w.whole;
   tokens = w.tokens;
@@ -416,7 +439,7 @@ abbrev pub may_close : Edge → Bool → Bool
 may_close Ended t = t
 may_close _ t = true
 
-close_joins : (c : Edge) (place : Option ℕ) (nesting : ℕ) (t : Bool) (qs : List Piece) → may_close c t ≡ true → joined Free qs ≡ true → joined c (close place nesting t ++ qs) ≡ true
+close_joins : (c : Edge) (place : Option ℕ) (nesting : ℕ) (t : Bool) (qs : List Piece) → may_close c t ≡ true → pieces_follow Free qs ≡ true → pieces_follow c (close place nesting t ++ qs) ≡ true
 close_joins Free place nesting true qs m h = h
 close_joins Free place nesting false qs m h = h
 close_joins Bound place nesting true qs m h = h
@@ -458,8 +481,8 @@ closed_writes : {b e c : Edge} {f : Forest} (p : Piece) (vs : List (List ℕ)) (
     Writes a (p ∷ (ps ++ close place nesting t)) b (Group (words_before vs f) End)
 closed_writes {b = b} {e = e} {c = c} {f = f} p vs place nesting t ps a o m i w = record {
   joins = λ qs g. joins_anywhere a p ((ps ++ close place nesting t) ++ qs) o i.delimits
-      (subst (λ x. joined x ((ps ++ close place nesting t) ++ qs) ≡ true) (sym i.leaves_it)
-      (subst (λ x. joined e x ≡ true) (sym (append_assoc ps (close place nesting t) qs))
+      (subst (λ x. pieces_follow x ((ps ++ close place nesting t) ++ qs) ≡ true) (sym i.leaves_it)
+      (subst (λ x. pieces_follow e x ≡ true) (sym (append_assoc ps (close place nesting t) qs))
       (w.joins (close place nesting t ++ qs) (close_joins c place nesting t qs m (loosen b qs g)))));
   are = (i.is.0, ArePieces-append ps (close place nesting t) w.are (close_are place nesting t));
   whole = Group (words_before vs w.whole) End;
@@ -538,4 +561,4 @@ bare_group_then {a = a} {c = c} {ps = ps} {qs = qs} {f = f} {g = g} o v' w =
 pub then : {a c : Edge} {ps qs : List Piece} {f g : Forest} → Writes a ps Bound f → Writes Bound qs c g → Writes a (ps ++ qs) c (onto f g)
 then v w = both_write v w
 
-pub ruleset writing = (nothing_writes, free_writes, begin_writes, feed_writes, gap_writes, break_writes, mark_writes, word_writes, type_word_writes, type_word_gap_writes, gap_type_word_writes, number_writes, constant_writes, literals_writes, gap_literals_writes, float_writes, quoted_writes, quoted_bytes_writes, identifier_writes, name_note_writes, remark_writes, ending_writes, group_writes, group_at_writes, group_gap_at_writes, line_group_writes, line_group_gap_writes, group_then, group_at_then, line_group_then, line_group_gap_then, plain_group_then, type_group_then, bare_group_then, opened_writes, then)
+pub ruleset writing = (nothing_writes, free_writes, begin_writes, feed_writes, gap_writes, break_writes, number_remark_writes, begin_name_writes, end_style_writes, word_writes, type_word_writes, type_word_gap_writes, gap_type_word_writes, number_writes, constant_writes, literals_writes, gap_literals_writes, float_writes, quoted_writes, quoted_bytes_writes, identifier_writes, name_note_writes, remark_writes, ending_writes, group_writes, group_at_writes, group_gap_at_writes, line_group_writes, line_group_gap_writes, group_then, group_at_then, line_group_then, line_group_gap_then, plain_group_then, type_group_then, bare_group_then, opened_writes, then)

@@ -12,8 +12,10 @@ enum Indent {
 pub struct PrintOptions {
     /// Each line begins with the place of what stands on it.
     pub offsets: bool,
-    /// Bodies are left out.
+    /// Bodies, the items of element segments and the bytes of data segments are left out.
     pub skeleton: bool,
+    /// Items without a name have identifiers made up for them.
+    pub invents: bool,
     /// The text that stands once for each level of nesting.
     indent: Indent,
 }
@@ -24,20 +26,21 @@ impl Model for PrintOptions {
 
     ghost Value = { Options };
 
-    ghost view = { λ o. record { offsets = o.offsets; skeleton = o.skeleton; indent = indent_text o.indent } };
+    ghost view = { λ o. record { offsets = o.offsets; skeleton = o.skeleton; invents = o.invents; indent = indent_text o.indent } };
 }
 
 impl PrintOptions {
     ghost use Rattle.std.specs.Prelude.{◌≡◌};
     ghost use Rattle.wasmprinter_spec.specs.Options.{defaults};
 
-    /// No places in front of lines, bodies in full, and an indent of two blanks. Takes no memory.
+    /// No places in front of lines, bodies in full, no identifiers made up, and an indent of two blanks. Takes no memory.
     pub fn new() -> PrintOptions
         ensures { result ≡ defaults }
     {
         PrintOptions {
             offsets: false,
             skeleton: false,
+            invents: false,
             indent: Indent::TwoBlanks,
         }
     }

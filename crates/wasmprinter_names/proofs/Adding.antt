@@ -1,24 +1,27 @@
 -- What a store knows after an entry more.
-use Rattle.std.proofs.Common.{◌≡◌, ℕ, List, [], ◌∷◌, ◌++◌, refl, sym, ap, ◌∙◌, rules, arith, true≢false}
+use Rattle.std.proofs.Common.{◌≡◌, ℕ, List, [], ◌∷◌, ◌++◌, refl, sym, ap, ◌∙◌, subst, rules, arith, true≢false}
 use Rattle.std.proofs.lemmas.Grind.{common_steps}
 use Rattle.std.proofs.lemmas.Bool.{eqb-true}
 use Rattle.std.proofs.lemmas.Bool.Decides.{nat_tests}
 use Rattle.std.proofs.lemmas.List.{append-nil}
 use Rattle.std.proofs.lemmas.List.Elements.{filter-append}
 use Rattle.std.proofs.lemmas.Map.Text.{is_eq-slice_cmp}
-use Rattle.std.specs.Prelude.{Bool, true, false, ◌||◌, ◌&&◌, nat_eq, bytes_eq, Option, Some, None, option_map, map, filter, if◌then◌else◌}
+use Rattle.std.specs.Prelude.{Bool, true, false, ◌||◌, ◌&&◌, nat_eq, bytes_eq, Option, Some, None, option_map, Result, Ok, Err, OnOk, OnErr, map, filter, if◌then◌else◌}
 use Rattle.std.specs.declared.cmp.Ordering.{Ordering}
 use Rattle.std.specs.declared.cmp.Ordering.TheVariants.{Less, Equal, Greater}
 use Rattle.std.specs.Ordering.{nat_cmp, ordering_then, is_eq}
 use Rattle.std.specs.Cmp.Lexicographic.{slice_cmp}
-use Rattle.std.specs.BTreeMap.{BTreeMap, get, is_at, Updates}
+use Rattle.std.specs.BTreeMap.{BTreeMap, get, is_at, IsUnchanged, Updates}
 use Rattle.std.specs.Map.{lookup}
 use Rattle.std.specs.BTreeSet.{contains}
 use Rattle.std.specs.BTreeSet as set
 use Rattle.wasmprinter_spec.specs.Labels.{Named}
-use Rattle.wasmprinter_spec.specs.Names.Section.{Entry}
+use Rattle.wasmprinter_spec.specs.Grammar.{some_is}
+use Rattle.wasmprinter_spec.specs.LabelNames.{label_content, label_named}
+use Rattle.wasmprinter_spec.specs.Names.Section.{Entry, label_subsection}
 use Rattle.wasmprinter_spec.specs.Names.Content.{is_among, entry_name, last_name, is_in, entries_in}
-use Rattle.wasmprinter_names.specs.Views.{given_cmp, place_cmp, stored_view, item_view, items_view, name_at}
+use Rattle.wasmprinter_names.specs.Views.{given_cmp, place_cmp, content_or, stored_view, item_view, items_view, name_at}
+use Rattle.wasmprinter_names.specs.Labels.{AreOfLabels}
 use Rattle.wasmprinter_names.specs.Holds.{names_given, Holds}
 use Rattle.wasmprinter_names.specs.declared.store.Given.{Given}
 use Rattle.wasmprinter_names.specs.declared.store.Place.{Place}
@@ -57,6 +60,14 @@ map_if : {A B : Type 0} (f : A → B) (b : Bool) (x : A) (o : Option A) → opti
 map_if f true x o = refl
 map_if f false x o = refl
 
+and_left : (a b : Bool) → (a && b) ≡ true → a ≡ true
+and_left true b e = refl
+and_left false b e = absurd (true≢false (sym e))
+
+and_right : (a b : Bool) → (a && b) ≡ true → b ≡ true
+and_right true b e = e
+and_right false b e = absurd (true≢false (sym e))
+
 -- what the map has is what its items have
 at_by : (b : Bool) (x : Named) (o r : Option Named) → o ≡ r → (if b then Some x else o) ≡ (if b then Some x else r)
 at_by true x o r e = refl
@@ -78,6 +89,38 @@ name_at-lookup (e ∷ es) p =
 
 pub name_at-get : (names : BTreeMap Place StoredName) (p : Place) → option_map stored_view (get place_cmp names p) ≡ name_at (items_view names) p.subsection p.outer p.index
 name_at-get names p = name_at-lookup names.entries p
+
+-- what the map has after an insert
+name_after : (a b : BTreeMap Place StoredName) (p q : Place) (x : StoredName) → Updates place_cmp a b p (Some x)
+    → name_at (items_view b) q.subsection q.outer q.index ≡ (if is_at (place_cmp p) q then Some (stored_view x) else name_at (items_view a) q.subsection q.outer q.index)
+name_after a b p q x names =
+    sym (name_at-get b q) ∙ ap (λ (r : Option StoredName). option_map stored_view r) (names.0 q) ∙ map_if stored_view (is_at (place_cmp p) q) x (get place_cmp a q)
+    ∙ ap (λ (r : Option Named). if is_at (place_cmp p) q then Some (stored_view x) else r) (name_at-get a q)
+
+-- names of labels stay what they are
+stays_of_labels : (a b : BTreeMap Place StoredName) (p : Place) (x : StoredName) → Updates place_cmp a b p (Some x)
+    → (p.subsection ≡ label_subsection → content_or x.marked x.given.now ≡ label_content p.index x.given.now)
+    → AreOfLabels (items_view a) → AreOfLabels (items_view b)
+stays_of_labels a b p x names content old f n y e invents d = by (is_at (place_cmp p) q) refl (sym (name_after a b p q x names) ∙ e)
+  where
+    q : Place
+    q = record { subsection = label_subsection; outer = f; index = n }
+
+    by : (hit : Bool) → is_at (place_cmp p) q ≡ hit → (if hit then Some (stored_view x) else name_at (items_view a) label_subsection f n) ≡ Some y → label_named invents n d y.given ≡ Some y
+    by true t h =
+        let same = sym (same_place p q) ∙ t in
+        let s : p.subsection ≡ label_subsection = eqb-true p.subsection label_subsection (and_left (nat_eq p.subsection label_subsection) (nat_eq p.outer f) (and_left _ (nat_eq p.index n) same)) in
+        let i : p.index ≡ n = eqb-true p.index n (and_right (nat_eq p.subsection label_subsection && nat_eq p.outer f) (nat_eq p.index n) same) in
+        subst (λ (z : Named). label_named invents n d z.given ≡ Some z) (some_is (stored_view x) y h)
+        (ap (λ (t : List ℕ). Some (record { given = Some x.given.now; content = t })) (ap (λ (k : ℕ). label_content k x.given.now) (sym i) ∙ sym (content s)))
+    by false t h = old f n y h invents d
+
+-- also where the insert is refused
+pub keeps_of_labels : {X E : Type 0} (r : Result X E) (a b : BTreeMap Place StoredName) (p : Place) (x : StoredName) → OnOk r (Updates place_cmp a b p (Some x)) → OnErr r (IsUnchanged a b)
+    → (p.subsection ≡ label_subsection → content_or x.marked x.given.now ≡ label_content p.index x.given.now)
+    → AreOfLabels (items_view a) → AreOfLabels (items_view b)
+keeps_of_labels (Ok r) a b p x names same content old = stays_of_labels a b p x names content old
+keeps_of_labels (Err e) a b p x names same content old = subst (λ (es : List (Place × StoredName)). AreOfLabels (map item_view es)) (sym same) old
 
 or_if : (b c : Bool) → (if b then true else c) ≡ (b || c)
 or_if true c = refl
@@ -119,14 +162,6 @@ name_by : (s : ℕ) (xs : List Entry) (e : Entry) (i : ℕ) (n : Named) (b : Boo
     → (if b && nat_eq e.index i then Some n else last_name s [] None xs i) ≡ last_name s [] None (xs ++ only b e) i
 name_by s xs e i n true h = ap (λ (m : Named). if nat_eq e.index i then Some m else last_name s [] None xs i) (h refl) ∙ sym (name_more s [] None xs e i)
 name_by s xs e i n false h = ap (λ (l : List Entry). last_name s [] None l i) (sym (append-nil xs))
-
-and_left : (a b : Bool) → (a && b) ≡ true → a ≡ true
-and_left true b e = refl
-and_left false b e = absurd (true≢false (sym e))
-
-and_right : (a b : Bool) → (a && b) ≡ true → b ≡ true
-and_right true b e = e
-and_right false b e = absurd (true≢false (sym e))
 
 -- an entry of a space has that space's content
 same_space : (entries : List Entry) (e : Entry) (s outer : ℕ) → is_in s outer e ≡ true

@@ -1,3 +1,4 @@
 pub mod Adding
+pub mod LabelOrder
 pub mod Loops
 pub mod Subsections

@@ -1,4 +1,7 @@
 pub mod Spaces
 pub mod Views
+pub mod Labels
+pub mod LabelViews
 pub mod Holds
 pub mod Adds
+pub mod Shown

@@ -2,14 +2,16 @@
 //! extended name section proposal).
 #![tactic(auto)]
 
+mod identifiers;
 mod read;
 mod space;
 mod store;
 mod subsection;
 
+pub use identifiers::{Identifier, Identifiers};
 pub use read::read_names;
 pub use space::Space;
-pub use store::{Name, Names, NamesBuilder};
+pub use store::{LabelName, Name, Names, NamesBuilder};
 
 #[cfg(test)]
 mod tests;

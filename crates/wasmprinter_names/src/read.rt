@@ -24,7 +24,7 @@ fn read_entry<'a>(
 {
     let index = cursor.u32()?;
     let name = cursor.name()?;
-    builder.add(alloc, subsection, outer, index, name)?;
+    builder.add(alloc, subsection, u64::from(outer), u64::from(index), name)?;
     Ok(())
 }
 

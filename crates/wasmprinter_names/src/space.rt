@@ -32,6 +32,7 @@ pub enum Space {
 
 impl Space {
     ghost use Rattle.wasmprinter_spec.specs.Names.Section.{is_indirect};
+    ghost use Rattle.wasmprinter_spec.specs.Names.Content.{group_of};
     ghost use Rattle.wasmprinter_names.specs.Spaces.{id_of};
 
     /// The id of the subsection that gives the names.
@@ -58,5 +59,12 @@ impl Space {
         ensures { result ≡ is_indirect (id_of self) }
     {
         matches!(self, Space::Local | Space::Label | Space::Field)
+    }
+
+    /// The word for the items, which stands in identifiers that are made up.
+    pub fn word(self) -> &'static str
+        ensures { result.now ≡ group_of (id_of self) }
+    {
+        subsection::group(self.subsection())
     }
 }

@@ -1,11 +1,12 @@
 //! The names of a module, by the items that they are given for.
-ghost use Rattle.std.specs.Prelude.{◌≡◌, ◌++◌, ◌∷◌, [], ℕ, List, not, IfOk, OnOk, option_map, option_copied};
-ghost use Rattle.wasmprinter_spec.specs.LabelNames.{is_clean};
-ghost use Rattle.wasmprinter_spec.specs.Names.Section.{Entry, entry_of, module_subsection};
+ghost use Rattle.std.specs.Prelude.{◌≡◌, ◌++◌, ◌∷◌, [], ℕ, List, map, not, IfOk, OnOk, IsOk, option_map, option_copied};
+ghost use Rattle.wasmprinter_spec.specs.LabelNames.{is_clean, label_content};
+ghost use Rattle.wasmprinter_spec.specs.Names.Section.{Entry, entry_of, module_subsection, label_subsection};
 ghost use Rattle.wasmprinter_spec.specs.Names.Content.{is_among, content, name_of};
 ghost use Rattle.wasmprinter_names.specs.Spaces.{id_of, outer_of};
 ghost use Rattle.wasmprinter_names.specs.Views.{content_or, stored_view, name_view, NamedItem, items_view, name_at};
-ghost use Rattle.wasmprinter_names.specs.Holds.{Holds};
+ghost use Rattle.wasmprinter_names.specs.Labels.{labels_in, Ascend, AreOfLabels};
+ghost use Rattle.wasmprinter_names.specs.LabelViews.{label_view};
 
 use crate::space::Space;
 use crate::subsection;
@@ -22,11 +23,22 @@ pub struct Name<'a> {
     pub content: &'a str,
 }
 
+/// The name of a label.
+#[derive(Clone, Copy, Debug, PartialEq, Eq)]
+pub struct LabelName<'a> {
+    /// The function whose body has the label.
+    pub function: u64,
+    /// Which of the function's blocks has it, in the order in which they are opened.
+    pub number: u64,
+    /// Its name.
+    pub name: Name<'a>,
+}
+
 /// A name that was given in a space.
 #[derive(Clone, Copy, PartialEq, Eq, PartialOrd, Ord)]
 pub struct Given<'a> {
     subsection: u8,
-    outer: u32,
+    outer: u64,
     name: &'a str,
 }
 
@@ -34,8 +46,8 @@ pub struct Given<'a> {
 #[derive(Clone, Copy, PartialEq, Eq, PartialOrd, Ord)]
 pub struct Place {
     subsection: u8,
-    outer: u32,
-    index: u32,
+    outer: u64,
+    index: u64,
 }
 
 /// A name as it is kept.
@@ -73,12 +85,13 @@ fn is_clean(name: &str) -> bool
 fn marked_content(
     alloc: Global,
     subsection: u8,
-    index: u32,
+    index: u64,
     name: &str,
     is_new: bool,
 ) -> Result<Option<String>, AllocError>
-    ensures { IfOk result (λ x. (outer : ℕ) (given : List (List ℕ)) → is_new ≡ not (is_among name.now given)
+    ensures content { IfOk result (λ x. (outer : ℕ) (given : List (List ℕ)) → is_new ≡ not (is_among name.now given)
         → content_or x name.now ≡ content subsection given (entry_of subsection outer (index, name.now))) }
+    ensures label { IfOk result (λ x. subsection ≡ label_subsection → content_or x name.now ≡ label_content index name.now) }
 {
     if is_clean(name) && (is_new || !subsection::is_counted(subsection)) {
         Ok(None)
@@ -94,9 +107,12 @@ pub struct NamesBuilder<'a> {
     /// The names that were given so far, replaced ones too.
     given: BTreeSet<Given<'a>>,
     names: BTreeMap<Place, StoredName<'a>>,
+    ghost of_labels: { AreOfLabels (items_view names) },
 }
 
 impl<'a> NamesBuilder<'a> {
+    ghost use Rattle.wasmprinter_names.specs.Holds.{Holds};
+
     /// No name.
     pub fn new(alloc: Global) -> Self
         ensures { Holds [] result }
@@ -112,8 +128,8 @@ impl<'a> NamesBuilder<'a> {
         &mut self,
         alloc: Global,
         subsection: u8,
-        outer: u32,
-        index: u32,
+        outer: u64,
+        index: u64,
         name: &'a str,
     ) -> Result<(), AllocError>
         ensures { OnOk result ((entries : List Entry) → Holds entries self.old
@@ -157,6 +173,8 @@ impl<'a> Model for Names<'a> {
     ghost Value = { List NamedItem };
 
     ghost view = { λ n. items_view n.names };
+
+    ghost invariant = { λ n. AreOfLabels (items_view n.names) };
 }
 
 impl Names<'_> {
@@ -169,7 +187,7 @@ impl Names<'_> {
 
     /// The name of an item, `None` where none is given. `outer` is the function of a local or a label and the type of a field, and else
     /// ignored.
-    pub fn name(&self, space: Space, outer: u32, index: u32) -> Option<Name<'_>>
+    pub fn name(&self, space: Space, outer: u64, index: u64) -> Option<Name<'_>>
         ensures { option_map name_view result ≡ name_at self.now (id_of space) (outer_of space outer) index }
     {
         self.get(Place {
@@ -183,7 +201,32 @@ impl Names<'_> {
     pub fn identifier(&self, space: Space, outer: u32, index: u32) -> Option<&str>
         ensures { option_copied result ≡ option_map (λ n. n.content) (name_at self.now (id_of space) (outer_of space outer) index) }
     {
-        self.name(space, outer, index).map(|name| name.content)
+        self.name(space, u64::from(outer), u64::from(index))
+            .map(|name| name.content)
+    }
+
+    /// The labels that have names, by function and number.
+    ///
+    /// # Errors
+    ///
+    /// Where memory is refused. None is asked for if no label has a name.
+    pub fn labels(&self, alloc: Global) -> Result<Vec<LabelName<'_>>, AllocError>
+        ensures all { IfOk result (λ labels. map label_view labels.items ≡ labels_in self.now) }
+        ensures ascend { Ascend (labels_in self.now) }
+        ensures of_labels { AreOfLabels self.now }
+        ensures needed { labels_in self.now ≡ [] → IsOk result }
+    {
+        let mut labels = Vec::new(alloc);
+        for (place, stored) in &self.names {
+            if place.subsection == subsection::LABEL {
+                labels.push(LabelName {
+                    function: place.outer,
+                    number: place.index,
+                    name: stored.name(),
+                })?;
+            }
+        }
+        Ok(labels)
     }
 
     /// The name of the module.

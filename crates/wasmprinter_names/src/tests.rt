@@ -1,6 +1,6 @@
 //! Names of a few name sections. The bytes and what is expected are typed by hand.
 
-use crate::{Name, Names, NamesBuilder, Space, read_names};
+use crate::{Identifier, Identifiers, LabelName, Name, Names, NamesBuilder, Space, read_names};
 use std::alloc::Global;
 use std::test::Fail;
 use wasmprinter_bytes::bytes::Cursor;
@@ -131,5 +131,137 @@ fn names_of_labels_and_the_module_never_count(rt: HostRuntime) -> Result<(), Fai
             content: "#module0 ",
         })
     );
+    Ok(())
+}
+
+#[test]
+fn identifiers_are_given_or_made_up(rt: HostRuntime) -> Result<(), Fail> {
+    // the module is `m`; function 0 is called `f`
+    let names = names_of(rt.alloc(), &[b"\x00\x02\x01m\x01\x04\x01\x00\x01f"])?;
+    let given = Identifiers {
+        names: &names,
+        invents: false,
+    };
+    let all = Identifiers {
+        names: &names,
+        invents: true,
+    };
+    let name = Name {
+        given: "f",
+        content: "f",
+    };
+    assert_eq!(rt;
+        given.item(Space::Func, 0, 0),
+        Some(Identifier::Given(name))
+    );
+    assert_eq!(rt; given.item(Space::Func, 0, 1), None);
+    assert_eq!(rt; all.item(Space::Func, 0, 0), Some(Identifier::Given(name)));
+    assert_eq!(rt;
+        all.item(Space::Local, 3, 5_000_000_000),
+        Some(Identifier::Invented {
+            space: Space::Local,
+            number: 5_000_000_000,
+        })
+    );
+    assert_eq!(rt; given.module().is_some(), true);
+    assert_eq!(rt; Space::Types.word(), "type");
+    assert_eq!(rt; Space::Data.word(), "data");
+    Ok(())
+}
+
+#[test]
+fn no_identifier_is_made_up_for_a_module(rt: HostRuntime) -> Result<(), Fail> {
+    let names = names_of(rt.alloc(), &[])?;
+    let all = Identifiers {
+        names: &names,
+        invents: true,
+    };
+    assert_eq!(rt; all.module(), None);
+    Ok(())
+}
+
+#[test]
+fn labels_are_listed_by_function_and_number(rt: HostRuntime) -> Result<(), Fail> {
+    // labels of function 2: 1 `b`, 0 `a`; of function 0: 7 `c`; a local and a function have names too
+    let labels = b"\x03\x0e\x02\x02\x02\x01\x01b\x00\x01a\x00\x01\x07\x01c";
+    let others = b"\x02\x06\x01\x00\x01\x00\x01x\x01\x04\x01\x00\x01f";
+    let names = names_of(rt.alloc(), &[labels, others])?;
+    let listed = names.labels(rt.alloc())?;
+    let expected = [(0, 7, "c"), (2, 0, "a"), (2, 1, "b")];
+    assert_eq!(rt; listed.len(), expected.len());
+    for (label, (function, number, name)) in listed.iter().zip(expected) {
+        let name = Name {
+            given: name,
+            content: name,
+        };
+        let expected = LabelName {
+            function,
+            number,
+            name,
+        };
+        assert_eq!(rt; *label, expected);
+    }
+    Ok(())
+}
+
+/// A number of fewer than 14 bits in two bytes, as the binary format may spell it.
+fn two_bytes(n: u16) -> [u8; 2] {
+    [(n & 0x7f) as u8 | 0x80, (n >> 7 & 0x7f) as u8]
+}
+
+/// A name map in which as many items, the first ones, are called `a`.
+fn map_of(alloc: Global, count: u16) -> Result<Vec<u8>, Error> {
+    let mut map = Vec::from_slice(alloc, &two_bytes(count))?;
+    for index in 0..count {
+        map.extend_from_slice(&two_bytes(index))?;
+        map.extend_from_slice(b"\x01a")?;
+    }
+    Ok(map)
+}
+
+/// A subsection that holds this.
+fn subsection_of(alloc: Global, id: u8, content: &[u8]) -> Result<Vec<u8>, Error> {
+    let mut subsection = Vec::from_slice(alloc, &[id])?;
+    subsection.extend_from_slice(&two_bytes((content.len() & 0x3fff) as u16))?;
+    subsection.extend_from_slice(content)?;
+    Ok(subsection)
+}
+
+#[test]
+fn many_names_are_kept(rt: HostRuntime) -> Result<(), Fail> {
+    let alloc = rt.alloc();
+    let map = map_of(alloc, 300)?;
+    for id in [1, 4, 5, 6, 7, 8, 9, 11] {
+        let bytes = subsection_of(alloc, id, &map)?;
+        let names = names_of(alloc, &[&bytes])?;
+        assert_eq!(rt; names.module(), None);
+    }
+    let bytes = subsection_of(alloc, 1, &map)?;
+    let names = names_of(alloc, &[&bytes])?;
+    assert_eq!(rt; names.identifier(Space::Func, 0, 0), Some("a"));
+    assert_eq!(rt; names.identifier(Space::Func, 0, 299), Some("#func299 a"));
+    assert_eq!(rt; names.identifier(Space::Func, 0, 300), None);
+    Ok(())
+}
+
+#[test]
+fn many_names_of_many_functions_are_kept(rt: HostRuntime) -> Result<(), Fail> {
+    let alloc = rt.alloc();
+    let map = map_of(alloc, 20)?;
+    let mut maps = Vec::from_slice(alloc, &[40])?;
+    for outer in 0..40 {
+        maps.push(outer)?;
+        maps.extend_from_slice(&map)?;
+    }
+    for id in [2, 3, 10] {
+        let bytes = subsection_of(alloc, id, &maps)?;
+        let names = names_of(alloc, &[&bytes])?;
+        assert_eq!(rt; names.module(), None);
+    }
+    let bytes = subsection_of(alloc, 2, &maps)?;
+    let names = names_of(alloc, &[&bytes])?;
+    assert_eq!(rt; names.identifier(Space::Local, 39, 0), Some("a"));
+    assert_eq!(rt; names.identifier(Space::Local, 39, 19), Some("#local19 a"));
+    assert_eq!(rt; names.identifier(Space::Local, 40, 0), None);
     Ok(())
 }

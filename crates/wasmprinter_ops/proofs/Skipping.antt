@@ -6,7 +6,7 @@ use Rattle.wasmprinter_spec.specs.Repeated.{Entries}
 use Rattle.wasmprinter_spec.specs.Operator.{Opcode, Operator}
 use Rattle.wasmprinter_spec.specs.Row.{Role}
 use Rattle.wasmprinter_spec.specs.Table.{role_of}
-use Rattle.wasmprinter_spec.specs.Stepped.{Move, On, Stop, Never, by_move, Ended, ended, in_front, stepped_at}
+use Rattle.wasmprinter_spec.specs.Stepped.{Move, On, Stop, Never, by_move, Ended, list_with_last, in_front, stepped_at}
 use Rattle.wasmprinter_spec.specs.Nesting.{Nests, Sequence, Open, at_start, advance}
 use Rattle.wasmprinter_spec.specs.Instructions.{operator, expression, Closed, closed_as, advance_by, operator_takes, roles, role_at}
 use Rattle.wasmprinter_bytes.specs.Reads.{end_of}
@@ -87,9 +87,9 @@ takes_byte at after o e = item_takes_byte (placed operator) advance_by operator_
 module _ (start : Input) (s : Open) (at after : Input) (o : Operator) (e : operator.parse at ≡ Some (o, after)) (k : Skipped start s at) where
   -- what reading comes to, by what the operator does to the blocks
   turns : (m : Move Open) → advance s (role_of o.opcode) ≡ m
-      → expression.parse start ≡ with_front k.items (as_closed (by_move m (λ t. in_front (placed_as at o) (reading t after)) (Some (ended [] (placed_as at o), after)) None))
+      → expression.parse start ≡ with_front k.items (as_closed (by_move m (λ t. in_front (placed_as at o) (reading t after)) (Some (list_with_last [] (placed_as at o), after)) None))
   turns m is =
-      let to : Move Open → Option (Closed (Placed Operator) × Input) = λ m. with_front k.items (as_closed (by_move m (λ t. in_front (placed_as at o) (reading t after)) (Some (ended [] (placed_as at o), after)) None)) in
+      let to : Move Open → Option (Closed (Placed Operator) × Input) = λ m. with_front k.items (as_closed (by_move m (λ t. in_front (placed_as at o) (reading t after)) (Some (list_with_last [] (placed_as at o), after)) None)) in
       k.is
       ∙ ap (λ (r : Option (Ended (Placed Operator) × Input)). with_front k.items (as_closed r)) (stepped-item (placed operator) advance_by operator_takes s at (placed_as at o) after (placed_of at after o e))
       ∙ ap to is

@@ -1,220 +1,73 @@
 -- The items of a module read back as that module.
-use Rattle.std.proofs.Common.{◌≡◌, ℕ, ◌<◌, ◌^◌, Bool, true, false, List, [], ◌∷◌, ◌++◌, Option, Some, None, refl, sym, ap, subst, ◌∙◌, codes, decimal, map, append-nil, option_map, cond}
-use Rattle.std.specs.List.{AllByRecursion, filter}
-use Rattle.wasmprinter_spec.specs.Grammar.{Placed, ◌>>=◌}
+use Rattle.std.proofs.Common.{◌≡◌, ℕ, ◌+◌, ◌<◌, ◌≤◌, ◌^◌, Bool, false, List, [], ◌∷◌, ◌++◌, length, Option, Some, None, refl, sym, ap, ap₂, ◌∙◌, codes, map, append-nil, option_map, arith, min}
+use Rattle.std.specs.List.{AllByRecursion}
+use Rattle.std.proofs.lemmas.List.{length-map}
+use Rattle.wasmprinter_spec.specs.Grammar.{Placed}
 use Rattle.wasmprinter_spec.specs.Forest.{Forest, End, Word, Group, onto}
-use Rattle.wasmprinter_spec.specs.Types.{SubType, FuncType, MemoryType, ExternKind, FuncKind, TableKind, MemoryKind, GlobalKind, TagKind, ExternType, FuncExtern, TableExtern, MemoryExtern, GlobalExtern, TagExtern, concat, all_types, signature_at}
+use Rattle.wasmprinter_spec.specs.Types.{SubType, MemoryType, ExternKind, FuncKind, TableKind, MemoryKind, GlobalKind, TagKind, ExternType, FuncExtern, TableExtern, MemoryExtern, GlobalExtern, TagExtern, concat, all_types, signature_at}
+use Rattle.wasmprinter_spec.specs.Row as row
+use Rattle.wasmprinter_spec.specs.Row.{Space, Types, Func}
+use Rattle.wasmprinter_spec.specs.Names.{Names, AreApart, identifiers, identifiers_at, in_function}
 use Rattle.wasmprinter_spec.specs.Operator.{Operator}
-use Rattle.wasmprinter_spec.specs.Placed.{TypeGroup, Import, Table, Global, Mode, Passive, Declared, Active, Items, Functions, Expressions, ElementEntry, DataMode, PassiveData, ActiveData, Data, PlacedFunction, PlacedModule}
-use Rattle.wasmprinter_spec.specs.Module.{without_places, each_value, mode_without_places, items_without_places, data_mode_without_places, groups_of, function_of, table_without_places, global_without_places, element_without_places, data_without_places, module_of}
+use Rattle.wasmprinter_spec.specs.Placed.{TypeGroup, Import, Export, Table, Global, Mode, Passive, Declared, Active, Items, Functions, Expressions, ElementEntry, DataMode, PassiveData, ActiveData, Data, PlacedFunction, PlacedModule}
+use Rattle.wasmprinter_spec.specs.Module.{func_import, table_import, memory_import, global_import, tag_import, without_places, each_value, mode_without_places, items_without_places, data_mode_without_places, groups_of, function_of, table_without_places, global_without_places, element_without_places, data_without_places, module_of}
 use Rattle.wasmprinter_spec.specs.Limits.{HasNoEmptyInit}
 use Rattle.wasmprinter_spec.specs.Indexed as indexed
-use Rattle.wasmprinter_spec.specs.Indexed.{IsIndexed, IsIndexedFunction, IsIndexedImport, IsIndexedTable, IsIndexedGlobal, IsIndexedElement, IsIndexedData, NamesFunction, counts_of, counts_in}
-use Rattle.wasmprinter_spec.specs.IndexSpaces.{Identifiers, are_distinct, Spaces, Context}
+use Rattle.wasmprinter_spec.specs.Indexed.{IsDeclaredSub, Counts, IsIndexed, IsIndexedFunction, IsIndexedImport, IsIndexedTable, IsIndexedGlobal, IsIndexedExport, IsIndexedElement, IsIndexedData, NamesFunction, space_of, counts_of, counts_in}
+use Rattle.wasmprinter_spec.specs.IndexSpaces.{Identifiers, index_space, space_in, Spaces, Context}
+use Rattle.wasmprinter_spec.specs.Layout.Declarations.{Scope, scope_of}
+use Rattle.wasmprinter_spec.specs.Layout.Expressions.{in_line}
+use Rattle.wasmprinter_spec.specs.Layout.Imports.{Numbers, no_numbers, number_of, numbers_behind}
+use Rattle.wasmprinter_spec.specs.Layout.{early_scope, late_scope}
 use Rattle.wasmprinter_spec.specs.Text.Items.{each, identified}
+use Rattle.wasmprinter_spec.specs.Text.Types as text
 use Rattle.wasmprinter_spec.specs.Text.Types.{read_group}
 use Rattle.wasmprinter_spec.specs.Text.Functions.{read_function}
 use Rattle.wasmprinter_spec.specs.Text.Memories.{read_memory}
 use Rattle.wasmprinter_spec.specs.Text.Tags.{read_tag}
 use Rattle.wasmprinter_spec.specs.Text.Exports.{read_export}
-use Rattle.wasmprinter_spec.specs.Layout.Expressions.{in_line}
 use Rattle.wasmprinter_spec.specs.Text.Imports.{ImportField, read_import}
 use Rattle.wasmprinter_spec.specs.Text.Tables.{read_table}
 use Rattle.wasmprinter_spec.specs.Text.Globals.{read_global}
 use Rattle.wasmprinter_spec.specs.Text.Elements.{read_element}
 use Rattle.wasmprinter_spec.specs.Text.DataSegments.{read_data}
-use Rattle.wasmprinter_spec.specs.Read.{Fields, no_fields, with_start, with_field, fields, declared, same_kind, imported_ids, spaces_of, context, module_of_fields, read_forest}
-use Rattle.wasmprinter_lexical.proofs.Grown.{onto-End, onto_assoc}
-use Rattle.wasmprinter_reading.specs.Listed.{IsSignatureInRange, AreSignaturesInRange}
-use Rattle.wasmprinter_reading.specs.OperatorLaws.{HaveSameTypes}
-use Rattle.wasmprinter_reading.proofs.Ranged.{IsRanged, IsRangedImport, IsRangedTable, IsRangedGlobal, IsRangedElement, IsRangedData, IsRangedFunction}
-use Rattle.wasmprinter_reading.proofs.Numbered.{rows}
+use Rattle.wasmprinter_spec.specs.Read.{Fields, no_fields, fields, declared, imported_ids, space_behind, spaces_of, context, module_of_fields, read_forest}
+use Rattle.wasmprinter_lexical.proofs.Grown.{onto-End}
+use Rattle.wasmprinter_reading.specs.Listed.{AreSignaturesInRange}
+use Rattle.wasmprinter_reading.specs.OperatorLaws.{count_in, HaveSameTypes, HaveSameNames}
+use Rattle.wasmprinter_reading.proofs.Ranged.{IsRanged, IsRangedImport, IsRangedTable, IsRangedGlobal, IsRangedExport, IsRangedElement, IsRangedData, IsRangedFunction}
+use Rattle.wasmprinter_reading.proofs.Counts.{imported-length, own_parameters_few, own_fields_few, types_few, variables_few}
+use Rattle.wasmprinter_reading.proofs.Declarations.{id, identifiers_at-more}
+use Rattle.wasmprinter_reading.proofs.Identifiers.{id_items, IsUnidentified, declaration-items, of_least}
+use Rattle.wasmprinter_reading.proofs.Numbered.{map_numbered}
+use Rattle.wasmprinter_reading.proofs.Spaces.{identifiers_space, declared_numbered, number_in, imports_of, imported_ids-held}
+use Rattle.wasmprinter_reading.proofs.Fields.Scopes.{AreScoped, type_bound, type_indices-read}
 use Rattle.wasmprinter_reading.proofs.Fields.Memories.{memory_items, identified-memory, read_memory-items}
-use Rattle.wasmprinter_reading.proofs.Fields.Tags.{tag_items, read_tag-items}
-use Rattle.wasmprinter_reading.proofs.Fields.Start.{start_held, start_items, read_start-items}
+use Rattle.wasmprinter_reading.proofs.Fields.Tags.{tag_items, identified-tag, read_tag-items}
+use Rattle.wasmprinter_reading.proofs.Fields.Start.{start_held, start_items, IsIndexedStart, read_start-items}
 use Rattle.wasmprinter_reading.proofs.Fields.Exports.{export_items, read_export-items}
-use Rattle.wasmprinter_reading.proofs.Fields.Functions.{function_items, read_function-items}
-use Rattle.wasmprinter_reading.proofs.Fields.Expressions.{constant_items, AreIndexed}
-use Rattle.wasmprinter_reading.proofs.Fields.Imports.{kind_of_extern, extern_items, import_items, import_held, imports_items, import_field-items, HasType, identified-extern, read_import-items}
+use Rattle.wasmprinter_reading.proofs.Fields.Functions.{function_items, identified-function, variable_count, read_function-items}
+use Rattle.wasmprinter_reading.proofs.Fields.Expressions.{AreIndexed}
+use Rattle.wasmprinter_reading.proofs.Fields.Imports.{extern_items, imports_items, IsScopedExtern, read_import-items}
 use Rattle.wasmprinter_reading.proofs.Fields.Tables as tables
-use Rattle.wasmprinter_reading.proofs.Fields.Tables.{init_items, table_items, identified-table_type, read_table-items}
-use Rattle.wasmprinter_reading.proofs.Fields.Globals.{global_items, identified-global_type, read_global-items}
+use Rattle.wasmprinter_reading.proofs.Fields.Tables.{table_items, identified-table, read_table-items}
+use Rattle.wasmprinter_reading.proofs.Fields.Globals.{global_items, identified-global, read_global-items}
 use Rattle.wasmprinter_reading.proofs.Fields.Elements as elements
 use Rattle.wasmprinter_reading.proofs.Fields.Elements.{element_items, identified-element, read_element-items}
 use Rattle.wasmprinter_reading.proofs.Fields.DataSegments as datas
 use Rattle.wasmprinter_reading.proofs.Fields.DataSegments.{data_items, identified-data, read_data-items}
-use Rattle.wasmprinter_reading.proofs.Types.Ranged.{IsSingle, IsRangedGroup, IsRangedFunc}
+use Rattle.wasmprinter_reading.proofs.Types.Ranged.{IsRangedGroup}
 use Rattle.wasmprinter_reading.proofs.Types.Ranges.{own_signature_ranged}
-use Rattle.wasmprinter_reading.proofs.Types.Trees.{type_items, type_field, type_group_items_by, type_section_items}
-use Rattle.wasmprinter_reading.proofs.Types.Back.{read_group-items, group_members-items}
-
--- ---- fields of one kind, before others
-
--- fields of one word, each of which holds such items
-abbrev pub field_rows : {A : Type 0} → List ℕ → (A → Forest) → List A → Forest
-field_rows w items xs = rows (map (λ x. Word w (items x)) xs)
-
--- fields with this word are gathered in one list, where no imports stand behind them
-record IsGathered (w : List ℕ) (held : Fields → List Forest) (holding : List Forest → Fields → Fields) : Type 0 where
-  takes : (f : Forest) (m : Fields) → m.imports ≡ [] → with_field w f m ≡ Some (holding (f ∷ held m) m)
-  alone : (m : Fields) → holding (held m) m ≡ m
-  first : (fs : List Forest) (m : Fields) → held (holding fs m) ≡ fs
-  last : (fs gs : List Forest) (m : Fields) → holding fs (holding gs m) ≡ holding fs m
-  leaves : (fs : List Forest) (m : Fields) → (holding fs m).imports ≡ m.imports
-
-gathered_functions : IsGathered (codes "func") (λ m. m.functions) (λ fs m. record m { functions = fs })
-gathered_functions = record { takes = λ f m e. rw e; alone = λ m. refl; first = λ fs m. refl; last = λ fs gs m. refl; leaves = λ fs m. refl }
-
-gathered_tables : IsGathered (codes "table") (λ m. m.tables) (λ fs m. record m { tables = fs })
-gathered_tables = record { takes = λ f m e. rw e; alone = λ m. refl; first = λ fs m. refl; last = λ fs gs m. refl; leaves = λ fs m. refl }
-
-gathered_memories : IsGathered (codes "memory") (λ m. m.memories) (λ fs m. record m { memories = fs })
-gathered_memories = record { takes = λ f m e. rw e; alone = λ m. refl; first = λ fs m. refl; last = λ fs gs m. refl; leaves = λ fs m. refl }
-
-gathered_tags : IsGathered (codes "tag") (λ m. m.tags) (λ fs m. record m { tags = fs })
-gathered_tags = record { takes = λ f m e. rw e; alone = λ m. refl; first = λ fs m. refl; last = λ fs gs m. refl; leaves = λ fs m. refl }
-
-gathered_globals : IsGathered (codes "global") (λ m. m.globals) (λ fs m. record m { globals = fs })
-gathered_globals = record { takes = λ f m e. rw e; alone = λ m. refl; first = λ fs m. refl; last = λ fs gs m. refl; leaves = λ fs m. refl }
-
-gathered_exports : IsGathered (codes "export") (λ m. m.exports) (λ fs m. record m { exports = fs })
-gathered_exports = record { takes = λ f m e. refl; alone = λ m. refl; first = λ fs m. refl; last = λ fs gs m. refl; leaves = λ fs m. refl }
-
-gathered_elements : IsGathered (codes "elem") (λ m. m.elements) (λ fs m. record m { elements = fs })
-gathered_elements = record { takes = λ f m e. refl; alone = λ m. refl; first = λ fs m. refl; last = λ fs gs m. refl; leaves = λ fs m. refl }
-
-gathered_datas : IsGathered (codes "data") (λ m. m.datas) (λ fs m. record m { datas = fs })
-gathered_datas = record { takes = λ f m e. refl; alone = λ m. refl; first = λ fs m. refl; last = λ fs gs m. refl; leaves = λ fs m. refl }
-
-fields-gathered : {A : Type 0} {w : List ℕ} {held : Fields → List Forest} {holding : List Forest → Fields → Fields} → IsGathered w held holding →
-    (items : A → Forest) (xs : List A) (f : Forest) (m : Fields) → m.imports ≡ [] → fields f ≡ Some m →
-    fields (onto (field_rows w items xs) f) ≡ Some (holding (map items xs ++ held m) m)
-unfolding rows
-fields-gathered g items [] f m none e = e ∙ ap (λ x. Some x) (sym (g.alone m))
-fields-gathered {w = w} {held = held} {holding = holding} g items (x ∷ xs) f m none e =
-    let fs : List Forest = map items xs ++ held m in
-    ap (λ o. o >>= with_field w (items x)) (fields-gathered g items xs f m none e)
-    ∙ g.takes (items x) (holding fs m) (g.leaves fs m ∙ none)
-    ∙ ap (λ gs. Some (holding (items x ∷ gs) (holding fs m))) (g.first fs m)
-    ∙ ap (λ x. Some x) (g.last (items x ∷ fs) fs m)
-
--- one start function at most
-fields-start : (start : Option (Placed ℕ)) (f : Forest) (m : Fields) → m.start ≡ None → fields f ≡ Some m →
-    fields (onto (start_items start) f) ≡ Some (record m { start = start_held start })
-fields-start None f m none e = e ∙ ap (λ s. Some (record m { start = s })) none
-fields-start (Some i) f m none e = ap (λ o. o >>= with_field (codes "start") (Word (decimal i.value) End)) e ∙ ap
-    (with_start (Word (decimal i.value) End) m) none
-
--- imports stand before the others
-fields-imports : (ts : List SubType) (is : List (Placed Import)) (f : Forest) (m : Fields) → AllByRecursion (λ i. IsRangedImport i.value) is →
-    fields f ≡ Some m →
-    fields (onto (imports_items ts is) f) ≡ Some (record m { imports = map (λ i. import_held ts i.value) is ++ m.imports })
-unfolding rows
-fields-imports ts [] f m h e = e
-fields-imports ts (i ∷ is) f m h e =
-    let held : List ImportField = map (λ j. import_held ts j.value) is ++ m.imports in
-    ap (λ o. o >>= with_field (codes "import") (import_items ts i.value)) (fields-imports ts is f m h.1 e)
-    ∙ ap (option_map (λ j. record m { imports = j ∷ held })) (import_field-items ts i.value h.0)
-
--- what the fields of a group's types hold
-abbrev group_bodies : List (Placed TypeGroup) → List (List Forest)
-group_bodies gs = map (λ g. map type_items g.value.types) gs
-
--- a group, written as one or not
-fields-group : (written : Bool) (ts : List SubType) (f : Forest) (m : Fields) → IsSingle written ts → fields f ≡ Some m →
-    fields (onto (type_group_items_by written (rows (map type_field ts))) f) ≡ Some (record m { types = map type_items ts ∷ m.types })
-unfolding rows
-fields-group true ts f m h e = rw (e, group_members-items ts)
-fields-group false (t ∷ []) f m h e = rw e
-fields-group false [] f m h e = absurd h
-fields-group false (t ∷ u ∷ ts) f m h e = absurd h
-
-fields-types : (gs : List (Placed TypeGroup)) (f : Forest) (m : Fields) → AllByRecursion (λ g. IsRangedGroup g.value) gs → fields f ≡ Some m →
-    fields (onto (type_section_items gs) f) ≡ Some (record m { types = group_bodies gs ++ m.types })
-fields-types [] f m h e = e
-fields-types (g ∷ gs) f m h e =
-    let group : Forest = type_group_items_by g.value.written (rows (map type_field g.value.types)) in
-    ap fields (onto_assoc group (type_section_items gs) f)
-    ∙ fields-group g.value.written g.value.types (onto (type_section_items gs) f) _ h.0.single (fields-types gs f m h.1 e)
-
--- ---- identifiers
-
--- no identifier stands before these items
-IsUnnamed : Forest → Type 0
-IsUnnamed f = identified f ≡ (None, f)
-
-unnamed_rows : (gs : List Forest) (f : Forest) → IsUnnamed f → IsUnnamed (onto (rows gs) f)
-unfolding rows IsUnnamed
-unnamed_rows [] f h = h
-unnamed_rows (g ∷ gs) f h = refl
-
-unnamed_start : (start : Option (Placed ℕ)) (f : Forest) → IsUnnamed f → IsUnnamed (onto (start_items start) f)
-unfolding IsUnnamed
-unnamed_start None f h = h
-unnamed_start (Some i) f h = refl
-
-unnamed_group : (written : Bool) (ts : List SubType) (f : Forest) → IsUnnamed f → IsUnnamed (onto (type_group_items_by written (rows (map type_field ts))) f)
-unfolding IsUnnamed
-unnamed_group true ts f h = refl
-unnamed_group false ts f h = unnamed_rows (map type_field ts) f h
-
-unnamed_types : (gs : List (Placed TypeGroup)) (f : Forest) → IsUnnamed f → IsUnnamed (onto (type_section_items gs) f)
-unfolding IsUnnamed
-unnamed_types [] f h = h
-unnamed_types (g ∷ gs) f h =
-    let group : Forest = type_group_items_by g.value.written (rows (map type_field g.value.types)) in
-    let rest : IsUnnamed (onto (type_section_items gs) f) = unnamed_types gs f h in
-    subst IsUnnamed (sym (onto_assoc group (type_section_items gs) f)) (unnamed_group g.value.written g.value.types _ rest)
-
--- declarations without identifiers, before others
-declared_distinct : {A : Type 0} (items : A → Forest) → ((x : A) → (identified (items x)).0 ≡ None) → (xs : List A) (fs : List Forest) →
-    are_distinct (declared fs) ≡ true → are_distinct (declared (map items xs ++ fs)) ≡ true
-declared_distinct items none [] fs h = h
-declared_distinct items none (x ∷ xs) fs h = rw (none x) (declared_distinct items none xs fs h)
-
-declared_alone : {A : Type 0} (items : A → Forest) → ((x : A) → (identified (items x)).0 ≡ None) → (xs : List A) → are_distinct (declared (map items xs)) ≡ true
-declared_alone items none xs =
-    let h : are_distinct (declared (map items xs ++ [])) ≡ true = declared_distinct items none xs [] refl in
-    rw append-nil at h
-
--- imports without identifiers, before others
-imported_distinct : (kind : ExternKind) (ts : List SubType) (is : List (Placed Import)) (ids : Identifiers) → are_distinct ids ≡ true →
-    are_distinct (imported_ids kind (map (λ i. import_held ts i.value) is) ++ ids) ≡ true
-imported_distinct kind ts [] ids d = d
-imported_distinct kind ts (i ∷ is) ids d =
-    by (same_kind kind (kind_of_extern i.value.type)) (imported_distinct kind ts is ids d) (ap (λ x. x.0) (identified-extern ts i.value.type))
-  where
-    held : List ImportField
-    held = map (λ j. import_held ts j.value) is
-
-    by : (t : Bool) → are_distinct (imported_ids kind held ++ ids) ≡ true → (identified (extern_items ts i.value.type)).0 ≡ None →
-        are_distinct (declared (map (λ x. x.item) (cond t (import_held ts i.value ∷ filter (λ x. same_kind kind x.kind) held)
-        (filter (λ x. same_kind kind x.kind) held))) ++ ids) ≡ true
-    by true more none = rw none more
-    by false more none = more
-
--- declarations without identifiers, behind such imports
-space_distinct : {A : Type 0} (kind : ExternKind) (ts : List SubType) (is : List (Placed Import)) (items : A → Forest) →
-    ((x : A) → (identified (items x)).0 ≡ None) → (xs : List A) →
-    are_distinct (imported_ids kind (map (λ i. import_held ts i.value) is) ++ declared (map items xs)) ≡ true
-space_distinct kind ts is items none xs = imported_distinct kind ts is (declared (map items xs)) (declared_alone items none xs)
-
-declared_types : (gs : List (Placed TypeGroup)) → are_distinct (declared (concat (group_bodies gs))) ≡ true
-declared_types [] = refl
-declared_types (g ∷ gs) = declared_distinct type_items (λ t. refl) g.value.types (concat (group_bodies gs)) (declared_types gs)
-
--- ---- the types
-
-read_groups-items : (ids : Identifiers) (gs : List (Placed TypeGroup)) → AllByRecursion (λ g. IsRangedGroup g.value) gs → each (read_group ids) (group_bodies gs) ≡ Some (groups_of gs)
-read_groups-items ids [] h = refl
-read_groups-items ids (g ∷ gs) h = rw (read_group-items ids g.value.types h.0.each, read_groups-items ids gs h.1)
+use Rattle.wasmprinter_reading.proofs.Types.Trees.{type_section_items}
+use Rattle.wasmprinter_reading.proofs.Sorted.{field_rows, fields-gathered, gathered_functions, gathered_tables, gathered_memories, gathered_tags, gathered_globals, gathered_exports, gathered_elements, gathered_datas, fields-start, extern_id, imports_held, fields-imports, group_bodies, fields-types, unidentified_rows, unidentified_imports, unidentified_start, unidentified_types}
+use Rattle.wasmprinter_reading.proofs.DeclaredTypes.{declared_types, declared_groups, read_groups-items, group_types-declared, field_space-declared, own_signature_counted, own_fields_counted, own_signature_declared}
 
 -- ---- what is read of each
 
-each-items : {A B F : Type 0} {P : A → Type 0} (read : F → Option B) (items : A → F) (value : A → B) →
-    ((x : A) → P x → read (items x) ≡ Some (value x)) → (xs : List A) → AllByRecursion P xs → each read (map items xs) ≡ Some (map value xs)
-each-items read items value law [] h = refl
-each-items read items value law (x ∷ xs) h = rw (law x h.0, each-items read items value law xs h.1)
+each-numbered : {A B F : Type 0} {P : A → Type 0} (read : F → Option B) (items : ℕ → A → F) (value : A → B) →
+    ((i : ℕ) (x : A) → P x → read (items i x) ≡ Some (value x)) → (i : ℕ) (xs : List A) → AllByRecursion P xs → each read (map_numbered items i xs) ≡ Some (map value xs)
+each-numbered read items value law i [] h = refl
+each-numbered read items value law i (x ∷ xs) h = rw (law i x h.0, each-numbered read items value law (i + 1) xs h.1)
 
 -- both facts of each
 and_each : {A : Type 0} (P Q : A → Type 0) (xs : List A) → AllByRecursion P xs → AllByRecursion Q xs → AllByRecursion (λ x. P x × Q x) xs
@@ -229,301 +82,428 @@ both_of_each P Q value (x ∷ xs) h k = ((h.0, k.0), both_of_each P Q value xs h
 
 -- ---- the module
 
-module _ (m : PlacedModule) where
+-- no imports stand before the first
+none_before : (kind : ExternKind) → number_in kind no_numbers ≡ 0
+none_before FuncKind = refl
+none_before TableKind = refl
+none_before MemoryKind = refl
+none_before GlobalKind = refl
+none_before TagKind = refl
+
+imports_few : (kind : ExternKind) (is : List Import) → imports_of kind is ≤ length is
+imports_few FuncKind is = imported-length func_import is
+imports_few TableKind is = imported-length table_import is
+imports_few MemoryKind is = imported-length memory_import is
+imports_few GlobalKind is = imported-length global_import is
+imports_few TagKind is = imported-length tag_import is
+
+-- what bytes spell of types is in range
+groups_ranged : (gs : List (Placed TypeGroup)) → AllByRecursion (λ g. IsRangedGroup g.value) gs → AllByRecursion (λ g. AllByRecursion (IsDeclaredSub (2 ^ 32)) g) (groups_of gs)
+groups_ranged [] h = tt
+groups_ranged (g ∷ gs) h = (h.0.each, groups_ranged gs h.1)
+
+-- what is in range and declared is below the lesser
+all_bounded : (n : ℕ) (gs : List (List SubType)) → AllByRecursion (λ g. AllByRecursion (IsDeclaredSub (2 ^ 32)) g) gs → AllByRecursion (λ g. AllByRecursion (IsDeclaredSub n) g) gs →
+    AllByRecursion (λ g. AllByRecursion (IsDeclaredSub (min (2 ^ 32) n)) g) gs
+all_bounded n gs h k = of_least (λ b. AllByRecursion (λ g. AllByRecursion (IsDeclaredSub b) g) gs) (2 ^ 32) n h k
+
+module _ (names : Names) (m : PlacedModule) where
   abbrev pub own_types : List SubType
   own_types = all_types (groups_of m.types)
-
-  -- the signature that is printed with a function or a tag
-  unfoldable pub own_type : ℕ → Option FuncType
-  own_type i = signature_at own_types i
 
   pub signatures_ranged : IsRanged m → AreSignaturesInRange (signature_at own_types)
   signatures_ranged h i = own_signature_ranged m.types i h.each_group
 
-  abbrev pub own_tag : Placed ℕ → Forest
-  own_tag i = tag_items (own_type i.value) i.value
+  -- what stands before functions and what stands behind them
+  abbrev pub early : Scope
+  early = early_scope names m
 
-  abbrev pub own_import : Placed Import → ImportField
-  own_import i = import_held own_types i.value
+  abbrev pub late : Scope
+  late = late_scope names m
 
-  abbrev pub own_table : Placed (Table (Placed Operator)) → Forest
-  own_table t = table_items own_types (table_without_places t.value)
+  -- how many of a kind are imported
+  abbrev pub before : ExternKind → ℕ
+  before kind = imports_of kind (without_places m.imports)
 
-  abbrev pub own_global : Placed (Global (Placed Operator)) → Forest
-  own_global g = global_items own_types (global_without_places g.value)
+  abbrev pub own_table : ℕ → Placed (Table (Placed Operator)) → Forest
+  own_table i t = table_items early i (table_without_places t.value)
 
-  abbrev pub own_element : Bool → Placed ElementEntry → Forest
-  own_element skeleton e = element_items own_types skeleton e.value
+  abbrev pub own_memory : ℕ → Placed MemoryType → Forest
+  own_memory i x = memory_items early i x.value
 
-  abbrev pub own_function : Bool → PlacedFunction → Forest
-  own_function skeleton f = function_items skeleton own_types (own_type f.type_index) f
+  abbrev pub own_tag : ℕ → Placed ℕ → Forest
+  own_tag i tag = tag_items early i tag.value
 
-  abbrev pub own_data : Bool → Placed (Data (Placed Operator)) → Forest
-  own_data skeleton d = data_items own_types skeleton (data_without_places d.value)
+  abbrev pub own_global : ℕ → Placed (Global (Placed Operator)) → Forest
+  own_global i g = global_items early i (global_without_places g.value)
 
-  -- what a module is written as, its functions and segments whole or not
+  abbrev pub own_export : ℕ → Placed Export → Forest
+  own_export i e = export_items early e.value
+
+  abbrev pub own_element : Bool → ℕ → Placed ElementEntry → Forest
+  own_element skeleton i e = element_items early skeleton i e.value
+
+  abbrev pub own_function : Bool → ℕ → PlacedFunction → Forest
+  own_function skeleton i f = function_items skeleton early i f
+
+  abbrev pub own_data : Bool → ℕ → Placed (Data (Placed Operator)) → Forest
+  own_data skeleton i d = data_items late skeleton i (data_without_places d.value)
+
+  -- what a module is written as behind its identifier, its functions and segments whole or not
   unfoldable pub module_items : Bool → Forest
   module_items skeleton =
-      onto (type_section_items m.types)
-      (onto (imports_items own_types m.imports)
-      (onto (field_rows (codes "table") own_table m.tables)
-      (onto (field_rows (codes "memory") (λ x. memory_items x.value) m.memories)
-      (onto (field_rows (codes "tag") own_tag m.tags)
-      (onto (field_rows (codes "global") own_global m.globals)
-      (onto (field_rows (codes "export") (λ e. export_items e.value) m.exports)
-      (onto (start_items m.start)
-      (onto (field_rows (codes "elem") (own_element skeleton) m.elements)
-      (onto (field_rows (codes "func") (own_function skeleton) m.functions)
-      (field_rows (codes "data") (own_data skeleton) m.datas))))))))))
+      onto (type_section_items names 0 m.types)
+      (onto (imports_items early no_numbers m.imports)
+      (onto (field_rows (codes "table") own_table (before TableKind) m.tables)
+      (onto (field_rows (codes "memory") own_memory (before MemoryKind) m.memories)
+      (onto (field_rows (codes "tag") own_tag (before TagKind) m.tags)
+      (onto (field_rows (codes "global") own_global (before GlobalKind) m.globals)
+      (onto (field_rows (codes "export") own_export 0 m.exports)
+      (onto (start_items early m.start)
+      (onto (field_rows (codes "elem") (own_element skeleton) 0 m.elements)
+      (onto (field_rows (codes "func") (own_function skeleton) (before FuncKind) m.functions)
+      (field_rows (codes "data") (own_data skeleton) 0 m.datas))))))))))
+
+  abbrev own_imports : List ImportField
+  own_imports = imports_held early no_numbers m.imports
 
   -- the fields as they are sorted
   all_fields : Fields
   all_fields = record {
-    types = group_bodies m.types;
-    imports = map own_import m.imports;
-    functions = map (own_function false) m.functions;
-    tables = map own_table m.tables;
-    memories = map (λ x. memory_items x.value) m.memories;
-    tags = map own_tag m.tags;
-    globals = map own_global m.globals;
-    exports = map (λ e. export_items e.value) m.exports;
-    start = start_held m.start;
-    elements = map (own_element false) m.elements;
-    datas = map (own_data false) m.datas;
+    types = group_bodies names 0 m.types;
+    imports = own_imports;
+    functions = map_numbered (own_function false) (before FuncKind) m.functions;
+    tables = map_numbered own_table (before TableKind) m.tables;
+    memories = map_numbered own_memory (before MemoryKind) m.memories;
+    tags = map_numbered own_tag (before TagKind) m.tags;
+    globals = map_numbered own_global (before GlobalKind) m.globals;
+    exports = map_numbered own_export 0 m.exports;
+    start = start_held early m.start;
+    elements = map_numbered (own_element false) 0 m.elements;
+    datas = map_numbered (own_data false) 0 m.datas;
   }
 
   fields-module_items : IsRanged m → fields (module_items false) ≡ Some all_fields
   unfolding module_items all_fields
   fields-module_items h =
-      let held : List Forest = map (own_data false) m.datas in
-      let datas : fields (field_rows (codes "data") (own_data false) m.datas) ≡ Some (record no_fields { datas = held ++ [] }) =
-      rw onto-End at (fields-gathered gathered_datas (own_data false) m.datas End no_fields refl refl) in
-      fields-types m.types _ _ h.each_group
-      (fields-imports own_types m.imports _ _ h.each_import
-      (fields-gathered gathered_tables own_table m.tables _ _ refl
-      (fields-gathered gathered_memories (λ x. memory_items x.value) m.memories _ _ refl
-      (fields-gathered gathered_tags own_tag m.tags _ _ refl
-      (fields-gathered gathered_globals own_global m.globals _ _ refl
-      (fields-gathered gathered_exports (λ e. export_items e.value) m.exports _ _ refl
-      (fields-start m.start _ _ refl
-      (fields-gathered gathered_elements (own_element false) m.elements _ _ refl
-      (fields-gathered gathered_functions (own_function false) m.functions _ _ refl datas)))))))))
+      let held : List Forest = map_numbered (own_data false) 0 m.datas in
+      let datas : fields (field_rows (codes "data") (own_data false) 0 m.datas) ≡ Some (record no_fields { datas = held ++ [] }) =
+      rw onto-End at (fields-gathered gathered_datas (own_data false) 0 m.datas End no_fields refl refl) in
+      fields-types names 0 m.types _ _ h.each_group
+      (fields-imports early no_numbers m.imports _ _ h.each_import
+      (fields-gathered gathered_tables own_table _ m.tables _ _ refl
+      (fields-gathered gathered_memories own_memory _ m.memories _ _ refl
+      (fields-gathered gathered_tags own_tag _ m.tags _ _ refl
+      (fields-gathered gathered_globals own_global _ m.globals _ _ refl
+      (fields-gathered gathered_exports own_export _ m.exports _ _ refl
+      (fields-start early m.start _ _ refl
+      (fields-gathered gathered_elements (own_element false) _ m.elements _ _ refl
+      (fields-gathered gathered_functions (own_function false) _ m.functions _ _ refl datas)))))))))
       ∙ ap (λ v. Some v) (simp append-nil)
 
-  abbrev imported_first : ExternKind → List Forest → Identifiers
-  imported_first kind fs = imported_ids kind (map own_import m.imports) ++ declared fs
+  -- ---- the index spaces
+
+  abbrev own_counts : Counts
+  own_counts = counts_of (module_of m)
+
+  abbrev own_space : Space → Identifiers
+  own_space space = identifiers (names.items space) (count_in own_counts space)
 
   all_spaces : Spaces
   all_spaces = record {
-    types = declared (concat (group_bodies m.types));
-    functions = imported_first FuncKind (map (own_function false) m.functions);
-    tables = imported_first TableKind (map own_table m.tables);
-    memories = imported_first MemoryKind (map (λ x. memory_items x.value) m.memories);
-    tags = imported_first TagKind (map own_tag m.tags);
-    globals = imported_first GlobalKind (map own_global m.globals);
-    elems = declared (map (own_element false) m.elements);
-    datas = declared (map (own_data false) m.datas);
+    types = own_space Types;
+    functions = own_space Func;
+    tables = own_space row.Table;
+    memories = own_space row.Memory;
+    tags = own_space row.Tag;
+    globals = own_space row.Global;
+    elems = own_space row.Elem;
+    datas = own_space row.Data;
     locals = [];
   }
 
-  unnamed_table : (t : Placed (Table (Placed Operator))) → (identified (own_table t)).0 ≡ None
-  unnamed_table t = ap (λ y. y.0) (identified-table_type t.value.type (init_items own_types (option_map without_places t.value.init)))
+  -- imports of a kind, and behind them what is defined
+  kind_space : {A : Type 0} → AreApart names → (kind : ExternKind) (items : ℕ → A → Forest) →
+      ((i : ℕ) (x : A) → (identified (items i x)).0 ≡ id (names.items (space_of kind) i)) → (xs : List A) → before kind + length xs ≤ 2 ^ 64 →
+      (n : ℕ) → n ≡ before kind + length xs →
+      space_behind kind own_imports (map_numbered items (before kind) xs) ≡ Some (identifiers (names.items (space_of kind)) n)
+  kind_space apart kind items its xs few n e =
+      let named = names.items (space_of kind) in
+      let b : ℕ = before kind in
+      let start : b ≡ 0 + b = omega arith in
+      let first = imported_ids-held names (extern_items early) (extern_id early) kind no_numbers m.imports ∙ ap (λ (k : ℕ). identifiers_at named k b) (none_before kind) in
+      let rest = declared_numbered items named its b xs ∙ ap (λ (k : ℕ). identifiers_at named k (length xs)) start in
+      let are : imported_ids kind own_imports ++ declared (map_numbered items b xs) ≡ identifiers named n =
+      ap₂ (λ x y. x ++ y) first rest ∙ identifiers_at-more named 0 b (length xs) ∙ ap (identifiers_at named 0) (sym e) in
+      let fits : n ≤ 2 ^ 64 = omega (arith, e, few) in
+      ap index_space are ∙ identifiers_space named (apart.items (space_of kind)) n fits
 
-  unnamed_memory : (x : Placed MemoryType) → (identified (memory_items x.value)).0 ≡ None
-  unnamed_memory x = ap (λ y. y.0) (identified-memory x.value)
+  -- numbers of what is defined, behind what is imported
+  pub numbers_fit : IsRanged m → (kind : ExternKind) (n : ℕ) → n < 2 ^ 32 → before kind + n ≤ 2 ^ 64
+  numbers_fit h kind n small = omega (arith, small, h.imports, imports_few kind (without_places m.imports), length-map m.imports (λ i. i.value))
 
-  unnamed_global : (g : Placed (Global (Placed Operator))) → (identified (own_global g)).0 ≡ None
-  unnamed_global g = ap (λ y. y.0) (identified-global_type g.value.type (constant_items own_types (without_places g.value.init)))
+  -- a space of what is not imported
+  alone_space : {A : Type 0} → AreApart names → (space : Space) (items : ℕ → A → Forest) → ((i : ℕ) (x : A) → (identified (items i x)).0 ≡ id (names.items space i)) →
+      (xs : List A) (n : ℕ) → n < 2 ^ 32 → n ≡ length xs →
+      index_space (declared (map_numbered items 0 xs)) ≡ Some (identifiers (names.items space) n)
+  alone_space apart space items its xs n small e =
+      ap index_space (declared_numbered items (names.items space) its 0 xs ∙ ap (identifiers_at (names.items space) 0) (sym e))
+      ∙ identifiers_space (names.items space) (apart.items space) n (omega (arith, small))
 
-  unnamed_element : (e : Placed ElementEntry) → (identified (own_element false e)).0 ≡ None
-  unnamed_element e = ap (λ y. y.0) (identified-element own_types e.value)
+  -- no more types than can be counted
+  types_fit : IsRanged m → length own_types ≤ 2 ^ 64
+  types_fit h = omega (arith, h.types, types_few m.types h.each_group)
 
-  unnamed_data : (d : Placed (Data (Placed Operator))) → (identified (own_data false d)).0 ≡ None
-  unnamed_data d = ap (λ y. y.0) (identified-data own_types (data_without_places d.value))
+  types_space : AreApart names → IsRanged m → index_space (declared (concat (group_bodies names 0 m.types))) ≡ Some (own_space Types)
+  types_space apart h = ap index_space (declared_types names 0 m.types) ∙ identifiers_space (names.items Types) (apart.items Types) (length own_types) (types_fit h)
 
-  spaces_of-all_fields : spaces_of all_fields ≡ Some all_spaces
+  -- as many values as there are
+  counted : {A B : Type 0} (kind : ExternKind) (f : A → B) (xs : List A) → before kind + length (map f xs) ≡ before kind + length xs
+  counted kind f xs = ap (λ (k : ℕ). before kind + k) (length-map xs f)
+
+  spaces_of-all_fields : AreApart names → IsRanged m → spaces_of all_fields ≡ Some all_spaces
   unfolding all_fields all_spaces
-  spaces_of-all_fields =
-      let is : List (Placed Import) = m.imports in
+  spaces_of-all_fields apart h =
       rw (
-        declared_types m.types,
-        space_distinct FuncKind own_types is (own_function false) (λ f. refl) m.functions,
-        space_distinct TableKind own_types is own_table unnamed_table m.tables,
-        space_distinct MemoryKind own_types is (λ x. memory_items x.value) unnamed_memory m.memories,
-        space_distinct TagKind own_types is own_tag (λ i. refl) m.tags,
-        space_distinct GlobalKind own_types is own_global unnamed_global m.globals,
-        declared_alone (own_element false) unnamed_element m.elements,
-        declared_alone (own_data false) unnamed_data m.datas,
+        types_space apart h,
+        kind_space apart FuncKind (own_function false) (λ i f. identified-function early i f) m.functions
+            (numbers_fit h FuncKind _ h.functions) own_counts.functions (counted FuncKind function_of m.functions),
+        kind_space apart TableKind own_table (λ i t. ap (λ x. x.0) (identified-table early i (table_without_places t.value))) m.tables
+            (numbers_fit h TableKind _ h.tables) own_counts.tables (counted TableKind (λ t. table_without_places t.value) m.tables),
+        kind_space apart MemoryKind own_memory (λ i x. ap (λ y. y.0) (identified-memory early i x.value)) m.memories
+            (numbers_fit h MemoryKind _ h.memories) own_counts.memories (counted MemoryKind (λ x. x.value) m.memories),
+        kind_space apart TagKind own_tag (λ i tag. identified-tag early i tag.value) m.tags
+            (numbers_fit h TagKind _ h.tags) own_counts.tags (counted TagKind (λ x. x.value) m.tags),
+        kind_space apart GlobalKind own_global (λ i g. ap (λ x. x.0) (identified-global early i (global_without_places g.value))) m.globals
+            (numbers_fit h GlobalKind _ h.globals) own_counts.globals (counted GlobalKind (λ g. global_without_places g.value) m.globals),
+        alone_space apart row.Elem (own_element false) (λ i e. ap (λ x. x.0) (identified-element early i e.value)) m.elements own_counts.elems
+            (omega (arith, h.elements, length-map m.elements (λ e. element_without_places e.value))) (length-map m.elements (λ e. element_without_places e.value)),
+        alone_space apart row.Data (own_data false) (λ i d. ap (λ x. x.0) (identified-data late i (data_without_places d.value))) m.datas own_counts.datas
+            (omega (arith, h.datas, length-map m.datas (λ d. data_without_places d.value))) (length-map m.datas (λ d. data_without_places d.value)),
       )
 
-  -- what functions, tags, expressions and exports are read with
+  -- ---- what fields are read with
+
+  abbrev own_groups : List (List (text.Declared SubType))
+  own_groups = declared_groups names 0 m.types
+
   abbrev whole_context : Context
-  whole_context = context all_spaces (groups_of m.types)
+  whole_context = context all_spaces own_groups
 
-  -- what expressions are laid out by and read with
-  in_one_line : IsRanged m → HaveSameTypes (in_line own_types) whole_context (counts_of (module_of m))
-  in_one_line r = record { read = λ i. refl; counted = λ i. refl; in_range = signatures_ranged r }
+  own_signatures : (i : ℕ) → whole_context.signature i ≡ signature_at own_types i
+  own_signatures i = ap (λ gs. signature_at (all_types gs) i) (group_types-declared names 0 m.types)
 
-  read_function-own : IsRanged m → (f : PlacedFunction) → IsRangedFunction f × IsIndexedFunction (module_of m) (function_of f) →
-      read_function whole_context (own_function false f) ≡ Some (function_of f)
-  unfolding own_type
-  read_function-own r f h =
-      let t : FuncType = h.1.type_index.0 in
-      let own : signature_at own_types f.type_index ≡ Some t = h.1.type_index.1 in
-      let ranged : IsRangedFunc t = subst IsSignatureInRange own (signatures_ranged r f.type_index) in
-      ap (λ s. read_function whole_context (function_items false own_types s f)) own
-      ∙ read_function-items whole_context own_types (counts_in (module_of m) (function_of f))
-      (record { read = λ i. refl; counted = λ i. refl; in_range = signatures_ranged r }) t f own ranged h.0 h.1.operators
+  module _ (apart : AreApart names) (k : IsIndexed (module_of m)) (h : IsRanged m) where
+    spaces_are : (f : ℕ) (space : Space) → space_in all_spaces space ≡ identifiers (in_function names f space) (count_in own_counts space)
+    unfolding all_spaces
+    spaces_are f Types = refl
+    spaces_are f Func = refl
+    spaces_are f row.Table = refl
+    spaces_are f row.Memory = refl
+    spaces_are f row.Tag = refl
+    spaces_are f row.Global = refl
+    spaces_are f row.Elem = refl
+    spaces_are f row.Data = refl
+    spaces_are f row.Local = refl
+    spaces_are f row.Label = refl
 
-  read_tag-own : IsRanged m → (i : Placed ℕ) → (i.value < 2 ^ 32) × NamesFunction (module_of m) i.value → read_tag whole_context (own_tag i) ≡ Some i.value
-  unfolding own_type
-  read_tag-own r i h =
-      let t : FuncType = h.1.0 in
-      let own : signature_at own_types i.value ≡ Some t = h.1.1 in
-      let ranged : IsRangedFunc t = subst IsSignatureInRange own (signatures_ranged r i.value) in
-      ap (λ s. read_tag whole_context (tag_items s i.value)) own ∙ read_tag-items whole_context t i.value own ranged h.0
+    spaces_few : (space : Space) → count_in own_counts space ≤ 2 ^ 64
+    spaces_few Types = types_fit h
+    spaces_few Func = omega (arith, numbers_fit h FuncKind _ h.functions, length-map m.functions function_of)
+    spaces_few row.Table = omega (arith, numbers_fit h TableKind _ h.tables, length-map m.tables (λ t. table_without_places t.value))
+    spaces_few row.Memory = omega (arith, numbers_fit h MemoryKind _ h.memories, length-map m.memories (λ x. x.value))
+    spaces_few row.Tag = omega (arith, numbers_fit h TagKind _ h.tags, length-map m.tags (λ x. x.value))
+    spaces_few row.Global = omega (arith, numbers_fit h GlobalKind _ h.globals, length-map m.globals (λ g. global_without_places g.value))
+    spaces_few row.Elem = omega (arith, h.elements, length-map m.elements (λ e. element_without_places e.value))
+    spaces_few row.Data = omega (arith, h.datas, length-map m.datas (λ d. data_without_places d.value))
+    spaces_few row.Local = omega arith
+    spaces_few row.Label = omega arith
 
-  has_type : (t : ExternType) → indexed.IsIndexedExtern (module_of m) t → HasType whole_context t
-  has_type (FuncExtern i) k = k
-  has_type (TableExtern t) k = tt
-  has_type (MemoryExtern t) k = tt
-  has_type (GlobalExtern t) k = tt
-  has_type (TagExtern i) k = k
+    same_types : (f : ℕ) → HaveSameTypes (in_line (scope_of own_types names f)) whole_context own_counts
+    same_types f = record { read = own_signatures; counted = λ i. refl; in_range = signatures_ranged h }
 
-  read_import-own : IsRanged m → (i : Placed Import) → IsRangedImport i.value × IsIndexedImport (module_of m) i.value →
-      read_import whole_context (own_import i) ≡ Some i.value
-  read_import-own r i h = read_import-items whole_context own_types (λ j. refl) (signatures_ranged r) i.value h.0 (has_type i.value.type h.1)
+    same_names : (f : ℕ) → HaveSameNames (in_line (scope_of own_types names f)) whole_context own_counts
+    same_names f = record {
+      spaces = spaces_are f;
+      fields = λ t fs e. field_space-declared names m.types t fs e;
+      few = spaces_few;
+      few_fields = λ t fs e. let less = own_fields_few m.types t fs h.each_group e in omega (arith, less);
+      functions = λ t s e. own_signature_counted m.types t s e;
+      signatures = λ t s e. own_signature_declared (length own_types) m.types t s k.types e;
+      structures = λ t fs e. own_fields_counted m.types t fs e;
+    }
 
-  indexed_init : (r : IsRanged m) (i : Option (List (Placed Operator))) → indexed.IsIndexedInit (module_of m) (option_map without_places i) →
-      tables.IsIndexedInit whole_context own_types (counts_of (module_of m)) (in_one_line r) i
-  indexed_init r None k = tt
-  indexed_init r (Some os) k = k
+    scoped : (f : ℕ) → AreScoped (scope_of own_types names f) whole_context own_counts
+    scoped f = record { types = same_types f; names = same_names f; apart = apart; few = λ i. own_parameters_few m.types i h.each_group }
 
-  read_table-own : (r : IsRanged m) (t : Placed (Table (Placed Operator))) →
-      (IsRangedTable t.value × HasNoEmptyInit t.value.init) × IsIndexedTable (module_of m) (table_without_places t.value) →
-      read_table whole_context (own_table t) ≡ Some (table_without_places t.value)
-  read_table-own r t h =
-      read_table-items whole_context own_types (counts_of (module_of m)) (in_one_line r) t.value h.0.0 h.0.1 (indexed_init r t.value.init h.1.init)
+    -- ---- each field
 
-  read_global-own : (r : IsRanged m) (g : Placed (Global (Placed Operator))) →
-      IsRangedGlobal g.value × IsIndexedGlobal (module_of m) (global_without_places g.value) →
-      read_global whole_context (own_global g) ≡ Some (global_without_places g.value)
-  read_global-own r g h = read_global-items whole_context own_types (counts_of (module_of m)) (in_one_line r) g.value h.0 h.1.init
+    read_function-own : (i : ℕ) (f : PlacedFunction) → IsRangedFunction f × IsIndexedFunction (module_of m) (function_of f) →
+        read_function whole_context (own_function false i f) ≡ Some (function_of f)
+    read_function-own i f d =
+        let few : variable_count (signature_at own_types f.type_index) f ≤ 2 ^ 64 =
+        variables_few _ f.body.value.locals (own_parameters_few m.types f.type_index h.each_group) d.0.body.groups d.0.body.locals in
+        read_function-items early whole_context own_counts (scoped early.function) i d.1.type_index.0 f d.1.type_index.1 d.0 d.1.locals few d.1.operators
 
-  indexed_mode : (r : IsRanged m) (x : Mode (Placed Operator)) → indexed.IsIndexedMode (module_of m) (mode_without_places x) →
-      elements.IsIndexedMode whole_context own_types (counts_of (module_of m)) (in_one_line r) x
-  indexed_mode r Passive k = tt
-  indexed_mode r Declared k = tt
-  indexed_mode r (Active t offset) k = k.1
+    read_tag-own : (i : ℕ) (tag : Placed ℕ) → (tag.value < 2 ^ 32) × NamesFunction (module_of m) tag.value → read_tag whole_context (own_tag i tag) ≡ Some tag.value
+    read_tag-own i tag d = read_tag-items early whole_context own_counts (scoped early.function) i d.1.0 tag.value d.1.1 d.0
 
-  indexed_expressions : (r : IsRanged m) (es : List (List (Placed Operator))) →
-      AllByRecursion (indexed.IsIndexedExpression (module_of m)) (map without_places es) →
-      AllByRecursion (AreIndexed whole_context own_types (counts_of (module_of m)) (in_one_line r)) es
-  indexed_expressions r [] k = tt
-  indexed_expressions r (e ∷ es) k = (k.0, indexed_expressions r es k.1)
+    scoped_extern : (t : ExternType) → indexed.IsIndexedExtern (module_of m) t → IsScopedExtern early own_counts t
+    scoped_extern (FuncExtern i) d = d
+    scoped_extern (TableExtern t) d = d
+    scoped_extern (MemoryExtern t) d = tt
+    scoped_extern (GlobalExtern t) d = d
+    scoped_extern (TagExtern i) d = d
 
-  indexed_items : (r : IsRanged m) (is : Items (Placed Operator)) → indexed.AreIndexedItems (module_of m) (items_without_places is) →
-      elements.AreIndexedItems whole_context own_types (counts_of (module_of m)) (in_one_line r) is
-  indexed_items r (Functions is) k = tt
-  indexed_items r (Expressions t es) k = indexed_expressions r es k.1
+    read_imports-held : (n : Numbers) (is : List (Placed Import)) → AllByRecursion (λ i. IsRangedImport i.value) is → AllByRecursion (IsIndexedImport (module_of m)) (without_places is) →
+        each (read_import whole_context) (imports_held early n is) ≡ Some (without_places is)
+    read_imports-held n [] r d = refl
+    read_imports-held n (i ∷ is) r d =
+        rw (
+          read_import-items early whole_context own_counts (scoped early.function) (number_of i.value.type n) i.value r.0 (scoped_extern i.value.type d.0),
+          read_imports-held (numbers_behind i.value.type n) is r.1 d.1,
+        )
 
-  read_element-own : (r : IsRanged m) (e : Placed ElementEntry) → IsRangedElement e.value × IsIndexedElement (module_of m) (element_without_places e.value) →
-      read_element whole_context (own_element false e) ≡ Some (element_without_places e.value)
-  read_element-own r e h =
-      read_element-items whole_context own_types (counts_of (module_of m)) (in_one_line r) e.value h.0
-      (indexed_mode r e.value.element.mode h.1.mode) (indexed_items r e.value.element.items h.1.items)
+    indexed_init : (i : Option (List (Placed Operator))) → indexed.IsIndexedInit (module_of m) (option_map without_places i) →
+        tables.IsIndexedInit early whole_context own_counts (scoped early.function) i
+    indexed_init None d = tt
+    indexed_init (Some os) d = d
 
-  indexed_data_mode : (r : IsRanged m) (x : DataMode (Placed Operator)) → indexed.IsIndexedDataMode (module_of m) (data_mode_without_places x) →
-      datas.IsIndexedMode whole_context own_types (counts_of (module_of m)) (in_one_line r) x
-  indexed_data_mode r PassiveData k = tt
-  indexed_data_mode r (ActiveData memory offset) k = k.1
+    read_table-own : (i : ℕ) (t : Placed (Table (Placed Operator))) →
+        (IsRangedTable t.value × HasNoEmptyInit t.value.init) × IsIndexedTable (module_of m) (table_without_places t.value) →
+        read_table whole_context (own_table i t) ≡ Some (table_without_places t.value)
+    read_table-own i t d =
+        read_table-items early whole_context own_counts (scoped early.function) i t.value d.0.0 d.0.1 d.1.element (indexed_init t.value.init d.1.init)
 
-  read_data-own : (r : IsRanged m) (d : Placed (Data (Placed Operator))) → IsRangedData d.value × IsIndexedData (module_of m) (data_without_places d.value) →
-      read_data whole_context (own_data false d) ≡ Some (data_without_places d.value)
-  read_data-own r d h =
-      read_data-items whole_context own_types (counts_of (module_of m)) (in_one_line r) d.value h.0 (indexed_data_mode r d.value.mode h.1)
+    read_global-own : (i : ℕ) (g : Placed (Global (Placed Operator))) → IsRangedGlobal g.value × IsIndexedGlobal (module_of m) (global_without_places g.value) →
+        read_global whole_context (own_global i g) ≡ Some (global_without_places g.value)
+    read_global-own i g d = read_global-items early whole_context own_counts (scoped early.function) i g.value d.0 d.1.type d.1.init
 
-  module _ (k : IsIndexed (module_of m)) (h : IsRanged m) where
-    read_imports : each (read_import whole_context) (map own_import m.imports) ≡ Some (without_places m.imports)
-    read_imports =
-        each-items (read_import whole_context) own_import (λ i. i.value) (read_import-own h) m.imports
-        (both_of_each (λ i. IsRangedImport i.value) (IsIndexedImport (module_of m)) (λ i. i.value) m.imports h.each_import k.imports)
+    read_export-own : (i : ℕ) (e : Placed Export) → IsRangedExport e.value × IsIndexedExport (module_of m) e.value → read_export whole_context (own_export i e) ≡ Some e.value
+    read_export-own i e d = read_export-items early whole_context own_counts (scoped early.function) e.value d.0 d.1
 
-    read_functions : each (read_function whole_context) (map (own_function false) m.functions) ≡ Some (map function_of m.functions)
+    indexed_start : (start : Option (Placed ℕ)) → indexed.IsStart (module_of m) (option_map (λ i. i.value) start) → IsIndexedStart own_counts start
+    indexed_start None d = tt
+    indexed_start (Some i) d = d
+
+    indexed_mode : (x : Mode (Placed Operator)) → indexed.IsIndexedMode (module_of m) (mode_without_places x) →
+        elements.IsIndexedMode early whole_context own_counts (scoped early.function) x
+    indexed_mode Passive d = tt
+    indexed_mode Declared d = tt
+    indexed_mode (Active t offset) d = d
+
+    indexed_expressions : (es : List (List (Placed Operator))) → AllByRecursion (indexed.IsIndexedExpression (module_of m)) (map without_places es) →
+        AllByRecursion (AreIndexed own_counts) es
+    indexed_expressions [] d = tt
+    indexed_expressions (e ∷ es) d = (d.0, indexed_expressions es d.1)
+
+    indexed_items : (is : Items (Placed Operator)) → indexed.AreIndexedItems (module_of m) (items_without_places is) →
+        elements.AreIndexedItems early whole_context own_counts (scoped early.function) is
+    indexed_items (Functions is) d = d
+    indexed_items (Expressions t es) d = (d.0, indexed_expressions es d.1)
+
+    read_element-own : (i : ℕ) (e : Placed ElementEntry) → IsRangedElement e.value × IsIndexedElement (module_of m) (element_without_places e.value) →
+        read_element whole_context (own_element false i e) ≡ Some (element_without_places e.value)
+    read_element-own i e d =
+        read_element-items early whole_context own_counts (scoped early.function) i e.value d.0
+        (indexed_mode e.value.element.mode d.1.mode) (indexed_items e.value.element.items d.1.items)
+
+    indexed_data_mode : (x : DataMode (Placed Operator)) → indexed.IsIndexedDataMode (module_of m) (data_mode_without_places x) →
+        datas.IsIndexedMode late whole_context own_counts (scoped late.function) x
+    indexed_data_mode PassiveData d = tt
+    indexed_data_mode (ActiveData memory offset) d = d
+
+    read_data-own : (i : ℕ) (d : Placed (Data (Placed Operator))) → IsRangedData d.value × IsIndexedData (module_of m) (data_without_places d.value) →
+        read_data whole_context (own_data false i d) ≡ Some (data_without_places d.value)
+    read_data-own i x d = read_data-items late whole_context own_counts (scoped late.function) i x.value d.0 (indexed_data_mode x.value.mode d.1)
+
+    -- ---- all fields of each kind
+
+    read_functions : each (read_function whole_context) (map_numbered (own_function false) (before FuncKind) m.functions) ≡ Some (map function_of m.functions)
     read_functions =
-        each-items (read_function whole_context) (own_function false) function_of (read_function-own h) m.functions
+        each-numbered (read_function whole_context) (own_function false) function_of read_function-own _ m.functions
         (both_of_each IsRangedFunction (IsIndexedFunction (module_of m)) function_of m.functions h.each_function k.functions)
 
     read_tables : AllByRecursion (λ t. HasNoEmptyInit t.value.init) m.tables →
-        each (read_table whole_context) (map own_table m.tables) ≡ Some (each_value table_without_places m.tables)
+        each (read_table whole_context) (map_numbered own_table (before TableKind) m.tables) ≡ Some (each_value table_without_places m.tables)
     read_tables some =
-        each-items (read_table whole_context) own_table (λ t. table_without_places t.value) (read_table-own h) m.tables
+        each-numbered (read_table whole_context) own_table (λ t. table_without_places t.value) read_table-own _ m.tables
         (both_of_each (λ t. IsRangedTable t.value × HasNoEmptyInit t.value.init) (IsIndexedTable (module_of m)) (λ t. table_without_places t.value) m.tables
         (and_each (λ t. IsRangedTable t.value) (λ t. HasNoEmptyInit t.value.init) m.tables h.each_table some) k.tables)
 
-    read_memories : each read_memory (map (λ x. memory_items x.value) m.memories) ≡ Some (without_places m.memories)
-    read_memories = each-items read_memory (λ x. memory_items x.value) (λ x. x.value) (λ x r. read_memory-items x.value r) m.memories h.each_memory
+    read_memories : each read_memory (map_numbered own_memory (before MemoryKind) m.memories) ≡ Some (without_places m.memories)
+    read_memories =
+        each-numbered read_memory own_memory (λ x. x.value) (λ i x r. read_memory-items early i x.value r) _ m.memories h.each_memory
 
-    read_tags : each (read_tag whole_context) (map own_tag m.tags) ≡ Some (without_places m.tags)
+    read_tags : each (read_tag whole_context) (map_numbered own_tag (before TagKind) m.tags) ≡ Some (without_places m.tags)
     read_tags =
-        each-items (read_tag whole_context) own_tag (λ i. i.value) (read_tag-own h) m.tags
-        (both_of_each (λ i. i.value < 2 ^ 32) (NamesFunction (module_of m)) (λ i. i.value) m.tags h.each_tag k.tags)
+        each-numbered (read_tag whole_context) own_tag (λ tag. tag.value) read_tag-own _ m.tags
+        (both_of_each (λ tag. tag.value < 2 ^ 32) (NamesFunction (module_of m)) (λ tag. tag.value) m.tags h.each_tag k.tags)
 
-    read_globals : each (read_global whole_context) (map own_global m.globals) ≡ Some (each_value global_without_places m.globals)
+    read_globals : each (read_global whole_context) (map_numbered own_global (before GlobalKind) m.globals) ≡ Some (each_value global_without_places m.globals)
     read_globals =
-        each-items (read_global whole_context) own_global (λ g. global_without_places g.value) (read_global-own h) m.globals
+        each-numbered (read_global whole_context) own_global (λ g. global_without_places g.value) read_global-own _ m.globals
         (both_of_each (λ g. IsRangedGlobal g.value) (IsIndexedGlobal (module_of m)) (λ g. global_without_places g.value) m.globals h.each_global k.globals)
 
-    read_exports : each (read_export whole_context) (map (λ e. export_items e.value) m.exports) ≡ Some (without_places m.exports)
+    read_exports : each (read_export whole_context) (map_numbered own_export 0 m.exports) ≡ Some (without_places m.exports)
     read_exports =
-        each-items (read_export whole_context) (λ e. export_items e.value) (λ e. e.value)
-        (λ e r. read_export-items whole_context e.value r) m.exports h.each_export
+        each-numbered (read_export whole_context) own_export (λ e. e.value) read_export-own 0 m.exports
+        (both_of_each (λ e. IsRangedExport e.value) (IsIndexedExport (module_of m)) (λ e. e.value) m.exports h.each_export k.exports)
 
-    read_elements : each (read_element whole_context) (map (own_element false) m.elements) ≡ Some (each_value element_without_places m.elements)
+    read_elements : each (read_element whole_context) (map_numbered (own_element false) 0 m.elements) ≡ Some (each_value element_without_places m.elements)
     read_elements =
-        each-items (read_element whole_context) (own_element false) (λ e. element_without_places e.value) (read_element-own h) m.elements
-        (both_of_each (λ e. IsRangedElement e.value) (IsIndexedElement (module_of m))
-        (λ e. element_without_places e.value) m.elements h.each_element k.elements)
+        each-numbered (read_element whole_context) (own_element false) (λ e. element_without_places e.value) read_element-own 0 m.elements
+        (both_of_each (λ e. IsRangedElement e.value) (IsIndexedElement (module_of m)) (λ e. element_without_places e.value) m.elements h.each_element k.elements)
 
-    read_datas : each (read_data whole_context) (map (own_data false) m.datas) ≡ Some (each_value data_without_places m.datas)
+    read_datas : each (read_data whole_context) (map_numbered (own_data false) 0 m.datas) ≡ Some (each_value data_without_places m.datas)
     read_datas =
-        each-items (read_data whole_context) (own_data false) (λ d. data_without_places d.value) (read_data-own h) m.datas
+        each-numbered (read_data whole_context) (own_data false) (λ d. data_without_places d.value) read_data-own 0 m.datas
         (both_of_each (λ d. IsRangedData d.value) (IsIndexedData (module_of m)) (λ d. data_without_places d.value) m.datas h.each_data k.datas)
+
+    read_types : each (read_group all_spaces.types) (group_bodies names 0 m.types) ≡ Some own_groups
+    unfolding all_spaces
+    read_types =
+        read_groups-items names (own_space Types) (type_bound early whole_context own_counts (scoped early.function))
+        (type_indices-read early whole_context own_counts (scoped early.function)) apart.fields 0 m.types
+        (all_bounded own_counts.types (groups_of m.types) (groups_ranged m.types h.each_group) k.types) h.each_group
 
     module_of-all_fields : AllByRecursion (λ t. HasNoEmptyInit t.value.init) m.tables → module_of_fields all_fields ≡ Some (module_of m)
     unfolding all_fields
     module_of-all_fields some =
         rw (
-          spaces_of-all_fields,
-          read_groups-items all_spaces.types m.types h.each_group,
-          read_imports,
+          spaces_of-all_fields apart h,
+          read_types,
+          read_imports-held no_numbers m.imports h.each_import k.imports,
           read_functions,
           read_tables some,
           read_memories,
           read_tags,
           read_globals,
           read_exports,
-          read_start-items all_spaces m.start h.start,
+          read_start-items early whole_context own_counts (scoped early.function) m.start h.start (indexed_start m.start k.start),
           read_elements,
           read_datas,
+          group_types-declared names 0 m.types,
         )
 
   -- no identifier stands before the fields
-  no_identifier : (identified (module_items false)).1 ≡ module_items false
-  unfolding module_items IsUnnamed
+  no_identifier : IsUnidentified (module_items false)
+  unfolding module_items
   no_identifier =
-      ap (λ x. x.1) (unnamed_types m.types _
-      (unnamed_rows _ _
-      (unnamed_rows _ _
-      (unnamed_rows _ _
-      (unnamed_rows _ _
-      (unnamed_rows _ _
-      (unnamed_rows _ _
-      (unnamed_start m.start _
-      (unnamed_rows _ _
-      (unnamed_rows _ _
-      (rw onto-End at (unnamed_rows (map (λ d. Word (codes "data") (own_data false d)) m.datas) End refl))))))))))))
+      unidentified_types names 0 m.types _
+      (unidentified_imports early no_numbers m.imports _
+      (unidentified_rows _ _
+      (unidentified_rows _ _
+      (unidentified_rows _ _
+      (unidentified_rows _ _
+      (unidentified_rows _ _
+      (unidentified_start early m.start _
+      (unidentified_rows _ _
+      (unidentified_rows _ _
+      (rw onto-End at (unidentified_rows (map_numbered (λ i d. Word (codes "data") (own_data false i d)) 0 m.datas) End refl)))))))))))
 
-  pub module_reads : IsIndexed (module_of m) → IsRanged m → AllByRecursion (λ t. HasNoEmptyInit t.value.init) m.tables →
-      read_forest (Group (Word (codes "module") (module_items false)) End) ≡ Some (module_of m)
-  module_reads k h some = rw (no_identifier, fields-module_items h, module_of-all_fields k h some)
+  -- behind the word `module` stand the module's identifier and its fields
+  pub module_reads : AreApart names → IsIndexed (module_of m) → IsRanged m → AllByRecursion (λ t. HasNoEmptyInit t.value.init) m.tables →
+      read_forest (Group (Word (codes "module") (onto (id_items names.module_name) (module_items false))) End) ≡ Some (module_of m)
+  module_reads apart k h some =
+      rw (declaration-items names.module_name (module_items false) no_identifier, fields-module_items h, module_of-all_fields apart k h some)

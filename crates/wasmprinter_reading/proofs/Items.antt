@@ -1,9 +1,9 @@
 -- What readers of rows of items read: single items, items in a row, declarations without identifiers.
-use Rattle.std.proofs.Common.{◌≡◌, ◌⊎◌, inl, inr, ℕ, ◌<◌, ◌^◌, true, List, [], ◌∷◌, ◌++◌, Option, Some, None, ap, refl, decimal, arith, append-nil, map}
+use Rattle.std.proofs.Common.{◌≡◌, ◌⊎◌, inl, inr, ℕ, ◌<◌, ◌^◌, List, [], ◌∷◌, Option, Some, None, refl, decimal, arith, map}
 use Rattle.std.proofs.lemmas.Bool.{lt-ltb}
 use Rattle.wasmprinter_spec.specs.Forest.{Forest, End, Word, Group, onto}
-use Rattle.wasmprinter_spec.specs.IndexSpaces.{Identifiers, are_distinct, index_space, index}
-use Rattle.wasmprinter_spec.specs.Text.Items.{one_item, all_items, leading_item, groups, Declaration, declaration, declarations, ids_of, types_of}
+use Rattle.wasmprinter_spec.specs.IndexSpaces.{Identifiers, index}
+use Rattle.wasmprinter_spec.specs.Text.Items.{one_item, all_items, leading_item, groups, Declaration, declaration, declarations}
 use Rattle.wasmprinter_lexical.proofs.Numbers.{natural-decimal}
 
 -- ---- one item
@@ -45,7 +45,7 @@ index-decimal ids n h = rw (natural-decimal n (omega arith), lt-ltb n (2 ^ 32) h
 
 -- ---- declarations
 
--- printed parameters, locals and fields have no identifiers
+-- parameters, locals and fields without identifiers
 abbrev pub unnamed : {A : Type 0} → List A → List (Declaration A)
 unnamed xs = map (declaration None) xs
 
@@ -54,28 +54,6 @@ pub declarations-items : {A : Type 0} (read : Forest → Option (List A)) (word 
     ReadsItem word group f x → read (onto f g) ≡ Some xs → declarations read (onto f g) ≡ Some (unnamed xs)
 declarations-items read word group f x g xs (inl r) e = let e2 : read (Word r.name g) ≡ Some xs = rw r.is at e in rw (r.is, e2)
 declarations-items read word group f x g xs (inr r) e = let e2 : read (Group r.held g) ≡ Some xs = rw r.is at e in rw (r.is, e2)
-
-pub types_of-unnamed : {A : Type 0} (xs : List A) → types_of (unnamed xs) ≡ xs
-types_of-unnamed [] = refl
-types_of-unnamed (x ∷ xs) = ap (λ ys. x ∷ ys) (types_of-unnamed xs)
-
--- Declarations without identifiers, before others, are distinct if those are.
-pub unnamed_are_distinct : {A : Type 0} (xs : List A) (ids : Identifiers) → are_distinct ids ≡ true → are_distinct (ids_of (unnamed xs) ++ ids) ≡ true
-unnamed_are_distinct [] ids h = h
-unnamed_are_distinct (x ∷ xs) ids h = unnamed_are_distinct xs ids h
-
-pub unnamed_space : {A : Type 0} (xs : List A) → index_space (ids_of (unnamed xs)) ≡ Some (ids_of (unnamed xs))
-unnamed_space xs =
-    let h : are_distinct (ids_of (unnamed xs) ++ []) ≡ true = unnamed_are_distinct xs [] refl in
-    let k : are_distinct (ids_of (unnamed xs)) ≡ true = rw append-nil at h in
-    rw k
-
--- two kinds of them are one space too
-pub unnamed_spaces : {A B : Type 0} (xs : List A) (ys : List B) → index_space (ids_of (unnamed xs) ++ ids_of (unnamed ys)) ≡ Some (ids_of (unnamed xs) ++ ids_of (unnamed ys))
-unnamed_spaces xs ys =
-    let second : are_distinct (ids_of (unnamed ys) ++ []) ≡ true = unnamed_are_distinct ys [] refl in
-    let h : are_distinct (ids_of (unnamed xs) ++ ids_of (unnamed ys)) ≡ true = unnamed_are_distinct xs (ids_of (unnamed ys)) (rw append-nil at second) in
-    rw h
 
 -- ---- groups
 

@@ -1,17 +1,21 @@
 -- Worked rows: lists of operators that meet what their law asks for, and the texts that therefore read back.
-use Rattle.std.proofs.Common.{◌≡◌, ℕ, zero, suc, pos, inl, ◌∷◌, [], List, Option, Some, None, true, false, refl, sym, ap, ◌∙◌, codes, arith, lit<}
+use Rattle.std.proofs.Common.{◌≡◌, ℕ, zero, suc, pos, inl, ◌∷◌, [], List, length, Bool, Option, Some, None, true, false, refl, sym, ap, ◌∙◌, subst, codes, arith, lit<, ◌<◌, ◌≤◌, ◌^◌}
 use Rattle.std.specs.Fmt.{digits}
 use Rattle.std.specs.Str.{chars}
 use Rattle.std.proofs.lemmas.Int.{ints}
-use Rattle.wasmprinter_spec.specs.Grammar.{Placed}
+use Rattle.wasmprinter_spec.specs.Grammar.{Placed, some_is}
 use Rattle.wasmprinter_spec.specs.Types as types
 use Rattle.wasmprinter_spec.specs.Types.{FieldType, FuncType}
+use Rattle.wasmprinter_spec.specs.Row as row
+use Rattle.wasmprinter_spec.specs.Row.{Space}
 use Rattle.wasmprinter_spec.specs.Operator.{opcode, Empty, Value, OfType, Immediates, NoImmediates, Block, Index, Indices, Types, Heap, mem_arg_of, Memory, I32, F32, Bytes, Operator}
 use Rattle.wasmprinter_spec.specs.Table.{table}
 use Rattle.wasmprinter_spec.specs.Nesting.{none, plain, block}
 use Rattle.wasmprinter_spec.specs.Module.{without_places}
-use Rattle.wasmprinter_spec.specs.Indexed.{Counts}
-use Rattle.wasmprinter_spec.specs.LabelNames.{label_naming}
+use Rattle.wasmprinter_spec.specs.Indexed.{Counts, IsDeclaredFunc}
+use Rattle.wasmprinter_spec.specs.Labels.{Named}
+use Rattle.wasmprinter_spec.specs.Names.Section.{Entry, function_subsection, local_subsection, label_subsection, type_subsection, field_subsection}
+use Rattle.wasmprinter_spec.specs.Names.{Names, names_of, identifiers, in_function}
 use Rattle.wasmprinter_spec.specs.Quoted.{identifier_text}
 use Rattle.wasmprinter_spec.specs.Character.{class}
 use Rattle.wasmprinter_spec.specs.FloatText.{digits_behind, unsigned_text, float_text, unsigned_calls, float_calls}
@@ -19,61 +23,139 @@ use Rattle.wasmprinter_spec.specs.Call.{text_of}
 use Rattle.wasmprinter_spec.specs.Options.{defaults, IsBlank}
 use Rattle.wasmprinter_spec.specs.Piece.{all_calls, repeated}
 use Rattle.wasmprinter_spec.specs.Layout.Groups.{line_group, line_group_gap}
-use Rattle.wasmprinter_spec.specs.Layout.Types.{heap_pieces, null_ref_pieces, ref_pieces, val_pieces, type_list, list_group, signature_pieces}
-use Rattle.wasmprinter_spec.specs.Layout.Operators.{Form, OverLines, InLine, Setting, mark_pieces, label_pieces, id_pieces, ending_pieces, block_pieces, index_pieces, default_index_pieces, select_pieces, offset_pieces, align_pieces, mem_arg_pieces, hex_words, vector_pieces, immediate_pieces, operator_pieces, operators_pieces, expression_pieces}
-use Rattle.wasmprinter_spec.specs.IndexSpaces.{Spaces, Context}
+use Rattle.wasmprinter_spec.specs.Layout.Identifiers.{mark_pieces, leading_mark_pieces, index_pieces}
+use Rattle.wasmprinter_spec.specs.Layout.ValTypes.{type_index_pieces, heap_pieces, null_ref_pieces, ref_pieces, val_pieces, type_list}
+use Rattle.wasmprinter_spec.specs.Layout.Variables.{variables_pieces, groups_pieces}
+use Rattle.wasmprinter_spec.specs.Layout.Types.{list_group, signature_pieces, type_use_pieces}
+use Rattle.wasmprinter_spec.specs.Layout.Operators.{Form, OverLines, InLine, Setting, label_pieces, ending_pieces, block_pieces, operand_pieces, default_index_pieces, type_and_field_pieces, select_pieces, offset_pieces, align_pieces, mem_arg_pieces, hex_words, vector_pieces, immediate_pieces, operator_pieces, operators_pieces, expression_pieces}
+use Rattle.wasmprinter_spec.specs.IndexSpaces.{Identifiers, Spaces, space_in, Context}
 use Rattle.wasmprinter_reading.specs.Listed.{AreSignaturesInRange}
-use Rattle.wasmprinter_reading.specs.OperatorLaws.{HaveSameTypes, AreOperators, read_alone}
-use Rattle.wasmprinter_reading.proofs.Operators.ReadBack.{named_labels_read_back}
+use Rattle.wasmprinter_reading.specs.NameLaws.{AreEntries}
+use Rattle.wasmprinter_reading.specs.OperatorLaws.{count_in, HaveSameTypes, HaveSameNames, AreOperators, read_alone}
+use Rattle.wasmprinter_reading.proofs.Operators.LabelNames.{printed_is_utf8}
+use Rattle.wasmprinter_reading.proofs.Operators.ReadBack.{named_operators_read_back}
+
+-- ---- what the rows have in common
 
 abbrev operator : ℕ → Immediates → Placed Operator
 operator n i = record { place = 0; value = record { opcode = opcode 0 n; immediates = i } }
 
--- one type, of a function of one i32
+abbrev prefixed : ℕ → ℕ → Immediates → Placed Operator
+prefixed p n i = record { place = 0; value = record { opcode = opcode p n; immediates = i } }
+
+-- two types: of a function of one i32, and a structure of one i32
+abbrev one_i32 : FuncType
+one_i32 = record { params = types.I32 ∷ []; results = [] }
+
 abbrev signature : ℕ → Option FuncType
-signature zero = Some (record { params = types.I32 ∷ []; results = [] })
+signature zero = Some one_i32
 signature (suc n) = None
 
-abbrev setting : Form → Setting
-setting form = record { form = form; signature = signature; nesting = 2 }
+abbrev fields : ℕ → Option (List FieldType)
+fields zero = None
+fields (suc zero) = Some (types.field_type false (types.Val types.I32) ∷ [])
+fields (suc (suc n)) = None
 
-abbrev spaces : Spaces
-spaces = record { types = []; functions = []; tables = []; memories = []; tags = []; globals = []; elems = []; datas = []; locals = [] }
-
-abbrev context : Context
-context = record { spaces = spaces; signature = signature }
-
--- no type is a structure
-abbrev no_fields : ℕ → Option (List FieldType)
-no_fields n = None
-
+-- two of each
 abbrev counts : Counts
 counts = record {
-  types = 1;
-  functions = 0;
-  tables = 0;
-  memories = 0;
-  tags = 0;
-  globals = 0;
-  elems = 0;
-  datas = 0;
-  locals = 0;
+  types = 2;
+  functions = 2;
+  tables = 2;
+  memories = 2;
+  tags = 2;
+  globals = 2;
+  elems = 2;
+  datas = 2;
+  locals = 2;
   signature = signature;
-  fields = no_fields;
+  fields = fields;
 }
+
+abbrev setting : Names → Form → Setting
+setting names form = record { form = form; signature = signature; nesting = 2; names = names; function = 0 }
+
+abbrev spaces : Names → Spaces
+spaces names = record {
+  types = identifiers (names.items row.Types) 2;
+  functions = identifiers (names.items row.Func) 2;
+  tables = identifiers (names.items row.Table) 2;
+  memories = identifiers (names.items row.Memory) 2;
+  tags = identifiers (names.items row.Tag) 2;
+  globals = identifiers (names.items row.Global) 2;
+  elems = identifiers (names.items row.Elem) 2;
+  datas = identifiers (names.items row.Data) 2;
+  locals = identifiers (names.locals 0) 2;
+}
+
+abbrev field_ids : (ℕ → Option Named) → Option (List FieldType) → Identifiers
+field_ids named None = []
+field_ids named (Some fs) = identifiers named (length fs)
+
+abbrev context : Names → Context
+context names = record { spaces = spaces names; signature = signature; fields = λ t. field_ids (names.fields t) (fields t) }
 
 signatures_in_range : AreSignaturesInRange signature
 signatures_in_range zero = record { params = (tt, tt); results = tt }
 signatures_in_range (suc n) = tt
 
-same_types : (form : Form) → HaveSameTypes (setting form) context counts
-same_types form = record { read = λ i. refl; counted = λ i. refl; in_range = signatures_in_range }
+module _ (names : Names) (form : Form) where
+  same_types : HaveSameTypes (setting names form) (context names) counts
+  same_types = record { read = λ i. refl; counted = λ i. refl; in_range = signatures_in_range }
 
-abbrev unnamed : ℕ → Option (List ℕ)
-unnamed n = None
+  same_spaces : (space : Space) → space_in (spaces names) space ≡ identifiers (in_function names 0 space) (count_in counts space)
+  same_spaces row.Label = refl
+  same_spaces _ = refl
+
+  few : (space : Space) → count_in counts space ≤ 2 ^ 64
+  few row.Label = omega arith
+  few _ = omega arith
+
+  few_fields : (t : ℕ) (fs : List FieldType) → fields t ≡ Some fs → length fs ≤ 2 ^ 64
+  few_fields zero fs e = absurd cc
+  few_fields (suc zero) fs e = subst (λ x. length x ≤ 2 ^ 64) (some_is _ fs e) (omega arith)
+  few_fields (suc (suc n)) fs e = absurd cc
+
+  functions_counted : (t : ℕ) (f : FuncType) → signature t ≡ Some f → t < 2
+  functions_counted zero f e = omega arith
+  functions_counted (suc n) f e = absurd cc
+
+  signatures_counted : (t : ℕ) (f : FuncType) → signature t ≡ Some f → IsDeclaredFunc 2 f
+  signatures_counted zero f e = subst (IsDeclaredFunc 2) (some_is one_i32 f e) (record { params = (tt, tt); results = tt })
+  signatures_counted (suc n) f e = absurd cc
+
+  structures_counted : (t : ℕ) (fs : List FieldType) → fields t ≡ Some fs → t < 2
+  structures_counted zero fs e = absurd cc
+  structures_counted (suc zero) fs e = omega arith
+  structures_counted (suc (suc n)) fs e = absurd cc
+
+  same_names : HaveSameNames (setting names form) (context names) counts
+  same_names = record {
+    spaces = same_spaces;
+    fields = λ t fs e. ap (field_ids (names.fields t)) e;
+    few = few;
+    few_fields = few_fields;
+    functions = functions_counted;
+    signatures = signatures_counted;
+    structures = structures_counted;
+  }
 
 two_blanks : IsBlank defaults.indent
 two_blanks = (inl refl, (inl refl, tt))
+
+-- the text of operators that have what their law asks for reads as them
+reads_by : (invents : Bool) (entries : List Entry) → AreEntries entries → (form : Form) (os : List (Placed Operator)) → AreOperators counts os →
+    read_alone (context (names_of invents entries)) (text_of (all_calls defaults (expression_pieces (setting (names_of invents entries) form) os))) ≡ Some (without_places os)
+reads_by invents entries h form os is =
+    named_operators_read_back invents entries h (setting (names_of invents entries) form) refl (context (names_of invents entries)) counts
+    (same_types (names_of invents entries) form) (same_names (names_of invents entries) form) os is defaults two_blanks
+
+-- no name sections, with identifiers made up or without
+abbrev unnamed : Names
+unnamed = names_of false []
+
+abbrev invented : Names
+invented = names_of true []
 
 -- ---- in one line
 
@@ -89,13 +171,13 @@ one_result_is = record {
   indexed = (tt, (tt, (tt, tt)));
 }
 
-one_result_text : text_of (all_calls defaults (expression_pieces (setting InLine) (label_naming false unnamed) one_result)) ≡ codes "block (result i32)  (; label = @1 ;) i32.const 1 end"
-unfolding table expression_pieces operators_pieces operator_pieces immediate_pieces id_pieces block_pieces val_pieces ending_pieces line_group_gap digits
+one_result_text : text_of (all_calls defaults (expression_pieces (setting unnamed InLine) one_result)) ≡ codes "block (result i32)  (; label = @1 ;) i32.const 1 end"
+unfolding table expression_pieces operators_pieces operator_pieces immediate_pieces leading_mark_pieces block_pieces val_pieces ending_pieces line_group_gap digits
 one_result_text = refl
 
-one_result_reads : read_alone context (codes "block (result i32)  (; label = @1 ;) i32.const 1 end") ≡ Some (without_places one_result)
+one_result_reads : read_alone (context unnamed) (codes "block (result i32)  (; label = @1 ;) i32.const 1 end") ≡ Some (without_places one_result)
 one_result_reads =
-    ap (read_alone context) (sym one_result_text) ∙ named_labels_read_back unnamed false (λ i s e. absurd cc) (setting InLine) context counts (same_types InLine) one_result one_result_is defaults two_blanks
+    ap (read_alone (context unnamed)) (sym one_result_text) ∙ reads_by false [] tt InLine one_result one_result_is
 
 -- the result of a block may name a type by its index
 abbrev reference_result : List (Placed Operator)
@@ -110,19 +192,16 @@ reference_result_is = record {
   indexed = (omega arith, (tt, tt));
 }
 
-reference_result_text : text_of (all_calls defaults (expression_pieces (setting InLine) (label_naming false unnamed) reference_result)) ≡ codes "block (result (ref 0))  (; label = @1 ;) end"
-unfolding table expression_pieces operators_pieces operator_pieces immediate_pieces id_pieces block_pieces val_pieces ref_pieces heap_pieces ending_pieces line_group_gap digits
+reference_result_text : text_of (all_calls defaults (expression_pieces (setting unnamed InLine) reference_result)) ≡ codes "block (result (ref 0))  (; label = @1 ;) end"
+unfolding table expression_pieces operators_pieces operator_pieces immediate_pieces leading_mark_pieces block_pieces val_pieces ref_pieces heap_pieces type_index_pieces index_pieces ending_pieces line_group_gap digits
 reference_result_text = refl
 
-reference_result_reads : read_alone context (codes "block (result (ref 0))  (; label = @1 ;) end") ≡ Some (without_places reference_result)
+reference_result_reads : read_alone (context unnamed) (codes "block (result (ref 0))  (; label = @1 ;) end") ≡ Some (without_places reference_result)
 reference_result_reads =
-    ap (read_alone context) (sym reference_result_text)
-    ∙ named_labels_read_back unnamed false (λ i s e. absurd cc) (setting InLine) context counts (same_types InLine) reference_result reference_result_is defaults two_blanks
+    ap (read_alone (context unnamed)) (sym reference_result_text)
+    ∙ reads_by false [] tt InLine reference_result reference_result_is
 
 -- ---- words that several operators share
-
-abbrev prefixed : ℕ → ℕ → Immediates → Placed Operator
-prefixed p n i = record { place = 0; value = record { opcode = opcode p n; immediates = i } }
 
 abbrev sharing : List (Placed Operator)
 sharing =
@@ -151,20 +230,16 @@ sharing_are = record {
   indexed = (tt, ((tt, tt), (tt, (tt, (omega arith, (omega arith, tt))))));
 }
 
-sharing_print : text_of (all_calls defaults (expression_pieces (setting InLine) (label_naming false unnamed) sharing)) ≡ sharing_text
-unfolding table expression_pieces operators_pieces operator_pieces immediate_pieces select_pieces val_pieces ref_pieces null_ref_pieces heap_pieces line_group line_group_gap digits
+sharing_print : text_of (all_calls defaults (expression_pieces (setting unnamed InLine) sharing)) ≡ sharing_text
+unfolding table expression_pieces operators_pieces operator_pieces immediate_pieces select_pieces val_pieces ref_pieces null_ref_pieces heap_pieces type_index_pieces index_pieces line_group line_group_gap digits
 sharing_print = refl
 
-sharing_read : read_alone context sharing_text ≡ Some (without_places sharing)
+sharing_read : read_alone (context unnamed) sharing_text ≡ Some (without_places sharing)
 sharing_read =
-    ap (read_alone context) (sym sharing_print)
-    ∙ named_labels_read_back unnamed false (λ i s e. absurd cc) (setting InLine) context counts (same_types InLine) sharing sharing_are defaults two_blanks
+    ap (read_alone (context unnamed)) (sym sharing_print)
+    ∙ reads_by false [] tt InLine sharing sharing_are
 
 -- ---- operands of memories, tables, vectors, floats
-
--- two memories and two tables
-abbrev more_counts : Counts
-more_counts = record counts { memories = 2; tables = 2 }
 
 abbrev operands : List (Placed Operator)
 operands =
@@ -174,7 +249,7 @@ operands =
 abbrev operands_text : List ℕ
 operands_text = codes "i32.load 1 offset=8 align=1 i32.load call_indirect 1 (type 0) v128.const i32x4 0x03020100 0x07060504 0x0b0a0908 0xff0e0d0c f32.const -0x1.8p+0"
 
-operands_are : AreOperators more_counts operands
+operands_are : AreOperators counts operands
 unfolding table
 operands_are = record {
   listed = (
@@ -201,17 +276,14 @@ operands_are = record {
   indexed = (omega arith, (omega arith, ((tt, omega arith), (tt, (tt, tt)))));
 }
 
-same_more_types : HaveSameTypes (setting InLine) context more_counts
-same_more_types = record { read = λ i. refl; counted = λ i. refl; in_range = signatures_in_range }
-
-operands_print : text_of (all_calls defaults (expression_pieces (setting InLine) (label_naming false unnamed) operands)) ≡ operands_text
-unfolding table expression_pieces operators_pieces operator_pieces immediate_pieces default_index_pieces mem_arg_pieces offset_pieces align_pieces vector_pieces hex_words line_group_gap digits float_calls float_text unsigned_calls unsigned_text digits_behind
+operands_print : text_of (all_calls defaults (expression_pieces (setting unnamed InLine) operands)) ≡ operands_text
+unfolding table expression_pieces operators_pieces operator_pieces immediate_pieces default_index_pieces index_pieces type_index_pieces mem_arg_pieces offset_pieces align_pieces vector_pieces hex_words line_group_gap digits float_calls float_text unsigned_calls unsigned_text digits_behind
 operands_print = refl
 
-operands_read : read_alone context operands_text ≡ Some (without_places operands)
+operands_read : read_alone (context unnamed) operands_text ≡ Some (without_places operands)
 operands_read =
-    ap (read_alone context) (sym operands_print)
-    ∙ named_labels_read_back unnamed false (λ i s e. absurd cc) (setting InLine) context more_counts same_more_types operands operands_are defaults two_blanks
+    ap (read_alone (context unnamed)) (sym operands_print)
+    ∙ reads_by false [] tt InLine operands operands_are
 
 -- ---- over lines
 
@@ -219,7 +291,7 @@ abbrev branches : List (Placed Operator)
 branches = operator 0x03 (Block (OfType 0)) ∷ operator 0x02 (Block Empty) ∷ operator 0x0c (Index 1) ∷ operator 0x0b NoImmediates ∷ operator 0x0c (Index 1) ∷ operator 0x0b NoImmediates ∷ []
 
 abbrev branches_text : List ℕ
-branches_text = codes "\n    loop $#label0 (type 0) (param i32)\n      block $#label1\n        br $#label0\n      end\n      br 1\n    end"
+branches_text = codes "\n    loop $#label0 (type $#type0) (param i32)\n      block $#label1\n        br $#label0\n      end\n      br 1\n    end"
 
 branches_are : AreOperators counts branches
 unfolding table
@@ -239,10 +311,86 @@ branches_are = record {
   indexed = (tt, (tt, (tt, (tt, (tt, (tt, tt))))));
 }
 
-branches_print : text_of (all_calls defaults (expression_pieces (setting OverLines) (label_naming true unnamed) branches)) ≡ branches_text
-unfolding table expression_pieces operators_pieces operator_pieces immediate_pieces index_pieces label_pieces mark_pieces id_pieces block_pieces signature_pieces list_group type_list val_pieces ending_pieces line_group line_group_gap digits repeated identifier_text chars class
+branches_print : text_of (all_calls defaults (expression_pieces (setting invented OverLines) branches)) ≡ branches_text
+unfolding table expression_pieces operators_pieces operator_pieces immediate_pieces operand_pieces index_pieces label_pieces mark_pieces leading_mark_pieces block_pieces type_use_pieces type_index_pieces signature_pieces groups_pieces variables_pieces list_group type_list val_pieces ending_pieces line_group line_group_gap digits repeated identifier_text chars class
 branches_print = refl
 
-branches_read : read_alone context branches_text ≡ Some (without_places branches)
+branches_read : read_alone (context invented) branches_text ≡ Some (without_places branches)
 branches_read =
-    ap (read_alone context) (sym branches_print) ∙ named_labels_read_back unnamed true (λ i s e. absurd cc) (setting OverLines) context counts (same_types OverLines) branches branches_are defaults two_blanks
+    ap (read_alone (context invented)) (sym branches_print) ∙ reads_by true [] tt OverLines branches branches_are
+
+-- ---- by names
+
+abbrev entry : ℕ → ℕ → ℕ → List ℕ → Entry
+entry s outer index name = record { subsection = s; outer = outer; index = index; name = name }
+
+-- names for the structure and its field, a function, a local and a label
+abbrev some_entries : List Entry
+some_entries =
+    entry type_subsection 0 1 (codes "point") ∷ entry field_subsection 1 0 (codes "x") ∷ entry function_subsection 0 1 (codes "run")
+    ∷ entry local_subsection 0 0 (codes "p") ∷ entry label_subsection 0 0 (codes "done") ∷ []
+
+some_are_entries : AreEntries some_entries
+some_are_entries = (
+  record { index = lit< tt; name = printed_is_utf8 (codes "point") refl },
+  (
+    record { index = lit< tt; name = printed_is_utf8 (codes "x") refl },
+    (
+      record { index = lit< tt; name = printed_is_utf8 (codes "run") refl },
+      (
+        record { index = lit< tt; name = printed_is_utf8 (codes "p") refl },
+        (record { index = lit< tt; name = printed_is_utf8 (codes "done") refl }, tt),
+      ),
+    ),
+  ),
+)
+
+abbrev some_names : Names
+some_names = names_of false some_entries
+
+abbrev accesses : List (Placed Operator)
+accesses =
+    operator 0x02 (Block Empty) ∷ operator 0x20 (Index 0) ∷ prefixed 0xfb 2 (Indices 1 0) ∷ operator 0x10 (Index 1) ∷ operator 0x20 (Index 1)
+    ∷ operator 0x0c (Index 0) ∷ operator 0x0b NoImmediates ∷ []
+
+accesses_are : AreOperators counts accesses
+unfolding table
+accesses_are = record {
+  listed = (
+    record { shape = refl; range = tt },
+    (
+      record { shape = refl; range = omega arith },
+      (
+        record { shape = refl; range = (omega arith, omega arith) },
+        (
+          record { shape = refl; range = omega arith },
+          (record { shape = refl; range = omega arith }, (record { shape = refl; range = omega arith }, (record { shape = refl; range = tt }, tt))),
+        ),
+      ),
+    ),
+  );
+  nested = block (plain (plain (plain (plain (plain none))))) none;
+  count = omega arith;
+  indexed = (tt, (omega arith, (omega arith, (omega arith, (omega arith, (tt, (tt, tt)))))));
+}
+
+abbrev named_text : List ℕ
+named_text = codes "block $done local.get $p struct.get $point $x call $run local.get 1 br $done end"
+
+named_print : text_of (all_calls defaults (expression_pieces (setting some_names InLine) accesses)) ≡ named_text
+unfolding table expression_pieces operators_pieces operator_pieces immediate_pieces operand_pieces index_pieces label_pieces type_and_field_pieces mark_pieces leading_mark_pieces block_pieces ending_pieces digits identifier_text chars class
+named_print = refl
+
+named_read : read_alone (context some_names) named_text ≡ Some (without_places accesses)
+named_read = ap (read_alone (context some_names)) (sym named_print) ∙ reads_by false some_entries some_are_entries InLine accesses accesses_are
+
+-- the same with identifiers made up for all
+abbrev invented_text : List ℕ
+invented_text = codes "block $#label0 local.get $#local0 struct.get $#type1 $#field0 call $#func1 local.get $#local1 br $#label0 end"
+
+invented_print : text_of (all_calls defaults (expression_pieces (setting invented InLine) accesses)) ≡ invented_text
+unfolding table expression_pieces operators_pieces operator_pieces immediate_pieces operand_pieces index_pieces label_pieces type_and_field_pieces mark_pieces leading_mark_pieces block_pieces ending_pieces digits identifier_text chars class
+invented_print = refl
+
+invented_read : read_alone (context invented) invented_text ≡ Some (without_places accesses)
+invented_read = ap (read_alone (context invented)) (sym invented_print) ∙ reads_by true [] tt InLine accesses accesses_are

@@ -3,6 +3,7 @@ pub mod Spelled
 pub mod Arguments
 pub mod Numbers
 pub mod Forms
+pub mod Spaces
 pub mod Labels
 pub mod Blocks
 pub mod Catches

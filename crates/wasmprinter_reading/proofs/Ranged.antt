@@ -9,7 +9,7 @@ use Rattle.wasmprinter_spec.specs.Operator.{Operator}
 use Rattle.wasmprinter_spec.specs.Nesting.{Nests, Sequence}
 use Rattle.wasmprinter_spec.specs.Instructions.{roles}
 use Rattle.wasmprinter_spec.specs.Module.{without_places}
-use Rattle.wasmprinter_spec.specs.Placed.{Body, Export, Import, Table, Global, Mode, Passive, Declared, Active, Items, Functions, Expressions, ElementEntry, DataMode, PassiveData, ActiveData, Data, PlacedFunction, PlacedModule}
+use Rattle.wasmprinter_spec.specs.Placed.{LocalEntry, Body, Export, Import, Custom, Table, Global, Mode, Passive, Declared, Active, Items, Functions, Expressions, ElementEntry, DataMode, PassiveData, ActiveData, Data, PlacedFunction, PlacedModule}
 use Rattle.wasmprinter_reading.specs.Listed.{IsListed}
 use Rattle.wasmprinter_spec.specs.Binary.{AreBytes}
 use Rattle.wasmprinter_reading.proofs.Types.Ranged.{IsRangedHeap, IsRangedVal, IsRangedGroup}
@@ -97,9 +97,19 @@ abbrev pub IsRangedStart : Option (Placed ℕ) → Type 0
 IsRangedStart None = Unit {0}
 IsRangedStart (Some i) = i.value < 2 ^ 32
 
--- locals of types in range; operators that the table lists, well nested, as many as a size can count
+-- the bytes of a custom section are bytes
+abbrev pub IsRangedCustom : Custom → Type 0
+IsRangedCustom c = AreBytes c.bytes.value
+
+-- so many locals of a type in range
+pub record IsRangedLocal (e : LocalEntry) : Type 0 where
+  pub count : e.count < 2 ^ 32
+  pub type : IsRangedVal e.type
+
+-- few groups of locals; operators that the table lists, well nested, as many as a size can count
 pub record IsRangedBody (b : Body) : Type 0 where
-  pub locals : AllByRecursion (λ e. IsRangedVal e.value.type) b.locals
+  pub groups : length b.locals < 2 ^ 32
+  pub locals : AllByRecursion (λ e. IsRangedLocal e.value) b.locals
   pub listed : AllByRecursion IsListed (without_places b.operators)
   pub nested : Nests Sequence (roles b.operators)
   pub count : length (without_places b.operators) ≤ 2 ^ 64
@@ -130,3 +140,4 @@ pub record IsRanged (m : PlacedModule) : Type 0 where
   pub each_element : AllByRecursion (λ e. IsRangedElement e.value) m.elements
   pub each_function : AllByRecursion IsRangedFunction m.functions
   pub each_data : AllByRecursion (λ d. IsRangedData d.value) m.datas
+  pub each_custom : AllByRecursion (λ c. IsRangedCustom c.value) m.customs

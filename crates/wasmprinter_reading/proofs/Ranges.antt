@@ -1,5 +1,5 @@
 -- A module that bytes spell keeps to its ranges.
-use Rattle.std.proofs.Common.{◌≡◌, ℕ, suc, ◌<◌, ◌≤◌, ◌+◌, ◌^◌, ◌&&◌, List, [], ◌∷◌, length, Some, None, refl, ap, subst, arith}
+use Rattle.std.proofs.Common.{◌≡◌, ℕ, suc, ◌<◌, ◌≤◌, ◌+◌, ◌^◌, ◌&&◌, List, [], ◌∷◌, length, bytes_eq, Some, None, refl, sym, ap, ◌∙◌, subst, inl, inr, arith}
 use Rattle.std.specs.List.{AllByRecursion}
 use Rattle.std.proofs.lemmas.List.{length-append, length-map}
 use Rattle.wasmprinter_spec.specs.Choices.{tested}
@@ -9,20 +9,21 @@ use Rattle.wasmprinter_spec.specs.Operator.{Operator}
 use Rattle.wasmprinter_spec.specs.Nesting.{Nests, Sequence}
 use Rattle.wasmprinter_spec.specs.Instructions.{roles}
 use Rattle.wasmprinter_spec.specs.Module.{without_places}
-use Rattle.wasmprinter_spec.specs.Placed.{Body, PlacedFunction, PlacedModule}
+use Rattle.wasmprinter_spec.specs.Placed.{Body, Custom, custom_of, PlacedFunction, PlacedModule}
 use Rattle.wasmprinter_spec.specs.Sized.{exactly, alone}
 use Rattle.wasmprinter_spec.specs.Binary.Exports.{extern_kind, export}
+use Rattle.wasmprinter_spec.specs.Binary.Customs.{name_section, listed_custom, custom_section}
 use Rattle.wasmprinter_spec.specs.Binary.Code.{local_entry, body_from, body, code_entry}
-use Rattle.wasmprinter_spec.specs.Sections.{Kind, TypeSection, ImportSection, FunctionSection, TableSection, MemorySection, TagSection, GlobalSection, ExportSection, StartSection, ElementSection, DataCountSection, CodeSection, DataSection, Section, holds, content, section_id, section, are_above}
-use Rattle.wasmprinter_spec.proofs.Ordered.{held_each}
+use Rattle.wasmprinter_spec.specs.Sections.{Kind, CustomSection, TypeSection, ImportSection, FunctionSection, TableSection, MemorySection, TagSection, GlobalSection, ExportSection, StartSection, ElementSection, DataCountSection, CodeSection, DataSection, Section, holds, content, content_of, section_id, section, are_above, contents_in}
+use Rattle.wasmprinter_spec.proofs.Ordered.{picks, picked_own, held_each}
 use Rattle.wasmprinter_spec.specs.Binary.{type_indices_in, bodies_in, data_count_in, datas_in, counts_data, function_pairs, module_from, module_of_sections, AreBytes, Spells}
 use Rattle.wasmprinter_reading.specs.Listed.{IsListed}
-use Rattle.wasmprinter_reading.proofs.Ranged.{IsRangedImport, IsRangedTable, IsRangedMemory, IsRangedGlobal, IsRangedExport, IsRangedStart, IsRangedElement, IsRangedData, IsRangedBody, IsRangedFunction, IsRanged}
+use Rattle.wasmprinter_reading.proofs.Ranged.{IsRangedImport, IsRangedTable, IsRangedMemory, IsRangedGlobal, IsRangedExport, IsRangedStart, IsRangedElement, IsRangedData, IsRangedCustom, IsRangedLocal, IsRangedBody, IsRangedFunction, IsRanged}
 use Rattle.wasmprinter_reading.proofs.AllSpelled.{AllSpelled, split_bytes, entries_have, AllSpelled-any, AllSpelled-seq, AllSpelled-map_value, AllSpelled-placed, AllSpelled-exactly, AllSpelled-within}
 use Rattle.wasmprinter_reading.proofs.Few.{FewSpelled, FewSpelled-placed, FewSpelled-vec, AllSpelled-few}
 use Rattle.wasmprinter_reading.proofs.PartRanges.{AllSpelled-name, AllSpelled-memory_type, AllSpelled-tag, FewSpelled-table, FewSpelled-global, AllSpelled-import, FewSpelled-element, FewSpelled-data}
 use Rattle.wasmprinter_reading.proofs.Vectors.{IsVector, AllSpelled-u32, AllSpelled-vec}
-use Rattle.wasmprinter_reading.proofs.Types.Ranged.{IsRangedVal, IsRangedGroup}
+use Rattle.wasmprinter_reading.proofs.Types.Ranged.{IsRangedGroup}
 use Rattle.wasmprinter_reading.proofs.Types.Ranges.{AllSpelled-val_type, AllSpelled-group}
 use Rattle.wasmprinter_reading.proofs.Operators.Spelled.{AllSpelled-expression, expression_takes}
 
@@ -30,12 +31,13 @@ use Rattle.wasmprinter_reading.proofs.Operators.Spelled.{AllSpelled-expression, 
 
 -- locals of types in range, and operators that are listed and well nested
 record IsNestedBody (b : Body) : Type 0 where
-  locals : AllByRecursion (λ e. IsRangedVal e.value.type) b.locals
+  locals : IsVector (λ e. IsRangedLocal e.value) b.locals
   listed : AllByRecursion IsListed (without_places b.operators)
   nested : Nests Sequence (roles b.operators)
 
 -- what a section of each kind holds: a vector, or the start function
 abbrev IsRangedSection : Section → Type 0
+IsRangedSection (holds CustomSection c) = IsRangedCustom c.value
 IsRangedSection (holds TypeSection gs) = IsVector (λ g. IsRangedGroup g.value) gs
 IsRangedSection (holds ImportSection is) = IsVector (λ i. IsRangedImport i.value) is
 IsRangedSection (holds FunctionSection is) = IsVector (λ i. i < 2 ^ 32) is
@@ -57,14 +59,14 @@ AllSpelled-export =
     (λ x h. record { name = h.0; index = h.1.1 })
 
 -- So many locals of a type.
-AllSpelled-local_entry : AllSpelled local_entry (λ e. IsRangedVal e.type)
-AllSpelled-local_entry = AllSpelled-map_value (AllSpelled-seq AllSpelled-u32 (λ _. AllSpelled-val_type)) (λ x h. h.1)
+AllSpelled-local_entry : AllSpelled local_entry IsRangedLocal
+AllSpelled-local_entry = AllSpelled-map_value (AllSpelled-seq AllSpelled-u32 (λ _. AllSpelled-val_type)) (λ x h. record { count = h.0; type = h.1 })
 
 -- A body: its locals and its operators.
 AllSpelled-body : AllSpelled body (λ b. IsNestedBody b)
 AllSpelled-body =
     AllSpelled-map_value (AllSpelled-seq (AllSpelled-vec (AllSpelled-placed AllSpelled-local_entry)) (λ _. AllSpelled-expression))
-    (λ x h. record { locals = h.0.each; listed = h.1.listed; nested = h.1.nested })
+    (λ x h. record { locals = h.0; listed = h.1.listed; nested = h.1.nested })
 
 -- each operator of a body takes a byte
 body_takes : (p : ℕ) (text : List ℕ) (b : Placed Body) → (placed body).spells p text b → length b.value.operators ≤ length text
@@ -80,7 +82,8 @@ AllSpelled-code_entry : AllSpelled code_entry (λ b. IsRangedBody b.value)
 AllSpelled-code_entry =
     AllSpelled-map_value (AllSpelled-seq AllSpelled-u32 (λ size. AllSpelled-within {size = λ b. length b.value.operators} body_takes (AllSpelled-placed AllSpelled-body) size))
     (λ x h. record {
-      locals = h.1.0.locals;
+      groups = h.1.0.locals.count;
+      locals = h.1.0.locals.each;
       listed = h.1.0.listed;
       nested = h.1.0.nested;
       count = omega (arith, h.0, h.1.1, length-map x.1.value.operators (λ (o : Placed Operator). o.value));
@@ -96,8 +99,25 @@ AllSpelled-few_sized : {A : Type 0} {g : Grammar A} {P : A → Type 0} (made : A
     → AllSpelled (map_value (λ x. made x.1) (seq u32 (λ size. exactly (alone g) size))) IsRangedSection
 AllSpelled-few_sized made all keeps = AllSpelled-map_value (AllSpelled-seq AllSpelled-u32 (λ size. AllSpelled-few all size)) (λ x h. keeps x.1 (h.1 h.0))
 
+-- A custom section: a name, and all other bytes.
+custom_ranged : (x : List ℕ × Placed (List ℕ)) (c : Custom) → listed_custom x ≡ Some c → AreBytes x.1.value → IsRangedCustom c
+custom_ranged x c e h =
+    let t = tested (bytes_eq x.0 name_section) (Some (custom_of x.0 x.1)) c e in
+    subst IsRangedCustom (some_is (custom_of x.0 x.1) c t.1) h
+
+custom_has : (p : ℕ) (text : List ℕ) (c : Placed Custom) → AreBytes text → custom_section.spells p text c → IsRangedCustom c.value
+custom_has p text c bytes s =
+    let x = s.1.0 in
+    let parts = s.1.2 in
+    let behind = split_bytes parts.0 parts.1 (subst AreBytes parts.2 bytes) in
+    custom_ranged x c.value s.1.1 (subst AreBytes (sym parts.4.1) behind.1)
+
+AllSpelled-custom : (size : ℕ) → AllSpelled (exactly custom_section size) (λ c. IsRangedCustom c.value)
+AllSpelled-custom size = record { has = λ p text c bytes s. custom_has p text c bytes s.1 }
+
 -- The content of a section of each kind.
 AllSpelled-content : (kind : Kind) → AllSpelled (map_value (λ x. holds kind x.1) (seq u32 (λ size. exactly (content kind) size))) IsRangedSection
+AllSpelled-content CustomSection = AllSpelled-map_value (AllSpelled-seq AllSpelled-u32 (λ size. AllSpelled-custom size)) (λ x h. h.1)
 AllSpelled-content TypeSection = AllSpelled-sized (holds TypeSection) (AllSpelled-vec (AllSpelled-placed AllSpelled-group)) (λ gs h. h)
 AllSpelled-content ImportSection = AllSpelled-sized (holds ImportSection) (AllSpelled-vec (AllSpelled-placed AllSpelled-import)) (λ is h. h)
 AllSpelled-content FunctionSection = AllSpelled-sized (holds FunctionSection) (AllSpelled-vec AllSpelled-u32) (λ is h. h)
@@ -119,6 +139,17 @@ AllSpelled-section = AllSpelled-map_value (AllSpelled-seq (AllSpelled-any sectio
 -- No items are a vector.
 no_items : {A : Type 0} (P : A → Type 0) → IsVector P []
 no_items P = record { count = omega arith; each = tt }
+
+-- What is so of each section is so of what those of a kind hold.
+contents_each : (kind : Kind) (P : Section → Type 0) (ss : List Section) → AllByRecursion P ss → AllByRecursion (λ x. P (holds kind x)) (contents_in kind ss)
+contents_each kind P [] all = tt
+contents_each kind P (s ∷ ss) all =
+    elim (picks kind s) [
+      | inl other ↦ rw other (contents_each kind P ss all.1)
+      | inr own ↦
+          let picked : content_of kind s ≡ Some own.0 = ap (content_of kind) own.1 ∙ picked_own kind own.0 in
+          rw picked (subst P own.1 all.0, contents_each kind P ss all.1)
+    ]
 
 -- ---- functions
 
@@ -157,6 +188,7 @@ module_ranged size ss m e ranged =
     let start = held_each StartSection IsRangedSection None ss ranged tt in
     let elements = held_each ElementSection IsRangedSection [] ss ranged (no_items (λ e. IsRangedElement e.value)) in
     let bodies = held_each CodeSection IsRangedSection [] ss ranged (no_items (λ b. IsRangedBody b.value)) in
+    let customs = contents_each CustomSection IsRangedSection ss ranged in
     let datas = held_each DataSection IsRangedSection [] ss ranged (no_items (λ d. IsRangedData d.value)) in
     let pairs = pairs_ranged (type_indices_in ss) (bodies_in ss) functions.0 functions.1 type_indices.each bodies.each in
     subst IsRanged (some_is (module_from size ss functions.0) m functions.2)
@@ -182,6 +214,7 @@ module_ranged size ss m e ranged =
       each_element = elements.each;
       each_function = pairs.1;
       each_data = datas.each;
+      each_custom = customs;
     })
 
 -- A module that bytes spell keeps to its ranges.

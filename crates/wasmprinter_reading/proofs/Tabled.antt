@@ -9,7 +9,7 @@ use Rattle.std.specs.Str.Parse.{IsNumeral}
 use Rattle.std.specs.List.{AllByRecursion, filter, list_any}
 use Rattle.wasmprinter_spec.specs.Character.{class}
 use Rattle.wasmprinter_spec.specs.Operator.{Operator}
-use Rattle.wasmprinter_spec.specs.Row.{Row, Role, Plain, Opens, OpensIf, OpensTry, Shape, NoneShape, BlockShape, TryTableShape, SelectShape, RefShape}
+use Rattle.wasmprinter_spec.specs.Row.{Row, Role, Plain, Opens, OpensIf, OpensTry, Space, Label, Shape, NoneShape, BlockShape, TryTableShape, DefaultIndexShape, PairShape, SegmentShape, CopyShape, SelectShape, RefShape}
 use Rattle.wasmprinter_spec.specs.Table.{table, first, has_word, has_opcode, rows_of, by_opcode}
 use Rattle.wasmprinter_spec.specs.Code.{part_words}
 use Rattle.wasmprinter_spec.specs.Text.TypeUses.{same_flag}
@@ -62,6 +62,20 @@ has_block _ = false
 
 abbrev pub fits : Role → Shape → Bool
 fits r s = not (is_opening r) || has_block s
+
+-- ---- labels
+
+abbrev pub is_item : Space → Bool
+is_item Label = false
+is_item _ = true
+
+-- an index of a label stands alone
+abbrev pub means_items : Shape → Bool
+means_items (DefaultIndexShape space) = is_item space
+means_items (PairShape first second) = is_item first && is_item second
+means_items (SegmentShape segments space) = is_item segments && is_item space
+means_items (CopyShape space) = is_item space
+means_items _ = true
 
 -- ---- operators that share a word
 
@@ -132,6 +146,10 @@ rows_fit : all (λ r. fits r.role r.shape) table ≡ true
 unfolding table
 rows_fit = refl
 
+rows_mean_items : all (λ r. means_items r.shape) table ≡ true
+unfolding table
+rows_mean_items = refl
+
 plain_words : all (λ r. same_flag (is_plain r.role) (not (is_block_word r.word))) table ≡ true
 unfolding table
 plain_words = refl
@@ -191,6 +209,7 @@ pub record HasRow (o : Operator) : Type 0 where
   pub in_table : In row table
   pub is_its_word : is_word row.word ≡ true
   pub fit : fits row.role row.shape ≡ true
+  pub items : means_items row.shape ≡ true
 
 pub row_for : (o : Operator) → IsListed o → HasRow o
 row_for o h = by (by_opcode o.opcode) refl h.shape
@@ -210,6 +229,7 @@ row_for o h = by (by_opcode o.opcode) refl h.shape
           in_table = found.0;
           is_its_word = all_at (λ x. is_word x.word) r table words_are_words found.0;
           fit = all_at (λ x. fits x.role x.shape) r table rows_fit found.0;
+          items = all_at (λ x. means_items x.shape) r table rows_mean_items found.0;
         }
 
 -- ---- a plain operator stands alone in a group

@@ -1,3 +1,4 @@
 pub mod Listed
 pub mod OperatorLaws
 pub mod NameLaws
+pub mod LabelLaws

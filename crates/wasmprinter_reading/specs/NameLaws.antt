@@ -1,12 +1,16 @@
 -- Laws of name sections and of the identifiers that they give.
-use Rattle.std.specs.Prelude.{◌≡◌, ◌⊎◌, ℕ, List, map, length, ◌<◌, Bool, Option, Some, None, IsUtf8}
+use Rattle.std.specs.Prelude.{◌≡◌, ◌⊎◌, ℕ, List, map, length, ◌<◌, ◌≤◌, ◌^◌, Bool, true, Option, Some, None, IsUtf8}
 use Rattle.std.specs.List.{AllByRecursion}
-use Rattle.wasmprinter_spec.specs.Grammar.{Input, Spans, Grammar}
+use Rattle.wasmprinter_spec.specs.Grammar.{Input, input, Placed, Spans, Grammar}
 use Rattle.wasmprinter_spec.specs.Repeated.{Items}
 use Rattle.wasmprinter_spec.specs.Lenient.{Lacks, repeat}
-use Rattle.wasmprinter_spec.specs.Binary.{AreBytes}
+use Rattle.wasmprinter_spec.specs.Binary.{AreBytes, Spells}
+use Rattle.wasmprinter_spec.specs.Placed.{PlacedModule}
+use Rattle.wasmprinter_spec.specs.ModuleNames.{entries_given, module_names}
 use Rattle.wasmprinter_spec.specs.Names.Section.{Entry, entry, entry_of, association, GivesNames}
-use Rattle.wasmprinter_spec.specs.Names.{names_of, AreApart, AreNamed}
+use Rattle.wasmprinter_spec.specs.Labels.{Named}
+use Rattle.wasmprinter_spec.specs.IndexSpaces.{are_distinct, resolve}
+use Rattle.wasmprinter_spec.specs.Names.{names_of, identifiers, AreDistinct, AreApart, AreNamed}
 use Rattle.wasmprinter_reading.specs.Listed.{IsU32}
 
 -- ---- name sections
@@ -14,6 +18,10 @@ use Rattle.wasmprinter_reading.specs.Listed.{IsU32}
 -- Each data of a name section gives exactly one list of entries.
 abbrev pub NamesAreOneList : Type 0
 NamesAreOneList = (at : Input) → (xs : List Entry) × GivesNames at xs × ((ys : List Entry) → GivesNames at ys → ys ≡ xs)
+
+-- It is the one by which a module's items have their names.
+abbrev pub EntriesAreGiven : Type 0
+EntriesAreGiven = (d : Placed (List ℕ)) → GivesNames (input d.place d.value) (entries_given d)
 
 -- Items that are counted, read as far as they stand: these are spelled one after the other, and then either the count is reached or no more is
 -- spelled behind them.
@@ -46,3 +54,14 @@ IdentifiersAreApart = (invents : Bool) (entries : List Entry) → AreEntries ent
 -- Each identifier is UTF-8 and not empty, and each name is UTF-8.
 abbrev pub IdentifiersAreNamed : Type 0
 IdentifiersAreNamed = (invents : Bool) (entries : List Entry) → AreEntries entries → AreNamed (names_of invents entries)
+
+-- So are the identifiers of each module that bytes spell: none means two items of one space, of one function or of one type.
+abbrev pub ModulesHaveIdentifiers : Type 0
+ModulesHaveIdentifiers = (bytes : List ℕ) (m : PlacedModule) (invents : Bool) → Spells bytes m →
+    AreApart (module_names invents m) × AreNamed (module_names invents m)
+
+-- Identifiers of which no two items of a space have one are distinct as declarations, and each is resolved to its item.
+abbrev pub IdentifiersResolve : Type 0
+IdentifiersResolve = (named : ℕ → Option Named) (count : ℕ) → AreDistinct named → count ≤ 2 ^ 64 →
+    (are_distinct (identifiers named count) ≡ true)
+    × ((i : ℕ) (n : Named) → i < count → named i ≡ Some n → resolve n.content (identifiers named count) ≡ Some i)

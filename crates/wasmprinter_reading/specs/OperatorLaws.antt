@@ -1,37 +1,55 @@
 -- The laws of nested operators: their text reads as exactly them.
-use Rattle.std.specs.Prelude.{◌≡◌, ℕ, ◌≤◌, ◌^◌, List, length, Bool, Option, Some, IsUtf8}
+use Rattle.std.specs.Prelude.{◌≡◌, ℕ, ◌<◌, ◌≤◌, ◌^◌, List, length, Bool, Option, Some}
 use Rattle.std.specs.List.{AllByRecursion}
 use Rattle.wasmprinter_spec.specs.Grammar.{Placed, ◌>>=◌}
+use Rattle.wasmprinter_spec.specs.Types.{FieldType, FuncType}
+use Rattle.wasmprinter_spec.specs.Row.{Space, Types, Func, Table, Memory, Tag, Global, Elem, Data, Local, Label}
 use Rattle.wasmprinter_spec.specs.Operator.{Operator}
 use Rattle.wasmprinter_spec.specs.Nesting.{Nests, Sequence}
 use Rattle.wasmprinter_spec.specs.Instructions.{roles}
 use Rattle.wasmprinter_spec.specs.Module.{without_places}
-use Rattle.wasmprinter_spec.specs.Indexed.{Counts, IsIndexedOperator}
+use Rattle.wasmprinter_spec.specs.Indexed.{Counts, IsDeclaredFunc, IsIndexedOperator}
 use Rattle.wasmprinter_spec.specs.Call.{text_of}
 use Rattle.wasmprinter_spec.specs.Options.{Options, IsBlank}
-use Rattle.wasmprinter_spec.specs.Labels.{Named, Naming, AreApart}
-use Rattle.wasmprinter_spec.specs.LabelNames.{label_naming}
-use Rattle.wasmprinter_spec.specs.Names.{IsNamed}
+use Rattle.wasmprinter_spec.specs.Names.Section.{Entry}
+use Rattle.wasmprinter_spec.specs.Names.{AreApart, AreNamed, in_function, identifiers, names_of}
 use Rattle.wasmprinter_spec.specs.Piece.{all_calls}
 use Rattle.wasmprinter_spec.specs.Layout.Operators.{Setting, expression_pieces}
 use Rattle.wasmprinter_spec.specs.Forest.{forest, cut}
 use Rattle.wasmprinter_spec.specs.Code.{unfolded}
-use Rattle.wasmprinter_spec.specs.IndexSpaces.{Context}
+use Rattle.wasmprinter_spec.specs.IndexSpaces.{Context, space_in}
 use Rattle.wasmprinter_spec.specs.Text.Operators.{read_operators}
 use Rattle.wasmprinter_reading.specs.Listed.{IsListed, AreSignaturesInRange}
+use Rattle.wasmprinter_reading.specs.NameLaws.{AreEntries}
 
--- ---- names of labels
-
-abbrev pub AreNames : Naming → Type 0
-AreNames naming = (i d : ℕ) (n : Named) → naming i d ≡ Some n → IsNamed n
-
--- ---- operators
+-- how many items an index space holds (labels are found by another rule)
+abbrev pub count_in : Counts → Space → ℕ
+count_in c Types = c.types
+count_in c Func = c.functions
+count_in c Table = c.tables
+count_in c Memory = c.memories
+count_in c Tag = c.tags
+count_in c Global = c.globals
+count_in c Elem = c.elems
+count_in c Data = c.datas
+count_in c Local = c.locals
+count_in c Label = 0
 
 -- what operators are laid out by, read with and counted in has the same types, whose type indices are numbers of 32 bits
 pub record HaveSameTypes (s : Setting) (c : Context) (n : Counts) : Type 0 where
   pub read : (i : ℕ) → c.signature i ≡ s.signature i
   pub counted : (i : ℕ) → n.signature i ≡ s.signature i
   pub in_range : AreSignaturesInRange s.signature
+
+-- And the same identifiers: those of all items that are counted. What has a signature or fields is a counted type, and so is what a signature names.
+pub record HaveSameNames (s : Setting) (c : Context) (n : Counts) : Type 0 where
+  pub spaces : (space : Space) → space_in c.spaces space ≡ identifiers (in_function s.names s.function space) (count_in n space)
+  pub fields : (t : ℕ) (fs : List FieldType) → n.fields t ≡ Some fs → c.fields t ≡ identifiers (s.names.fields t) (length fs)
+  pub few : (space : Space) → count_in n space ≤ 2 ^ 64
+  pub few_fields : (t : ℕ) (fs : List FieldType) → n.fields t ≡ Some fs → length fs ≤ 2 ^ 64
+  pub functions : (t : ℕ) (f : FuncType) → n.signature t ≡ Some f → t < n.types
+  pub signatures : (t : ℕ) (f : FuncType) → n.signature t ≡ Some f → IsDeclaredFunc n.types f
+  pub structures : (t : ℕ) (fs : List FieldType) → n.fields t ≡ Some fs → t < n.types
 
 -- Operators of an expression: listed, well nested, no more than a size can count, and every used index is declared.
 pub record AreOperators (n : Counts) (os : List (Placed Operator)) : Type 0 where
@@ -44,20 +62,21 @@ pub record AreOperators (n : Counts) (os : List (Placed Operator)) : Type 0 wher
 abbrev pub read_alone : Context → List ℕ → Option (List Operator)
 read_alone c text = forest text >>= λ f. unfolded (cut f) >>= read_operators c
 
--- The text that is laid out for operators, over lines or in one, reads as exactly them, whatever their labels are called.
+-- The text that is laid out for operators, over lines or in one, reads as exactly them, whatever items and labels are called.
 abbrev pub OperatorsReadBack : Type 0
 OperatorsReadBack =
-    (naming : Naming) → AreApart naming → AreNames naming →
-    (s : Setting) (c : Context) (n : Counts) → HaveSameTypes s c n →
+    (s : Setting) → AreApart s.names → AreNamed s.names →
+    (c : Context) (n : Counts) → HaveSameTypes s c n → HaveSameNames s c n →
     (os : List (Placed Operator)) → AreOperators n os →
     (o : Options) → IsBlank o.indent →
-    read_alone c (text_of (all_calls o (expression_pieces s naming os))) ≡ Some (without_places os)
+    read_alone c (text_of (all_calls o (expression_pieces s os))) ≡ Some (without_places os)
 
--- The same where labels have the names of a name section, and the others identifiers made up for them, or none.
-abbrev pub NamedLabelsReadBack : Type 0
-NamedLabelsReadBack =
-    (names : ℕ → Option (List ℕ)) (invents : Bool) → ((i : ℕ) (s : List ℕ) → names i ≡ Some s → IsUtf8 s) →
-    (s : Setting) (c : Context) (n : Counts) → HaveSameTypes s c n →
+-- The same where items and labels have the names of name sections, and the others identifiers made up for them, or none.
+abbrev pub NamedOperatorsReadBack : Type 0
+NamedOperatorsReadBack =
+    (invents : Bool) (entries : List Entry) → AreEntries entries →
+    (s : Setting) → s.names ≡ names_of invents entries →
+    (c : Context) (n : Counts) → HaveSameTypes s c n → HaveSameNames s c n →
     (os : List (Placed Operator)) → AreOperators n os →
     (o : Options) → IsBlank o.indent →
-    read_alone c (text_of (all_calls o (expression_pieces s (label_naming invents names) os))) ≡ Some (without_places os)
+    read_alone c (text_of (all_calls o (expression_pieces s os))) ≡ Some (without_places os)

@@ -4,9 +4,10 @@
 
 ghost use Rattle.wasmprinter_spec.specs.Laws.{SpellsOne, TakesNested, ReadsBack, TokensStay};
 ghost use Rattle.wasmprinter_spec.specs.Laws.{PrintsPlainText, PlainTextIsUtf8, PlainTextHasNoColour, PlainTextsJoin};
-ghost use Rattle.wasmprinter_reading.specs.OperatorLaws.{OperatorsReadBack, NamedLabelsReadBack};
-ghost use Rattle.wasmprinter_reading.specs.NameLaws.{NamesAreOneList, NameMapsAreListed, BytesGiveEntries};
-ghost use Rattle.wasmprinter_reading.specs.NameLaws.{IdentifiersAreApart, IdentifiersAreNamed};
+ghost use Rattle.wasmprinter_reading.specs.OperatorLaws.{OperatorsReadBack, NamedOperatorsReadBack};
+ghost use Rattle.wasmprinter_reading.specs.NameLaws.{NamesAreOneList, EntriesAreGiven, NameMapsAreListed, BytesGiveEntries};
+ghost use Rattle.wasmprinter_reading.specs.NameLaws.{IdentifiersAreApart, IdentifiersAreNamed, ModulesHaveIdentifiers, IdentifiersResolve};
+ghost use Rattle.wasmprinter_reading.specs.LabelLaws.{LabelsMeanTheirBlocks};
 
 /// Given bytes spell at most one module with its places (section 5.5 of the standard, "Modules").
 pub fn bytes_spell_one_module()
@@ -49,19 +50,24 @@ pub fn plain_texts_join()
     ensures { PlainTextsJoin }
 {}
 
-/// The text that is laid out for nested operators, over lines or in one, reads as exactly them, whatever their labels are called.
+/// The text that is laid out for nested operators, over lines or in one, reads as exactly them, whatever items and labels are called.
 pub fn printed_operators_read_back()
     ensures { OperatorsReadBack }
 {}
 
-/// The same where labels have the names of a name section, and the others identifiers made up for them, or none.
-pub fn named_labels_read_back()
-    ensures { NamedLabelsReadBack }
+/// The same where items and labels have the names of name sections, and the others identifiers made up for them, or none.
+pub fn named_operators_read_back()
+    ensures { NamedOperatorsReadBack }
 {}
 
 /// Each data of a name section gives exactly one list of entries (appendix "Name Section" of the standard).
 pub fn name_sections_give_one_list()
     ensures { NamesAreOneList }
+{}
+
+/// That list is the one by which a module's items have their names.
+pub fn entries_are_given()
+    ensures { EntriesAreGiven }
 {}
 
 /// The entries of a name map are spelled one after the other, and then the count is reached or none is spelled behind them.
@@ -82,4 +88,21 @@ pub fn identifiers_are_apart()
 /// Each identifier is UTF-8 and not empty, and each name is UTF-8.
 pub fn identifiers_are_named()
     ensures { IdentifiersAreNamed }
+{}
+
+/// Both hold of each module that bytes spell: its name sections give identifiers of which none means two items of one space, of one function
+/// or of one type.
+pub fn modules_have_identifiers()
+    ensures { ModulesHaveIdentifiers }
+{}
+
+/// Identifiers of which no two items of a space have one are distinct as declarations, and each is resolved to its item.
+pub fn identifiers_resolve()
+    ensures { IdentifiersResolve }
+{}
+
+/// A label that is printed by its identifier means the block that is meant; where a block further in has its name, it is printed by its
+/// number.
+pub fn labels_mean_their_blocks()
+    ensures { LabelsMeanTheirBlocks }
 {}

@@ -1,4 +1,4 @@
-pub mod Over
+pub mod TooManyLocals
 pub mod Emptied
 pub mod Listing
 pub mod Constants

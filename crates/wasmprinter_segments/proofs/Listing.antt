@@ -16,8 +16,8 @@ use Rattle.wasmprinter_segments.specs.Bodies.{body_reasons, HasEntryBlocks, bodi
 use Rattle.wasmprinter_spec.specs.Sections.{CodeSection}
 use Rattle.wasmprinter_entries.specs.Contents.{HasFew, content_reasons}
 use Rattle.wasmprinter_entries.proofs.Parts.{alone_some, alone_none}
-use Rattle.wasmprinter_entries.proofs.Wholes.{alone_items}
-use Rattle.wasmprinter_entries.proofs.Later.{Later, later_none, later_more, many_later}
+use Rattle.wasmprinter_entries.proofs.SectionLists.{alone_items}
+use Rattle.wasmprinter_entries.proofs.LaterPlaces.{IsLater, later_none, later_more, many_later}
 
 -- one more body has few locals
 pub few-push : (bs : List (Placed Body)) (b : Placed Body) → AllByRecursion HasFew bs → HasFew b → AllByRecursion HasFew (bs ++ b ∷ [])
@@ -63,7 +63,7 @@ abbrev P : Input → Option (Placed Body × Input)
 P = code_entry.parse
 
 module _ (old start at : Input) (count i : ℕ) (front : List (Placed Body)) (counted : u32.parse old ≡ Some (count, start)) (lt : i < count)
-    (so_far : with_front front (items_at P (count - i) at) ≡ items_at P count start) (later : Later start at) (ends : end_of at ≡ end_of old) where
+    (so_far : with_front front (items_at P (count - i) at) ≡ items_at P count start) (later : IsLater start at) (ends : end_of at ≡ end_of old) where
   -- what is read of the entry that comes next
   one_more : (vec code_entry).parse old ≡ with_front front (items_at P (suc (count - (i + 1))) at)
   one_more =

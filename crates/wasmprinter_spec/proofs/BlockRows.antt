@@ -22,19 +22,13 @@ use Rattle.wasmprinter_spec.specs.Read.{read}
 use Rattle.wasmprinter_spec.specs.Call.{Call, Style, Text, Newline, Line, Start, Name, Keyword, TypeName, Comment, Reset, text_of, atoms}
 use Rattle.wasmprinter_spec.specs.Options.{defaults}
 use Rattle.wasmprinter_spec.specs.Piece.{all_calls, repeated, left_in, place_text}
-use Rattle.wasmprinter_spec.specs.Layout.Groups.{line_group_gap, group_at, group_gap_at, line_group, numbered}
-use Rattle.wasmprinter_spec.specs.Layout.Types.{heap_pieces, null_ref_pieces, ref_pieces, val_pieces, type_list, list_group, signature_pieces, composite_pieces, sub_pieces, type_pieces, type_group_pieces, type_section_pieces}
-use Rattle.wasmprinter_spec.specs.Layout.Operators.{Form, OverLines, InLine, Setting, label_pieces, labels_pieces, id_pieces, ending_pieces, block_pieces, catch_pieces, catches_pieces, index_pieces, immediate_pieces, operator_pieces, operators_pieces, expression_pieces}
-use Rattle.wasmprinter_spec.specs.Layout.{module_field_pieces, module_pieces, layout, tag_pieces, start_pieces}
-use Rattle.wasmprinter_spec.specs.Layout.Memories.{memory_pieces, memory_type_pieces}
-use Rattle.wasmprinter_spec.specs.Layout.Exports.{export_pieces, kind_word, extern_index_pieces}
+use Rattle.wasmprinter_spec.specs.Layout.{layout}
+use Rattle.wasmprinter_spec.specs.Layout.Operators.{Form, InLine, OverLines, Setting, expression_pieces}
+use Rattle.wasmprinter_spec.proofs.Computing.{composing}
 use Rattle.wasmprinter_spec.specs.Text.Exports.{kind_of_word}
-use Rattle.wasmprinter_spec.specs.Layout.Functions.{body_pieces, local_group, local_pieces, header_pieces, function_group, function_pieces}
-use Rattle.wasmprinter_spec.specs.LabelNames.{no_label_names}
-use Rattle.wasmprinter_spec.specs.Layout.Limits.{limits_pieces}
-use Rattle.wasmprinter_spec.specs.Layout.Imports.{imports_pieces}
 use Rattle.wasmprinter_spec.proofs.Samples.{head_bytes, lines, to, to_null, func, bare, i32_const, empty, empty_placed}
 use Rattle.wasmprinter_spec.proofs.BlockSamples.{all_samples, sample_types, nop, block, loop, if_op, else_op, try_op, catch_op, catch_all, end, br, delegate, try_table}
+use Rattle.wasmprinter_spec.specs.Names.{no_names}
 
 -- ---- what bytes spell
 
@@ -74,7 +68,7 @@ abbrev printed : PlacedModule → List ℕ
 printed m = text_of (layout defaults (λ n. false) m)
 
 samples_printed : map (λ ss. map (λ s. printed (placed_module s.operators)) ss) all_samples ≡ map (λ ss. map (λ s. module_lines s.lines) ss) all_samples
-unfolding line_group line_group_gap heap_pieces null_ref_pieces ref_pieces val_pieces list_group composite_pieces sub_pieces type_pieces type_group_pieces type_section_pieces module_field_pieces numbered group_at group_gap_at type_list signature_pieces label_pieces labels_pieces id_pieces ending_pieces block_pieces catch_pieces catches_pieces index_pieces immediate_pieces operator_pieces operators_pieces expression_pieces body_pieces local_group local_pieces header_pieces function_group function_pieces module_pieces layout repeated digits table memory_pieces memory_type_pieces limits_pieces export_pieces kind_word extern_index_pieces tag_pieces start_pieces imports_pieces
+unfolding composing repeated digits table
 samples_printed = refl
 
 -- ---- the way back
@@ -90,16 +84,16 @@ samples_read = refl
 
 -- laid out with these types
 abbrev setting : Form → List SubType → Setting
-setting form ts = record { form = form; signature = signature_at ts; nesting = 0 }
+setting form ts = record { form = form; signature = signature_at ts; nesting = 0; names = no_names; function = 0 }
 
 abbrev shown : Form → List SubType → List Operator → List ℕ
-shown form ts os = text_of (all_calls defaults (expression_pieces (setting form ts) no_label_names (map placed os)))
+shown form ts os = text_of (all_calls defaults (expression_pieces (setting form ts) (map placed os)))
 
 abbrev in_line : List ℕ
 in_line = codes "block (result i32)  (; label = @1 ;) i32.const 1 end"
 
 constant_in_line : shown InLine [] (block (Value types.I32) ∷ i32_const (pos 1) ∷ end ∷ []) ≡ in_line
-unfolding line_group line_group_gap val_pieces list_group label_pieces id_pieces ending_pieces block_pieces index_pieces immediate_pieces operator_pieces operators_pieces expression_pieces digits table
+unfolding composing digits table
 constant_in_line = refl
 
 constant_reads : read (module_lines (in_line ∷ [])) ≡ Some (module_of_code (block (Value types.I32) ∷ i32_const (pos 1) ∷ end ∷ []))
@@ -108,24 +102,24 @@ constant_reads = refl
 
 labels_in_line : shown InLine [] (loop Empty ∷ try_table Empty (All 0 ∷ []) ∷ br 1 ∷ br 3 ∷ end ∷ end ∷ [])
     ≡ codes "loop  (; label = @1 ;) try_table (catch_all 0 (;@1;))  (; label = @2 ;) br 1 (;@1;) br 3 (; INVALID ;) end end"
-unfolding line_group line_group_gap val_pieces list_group label_pieces id_pieces ending_pieces block_pieces catch_pieces catches_pieces index_pieces immediate_pieces operator_pieces operators_pieces expression_pieces digits table
+unfolding composing digits table
 labels_in_line = refl
 
 cases_in_line : shown InLine [] (if_op Empty ∷ else_op ∷ try_op Empty ∷ catch_op 2 ∷ nop ∷ catch_all ∷ end ∷ end ∷ try_op Empty ∷ delegate 0 ∷ [])
     ≡ codes "if  (; label = @1 ;) else try  (; label = @2 ;) catch 2 nop catch_all end end try  (; label = @1 ;) delegate 0"
-unfolding label_pieces id_pieces ending_pieces block_pieces index_pieces immediate_pieces operator_pieces operators_pieces expression_pieces digits table
+unfolding composing digits table
 cases_in_line = refl
 
 -- parameters and results of a type
 whole_signature : shown OverLines (func (types.I32 ∷ types.I64 ∷ []) (types.I64 ∷ []) ∷ []) (block (OfType 0) ∷ end ∷ [])
     ≡ codes "\nblock (type 0) (param i32 i64) (result i64) ;; label = @1\nend"
-unfolding line_group line_group_gap val_pieces list_group type_list signature_pieces id_pieces ending_pieces block_pieces immediate_pieces operator_pieces operators_pieces expression_pieces repeated digits table index_pieces
+unfolding composing repeated digits table
 whole_signature = refl
 
 -- a type without parameters and results, and one that isn't there
 no_signature : shown OverLines (func [] [] ∷ []) (block (OfType 0) ∷ loop (OfType 5) ∷ end ∷ end ∷ [])
     ≡ codes "\nblock (type 0) ;; label = @1\n  loop (type 5) ;; label = @2\n  end\nend"
-unfolding line_group line_group_gap val_pieces list_group type_list signature_pieces id_pieces ending_pieces block_pieces immediate_pieces operator_pieces operators_pieces expression_pieces repeated digits table index_pieces
+unfolding composing repeated digits table
 no_signature = refl
 
 -- ---- calls
@@ -137,14 +131,14 @@ abbrev in_style : Style → List ℕ → List Call
 in_style style s = Start style ∷ Text s ∷ Start Reset ∷ []
 
 abbrev calls_in_line : List SubType → List Operator → List Call
-calls_in_line ts os = all_calls defaults (expression_pieces (setting InLine ts) no_label_names (map placed os))
+calls_in_line ts os = all_calls defaults (expression_pieces (setting InLine ts) (map placed os))
 
 -- the keyword `result` of one result has its blank, that of a signature hasn't
 block_calls : atoms (calls_in_line sample_types (block (Value types.I32) ∷ block (OfType 1) ∷ [])) ≡ atoms (
     plain (codes "block (") ++ in_style Keyword (codes "result ") ++ in_style TypeName (codes "i32") ++ plain (codes ") ") ++ in_style Comment (codes " (; label = @1 ;)")
     ++ plain (codes " block (") ++ in_style Keyword (codes "type ") ++ in_style Name (codes "1") ++ plain (codes ") (") ++ in_style Keyword (codes "result") ++ plain (codes " ") ++ in_style TypeName (codes "i32")
     ++ plain (codes ") ") ++ in_style Comment (codes " (; label = @2 ;)"))
-unfolding line_group line_group_gap val_pieces list_group type_list signature_pieces id_pieces ending_pieces block_pieces immediate_pieces operator_pieces operators_pieces expression_pieces digits table index_pieces
+unfolding composing digits table
 block_calls = refl
 
 -- references, one by its index and one by its word
@@ -154,7 +148,7 @@ reference_calls : atoms (calls_in_line [] (block (Value (to_null (types.Index 0)
     ++ plain (codes " loop (") ++ in_style Keyword (codes "result ") ++ in_style TypeName (codes "funcref") ++ plain (codes ") ") ++ in_style Comment (codes " (; label = @2 ;)")
     ++ plain (codes " if (") ++ in_style Keyword (codes "result ") ++ plain (codes "(") ++ in_style Keyword (codes "ref ") ++ in_style TypeName (codes "any")
     ++ plain (codes ")) ") ++ in_style Comment (codes " (; label = @3 ;)"))
-unfolding line_group line_group_gap heap_pieces null_ref_pieces ref_pieces val_pieces id_pieces ending_pieces block_pieces immediate_pieces operator_pieces operators_pieces expression_pieces digits table index_pieces
+unfolding composing digits table
 reference_calls = refl
 
 -- a label of nothing has no style, nor has its comment
@@ -163,18 +157,18 @@ label_calls : atoms (calls_in_line [] (block Empty ∷ br 0 ∷ br 1 ∷ br 2 �
     ++ plain (codes " br ") ++ in_style Name (codes "0") ++ in_style Comment (codes " (;@1;)")
     ++ plain (codes " br ") ++ in_style Name (codes "1")
     ++ plain (codes " br 2 (; INVALID ;)"))
-unfolding label_pieces id_pieces ending_pieces block_pieces index_pieces immediate_pieces operator_pieces operators_pieces expression_pieces digits table
+unfolding composing digits table
 label_calls = refl
 
 clause_calls : atoms (calls_in_line [] (try_table Empty (One 4 0 ∷ All 1 ∷ []) ∷ [])) ≡ atoms (
     plain (codes "try_table (") ++ in_style Keyword (codes "catch") ++ plain (codes " ") ++ in_style Name (codes "4") ++ plain (codes " ") ++ in_style Name (codes "0")
     ++ plain (codes ") (") ++ in_style Keyword (codes "catch_all") ++ plain (codes " 1 (; INVALID ;)) ") ++ in_style Comment (codes " (; label = @1 ;)"))
-unfolding line_group line_group_gap val_pieces list_group label_pieces id_pieces ending_pieces block_pieces catch_pieces catches_pieces index_pieces immediate_pieces operator_pieces operators_pieces expression_pieces digits table
+unfolding composing digits table
 clause_calls = refl
 
-line_calls : atoms (all_calls defaults (expression_pieces (setting OverLines []) no_label_names (record { place = 9; value = block Empty } ∷ record { place = 11; value = end } ∷ []))) ≡ atoms (
+line_calls : atoms (all_calls defaults (expression_pieces (setting OverLines []) (record { place = 9; value = block Empty } ∷ record { place = 11; value = end } ∷ []))) ≡ atoms (
     Newline ∷ Line (Some 9) ∷ plain (codes "block ") ++ in_style Comment (codes ";; label = @1") ++ Newline ∷ Line (Some 11) ∷ plain (codes "end"))
-unfolding id_pieces ending_pieces block_pieces immediate_pieces operator_pieces operators_pieces expression_pieces repeated digits table index_pieces
+unfolding composing repeated digits table
 line_calls = refl
 
 -- ---- a module from its bytes to its text, with places
@@ -197,5 +191,5 @@ with_places : option_map (λ m. text_of (layout (record defaults { offsets = tru
     ∷ codes "(;@1e    ;)  )"
     ∷ codes "(;@1f    ;))"
     ∷ []))
-unfolding line_group line_group_gap val_pieces list_group composite_pieces sub_pieces type_pieces type_group_pieces type_section_pieces module_field_pieces numbered group_at group_gap_at type_list signature_pieces label_pieces id_pieces ending_pieces block_pieces index_pieces immediate_pieces operator_pieces operators_pieces expression_pieces body_pieces local_group local_pieces header_pieces function_group function_pieces module_pieces layout place_text left_in repeated digits table memory_pieces memory_type_pieces limits_pieces export_pieces kind_word extern_index_pieces tag_pieces start_pieces imports_pieces
+unfolding composing place_text left_in repeated digits table
 with_places = refl

@@ -22,6 +22,7 @@ abbrev around : Context
 around = record {
   spaces = record no_spaces { types = None ∷ Some (codes "t") ∷ []; functions = []; tags = None ∷ Some (codes "e") ∷ []; locals = None ∷ None ∷ Some (codes "x") ∷ [] };
   signature = signature_at sample_types;
+  fields = λ n. [];
 }
 
 -- the operators of a text

@@ -22,16 +22,9 @@ use Rattle.wasmprinter_spec.specs.Read.{read}
 use Rattle.wasmprinter_spec.specs.Call.{text_of}
 use Rattle.wasmprinter_spec.specs.Options.{defaults}
 use Rattle.wasmprinter_spec.specs.Piece.{repeated}
-use Rattle.wasmprinter_spec.specs.Layout.Groups.{group, line_group_gap, group_at, group_gap_at, line_group, numbered}
-use Rattle.wasmprinter_spec.specs.Layout.Types.{heap_pieces, null_ref_pieces, ref_pieces, val_pieces, type_list, list_group, signature_pieces, struct_pieces, composite_pieces, sub_pieces, type_pieces, member_pieces, type_group_pieces, type_section_pieces}
-use Rattle.wasmprinter_spec.specs.Layout.Operators.{id_pieces, ending_pieces, block_pieces, immediate_pieces, operator_pieces, operators_pieces, expression_pieces, index_pieces}
-use Rattle.wasmprinter_spec.specs.Layout.{module_field_pieces, module_pieces, layout, tag_pieces, start_pieces}
-use Rattle.wasmprinter_spec.specs.Layout.Memories.{memory_pieces, memory_type_pieces}
-use Rattle.wasmprinter_spec.specs.Layout.Exports.{export_pieces, kind_word, extern_index_pieces}
+use Rattle.wasmprinter_spec.specs.Layout.{layout}
+use Rattle.wasmprinter_spec.proofs.Computing.{composing}
 use Rattle.wasmprinter_spec.specs.Text.Exports.{kind_of_word}
-use Rattle.wasmprinter_spec.specs.Layout.Functions.{body_pieces, local_group, local_pieces, header_pieces, function_group, function_pieces}
-use Rattle.wasmprinter_spec.specs.Layout.Limits.{limits_pieces}
-use Rattle.wasmprinter_spec.specs.Layout.Imports.{imports_pieces}
 use Rattle.wasmprinter_spec.proofs.Samples.{head_bytes, lines, to, to_null, func, empty}
 use Rattle.wasmprinter_spec.proofs.BlockSamples.{block, loop, end, try_table}
 
@@ -81,7 +74,7 @@ unfolding table
 structure_decoded = refl
 
 structure_printed : printed structure_bytes ≡ Some (beside_structure_text (codes " (type 0)"))
-unfolding group line_group_gap group_at group_gap_at line_group list_group signature_pieces struct_pieces composite_pieces sub_pieces type_pieces type_group_pieces type_section_pieces id_pieces ending_pieces block_pieces immediate_pieces operator_pieces operators_pieces expression_pieces body_pieces local_group local_pieces header_pieces function_group function_pieces numbered module_field_pieces module_pieces layout repeated digits table memory_pieces memory_type_pieces limits_pieces export_pieces kind_word extern_index_pieces tag_pieces start_pieces index_pieces imports_pieces
+unfolding composing repeated digits table
 structure_printed = refl
 
 structure_unread : read (beside_structure_text (codes " (type 0)")) ≡ None
@@ -146,7 +139,7 @@ unfolding table
 group_decoded = refl
 
 group_printed : printed group_bytes ≡ Some group_text
-unfolding group line_group_gap group_at group_gap_at line_group heap_pieces null_ref_pieces ref_pieces val_pieces type_list list_group signature_pieces struct_pieces composite_pieces sub_pieces type_pieces member_pieces type_group_pieces type_section_pieces id_pieces ending_pieces block_pieces immediate_pieces operator_pieces operators_pieces expression_pieces body_pieces local_group local_pieces header_pieces function_group function_pieces numbered module_field_pieces module_pieces layout repeated digits table memory_pieces memory_type_pieces limits_pieces export_pieces kind_word extern_index_pieces tag_pieces start_pieces index_pieces imports_pieces
+unfolding composing repeated digits table
 group_printed = refl
 
 group_read : read group_text ≡ Some over_group

@@ -49,7 +49,7 @@ abbrev numbered : Row
 numbered = plain 0x02 "w" I32Shape (Fixed 0 0)
 
 abbrev nothing_declared : Context
-nothing_declared = record { spaces = record no_spaces { types = []; functions = []; tags = []; locals = [] }; signature = λ n. None }
+nothing_declared = record { spaces = record no_spaces { types = []; functions = []; tags = []; locals = [] }; signature = λ n. None; fields = λ n. [] }
 
 first_row : first_reading nothing_declared [] (bare ∷ numbered ∷ []) End ≡ Some (bare, NoImmediates)
 first_row = refl

@@ -14,32 +14,34 @@ use Rattle.wasmprinter_spec.specs.Text.Items.{groups}
 use Rattle.wasmprinter_spec.specs.Text.Types.{heap_of_word, ref_of_word, number_of_word, packed_of_word}
 use Rattle.wasmprinter_spec.specs.Text.Operators.{lane_size}
 use Rattle.wasmprinter_spec.specs.Text.Exports.{kind_of_word}
-use Rattle.wasmprinter_spec.specs.Piece.{repeated}
-use Rattle.wasmprinter_spec.specs.Layout.Groups.{line_group, line_group_gap}
-use Rattle.wasmprinter_spec.specs.Layout.Types.{heap_pieces, null_ref_pieces, ref_pieces, val_pieces, type_list, list_group, signature_pieces}
-use Rattle.wasmprinter_spec.specs.Quoted.{char_text, byte_text, quoted_text, quoted_bytes}
-use Rattle.wasmprinter_spec.specs.Layout.Groups.{group, line_group_gap, group_at, group_gap_at, numbered}
-use Rattle.wasmprinter_spec.specs.Layout.Types.{composite_pieces, sub_pieces, type_pieces, type_group_pieces, type_section_pieces}
-use Rattle.wasmprinter_spec.specs.Layout.Expressions.{constant_pieces, constant_group}
-use Rattle.wasmprinter_spec.specs.Layout.Functions.{header_pieces}
-use Rattle.wasmprinter_spec.specs.Layout.Limits.{limits_pieces}
-use Rattle.wasmprinter_spec.specs.Layout.Tables.{table_type_pieces, init_pieces, table_pieces}
-use Rattle.wasmprinter_spec.specs.Layout.Memories.{memory_type_pieces, memory_pieces}
-use Rattle.wasmprinter_spec.specs.Layout.Globals.{global_type_pieces, global_pieces}
-use Rattle.wasmprinter_spec.specs.Layout.Imports.{extern_pieces, import_pieces, imports_pieces}
-use Rattle.wasmprinter_spec.specs.Layout.Elements.{mode_pieces, function_items, expression_items, items_pieces, element_pieces}
+use Rattle.wasmprinter_spec.specs.Piece.{repeated, left_in, place_text}
+use Rattle.wasmprinter_spec.specs.Quoted.{char_text, byte_text, quoted_text, quoted_bytes, identifier_text}
+use Rattle.wasmprinter_spec.specs.Layout.{layout, module_field_pieces, module_pieces, module_pieces_with, start_pieces, tag_pieces}
 use Rattle.wasmprinter_spec.specs.Layout.DataSegments.{data_mode_pieces, data_pieces}
-use Rattle.wasmprinter_spec.specs.Layout.{tag_pieces, start_pieces, module_field_pieces, module_pieces, layout}
-use Rattle.wasmprinter_spec.specs.Layout.Operators.{mark_pieces, label_pieces, labels_pieces, id_pieces, ending_pieces, block_pieces, catch_pieces, catches_pieces, index_pieces, default_index_pieces, two_index_pieces, select_pieces, offset_pieces, align_pieces, mem_arg_pieces, lane_pieces, lanes_pieces, hex_words, vector_pieces, immediate_pieces, operator_pieces, operators_pieces, expression_pieces}
+use Rattle.wasmprinter_spec.specs.Layout.Elements.{element_pieces, expression_items, function_items, items_pieces, mode_pieces}
+use Rattle.wasmprinter_spec.specs.Layout.Exports.{export_pieces, extern_index_pieces, kind_word}
+use Rattle.wasmprinter_spec.specs.Layout.Expressions.{constant_group, constant_pieces}
+use Rattle.wasmprinter_spec.specs.Layout.Functions.{body_pieces, function_group, function_pieces, header_pieces, inner_pieces, local_line, local_pieces}
+use Rattle.wasmprinter_spec.specs.Layout.Globals.{global_pieces, global_type_pieces}
+use Rattle.wasmprinter_spec.specs.Layout.Groups.{group, group_at, group_gap_at, line_group, line_group_gap, numbered}
+use Rattle.wasmprinter_spec.specs.Layout.Identifiers.{declaration_pieces, identifier_gap_pieces, index_pieces, leading_mark_pieces, mark_gap_pieces, mark_pieces}
+use Rattle.wasmprinter_spec.specs.Layout.Imports.{extern_pieces, import_pieces, imports_pieces}
+use Rattle.wasmprinter_spec.specs.Layout.Limits.{limits_pieces}
+use Rattle.wasmprinter_spec.specs.Layout.Memories.{memory_pieces, memory_type_pieces}
+use Rattle.wasmprinter_spec.specs.Layout.Operators.{align_pieces, block_pieces, catch_pieces, catches_pieces, default_index_pieces, ending_pieces, expression_pieces, hex_words, immediate_pieces, label_pieces, labels_pieces, lane_pieces, lanes_pieces, mem_arg_pieces, offset_pieces, operand_pieces, operator_pieces, operators_pieces, select_pieces, two_index_pieces, type_and_field_pieces, vector_pieces}
+use Rattle.wasmprinter_spec.specs.Layout.Tables.{init_pieces, table_pieces, table_type_pieces}
+use Rattle.wasmprinter_spec.specs.Layout.Types.{composite_pieces, field_pieces, list_group, member_pieces, signature_pieces, storage_pieces, struct_field_pieces, sub_group, sub_pieces, supertype_pieces, type_group_pieces, type_pieces, type_section_pieces, type_use_pieces}
+use Rattle.wasmprinter_spec.specs.Layout.ValTypes.{heap_pieces, null_ref_pieces, ref_pieces, type_index_pieces, type_list, val_pieces}
+use Rattle.wasmprinter_spec.specs.Layout.Variables.{groups_pieces, variables_pieces}
 
 -- how operators are printed
 unfoldable pub printing : ⊤
-unfolding table digits repeated line_group line_group_gap heap_pieces null_ref_pieces ref_pieces val_pieces type_list list_group signature_pieces mark_pieces label_pieces labels_pieces id_pieces ending_pieces block_pieces catch_pieces catches_pieces index_pieces default_index_pieces two_index_pieces select_pieces offset_pieces align_pieces mem_arg_pieces lane_pieces lanes_pieces hex_words vector_pieces digits_behind doublings unsigned_text float_text unsigned_calls float_calls immediate_pieces operator_pieces operators_pieces expression_pieces
+unfolding table digits repeated digits_behind doublings unsigned_text float_text unsigned_calls float_calls chars identifier_text char_text quoted_text align_pieces block_pieces catch_pieces catches_pieces declaration_pieces default_index_pieces ending_pieces expression_pieces groups_pieces heap_pieces hex_words identifier_gap_pieces immediate_pieces index_pieces label_pieces labels_pieces lane_pieces lanes_pieces leading_mark_pieces line_group line_group_gap list_group mark_gap_pieces mark_pieces mem_arg_pieces null_ref_pieces offset_pieces operand_pieces operator_pieces operators_pieces ref_pieces select_pieces signature_pieces two_index_pieces type_and_field_pieces type_index_pieces type_list type_use_pieces val_pieces variables_pieces vector_pieces
 printing = tt
 
--- how a module without functions and exports is printed
+-- how a module is printed
 unfoldable pub composing : ⊤
-unfolding printing chars char_text byte_text quoted_text quoted_bytes group line_group_gap group_at group_gap_at numbered composite_pieces sub_pieces type_pieces type_group_pieces type_section_pieces constant_pieces constant_group header_pieces limits_pieces table_type_pieces init_pieces table_pieces memory_type_pieces memory_pieces global_type_pieces global_pieces extern_pieces import_pieces imports_pieces mode_pieces function_items expression_items items_pieces element_pieces data_mode_pieces data_pieces tag_pieces start_pieces module_field_pieces module_pieces layout
+unfolding printing byte_text quoted_bytes left_in place_text body_pieces composite_pieces constant_group constant_pieces data_mode_pieces data_pieces element_pieces export_pieces expression_items extern_index_pieces extern_pieces field_pieces function_group function_items function_pieces global_pieces global_type_pieces group group_at group_gap_at header_pieces import_pieces imports_pieces init_pieces inner_pieces items_pieces kind_word layout limits_pieces local_line local_pieces member_pieces memory_pieces memory_type_pieces mode_pieces module_field_pieces module_pieces module_pieces_with numbered start_pieces storage_pieces struct_field_pieces sub_group sub_pieces supertype_pieces table_pieces table_type_pieces tag_pieces type_group_pieces type_pieces type_section_pieces
 composing = tt
 
 -- how a text is read

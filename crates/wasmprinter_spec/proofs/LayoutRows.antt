@@ -8,15 +8,8 @@ use Rattle.wasmprinter_spec.specs.Call.{Call, Style, Text, Newline, Line, Start,
 use Rattle.wasmprinter_spec.specs.Options.{Options, Answers, defaults}
 use Rattle.wasmprinter_spec.specs.Quoted.{char_text, byte_text, quoted_text, quoted_bytes}
 use Rattle.wasmprinter_spec.specs.Piece.{Break, repeated, left_in, place_text, text}
-use Rattle.wasmprinter_spec.specs.Layout.Groups.{group, line_group_gap, group_at, group_gap_at, line_group, numbered}
-use Rattle.wasmprinter_spec.specs.Layout.Types.{type_list, signature_pieces, val_pieces, list_group, composite_pieces, sub_pieces, type_pieces, type_group_pieces, type_section_pieces}
-use Rattle.wasmprinter_spec.specs.Layout.Operators.{index_pieces, immediate_pieces, operator_pieces, operators_pieces, expression_pieces}
-use Rattle.wasmprinter_spec.specs.Layout.{module_field_pieces, module_pieces, layout, tag_pieces, start_pieces}
-use Rattle.wasmprinter_spec.specs.Layout.Exports.{export_pieces, kind_word, extern_index_pieces}
-use Rattle.wasmprinter_spec.specs.Layout.Memories.{memory_pieces, memory_type_pieces}
-use Rattle.wasmprinter_spec.specs.Layout.Functions.{body_pieces, local_group, local_pieces, header_pieces, function_group, function_pieces}
-use Rattle.wasmprinter_spec.specs.Layout.Limits.{limits_pieces}
-use Rattle.wasmprinter_spec.specs.Layout.Imports.{imports_pieces}
+use Rattle.wasmprinter_spec.specs.Layout.{layout}
+use Rattle.wasmprinter_spec.proofs.Computing.{composing}
 use Rattle.wasmprinter_spec.proofs.Samples.{lines, empty_placed, identity_placed, identity_text, identity_text_with_offsets, stored_placed, stored_text, mixed_placed, mixed_text}
 
 abbrev unclaimed : Answers
@@ -43,25 +36,25 @@ line_places (c ∷ cs) = line_places cs
 -- ---- the module without fields
 
 empty_plain : printed defaults empty_placed ≡ codes "(module)\n"
-unfolding group_at numbered type_section_pieces module_field_pieces module_pieces layout memory_pieces memory_type_pieces limits_pieces export_pieces kind_word extern_index_pieces tag_pieces start_pieces imports_pieces
+unfolding composing
 empty_plain = refl
 
 empty_with_offsets : printed with_offsets empty_placed ≡ codes "(module\n(;@8     ;))\n"
-unfolding group_at numbered type_section_pieces module_field_pieces module_pieces layout place_text left_in repeated digits memory_pieces memory_type_pieces limits_pieces export_pieces kind_word extern_index_pieces tag_pieces start_pieces imports_pieces
+unfolding composing place_text left_in repeated digits
 empty_with_offsets = refl
 
 empty_calls : atoms (all_calls defaults empty_placed) ≡ atoms (Line (Some 0) ∷ Text (codes "(") ∷ Start Keyword ∷ Text (codes "module") ∷ Start Reset ∷ Text (codes ")") ∷ Newline ∷ [])
-unfolding group_at numbered type_section_pieces module_field_pieces module_pieces layout memory_pieces memory_type_pieces limits_pieces export_pieces kind_word extern_index_pieces tag_pieces start_pieces imports_pieces
+unfolding composing
 empty_calls = refl
 
 -- ---- a function under a name
 
 identity_plain : printed defaults identity_placed ≡ identity_text
-unfolding group line_group_gap group_at group_gap_at type_list signature_pieces index_pieces immediate_pieces operator_pieces operators_pieces expression_pieces body_pieces type_pieces export_pieces local_group local_pieces header_pieces function_group function_pieces numbered module_pieces layout repeated digits table char_text quoted_text chars line_group val_pieces list_group composite_pieces sub_pieces type_group_pieces type_section_pieces module_field_pieces memory_pieces memory_type_pieces limits_pieces kind_word extern_index_pieces tag_pieces start_pieces imports_pieces
+unfolding composing repeated digits table char_text quoted_text chars
 identity_plain = refl
 
 identity_with_offsets : printed with_offsets identity_placed ≡ identity_text_with_offsets
-unfolding group line_group_gap group_at group_gap_at type_list signature_pieces index_pieces immediate_pieces operator_pieces operators_pieces expression_pieces body_pieces type_pieces export_pieces local_group local_pieces header_pieces function_group function_pieces numbered module_pieces layout repeated left_in place_text digits table char_text quoted_text chars line_group val_pieces list_group composite_pieces sub_pieces type_group_pieces type_section_pieces module_field_pieces memory_pieces memory_type_pieces limits_pieces kind_word extern_index_pieces tag_pieces start_pieces imports_pieces
+unfolding composing repeated left_in place_text digits table char_text quoted_text chars
 identity_with_offsets = refl
 
 identity_skeleton : printed skeleton identity_placed ≡ lines (
@@ -71,7 +64,7 @@ identity_skeleton : printed skeleton identity_placed ≡ lines (
     ∷ codes "  (func (;0;) (type 0) (param i32) (result i32) ...)"
     ∷ codes ")"
     ∷ [])
-unfolding line_group_gap line_group group_at group_gap_at val_pieces type_list list_group signature_pieces composite_pieces sub_pieces type_pieces type_group_pieces export_pieces header_pieces function_group function_pieces numbered type_section_pieces module_field_pieces module_pieces layout repeated digits char_text quoted_text chars memory_pieces memory_type_pieces limits_pieces kind_word extern_index_pieces tag_pieces start_pieces imports_pieces
+unfolding composing repeated digits char_text quoted_text chars
 identity_skeleton = refl
 
 identity_skeleton_with_offsets : printed (record skeleton { offsets = true }) identity_placed ≡ lines (
@@ -81,7 +74,7 @@ identity_skeleton_with_offsets : printed (record skeleton { offsets = true }) id
     ∷ codes "(;@1f    ;)  (func (;0;) (type 0) (param i32) (result i32) ...)"
     ∷ codes "(;@23    ;))"
     ∷ [])
-unfolding line_group_gap line_group group_at group_gap_at val_pieces type_list list_group signature_pieces composite_pieces sub_pieces type_pieces type_group_pieces export_pieces header_pieces function_group function_pieces numbered type_section_pieces module_field_pieces module_pieces layout repeated left_in place_text digits char_text quoted_text chars memory_pieces memory_type_pieces limits_pieces kind_word extern_index_pieces tag_pieces start_pieces imports_pieces
+unfolding composing repeated left_in place_text digits char_text quoted_text chars
 identity_skeleton_with_offsets = refl
 
 identity_without_indent : printed (record defaults { indent = [] }) identity_placed ≡ lines (
@@ -93,21 +86,21 @@ identity_without_indent : printed (record defaults { indent = [] }) identity_pla
     ∷ codes ")"
     ∷ codes ")"
     ∷ [])
-unfolding group line_group_gap group_at group_gap_at type_list signature_pieces index_pieces immediate_pieces operator_pieces operators_pieces expression_pieces body_pieces type_pieces export_pieces local_group local_pieces header_pieces function_group function_pieces numbered module_pieces layout repeated digits table char_text quoted_text chars line_group val_pieces list_group composite_pieces sub_pieces type_group_pieces type_section_pieces module_field_pieces memory_pieces memory_type_pieces limits_pieces kind_word extern_index_pieces tag_pieces start_pieces imports_pieces
+unfolding composing repeated digits table char_text quoted_text chars
 identity_without_indent = refl
 
 identity_line_places : line_places (all_calls defaults identity_placed) ≡ Some 0 ∷ Some 0xb ∷ Some 0x17 ∷ Some 0x1f ∷ Some 0x20 ∷ Some 0x22 ∷ Some 0x23 ∷ []
-unfolding group line_group_gap group_at group_gap_at type_list signature_pieces index_pieces immediate_pieces operator_pieces operators_pieces expression_pieces body_pieces type_pieces export_pieces local_group local_pieces header_pieces function_group function_pieces numbered module_pieces layout table line_group val_pieces list_group composite_pieces sub_pieces type_group_pieces type_section_pieces module_field_pieces memory_pieces memory_type_pieces limits_pieces kind_word extern_index_pieces tag_pieces start_pieces imports_pieces
+unfolding composing table
 identity_line_places = refl
 
 -- ---- a function with a local
 
 stored_plain : printed defaults stored_placed ≡ stored_text
-unfolding group line_group_gap group_at group_gap_at type_list signature_pieces index_pieces immediate_pieces operator_pieces operators_pieces expression_pieces body_pieces type_pieces local_group local_pieces header_pieces function_group function_pieces numbered module_pieces layout repeated digits table line_group val_pieces list_group composite_pieces sub_pieces type_group_pieces type_section_pieces module_field_pieces memory_pieces memory_type_pieces limits_pieces export_pieces kind_word extern_index_pieces tag_pieces start_pieces imports_pieces
+unfolding composing repeated digits table
 stored_plain = refl
 
 stored_line_places : line_places (all_calls defaults stored_placed) ≡ Some 0 ∷ Some 0xb ∷ Some 0x17 ∷ Some 0x18 ∷ Some 0x1a ∷ Some 0x1c ∷ Some 0x1e ∷ Some 0x20 ∷ Some 0x21 ∷ []
-unfolding group line_group_gap group_at group_gap_at type_list signature_pieces index_pieces immediate_pieces operator_pieces operators_pieces expression_pieces body_pieces type_pieces local_group local_pieces header_pieces function_group function_pieces numbered module_pieces layout table line_group val_pieces list_group composite_pieces sub_pieces type_group_pieces type_section_pieces module_field_pieces memory_pieces memory_type_pieces limits_pieces export_pieces kind_word extern_index_pieces tag_pieces start_pieces imports_pieces
+unfolding composing table
 stored_line_places = refl
 
 -- ---- all calls
@@ -152,18 +145,18 @@ identity_skeleton_calls : atoms (all_calls skeleton identity_placed) ≡ atoms (
     ++ plain (codes " (") ++ in_style Keyword (codes "result") ++ plain (codes " ") ++ in_style TypeName (codes "i32") ++ plain (codes ") ...)")
     ++ Newline ∷ Line (Some 0x23) ∷ plain (codes ")")
     ++ Newline ∷ [])
-unfolding line_group_gap line_group group_at group_gap_at val_pieces type_list list_group signature_pieces composite_pieces sub_pieces type_pieces type_group_pieces export_pieces header_pieces function_group function_pieces numbered type_section_pieces module_field_pieces module_pieces layout repeated digits char_text quoted_text chars memory_pieces memory_type_pieces limits_pieces kind_word extern_index_pieces tag_pieces start_pieces imports_pieces
+unfolding composing repeated digits char_text quoted_text chars
 identity_skeleton_calls = refl
 
 stored_all_calls : atoms (all_calls with_offsets stored_placed) ≡ atoms stored_calls
-unfolding group line_group_gap group_at group_gap_at type_list signature_pieces index_pieces immediate_pieces operator_pieces operators_pieces expression_pieces body_pieces type_pieces local_group local_pieces header_pieces function_group function_pieces numbered module_pieces layout repeated left_in place_text digits table line_group val_pieces list_group composite_pieces sub_pieces type_group_pieces type_section_pieces module_field_pieces memory_pieces memory_type_pieces limits_pieces export_pieces kind_word extern_index_pieces tag_pieces start_pieces imports_pieces
+unfolding composing repeated left_in place_text digits table
 stored_all_calls = refl
 
 -- ---- several types, functions, locals and results
 
 -- locals of all entries on one line, whose place is that of the first entry that declares one; no signature of a type that isn't there
 mixed_plain : printed defaults mixed_placed ≡ mixed_text
-unfolding group line_group_gap group_at group_gap_at type_list signature_pieces index_pieces immediate_pieces operator_pieces operators_pieces expression_pieces body_pieces type_pieces export_pieces local_group local_pieces header_pieces function_group function_pieces numbered module_pieces layout repeated digits table char_text quoted_text chars line_group val_pieces list_group composite_pieces sub_pieces type_group_pieces type_section_pieces module_field_pieces memory_pieces memory_type_pieces limits_pieces kind_word extern_index_pieces tag_pieces start_pieces imports_pieces
+unfolding composing repeated digits table char_text quoted_text chars
 mixed_plain = refl
 
 -- with offsets the parentheses of functions close on lines of their own
@@ -173,7 +166,7 @@ mixed_line_places : line_places (all_calls with_offsets mixed_placed) ≡
     ∷ Some 0x2e ∷ Some 0x31 ∷ Some 0x37 ∷ Some 0x3d ∷ Some 0x3e ∷ Some 0x49 ∷ Some 0x4f ∷ Some 0x50
     ∷ Some 0x52 ∷ Some 0x55
     ∷ Some 0x56 ∷ []
-unfolding group line_group_gap group_at group_gap_at type_list signature_pieces index_pieces immediate_pieces operator_pieces operators_pieces expression_pieces body_pieces type_pieces export_pieces local_group local_pieces header_pieces function_group function_pieces numbered module_pieces layout table line_group val_pieces list_group composite_pieces sub_pieces type_group_pieces type_section_pieces module_field_pieces memory_pieces memory_type_pieces limits_pieces kind_word extern_index_pieces tag_pieces start_pieces imports_pieces
+unfolding composing table
 mixed_line_places = refl
 
 -- ---- beginnings of lines

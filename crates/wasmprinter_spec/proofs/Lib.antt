@@ -37,5 +37,6 @@ pub mod SectionRows
 pub mod SectionTextRows
 pub mod SectionIndexedRows
 pub mod NameRows
+pub mod NamedTextRows
 pub mod NameSections
 pub mod NameLabels

@@ -10,9 +10,9 @@ use Rattle.wasmprinter_spec.specs.Lenient.{Lenient, Groups, Follows, StandsWithi
 use Rattle.wasmprinter_spec.specs.Names.Section.{Entry, content, subsection, subsections, all_of, GivesNames}
 
 module _ (l : Lenient Entry) where
-  ended : (n : ℕ) (at : Input) → at.bytes ≡ [] → repeat_at (unless_ended l) n at ≡ ([], Some at)
-  ended zero at e = refl
-  ended (suc n) at e = rw (ends_complete l at [] (Some at) (inl (e, refl, refl)), ended n at e) refl
+  repeat_at_end : (n : ℕ) (at : Input) → at.bytes ≡ [] → repeat_at (unless_ended l) n at ≡ ([], Some at)
+  repeat_at_end zero at e = refl
+  repeat_at_end (suc n) at e = rw (ends_complete l at [] (Some at) (inl (e, refl, refl)), repeat_at_end n at e) refl
 
   groups_by : (xs : List Entry) (groups : List (List Entry)) (n : ℕ) (at : Input) → 0 < length at.bytes → (end : Option Input) → l.gives at xs end
       → MatchOption end (groups ≡ []) (λ mid. Groups l mid groups)
@@ -25,7 +25,7 @@ module _ (l : Lenient Entry) where
 
   module _ (shrinks : (at mid : Input) (xs : List Entry) → l.gives at xs (Some mid) → length mid.bytes < length at.bytes) where
     pub groups_read : (groups : List (List Entry)) (n : ℕ) (at : Input) → length at.bytes ≤ n → Groups l at groups → (repeat_at (unless_ended l) n at).0 ≡ all_of groups
-    groups_read [] n at le g = ap (λ (r : List Entry × Option Input). r.0) (ended n at g)
+    groups_read [] n at le g = ap (λ (r : List Entry × Option Input). r.0) (repeat_at_end n at g)
     groups_read (xs ∷ groups) zero at le g = absurd (omega (arith, g.0, le))
     groups_read (xs ∷ groups) (suc n) at le g =
         groups_by xs groups n at g.0 g.1 g.2 g.3 (λ mid s h. groups_read groups n mid (omega (arith, shrinks at mid xs s, le)) h)

@@ -4,12 +4,13 @@ use Rattle.std.specs.List.{AllByRecursion}
 use Rattle.std.proofs.lemmas.Bool.{and_parts, ltb-true}
 use Rattle.wasmprinter_spec.specs.Grammar.{some_is}
 use Rattle.wasmprinter_spec.specs.Repeated.{some_or}
-use Rattle.wasmprinter_spec.specs.Sections.{Kind, TypeSection, ImportSection, FunctionSection, TableSection, MemorySection, TagSection, GlobalSection, ExportSection, StartSection, ElementSection, DataCountSection, CodeSection, DataSection, Content, Section, holds, section_kind, content_of, rank, follows, rank_behind, are_above, content_in}
+use Rattle.wasmprinter_spec.specs.Sections.{Kind, CustomSection, TypeSection, ImportSection, FunctionSection, TableSection, MemorySection, TagSection, GlobalSection, ExportSection, StartSection, ElementSection, DataCountSection, CodeSection, DataSection, Content, Section, holds, section_kind, content_of, rank, follows, rank_behind, are_above, content_in}
 
 -- ---- of each kind
 
 -- a section is of another kind, or holds what is picked of it
 pub picks : (kind : Kind) (s : Section) → (content_of kind s ≡ None) ⊎ ((x : Content kind) × (s ≡ holds kind x))
+picks CustomSection (holds CustomSection x) = inr (x, refl)
 picks TypeSection (holds TypeSection x) = inr (x, refl)
 picks ImportSection (holds ImportSection x) = inr (x, refl)
 picks FunctionSection (holds FunctionSection x) = inr (x, refl)
@@ -27,6 +28,7 @@ picks _ _ = inl refl
 
 -- of a section of the kind it is picked
 pub picked_own : (kind : Kind) (x : Content kind) → content_of kind (holds kind x) ≡ Some x
+picked_own CustomSection x = refl
 picked_own TypeSection x = refl
 picked_own ImportSection x = refl
 picked_own FunctionSection x = refl

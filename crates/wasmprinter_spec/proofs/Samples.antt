@@ -72,6 +72,7 @@ empty_placed = record {
   elements = [];
   functions = [];
   datas = [];
+  customs = [];
   size = 8;
 }
 

@@ -8,14 +8,14 @@ use Rattle.wasmprinter_spec.specs.Call.{Call, Style, Text, Start, Name, Keyword,
 use Rattle.wasmprinter_spec.specs.Options.{defaults}
 use Rattle.wasmprinter_spec.specs.Piece.{all_calls}
 use Rattle.wasmprinter_spec.specs.Layout.Operators.{InLine, expression_pieces}
-use Rattle.wasmprinter_spec.specs.LabelNames.{no_label_names}
 use Rattle.wasmprinter_spec.proofs.Computing.{printing}
 use Rattle.wasmprinter_spec.proofs.BlockSamples.{sample_types}
+use Rattle.wasmprinter_spec.specs.Names.{no_names}
 
 abbrev called : ℕ → ℕ → Immediates → List Call
 called p n i =
     let placed : Placed Operator = record { place = 0; value = record { opcode = opcode p n; immediates = i } } in
-    atoms (all_calls defaults (expression_pieces (record { form = InLine; signature = signature_at sample_types; nesting = 0 }) no_label_names (placed ∷ [])))
+    atoms (all_calls defaults (expression_pieces (record { form = InLine; signature = signature_at sample_types; nesting = 0; names = no_names; function = 0 }) (placed ∷ [])))
 
 abbrev plain : List ℕ → List Call
 plain s = Text s ∷ []

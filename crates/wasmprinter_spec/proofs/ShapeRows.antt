@@ -13,11 +13,11 @@ use Rattle.wasmprinter_spec.specs.Call.{text_of}
 use Rattle.wasmprinter_spec.specs.Options.{defaults}
 use Rattle.wasmprinter_spec.specs.Piece.{all_calls}
 use Rattle.wasmprinter_spec.specs.Layout.Operators.{InLine, expression_pieces}
-use Rattle.wasmprinter_spec.specs.LabelNames.{no_label_names}
 use Rattle.wasmprinter_spec.proofs.Computing.{printing, reading}
 use Rattle.wasmprinter_spec.proofs.Samples.{no_spaces}
 use Rattle.wasmprinter_spec.proofs.BlockSamples.{sample_types}
 use Rattle.wasmprinter_spec.proofs.ShapeSamples.{all_samples}
+use Rattle.wasmprinter_spec.specs.Names.{no_names}
 
 -- ---- what bytes spell
 
@@ -33,7 +33,7 @@ samples_spelled = refl
 abbrev printed : Operator → List ℕ
 printed o =
     let placed : Placed Operator = record { place = 0; value = o } in
-    text_of (all_calls defaults (expression_pieces (record { form = InLine; signature = signature_at sample_types; nesting = 0 }) no_label_names (placed ∷ [])))
+    text_of (all_calls defaults (expression_pieces (record { form = InLine; signature = signature_at sample_types; nesting = 0; names = no_names; function = 0 }) (placed ∷ [])))
 
 samples_printed : map (λ ss. map (λ s. printed s.operator) ss) all_samples ≡ map (λ ss. map (λ s. s.text) ss) all_samples
 unfolding printing
@@ -42,7 +42,7 @@ samples_printed = refl
 -- ---- the way back
 
 abbrev pub around : Context
-around = record { spaces = no_spaces; signature = signature_at sample_types }
+around = record { spaces = no_spaces; signature = signature_at sample_types; fields = λ n. [] }
 
 abbrev pub ops : List ℕ → Option (List Operator)
 ops text = forest text >>= λ f. unfolded (cut f) >>= read_operators around

@@ -11,10 +11,10 @@ use Rattle.wasmprinter_spec.specs.Module.{Module}
 use Rattle.wasmprinter_spec.specs.Call.{Call, Style, Text, Start, Name, Keyword, TypeName, Reset, text_of, atoms}
 use Rattle.wasmprinter_spec.specs.Options.{Options, defaults}
 use Rattle.wasmprinter_spec.specs.Piece.{Piece, repeated, left_in, place_text, all_calls}
-use Rattle.wasmprinter_spec.specs.Layout.Groups.{group, line_group_gap, group_at, group_gap_at, line_group, numbered}
-use Rattle.wasmprinter_spec.specs.Layout.Types.{heap_pieces, null_ref_pieces, ref_pieces, val_pieces, type_list, list_group, signature_pieces, storage_pieces, field_pieces, struct_pieces, composite_pieces, supertype_pieces, sub_group, sub_pieces, type_pieces, member_pieces, type_group_pieces, type_section_pieces}
-use Rattle.wasmprinter_spec.specs.Layout.Operators.{operator_pieces, operators_pieces, expression_pieces}
-use Rattle.wasmprinter_spec.specs.Layout.{module_field_pieces, module_pieces, layout, tag_pieces, start_pieces}
+use Rattle.wasmprinter_spec.specs.Layout.{layout}
+use Rattle.wasmprinter_spec.specs.Layout.Types.{composite_pieces, type_pieces}
+use Rattle.wasmprinter_spec.specs.Layout.ValTypes.{val_pieces}
+use Rattle.wasmprinter_spec.proofs.Computing.{composing}
 use Rattle.wasmprinter_spec.specs.Table.{table}
 use Rattle.wasmprinter_spec.specs.Character.{class}
 use Rattle.wasmprinter_spec.specs.Numeral.{numeral, natural}
@@ -23,13 +23,9 @@ use Rattle.wasmprinter_spec.specs.Code.{head}
 use Rattle.wasmprinter_spec.specs.Text.Items.{groups}
 use Rattle.wasmprinter_spec.specs.Text.Types.{heap_of_word, ref_of_word, number_of_word, packed_of_word}
 use Rattle.wasmprinter_spec.specs.Read.{read}
-use Rattle.wasmprinter_spec.specs.Layout.Exports.{export_pieces, kind_word, extern_index_pieces}
-use Rattle.wasmprinter_spec.specs.Layout.Memories.{memory_pieces, memory_type_pieces}
 use Rattle.wasmprinter_spec.specs.Text.Exports.{kind_of_word}
-use Rattle.wasmprinter_spec.specs.Layout.Functions.{body_pieces, local_group, local_pieces, header_pieces, function_group, function_pieces}
-use Rattle.wasmprinter_spec.specs.Layout.Limits.{limits_pieces}
-use Rattle.wasmprinter_spec.specs.Layout.Imports.{imports_pieces}
 use Rattle.wasmprinter_spec.proofs.Samples.{lines, head_bytes, to, to_null, func, empty}
+use Rattle.wasmprinter_spec.specs.Names.{no_names}
 
 -- ---- from bytes to text
 
@@ -53,7 +49,7 @@ group_of_one : printed (with_types (0x01 ∷ 0x4e ∷ 0x01 ∷ 0x60 ∷ 0x00 ∷
     ∷ codes "    (type (;0;) (func))"
     ∷ codes "  )"
     ∷ []))
-unfolding group group_at line_group line_group_gap list_group signature_pieces composite_pieces sub_pieces type_pieces member_pieces type_group_pieces type_section_pieces numbered module_field_pieces module_pieces layout repeated digits memory_pieces memory_type_pieces limits_pieces export_pieces kind_word extern_index_pieces tag_pieces start_pieces imports_pieces
+unfolding composing repeated digits
 group_of_one = refl
 
 -- each type of a group has the place behind two bytes, whatever the bytes before it are
@@ -67,15 +63,15 @@ group_with_offsets : printed_by (record defaults { offsets = true }) (with_types
     ∷ codes "(;@18    ;)  (rec)"
     ∷ codes "(;@1a    ;))"
     ∷ []))
-unfolding group group_at line_group line_group_gap list_group signature_pieces composite_pieces supertype_pieces sub_group sub_pieces type_pieces member_pieces type_group_pieces type_section_pieces numbered module_field_pieces module_pieces layout repeated left_in place_text digits memory_pieces memory_type_pieces limits_pieces export_pieces kind_word extern_index_pieces tag_pieces start_pieces imports_pieces
+unfolding composing repeated left_in place_text digits
 group_with_offsets = refl
 
 structure : printed (with_types (0x01 ∷ 0x5f ∷ 0x02 ∷ 0x78 ∷ 0x01 ∷ 0x7f ∷ 0x00 ∷ [])) ≡ Some (module_text (codes "  (type (;0;) (struct (field (mut i8)) (field i32)))" ∷ []))
-unfolding group_at line_group line_group_gap val_pieces storage_pieces field_pieces struct_pieces composite_pieces sub_pieces type_pieces type_group_pieces type_section_pieces numbered module_field_pieces module_pieces layout repeated digits memory_pieces memory_type_pieces limits_pieces export_pieces kind_word extern_index_pieces tag_pieces start_pieces imports_pieces
+unfolding composing repeated digits
 structure = refl
 
 open_array : printed (with_types (0x01 ∷ 0x50 ∷ 0x00 ∷ 0x5e ∷ 0x7f ∷ 0x00 ∷ [])) ≡ Some (module_text (codes "  (type (;0;) (sub (array i32)))" ∷ []))
-unfolding group_at line_group line_group_gap val_pieces storage_pieces field_pieces composite_pieces supertype_pieces sub_group sub_pieces type_pieces type_group_pieces type_section_pieces numbered module_field_pieces module_pieces layout repeated digits memory_pieces memory_type_pieces limits_pieces export_pieces kind_word extern_index_pieces tag_pieces start_pieces imports_pieces
+unfolding composing repeated digits
 open_array = refl
 
 -- a final type with a supertype, and one without
@@ -84,7 +80,7 @@ final_types : printed (with_types (0x03 ∷ 0x50 ∷ 0x00 ∷ 0x60 ∷ 0x00 ∷ 
     ∷ codes "  (type (;1;) (sub final 0 (func)))"
     ∷ codes "  (type (;2;) (func))"
     ∷ []))
-unfolding group_at line_group line_group_gap list_group signature_pieces composite_pieces supertype_pieces sub_group sub_pieces type_pieces type_group_pieces type_section_pieces numbered module_field_pieces module_pieces layout repeated digits memory_pieces memory_type_pieces limits_pieces export_pieces kind_word extern_index_pieces tag_pieces start_pieces imports_pieces
+unfolding composing repeated digits
 final_types = refl
 
 -- supertypes, of which the second stands behind
@@ -92,7 +88,7 @@ two_supertypes : printed (with_types (0x02 ∷ 0x50 ∷ 0x02 ∷ 0x00 ∷ 0x01 �
     codes "  (type (;0;) (sub 0 1 (struct)))"
     ∷ codes "  (type (;1;) (array (mut i16)))"
     ∷ []))
-unfolding group_at line_group line_group_gap storage_pieces field_pieces struct_pieces composite_pieces supertype_pieces sub_group sub_pieces type_pieces type_group_pieces type_section_pieces numbered module_field_pieces module_pieces layout repeated digits memory_pieces memory_type_pieces limits_pieces export_pieces kind_word extern_index_pieces tag_pieces start_pieces imports_pieces
+unfolding composing repeated digits
 two_supertypes = refl
 
 abbrev value_bytes : List ℕ
@@ -109,7 +105,7 @@ each_type_text = module_text ((
     ++ codes " (result (ref exn) (ref array) (ref struct) (ref i31) (ref eq) (ref any) (ref extern) (ref func) (ref none) (ref noextern) (ref nofunc) (ref noexn) (ref null 0) (ref 0))))") ∷ [])
 
 each_type : printed (with_types (0x01 ∷ 0x60 ∷ 0x13 ∷ (value_bytes ++ 0x0e ∷ reference_bytes))) ≡ Some each_type_text
-unfolding group_at line_group line_group_gap heap_pieces null_ref_pieces ref_pieces val_pieces type_list list_group signature_pieces composite_pieces sub_pieces type_pieces type_group_pieces type_section_pieces numbered module_field_pieces module_pieces layout repeated digits memory_pieces memory_type_pieces limits_pieces export_pieces kind_word extern_index_pieces tag_pieces start_pieces imports_pieces
+unfolding composing repeated digits
 each_type = refl
 
 -- functions use types of groups: one of a function type behind a group, and one of a structure
@@ -127,7 +123,7 @@ functions_of_groups : printed (head_bytes
     ∷ codes "  )"
     ∷ codes "  (func (;1;) (type 0))"
     ∷ []))
-unfolding group line_group_gap group_at group_gap_at line_group heap_pieces ref_pieces val_pieces type_list list_group signature_pieces struct_pieces composite_pieces sub_pieces type_pieces member_pieces type_group_pieces type_section_pieces operator_pieces operators_pieces expression_pieces body_pieces local_group local_pieces header_pieces function_group function_pieces numbered module_field_pieces module_pieces layout repeated digits table memory_pieces memory_type_pieces limits_pieces export_pieces kind_word extern_index_pieces tag_pieces start_pieces imports_pieces
+unfolding composing repeated digits table
 functions_of_groups = refl
 
 -- ---- calls
@@ -141,33 +137,33 @@ in_style style s = Start style ∷ Text s ∷ Start Reset ∷ []
 abbrev are_calls : List Piece → List Call → Type 0
 are_calls ps calls = atoms (all_calls defaults ps) ≡ atoms calls
 
-func_calls : are_calls (val_pieces (Ref (ref_type true Func))) (in_style TypeName (codes "funcref"))
-unfolding val_pieces ref_pieces null_ref_pieces
+func_calls : are_calls (val_pieces no_names (Ref (ref_type true Func))) (in_style TypeName (codes "funcref"))
+unfolding composing
 func_calls = refl
 
-null_calls : are_calls (val_pieces (Ref (ref_type true (Index 3)))) (plain (codes "(") ++ in_style Keyword (codes "ref") ++ plain (codes " null ") ++ in_style Name (codes "3") ++ plain (codes ")"))
-unfolding val_pieces ref_pieces null_ref_pieces heap_pieces line_group digits
+null_calls : are_calls (val_pieces no_names (Ref (ref_type true (Index 3)))) (plain (codes "(") ++ in_style Keyword (codes "ref") ++ plain (codes " null ") ++ in_style Name (codes "3") ++ plain (codes ")"))
+unfolding composing digits
 null_calls = refl
 
-ref_calls : are_calls (val_pieces (Ref (ref_type false Any))) (plain (codes "(") ++ in_style Keyword (codes "ref ") ++ in_style TypeName (codes "any") ++ plain (codes ")"))
-unfolding val_pieces ref_pieces heap_pieces line_group_gap
+ref_calls : are_calls (val_pieces no_names (Ref (ref_type false Any))) (plain (codes "(") ++ in_style Keyword (codes "ref ") ++ in_style TypeName (codes "any") ++ plain (codes ")"))
+unfolding composing
 ref_calls = refl
 
-structure_calls : are_calls (composite_pieces (StructComposite (field_type true I8 ∷ field_type false (Val F64) ∷ []))) (
+structure_calls : are_calls (composite_pieces no_names 0 (StructComposite (field_type true I8 ∷ field_type false (Val F64) ∷ []))) (
     plain (codes "(") ++ in_style Keyword (codes "struct") ++ plain (codes " (field (mut i8)) (field ") ++ in_style TypeName (codes "f64") ++ plain (codes "))"))
-unfolding composite_pieces struct_pieces field_pieces storage_pieces val_pieces line_group
+unfolding composing
 structure_calls = refl
 
-array_calls : are_calls (composite_pieces (ArrayComposite (field_type true (Val V128)))) (
+array_calls : are_calls (composite_pieces no_names 0 (ArrayComposite (field_type true (Val V128)))) (
     plain (codes "(") ++ in_style Keyword (codes "array") ++ plain (codes " (mut ") ++ in_style TypeName (codes "v128") ++ plain (codes "))"))
-unfolding composite_pieces field_pieces storage_pieces val_pieces line_group
+unfolding composing
 array_calls = refl
 
-sub_calls : are_calls (type_pieces 5 (sub_type true (0 ∷ []) (ArrayComposite (field_type false I16)))) (
+sub_calls : are_calls (type_pieces no_names 5 (sub_type true (0 ∷ []) (ArrayComposite (field_type false I16)))) (
     plain (codes "(") ++ in_style Keyword (codes "type ") ++ in_style Name (codes "(;5;)")
     ++ plain (codes " (") ++ in_style Keyword (codes "sub") ++ plain (codes " final ") ++ in_style Name (codes "0")
     ++ plain (codes " (") ++ in_style Keyword (codes "array") ++ plain (codes " i16)))"))
-unfolding type_pieces sub_pieces sub_group supertype_pieces composite_pieces field_pieces storage_pieces line_group line_group_gap digits
+unfolding composing digits
 sub_calls = refl
 
 -- ---- texts that read

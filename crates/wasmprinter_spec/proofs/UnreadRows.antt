@@ -311,3 +311,23 @@ unread_folded : numbers_read (map procedure (
     ∷ [])) ≡ []
 unfolding lex class escape numeral natural integer groups table head is_utf8 chars encode_utf8 heap_of_word ref_of_word number_of_word packed_of_word kind_of_word
 unread_folded = refl
+
+-- an identifier twice among tags, also where one is imported, and among data segments
+unread_doubles : numbers_read (
+    codes "(module (type (func)) (tag $t (type 0)) (tag $s (type 0)))"
+    ∷ codes "(module (type (func)) (tag $t (type 0)) (tag $t (type 0)))"
+    ∷ codes "(module (type (func)) (import \"m\" \"t\" (tag $t (type 0))) (tag $t (type 0)))"
+    ∷ codes "(module (data $d \"\") (data $e \"\"))"
+    ∷ codes "(module (data $d \"\") (data $d \"\"))"
+    ∷ []) ≡ 0 ∷ 3 ∷ []
+unfolding lex class escape numeral natural integer groups table head is_utf8 chars encode_utf8 heap_of_word ref_of_word number_of_word packed_of_word kind_of_word
+unread_doubles = refl
+
+-- the identifier of a field, which is one of the structure that stands before it
+unread_fields_of_others : numbers_read (
+    codes "(module (type $r (struct (field $y i32))) (type $s (struct (field i32) (field $x i32))) (type (func)) (func (type 2) struct.get $s $x))"
+    ∷ codes "(module (type $r (struct (field $y i32))) (type $s (struct (field i32) (field $x i32))) (type (func)) (func (type 2) struct.get $s $y))"
+    ∷ codes "(module (type $r (struct (field $y i32))) (type $s (struct (field i32) (field $x i32))) (type (func)) (func (type 2) struct.get $r $x))"
+    ∷ []) ≡ 0 ∷ []
+unfolding lex class escape numeral natural integer groups table head is_utf8 chars encode_utf8 heap_of_word ref_of_word number_of_word packed_of_word kind_of_word
+unread_fields_of_others = refl

@@ -6,8 +6,8 @@ use Rattle.wasmprinter_spec.specs.Repeated.{until_end}
 use Rattle.wasmprinter_spec.specs.Sized.{take_bytes, headed, concluded}
 use Rattle.wasmprinter_spec.specs.Types.{MemoryType}
 use Rattle.wasmprinter_spec.specs.Operator.{Operator}
-use Rattle.wasmprinter_spec.specs.Placed.{TypeGroup, Import, Table, Global, ElementEntry, Data, Body, Export, PlacedFunction, PlacedModule}
-use Rattle.wasmprinter_spec.specs.Sections.{Section, TypeSection, ImportSection, FunctionSection, TableSection, MemorySection, TagSection, GlobalSection, ExportSection, StartSection, ElementSection, DataCountSection, CodeSection, DataSection, section, are_above, content_in}
+use Rattle.wasmprinter_spec.specs.Placed.{TypeGroup, Import, Table, Global, ElementEntry, Data, Body, Export, Custom, PlacedFunction, PlacedModule}
+use Rattle.wasmprinter_spec.specs.Sections.{Section, CustomSection, TypeSection, ImportSection, FunctionSection, TableSection, MemorySection, TagSection, GlobalSection, ExportSection, StartSection, ElementSection, DataCountSection, CodeSection, DataSection, section, are_above, content_in, contents_in}
 pub mod ValTypes
 pub mod Types
 pub mod Functions
@@ -22,6 +22,7 @@ pub mod Tags
 pub mod Exports
 pub mod Start
 pub mod Code
+pub mod Customs
 
 -- the magic and the version
 abbrev pub magic : List ℕ
@@ -73,6 +74,9 @@ bodies_in ss = content_in CodeSection [] ss
 abbrev pub datas_in : List Section → List (Placed (Data (Placed Operator)))
 datas_in ss = content_in DataSection [] ss
 
+abbrev pub customs_in : List Section → List (Placed Custom)
+customs_in ss = contents_in CustomSection ss
+
 -- the type index of each function with its body, where there are as many of the one as of the other
 abbrev pub function_pairs : List ℕ → List (Placed Body) → Option (List PlacedFunction)
 function_pairs [] [] = Some []
@@ -92,6 +96,7 @@ module_from size ss fs = record {
   elements = elements_in ss;
   functions = fs;
   datas = datas_in ss;
+  customs = customs_in ss;
   size = size;
 }
 

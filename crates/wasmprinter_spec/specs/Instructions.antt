@@ -14,7 +14,7 @@ use Rattle.wasmprinter_spec.specs.Binary.ValTypes.{lookup, signed_index, heap_ty
 use Rattle.wasmprinter_spec.specs.Operator.{Opcode, opcode, BlockType, Empty, Value, OfType, Catch, One, OneRef, All, AllRef, MemArg, mem_arg_of, Immediates, NoImmediates, Block, TryTable, Index, Indices, BranchTable, Types, Heap, Cast, Memory, MemoryLane, Lane, I32, I64, F32, F64, Bytes, Operator}
 use Rattle.wasmprinter_spec.specs.Row.{Row, Shape, NoneShape, FenceShape, BlockShape, TryTableShape, IndexShape, DefaultIndexShape, PairShape, FieldShape, CountShape, CallShape, SegmentShape, CopyShape, BranchTableShape, SelectShape, HeapShape, RefShape, CastShape, MemoryShape, MemoryLaneShape, LaneShape, I32Shape, I64Shape, F32Shape, F64Shape, VectorShape, LanesShape, Role, Ends}
 use Rattle.wasmprinter_spec.specs.Table.{table, first, has_opcode, by_opcode, role_of, role_of_row}
-use Rattle.wasmprinter_spec.specs.Stepped.{Move, On, Stop, Never, by_move, stops, Ended, ended, stepped}
+use Rattle.wasmprinter_spec.specs.Stepped.{Move, On, Stop, Never, by_move, stops, Ended, list_with_last, stepped}
 use Rattle.wasmprinter_spec.specs.Nesting.{Nests, Sequence, Open, advance, at_start}
 use Rattle.wasmprinter_spec.specs.NestingSteps.{stops_at_end, nested_to_end}
 
@@ -278,7 +278,7 @@ said p text x s =
     let last : Placed Operator = record { place = p + length s.0; value = end_operator } in
     let stop : stops advance (at_start) (roles x.items) Ends ≡ true = stops_at_end (roles x.items) s.3 in
     let end : stops advance at_start (roles x.items) (role_of (opcode 0 end_byte)) ≡ true = ap (stops advance at_start (roles x.items)) end_role ∙ stop in (
-      ended x.items last,
+      list_with_last x.items last,
       ap (λ (q : ℕ). Some (record { items = x.items; end = q })) (sym s.4),
       (s.0, end_byte ∷ [], s.1, s.2, (refl, end_spelled (p + length s.0)), stops-roles x.items last at_start ∙ end),
     )

@@ -66,7 +66,7 @@ ReadsBack =
 abbrev pub TokensStay : Type 0
 TokensStay =
     (bytes : List ℕ) (m : PlacedModule) (o p : Options) (answers : Answers) →
-    Spells bytes m → o.skeleton ≡ p.skeleton → IsBlank o.indent → IsBlank p.indent →
+    Spells bytes m → o.skeleton ≡ p.skeleton → o.invents ≡ p.invents → IsBlank o.indent → IsBlank p.indent →
     tokens (text_of (layout o answers m)) ≡ tokens (text_of (layout p answers m))
 
 -- Printed text is plain.

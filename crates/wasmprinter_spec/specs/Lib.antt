@@ -36,6 +36,7 @@ pub mod Piece
 pub mod Labels
 pub mod LabelNames
 pub mod Names
+pub mod ModuleNames
 pub mod Layout
 pub mod IndexSpaces
 pub mod Code

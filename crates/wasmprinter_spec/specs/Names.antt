@@ -5,7 +5,7 @@ use Rattle.wasmprinter_spec.specs.Grammar.{◌>>=◌}
 use Rattle.wasmprinter_spec.specs.Row.{Space, Types, Func, Table, Memory, Tag, Global, Elem, Data, Local, Label}
 use Rattle.wasmprinter_spec.specs.IndexSpaces.{Identifiers}
 use Rattle.wasmprinter_spec.specs.Labels as labels
-use Rattle.wasmprinter_spec.specs.Labels.{Named, Naming}
+use Rattle.wasmprinter_spec.specs.Labels.{Named}
 use Rattle.wasmprinter_spec.specs.LabelNames.{label_naming, no_label_names}
 use Rattle.wasmprinter_spec.specs.Names.Section.{Entry, module_subsection, function_subsection, local_subsection, label_subsection, type_subsection, table_subsection, memory_subsection, global_subsection, elem_subsection, data_subsection, field_subsection, tag_subsection}
 use Rattle.wasmprinter_spec.specs.Names.Content.{group_of, index_content, name_of}
@@ -20,7 +20,7 @@ pub record Names : Type 0 where
   pub fields : ℕ → ℕ → Option Named
   -- of the function with the index; parameters come first
   pub locals : ℕ → ℕ → Option Named
-  pub labels : ℕ → Naming
+  pub labels : ℕ → labels.Naming
 
 -- the identifiers that the operators of a function may use
 abbrev pub in_function : Names → ℕ → Space → ℕ → Option Named
@@ -37,7 +37,7 @@ no_names = record {
   labels = λ f. no_label_names;
 }
 
--- ---- the identifiers by the entries of name sections
+-- ---- the identifiers by names
 
 -- where identifiers are made up, an item without a name has the sign #, the word for its kind and its index
 abbrev pub or_invented : Bool → List ℕ → ℕ → Option Named → Option Named
@@ -45,9 +45,13 @@ or_invented invents group index (Some n) = Some n
 or_invented true group index None = Some (record { given = None; content = index_content group index })
 or_invented false group index None = None
 
--- the identifier of an item, by all entries of a module
-abbrev pub name_in : Bool → List Entry → ℕ → ℕ → ℕ → Option Named
-name_in invents entries s outer index = or_invented invents (group_of s) index (name_of entries s outer index)
+-- what names each item: the id of the subsection, the function or type, and the index
+abbrev pub Naming : Type 0
+Naming = ℕ → ℕ → ℕ → Option Named
+
+-- the identifier of an item, by the names of all
+abbrev pub name_in : Bool → Naming → Naming
+name_in invents named s outer index = or_invented invents (group_of s) index (named s outer index)
 
 -- the subsection that names the items of a space of the module
 abbrev pub subsection_of : Space → Option ℕ
@@ -63,14 +67,18 @@ subsection_of Local = None
 subsection_of Label = None
 
 -- With identifiers made up for what has no name, the module aside, or without.
-abbrev pub names_of : Bool → List Entry → Names
-names_of invents entries = record {
-  module_name = name_of entries module_subsection 0 0;
-  items = λ space i. subsection_of space >>= λ s. name_in invents entries s 0 i;
-  fields = λ t i. name_in invents entries field_subsection t i;
-  locals = λ f i. name_in invents entries local_subsection f i;
-  labels = λ f. label_naming invents (λ i. name_of entries label_subsection f i >>= λ n. n.given);
+abbrev pub names_by : Bool → Naming → Names
+names_by invents named = record {
+  module_name = named module_subsection 0 0;
+  items = λ space i. subsection_of space >>= λ s. name_in invents named s 0 i;
+  fields = λ t i. name_in invents named field_subsection t i;
+  locals = λ f i. name_in invents named local_subsection f i;
+  labels = λ f. label_naming invents (λ i. named label_subsection f i >>= λ n. n.given);
 }
+
+-- the identifiers by all entries of a module
+abbrev pub names_of : Bool → List Entry → Names
+names_of invents entries = names_by invents (name_of entries)
 
 -- ---- the identifiers of declarations
 
@@ -87,7 +95,7 @@ identifiers named count = identifiers_at named 0 count
 
 -- no two indices have one identifier
 abbrev pub AreDistinct : (ℕ → Option Named) → Type 0
-AreDistinct named = (i j : ℕ) (a b : Named) → i < 2 ^ 32 → j < 2 ^ 32 → named i ≡ Some a → named j ≡ Some b → a.content ≡ b.content → i ≡ j
+AreDistinct named = (i j : ℕ) (a b : Named) → i < 2 ^ 64 → j < 2 ^ 64 → named i ≡ Some a → named j ≡ Some b → a.content ≡ b.content → i ≡ j
 
 -- An identifier means one item of its space; labels of one identifier, one of which may stand in the other, were given one name.
 pub record AreApart (n : Names) : Type 0 where

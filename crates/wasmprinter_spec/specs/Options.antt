@@ -5,13 +5,15 @@ use Rattle.std.specs.List.{AllByRecursion}
 pub record Options : Type 0 where
   -- each line begins with the place of what stands on it
   pub offsets : Bool
-  -- bodies are left out
+  -- bodies, the items of element segments and the bytes of data segments are left out
   pub skeleton : Bool
+  -- items without a name have identifiers made up for them
+  pub invents : Bool
   -- the text that stands once for each level of nesting
   pub indent : List ℕ
 
 abbrev pub defaults : Options
-defaults = record { offsets = false; skeleton = false; indent = codes "  " }
+defaults = record { offsets = false; skeleton = false; invents = false; indent = codes "  " }
 
 -- the answer to the claim of each custom section, by the number of the section among the custom sections
 abbrev pub Answers : Type 0

@@ -29,7 +29,9 @@ pub data Piece : Type 0 where
   Literals : List ℕ → List (List ℕ) → Piece  -- words with blanks between them
   GapLiterals : List (List ℕ) → Piece  -- words, a blank before each
   Float : Width → ℕ → Piece  -- a floating point number, by its bits
-  Mark : ℕ → Piece  -- (;i;), the number of a declaration
+  NumberRemark : ℕ → Piece  -- (;i;), the number of a declaration
+  BeginName : Piece  -- from here on text has the style of names
+  EndStyle : Piece  -- from here on text has no style
   Quoted : List ℕ → Piece  -- a text in quotes, by its characters
   QuotedBytes : List ℕ → Piece  -- bytes in quotes
   Identifier : List ℕ → Piece  -- by the characters behind the dollar sign
@@ -91,7 +93,9 @@ calls o (Constant z) = styled Literal (32 ∷ signed_decimal z)
 calls o (Literals w ws) = styled Literal (w ++ behind_blanks ws)
 calls o (GapLiterals ws) = styled Literal (behind_blanks ws)
 calls o (Float w bits) = float_calls w bits
-calls o (Mark n) = styled Name (codes "(;" ++ (decimal n ++ codes ";)"))
+calls o (NumberRemark n) = Text (codes "(;" ++ (decimal n ++ codes ";)")) ∷ []
+calls o BeginName = Start Name ∷ []
+calls o EndStyle = Start Reset ∷ []
 calls o (Quoted cs) = styled Literal (quoted_text cs)
 calls o (QuotedBytes bs) = styled Literal (quoted_bytes bs)
 calls o (Identifier cs) = Text (identifier_text cs) ∷ []

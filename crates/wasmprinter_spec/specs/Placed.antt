@@ -44,6 +44,14 @@ pub record Import : Type 0 where
 abbrev pub import_of : List ℕ → List ℕ → ExternType → Import
 import_of m n t = record { source = m; name = n; type = t }
 
+-- a custom section: its name, and the bytes behind it with the place of the first
+pub record Custom : Type 0 where
+  pub name : List ℕ
+  pub bytes : Placed (List ℕ)
+
+abbrev pub custom_of : List ℕ → Placed (List ℕ) → Custom
+custom_of n bytes = record { name = n; bytes = bytes }
+
 -- ---- what holds expressions: lists of operators, with or without their places
 
 -- a table, perhaps with an initialiser, which may be empty
@@ -98,7 +106,8 @@ pub record Data (O : Type 0) : Type 0 where
 abbrev pub data_of : {O : Type 0} → DataMode O → List ℕ → Data O
 data_of mode bytes = record { mode = mode; bytes = bytes }
 
--- Tags by the indices of their types; the start function; `size` is the number of the module's bytes.
+-- Tags by the indices of their types; the start function; custom sections in their order, each with the place of its first byte behind its size;
+-- `size` is the number of the module's bytes.
 pub record PlacedModule : Type 0 where
   pub types : List (Placed TypeGroup)
   pub imports : List (Placed Import)
@@ -111,4 +120,5 @@ pub record PlacedModule : Type 0 where
   pub elements : List (Placed ElementEntry)
   pub functions : List PlacedFunction
   pub datas : List (Placed (Data (Placed Operator)))
+  pub customs : List (Placed Custom)
   pub size : ℕ

@@ -10,7 +10,7 @@ use Rattle.wasmprinter_spec.specs.Types.{SubType, ExternKind, FuncKind, TableKin
 use Rattle.wasmprinter_spec.specs.Module.{Module}
 use Rattle.wasmprinter_spec.specs.IndexSpaces.{Identifiers, index_space, index, Spaces, Context}
 use Rattle.wasmprinter_spec.specs.Text.Items.{each, identified}
-use Rattle.wasmprinter_spec.specs.Text.Types.{group_members, read_group}
+use Rattle.wasmprinter_spec.specs.Text.Types.{Declared, group_members, group_types, field_space, read_group}
 use Rattle.wasmprinter_spec.specs.Text.Functions.{read_function}
 use Rattle.wasmprinter_spec.specs.Text.Imports.{ImportField, import_field, read_import}
 use Rattle.wasmprinter_spec.specs.Text.Tables.{read_table}
@@ -130,8 +130,9 @@ spaces_of m = do
 
 -- ---- the module
 
-abbrev pub context : Spaces → List (List SubType) → Context
-context s types = record { spaces = s; signature = signature_at (all_types types) }
+-- from the types, with the identifiers of their fields
+abbrev pub context : Spaces → List (List (Declared SubType)) → Context
+context s types = record { spaces = s; signature = signature_at (all_types (group_types types)); fields = field_space types }
 
 abbrev pub read_start : Spaces → Option Forest → Option (Option ℕ)
 read_start s None = Some None
@@ -152,7 +153,7 @@ module_of_fields m = do
   elements ← each (read_element (context spaces types)) m.elements
   datas ← each (read_data (context spaces types)) m.datas
   Some (record {
-    types = types;
+    types = group_types types;
     imports = imports;
     functions = functions;
     tables = tables;

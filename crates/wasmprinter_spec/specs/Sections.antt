@@ -1,14 +1,14 @@
 -- Sections (section 5.5 of the standard, "Sections"): each has a kind, and holds what is spelled by all the bytes of its size. The grammar so
--- far has all sections but custom ones. What is said of each kind stands here, one line for each; how the content of a kind
+-- far has all sections, custom ones by the name `name` alone. What is said of each kind stands here, one line for each; how the content of a kind
 -- is spelled stands in a file of its own, in `Binary`.
-use Rattle.std.specs.Prelude.{ℕ, List, [], ◌∷◌, Bool, true, ◌&&◌, nat_lt, ◌==◌, Option, Some, None}
+use Rattle.std.specs.Prelude.{ℕ, List, [], ◌∷◌, Bool, true, ◌&&◌, nat_lt, Option, Some, None}
 use Rattle.wasmprinter_spec.specs.Grammar.{Grammar, Remainder, byte, seq, map_value, try_map, Placed}
 use Rattle.wasmprinter_spec.specs.Repeated.{some_or}
 use Rattle.wasmprinter_spec.specs.Sized.{exactly}
 use Rattle.wasmprinter_spec.specs.Name.{u32}
 use Rattle.wasmprinter_spec.specs.Types.{MemoryType}
 use Rattle.wasmprinter_spec.specs.Operator.{Operator}
-use Rattle.wasmprinter_spec.specs.Placed.{TypeGroup, Import, Table, Global, ElementEntry, Data, Body, Export}
+use Rattle.wasmprinter_spec.specs.Placed.{TypeGroup, Import, Table, Global, ElementEntry, Data, Body, Export, Custom}
 use Rattle.wasmprinter_spec.specs.Binary.ValTypes.{lookup}
 use Rattle.wasmprinter_spec.specs.Binary.Types.{type_section}
 use Rattle.wasmprinter_spec.specs.Binary.Imports.{import_section}
@@ -22,8 +22,10 @@ use Rattle.wasmprinter_spec.specs.Binary.Start.{start_section}
 use Rattle.wasmprinter_spec.specs.Binary.Elements.{element_section}
 use Rattle.wasmprinter_spec.specs.Binary.DataSegments.{data_count_section, data_section}
 use Rattle.wasmprinter_spec.specs.Binary.Code.{code_section}
+use Rattle.wasmprinter_spec.specs.Binary.Customs.{custom_section}
 
 pub data Kind : Type 0 where
+  CustomSection : Kind
   TypeSection : Kind
   ImportSection : Kind
   FunctionSection : Kind
@@ -42,13 +44,14 @@ pub data Kind : Type 0 where
 abbrev pub kind_of : ℕ → Option Kind
 kind_of id =
     lookup (
-    (1, TypeSection) ∷ (2, ImportSection) ∷ (3, FunctionSection) ∷ (4, TableSection) ∷ (5, MemorySection) ∷ (6, GlobalSection)
+    (0, CustomSection) ∷ (1, TypeSection) ∷ (2, ImportSection) ∷ (3, FunctionSection) ∷ (4, TableSection) ∷ (5, MemorySection) ∷ (6, GlobalSection)
     ∷ (7, ExportSection) ∷ (8, StartSection) ∷ (9, ElementSection) ∷ (10, CodeSection) ∷ (11, DataSection)
     ∷ (12, DataCountSection) ∷ (13, TagSection) ∷ []) id
 
 -- Where each kind stands in the order type, import, function, table, memory, tag, global, export, start, element, data count, code, data.
 -- Sections of a kind that has no place there may stand anywhere.
 abbrev pub rank : Kind → Option ℕ
+rank CustomSection = None
 rank TypeSection = Some 1
 rank ImportSection = Some 2
 rank FunctionSection = Some 3
@@ -65,6 +68,7 @@ rank DataSection = Some 13
 
 -- what a section of the kind holds
 abbrev pub Content : Kind → Type 0
+Content CustomSection = Placed Custom
 Content TypeSection = List (Placed TypeGroup)
 Content ImportSection = List (Placed Import)
 Content FunctionSection = List ℕ
@@ -81,6 +85,7 @@ Content DataSection = List (Placed (Data (Placed Operator)))
 
 -- how it is spelled, by all the bytes of the section
 abbrev pub content : (kind : Kind) → Remainder (Content kind)
+content CustomSection = custom_section
 content TypeSection = type_section
 content ImportSection = import_section
 content FunctionSection = function_section
@@ -103,6 +108,7 @@ section_kind (holds kind x) = kind
 
 -- what the section holds, if it is of this kind
 abbrev pub content_of : (kind : Kind) → Section → Option (Content kind)
+content_of CustomSection (holds CustomSection x) = Some x
 content_of TypeSection (holds TypeSection x) = Some x
 content_of ImportSection (holds ImportSection x) = Some x
 content_of FunctionSection (holds FunctionSection x) = Some x
@@ -145,3 +151,8 @@ are_above low (s ∷ ss) = follows low (rank (section_kind s)) && are_above (ran
 abbrev pub content_in : (kind : Kind) → Content kind → List Section → Content kind
 content_in kind none [] = none
 content_in kind none (s ∷ ss) = content_in kind (some_or (content_of kind s) none (λ x. x)) ss
+
+-- what all sections of the kind hold, in order
+abbrev pub contents_in : (kind : Kind) → List Section → List (Content kind)
+contents_in kind [] = []
+contents_in kind (s ∷ ss) = some_or (content_of kind s) (contents_in kind ss) (λ x. x ∷ contents_in kind ss)

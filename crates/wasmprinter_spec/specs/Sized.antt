@@ -1,10 +1,10 @@
--- Grammars of bytes whose number is given: n bytes, a value that takes exactly n bytes, a value with nothing behind it, and
--- a beginning with a rest (section 5.5 of the standard: "Sections" have a size, "Modules" a preamble).
+-- Grammars of bytes whose number is given: n bytes, a value that takes exactly n bytes, a value with nothing behind it, a
+-- beginning with a rest, and all that is left (section 5.5 of the standard: "Sections" have a size, "Modules" a preamble).
 use Rattle.std.specs.Prelude.{◌≡◌, ℕ, List, [], ◌∷◌, ◌++◌, ◌+◌, ◌≤◌, length, take, drop, false, Option, Some, None, nat_lt, if◌then◌else◌, refl}
 use Rattle.std.proofs.Common.{sym, ap, subst, ◌∙◌, arith, ltb}
 use Rattle.std.proofs.lemmas.Bool.{ltb-false, le-ltb}
 use Rattle.std.proofs.lemmas.List.{length-append, length-take-le, take-append-drop, take_at, drop_at, append-nil}
-use Rattle.wasmprinter_spec.specs.Grammar.{Input, input, Spans, Grammar, Remainder, ◌>>=◌, bind_some, some_is}
+use Rattle.wasmprinter_spec.specs.Grammar.{Input, input, Spans, Grammar, Remainder, ◌>>=◌, bind_some, some_is, Placed}
 use Rattle.wasmprinter_spec.specs.Choices.{untested}
 
 -- n bytes
@@ -62,22 +62,22 @@ module _ {A : Type 0} (w : Remainder A) where
     exactly = record { spells = Exactly; parse = exactly_at; sound = exactly_sound; complete = exactly_complete }
 
 -- the value, if nothing stands behind it
-abbrev pub ended : {A : Type 0} → List ℕ → A → Option A
-ended [] a = Some a
-ended (b ∷ bs) a = None
+abbrev pub value_at_end : {A : Type 0} → List ℕ → A → Option A
+value_at_end [] a = Some a
+value_at_end (b ∷ bs) a = None
 
 -- a value and nothing behind it
 module _ {A : Type 0} (g : Grammar A) where
   abbrev pub alone_at : Input → Option A
-  alone_at at = g.parse at >>= λ x. ended x.1.bytes x.0
+  alone_at at = g.parse at >>= λ x. value_at_end x.1.bytes x.0
 
-  ended_some : (bytes : List ℕ) (a b : A) → ended bytes a ≡ Some b → (bytes ≡ []) × (a ≡ b)
+  ended_some : (bytes : List ℕ) (a b : A) → value_at_end bytes a ≡ Some b → (bytes ≡ []) × (a ≡ b)
   ended_some [] a b e = (refl, some_is a b e)
   ended_some (c ∷ cs) a b e = absurd cc
 
   pub alone_sound : (at : Input) (a : A) → alone_at at ≡ Some a → g.spells at.place at.bytes a
   alone_sound at a e =
-      let x = bind_some (g.parse at) (λ x. ended x.1.bytes x.0) a e in
+      let x = bind_some (g.parse at) (λ x. value_at_end x.1.bytes x.0) a e in
       let d = ended_some x.0.1.bytes x.0.0 a x.2 in
       let s = g.sound at x.0 x.1 in
       let t : s.text ≡ at.bytes = sym (s.parts ∙ ap (λ (r : List ℕ). s.text ++ r) d.0 ∙ append-nil s.text) in
@@ -116,6 +116,44 @@ module _ {A B : Type 0} (g : Grammar A) (w : Remainder B) where
 
   abbrev pub headed : Remainder (A × B)
   headed = record { spells = Headed; parse = headed_at; sound = headed_sound; complete = headed_complete }
+
+-- all bytes that are left, with the place of the first
+abbrev pub AllLeft : ℕ → List ℕ → Placed (List ℕ) → Type 0
+AllLeft p text x = (x.place ≡ p) × (x.value ≡ text)
+
+abbrev pub left_at : Input → Option (Placed (List ℕ))
+left_at at = Some (record { place = at.place; value = at.bytes })
+
+pub left_sound : (at : Input) (x : Placed (List ℕ)) → left_at at ≡ Some x → AllLeft at.place at.bytes x
+left_sound at x e =
+    let s = some_is (record { place = at.place; value = at.bytes }) x e in
+    (sym (ap (λ (y : Placed (List ℕ)). y.place) s), sym (ap (λ (y : Placed (List ℕ)). y.value) s))
+
+pub left_complete : (at : Input) (x : Placed (List ℕ)) → AllLeft at.place at.bytes x → left_at at ≡ Some x
+left_complete at x s = rw (← s.0, ← s.1) refl
+
+abbrev pub left : Remainder (Placed (List ℕ))
+left = record { spells = AllLeft; parse = left_at; sound = left_sound; complete = left_complete }
+
+-- a value that takes all bytes, with the place of the first
+module _ {A : Type 0} (w : Remainder A) where
+  abbrev pub PlacedWhole : ℕ → List ℕ → Placed A → Type 0
+  PlacedWhole p text x = (x.place ≡ p) × w.spells p text x.value
+
+  abbrev pub placed_whole_at : Input → Option (Placed A)
+  placed_whole_at at = w.parse at >>= λ a. Some (record { place = at.place; value = a })
+
+  pub placed_whole_sound : (at : Input) (x : Placed A) → placed_whole_at at ≡ Some x → PlacedWhole at.place at.bytes x
+  placed_whole_sound at x e =
+      let with_place : A → Placed A = λ a. record { place = at.place; value = a } in
+      let a = bind_some (w.parse at) (λ a. Some (with_place a)) x e in
+      subst (λ (y : Placed A). PlacedWhole at.place at.bytes y) (some_is (with_place a.0) x a.2) (refl, w.sound at a.0 a.1)
+
+  pub placed_whole_complete : (at : Input) (x : Placed A) → PlacedWhole at.place at.bytes x → placed_whole_at at ≡ Some x
+  placed_whole_complete at x s = rw (w.complete at x.value s.1, ← s.0) refl
+
+  abbrev pub placed_whole : Remainder (Placed A)
+  placed_whole = record { spells = PlacedWhole; parse = placed_whole_at; sound = placed_whole_sound; complete = placed_whole_complete }
 
 -- the values of a whole under a function, which may refuse and is told where the bytes end
 module _ {A B : Type 0} (f : ℕ → A → Option B) (w : Remainder A) where

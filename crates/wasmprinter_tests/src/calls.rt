@@ -6,18 +6,19 @@ use std::test::Fail;
 use wasmprinter::{Config, Error};
 use wasmprinter_samples::{
     CONTROL, CONTROL_CALLS, EMPTY_CALLS, EVERYTHING, EVERYTHING_CALLS, FIELDS, FIELDS_CALLS,
-    IDENTITY, IDENTITY_CALLS, KINDS, KINDS_CALLS, PREAMBLE,
+    IDENTITY, IDENTITY_CALLS, INVENTED_CALLS, KINDS, KINDS_CALLS, NAMED, NAMED_CALLS, PREAMBLE,
 };
 
 #[test]
 fn makes_each_call_in_order(rt: HostRuntime) -> Result<(), Fail> {
-    let modules: [(&[u8], &str); 6] = [
+    let modules: [(&[u8], &str); 7] = [
         (&PREAMBLE, EMPTY_CALLS),
         (&IDENTITY, IDENTITY_CALLS),
         (&EVERYTHING, EVERYTHING_CALLS),
         (&KINDS, KINDS_CALLS),
         (&CONTROL, CONTROL_CALLS),
         (&FIELDS, FIELDS_CALLS),
+        (&NAMED, NAMED_CALLS),
     ];
     for (wasm, calls) in modules {
         let mut recorder = Recorder::new(rt.alloc());
@@ -25,6 +26,17 @@ fn makes_each_call_in_order(rt: HostRuntime) -> Result<(), Fail> {
         assert_eq!(rt; recorder.calls(), calls);
         assert!(rt; recorder.is_complete());
     }
+    Ok(())
+}
+
+#[test]
+fn makes_the_calls_of_identifiers_that_are_made_up(rt: HostRuntime) -> Result<(), Fail> {
+    let mut recorder = Recorder::new(rt.alloc());
+    let mut config = Config::new();
+    config.name_unnamed(true);
+    config.print(rt.alloc(), &NAMED[..40], &mut recorder)?;
+    assert_eq!(rt; recorder.calls(), INVENTED_CALLS);
+    assert!(rt; recorder.is_complete());
     Ok(())
 }
 

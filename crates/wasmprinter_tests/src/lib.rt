@@ -1,5 +1,5 @@
-//! Tests that cross crates, through the paths of the crate `wasmprinter` alone: whole texts, all operators,
-//! single values, refusals, limits, decoded modules, and calls on printers that record them or fail. What is expected is typed by hand.
+//! Tests that cross crates, through the paths of the crate `wasmprinter` alone: whole texts, all operators, single values, refusals,
+//! limits, names, options, decoded modules, and calls on printers that record them or fail. What is expected is typed by hand.
 #![tactic(auto)]
 
 #[cfg(test)]
@@ -17,9 +17,13 @@ mod imports;
 #[cfg(test)]
 mod limits;
 #[cfg(test)]
+mod names;
+#[cfg(test)]
 mod opcode_words;
 #[cfg(test)]
 mod opcodes;
+#[cfg(test)]
+mod options;
 #[cfg(test)]
 mod recorder;
 #[cfg(test)]

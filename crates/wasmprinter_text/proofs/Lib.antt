@@ -1,3 +1,6 @@
 pub mod Composites
+pub mod Counting
+pub mod Made
 pub mod Signatures
 pub mod TypeLists
+pub mod Walks

@@ -2,43 +2,46 @@
 use Rattle.std.specs.Prelude.{◌≡◌, ℕ, List, [], ◌∷◌, ◌++◌, length, refl}
 use Rattle.std.proofs.Common.{sym, ap, ◌∙◌, append_assoc, append-nil}
 use Rattle.wasmprinter_spec.specs.Types.{ValType as DefinedType}
+use Rattle.wasmprinter_spec.specs.Names.{Names}
 use Rattle.wasmprinter_spec.specs.Piece.{Gap}
 use Rattle.wasmprinter_spec.specs.Layout.Groups.{line_group}
-use Rattle.wasmprinter_spec.specs.Layout.Types.{val_pieces, type_list, list_group}
+use Rattle.wasmprinter_spec.specs.Layout.ValTypes.{val_pieces, type_list}
+use Rattle.wasmprinter_spec.specs.Layout.Types.{list_group}
 use Rattle.wasmprinter_ops.specs.ValTypes.{type_view, types_view}
 use Rattle.wasmprinter_ops.specs.declared.types.ValType.{ValType}
 
--- one type
-pub one_type : (t : DefinedType) → type_list (t ∷ []) ≡ Gap ∷ val_pieces t
-unfolding type_list
-one_type t = ap (λ ps. Gap ∷ ps) (append-nil (val_pieces t))
+module _ (names : Names) where
+  -- one type
+  pub one_type : (t : DefinedType) → type_list names (t ∷ []) ≡ Gap ∷ val_pieces names t
+  unfolding type_list
+  one_type t = ap (λ ps. Gap ∷ ps) (append-nil (val_pieces names t))
 
--- types, in two parts
-pub type_list-append : (ts us : List DefinedType) → type_list (ts ++ us) ≡ type_list ts ++ type_list us
-unfolding type_list
-type_list-append [] us = refl
-type_list-append (t ∷ ts) us =
-    ap (λ ps. Gap ∷ (val_pieces t ++ ps)) (type_list-append ts us) ∙ sym (ap (λ ps. Gap ∷ ps) (append_assoc (val_pieces t) (type_list ts) (type_list us)))
+  -- types, in two parts
+  pub type_list-append : (ts us : List DefinedType) → type_list names (ts ++ us) ≡ type_list names ts ++ type_list names us
+  unfolding type_list
+  type_list-append [] us = refl
+  type_list-append (t ∷ ts) us =
+      ap (λ ps. Gap ∷ (val_pieces names t ++ ps)) (type_list-append ts us) ∙ sym (ap (λ ps. Gap ∷ ps) (append_assoc (val_pieces names t) (type_list names ts) (type_list names us)))
 
--- no type is left
-pub types-none : (ts : List ValType) → ts ≡ [] → type_list (types_view ts) ≡ []
-unfolding type_list
-types-none ts e = ap (λ xs. type_list (types_view xs)) e
+  -- no type is left
+  pub types-none : (ts : List ValType) → ts ≡ [] → type_list names (types_view ts) ≡ []
+  unfolding type_list
+  types-none ts e = ap (λ xs. type_list names (types_view xs)) e
 
--- the next type, and the others
-pub types-next : (ts rest : List ValType) (t : ValType) → ts ≡ t ∷ rest →
-    type_list (types_view ts) ≡ type_list (type_view t ∷ []) ++ type_list (types_view rest)
-types-next ts rest t e = ap (λ xs. type_list (types_view xs)) e ∙ type_list-append (type_view t ∷ []) (types_view rest)
+  -- the next type, and the others
+  pub types-next : (ts rest : List ValType) (t : ValType) → ts ≡ t ∷ rest →
+      type_list names (types_view ts) ≡ type_list names (type_view t ∷ []) ++ type_list names (types_view rest)
+  types-next ts rest t e = ap (λ xs. type_list names (types_view xs)) e ∙ type_list-append (type_view t ∷ []) (types_view rest)
 
--- a group of no types
-pub list_group-none : (w : List ℕ) (ts : List ValType) → length ts ≡ 0 → list_group w (types_view ts) ≡ []
-unfolding list_group
-list_group-none w [] e = refl
-list_group-none w (t ∷ ts) e = absurd cc
+  -- a group of no types
+  pub list_group-none : (w : List ℕ) (ts : List ValType) → length ts ≡ 0 → list_group names w (types_view ts) ≡ []
+  unfolding list_group
+  list_group-none w [] e = refl
+  list_group-none w (t ∷ ts) e = absurd cc
 
--- a group of types
-pub list_group-some : (w : List ℕ) (ts : List ValType) → (length ts ≡ 0 → ⊥) →
-    list_group w (types_view ts) ≡ Gap ∷ line_group w (type_list (types_view ts))
-unfolding list_group
-list_group-some w [] e = absurd (e refl)
-list_group-some w (t ∷ ts) e = refl
+  -- a group of types
+  pub list_group-some : (w : List ℕ) (ts : List ValType) → (length ts ≡ 0 → ⊥) →
+      list_group names w (types_view ts) ≡ Gap ∷ line_group w (type_list names (types_view ts))
+  unfolding list_group
+  list_group-some w [] e = absurd (e refl)
+  list_group-some w (t ∷ ts) e = refl

@@ -1,5 +1,6 @@
-//! Types (section 6.4 of the WebAssembly Core Specification), over any printer.
+//! Types (section 6.4 of the WebAssembly Core Specification) and indices with their identifiers, over any printer.
 #![tactic(auto)]
 
+pub mod indices;
 pub mod signature;
 pub mod types;

@@ -1,16 +1,19 @@
 //! Function types by their indices (section 6.4 of the WebAssembly Core Specification, "Type Uses").
-ghost use Rattle.std.specs.Prelude.{[], ◌∷◌, ◌++◌, codes};
+ghost use Rattle.std.specs.Prelude.{◌∷◌, codes};
 ghost use Rattle.wasmprinter_spec.specs.Options.{Options};
-ghost use Rattle.wasmprinter_spec.specs.Piece.{Gap, Number};
+ghost use Rattle.wasmprinter_spec.specs.Piece.{Gap};
 ghost use Rattle.wasmprinter_spec.specs.Layout.Groups.{line_group_gap};
-ghost use Rattle.wasmprinter_spec.specs.Layout.Types.{signature_if_any};
+ghost use Rattle.wasmprinter_spec.specs.Layout.ValTypes.{type_index_pieces};
+ghost use Rattle.wasmprinter_spec.specs.Layout.Types.{signature_if_any, type_use_pieces};
 ghost use Rattle.wasmprinter_print.specs.Prints.{Prints};
+ghost use Rattle.wasmprinter_names.specs.Shown.{shown};
 
+use crate::indices::write_index_group;
 use crate::types::signature;
 use std::io;
+use wasmprinter_names::{Identifiers, Space};
 use wasmprinter_ops::types::composite::FuncType;
 use wasmprinter_print::Print;
-use wasmprinter_words::numbers::write_index_group;
 use wasmprinter_words::words::gap;
 
 /// The types of a module, of which some are function types.
@@ -25,29 +28,50 @@ pub trait Signatures {
         ensures { result ≡ signature_at self.now index };
 }
 
-/// Writes the signature of a function type, and nothing where the index is no function type's.
-fn write_signature<P: Print, S: Signatures>(p: &mut P, types: &S, index: u32) -> io::Result<()>
-    ensures { (o : Options) → Prints P.meaning o p.old p.new result (signature_if_any (S.signature_at types.now index)) }
+/// Writes the signature of a function type, and nothing where the index is no function type's. The parameters of a function, `owner`, have
+/// identifiers.
+fn write_signature<P: Print, S: Signatures>(
+    p: &mut P,
+    identifiers: &Identifiers<'_, '_>,
+    owner: Option<u64>,
+    types: &S,
+    index: u32,
+) -> io::Result<()>
+    ensures { (o : Options) → Prints P.meaning o p.old p.new result
+        (signature_if_any (shown identifiers.now) owner (S.signature_at types.now index)) }
 {
     match types.signature(index) {
-        Some(found) => signature(p, &found),
+        Some(found) => signature(p, identifiers, owner, &found),
         None => Ok(()),
     }
 }
 
 /// Writes a blank and the index of a type, as a group.
-pub fn write_type_index<P: Print>(p: &mut P, index: u32) -> io::Result<()>
-    ensures { (o : Options) → Prints P.meaning o p.old p.new result (Gap ∷ line_group_gap (codes "type") (Number index ∷ [])) }
+#[tactic(auto, unfolding(wasmprinter_spec::specs::Layout::ValTypes::type_index_pieces))]
+pub fn write_type_index<P: Print>(
+    p: &mut P,
+    identifiers: &Identifiers<'_, '_>,
+    index: u32,
+) -> io::Result<()>
+    ensures { (o : Options) → Prints P.meaning o p.old p.new result
+        (Gap ∷ line_group_gap (codes "type") (type_index_pieces (shown identifiers.now) index)) }
 {
     gap(p)?;
-    write_index_group(p, "type", index)
+    write_index_group(p, identifiers, "type", Space::Types, index)
 }
 
-/// Writes a blank, the index of a type as a group, and its signature, which is nothing where the index is no function type's.
-pub fn write_type_use<P: Print, S: Signatures>(p: &mut P, types: &S, index: u32) -> io::Result<()>
+/// Writes a blank, the index of a type as a group, and its signature, which is nothing where the index is no function type's. The
+/// parameters of a function, `owner`, have identifiers.
+pub fn write_type_use<P: Print, S: Signatures>(
+    p: &mut P,
+    identifiers: &Identifiers<'_, '_>,
+    owner: Option<u64>,
+    types: &S,
+    index: u32,
+) -> io::Result<()>
     ensures { (o : Options) → Prints P.meaning o p.old p.new result
-        (Gap ∷ (line_group_gap (codes "type") (Number index ∷ []) ++ signature_if_any (S.signature_at types.now index))) }
+        (Gap ∷ type_use_pieces (shown identifiers.now) owner index (S.signature_at types.now index)) }
 {
-    write_type_index(p, index)?;
-    write_signature(p, types, index)
+    write_type_index(p, identifiers, index)?;
+    write_signature(p, identifiers, owner, types, index)
 }

@@ -4,20 +4,24 @@ ghost use Rattle.std.specs.Prelude.{◌≡◌, [], ◌∷◌, ◌++◌, codes};
 ghost use Rattle.wasmprinter_spec.specs.Options.{Options};
 ghost use Rattle.wasmprinter_spec.specs.Piece.{Gap};
 ghost use Rattle.wasmprinter_spec.specs.Types.{Index};
-ghost use Rattle.wasmprinter_spec.specs.Layout.Types.{heap_word, ref_word, heap_pieces, null_ref_pieces, ref_pieces_by, ref_pieces};
-ghost use Rattle.wasmprinter_spec.specs.Layout.Types.{val_pieces, type_list as list_of_types, list_group as group_of_types};
-ghost use Rattle.wasmprinter_spec.specs.Layout.Types.{signature_pieces};
+ghost use Rattle.wasmprinter_spec.specs.Layout.ValTypes.{heap_word, ref_word, type_index_pieces, heap_pieces, null_ref_pieces};
+ghost use Rattle.wasmprinter_spec.specs.Layout.ValTypes.{ref_pieces_by, ref_pieces, val_pieces, type_list as list_of_types};
+ghost use Rattle.wasmprinter_spec.specs.Layout.Types.{list_group as group_of_types, signature_pieces};
 ghost use Rattle.wasmprinter_spec.specs.Layout.Groups.{line_group, line_group_gap};
 ghost use Rattle.wasmprinter_print.specs.Prints.{Prints};
+ghost use Rattle.wasmprinter_names.specs.Shown.{shown};
 ghost use Rattle.wasmprinter_ops.specs.ValTypes.{heap_view, ref_view, type_view, types_view};
 
 pub mod composite;
+pub mod variables;
 
+use crate::indices::write_index_of;
+use crate::types::variables::write_params;
 use std::io;
+use wasmprinter_names::{Identifiers, Space};
 use wasmprinter_ops::types::composite::FuncType;
 use wasmprinter_ops::types::{HeapType, RefType, ValType, ValTypes};
 use wasmprinter_print::Print;
-use wasmprinter_words::numbers::number;
 use wasmprinter_words::words::{gap, open, open_gap, shut, type_word, word};
 
 /// The word of an abstract heap type, empty of an index.
@@ -62,67 +66,104 @@ fn ref_word(heap: HeapType) -> &'static str
     }
 }
 
+/// Writes the index of a type.
+#[tactic(auto, unfolding(wasmprinter_spec::specs::Layout::ValTypes::type_index_pieces))]
+pub fn write_type_number<P: Print>(
+    p: &mut P,
+    identifiers: &Identifiers<'_, '_>,
+    index: u32,
+) -> io::Result<()>
+    ensures { (o : Options) → Prints P.meaning o p.old p.new result (type_index_pieces (shown identifiers.now) index) }
+{
+    write_index_of(p, identifiers, Space::Types, 0, u64::from(index))
+}
+
 /// Writes a heap type.
-#[tactic(auto, unfolding(wasmprinter_spec::specs::Layout::Types::heap_pieces))]
-pub fn write_heap_type<P: Print>(p: &mut P, heap: HeapType) -> io::Result<()>
-    ensures { (o : Options) → Prints P.meaning o p.old p.new result (heap_pieces (heap_view heap)) }
+#[tactic(auto, unfolding(wasmprinter_spec::specs::Layout::ValTypes::heap_pieces))]
+pub fn write_heap_type<P: Print>(
+    p: &mut P,
+    identifiers: &Identifiers<'_, '_>,
+    heap: HeapType,
+) -> io::Result<()>
+    ensures { (o : Options) → Prints P.meaning o p.old p.new result (heap_pieces (shown identifiers.now) (heap_view heap)) }
 {
     match heap {
-        HeapType::Index(index) => number(p, u64::from(index)),
+        HeapType::Index(index) => write_type_number(p, identifiers, index),
         _ => type_word(p, heap_word(heap)),
     }
 }
 
 /// Writes the type of references to a type by its index that may be null.
-#[tactic(auto, unfolding(wasmprinter_spec::specs::Layout::Types::null_ref_pieces, wasmprinter_spec::specs::Layout::Groups::line_group))]
-fn write_null_index<P: Print>(p: &mut P, index: u32) -> io::Result<()>
-    ensures { (o : Options) → Prints P.meaning o p.old p.new result (null_ref_pieces (Index index)) }
+#[tactic(auto, unfolding(wasmprinter_spec::specs::Layout::ValTypes::null_ref_pieces, wasmprinter_spec::specs::Layout::Groups::line_group))]
+fn write_null_index<P: Print>(
+    p: &mut P,
+    identifiers: &Identifiers<'_, '_>,
+    index: u32,
+) -> io::Result<()>
+    ensures { (o : Options) → Prints P.meaning o p.old p.new result (null_ref_pieces (shown identifiers.now) (Index index)) }
 {
     open(p, "ref")?;
     gap(p)?;
     word(p, "null")?;
     gap(p)?;
-    write_heap_type(p, HeapType::Index(index))?;
+    write_heap_type(p, identifiers, HeapType::Index(index))?;
     shut(p)
 }
 
 /// Writes the type of references that may be null: one word but for those to a type by its index.
-#[tactic(auto, unfolding(wasmprinter_spec::specs::Layout::Types::null_ref_pieces))]
-fn write_null_ref<P: Print>(p: &mut P, heap: HeapType) -> io::Result<()>
-    ensures { (o : Options) → Prints P.meaning o p.old p.new result (null_ref_pieces (heap_view heap)) }
+#[tactic(auto, unfolding(wasmprinter_spec::specs::Layout::ValTypes::null_ref_pieces))]
+fn write_null_ref<P: Print>(
+    p: &mut P,
+    identifiers: &Identifiers<'_, '_>,
+    heap: HeapType,
+) -> io::Result<()>
+    ensures { (o : Options) → Prints P.meaning o p.old p.new result (null_ref_pieces (shown identifiers.now) (heap_view heap)) }
 {
     match heap {
-        HeapType::Index(index) => write_null_index(p, index),
+        HeapType::Index(index) => write_null_index(p, identifiers, index),
         _ => type_word(p, ref_word(heap)),
     }
 }
 
 /// Writes the type of references that can't be null.
 #[tactic(auto, unfolding(wasmprinter_spec::specs::Layout::Groups::line_group_gap))]
-fn write_some_ref<P: Print>(p: &mut P, heap: HeapType) -> io::Result<()>
-    ensures { (o : Options) → Prints P.meaning o p.old p.new result (line_group_gap (codes "ref") (heap_pieces (heap_view heap))) }
+fn write_some_ref<P: Print>(
+    p: &mut P,
+    identifiers: &Identifiers<'_, '_>,
+    heap: HeapType,
+) -> io::Result<()>
+    ensures { (o : Options) → Prints P.meaning o p.old p.new result
+        (line_group_gap (codes "ref") (heap_pieces (shown identifiers.now) (heap_view heap))) }
 {
     open_gap(p, "ref")?;
-    write_heap_type(p, heap)?;
+    write_heap_type(p, identifiers, heap)?;
     shut(p)
 }
 
 /// Writes a reference type.
-#[tactic(auto, unfolding(wasmprinter_spec::specs::Layout::Types::ref_pieces))]
-pub fn write_ref_type<P: Print>(p: &mut P, ref_type: RefType) -> io::Result<()>
-    ensures { (o : Options) → Prints P.meaning o p.old p.new result (ref_pieces (ref_view ref_type)) }
+#[tactic(auto, unfolding(wasmprinter_spec::specs::Layout::ValTypes::ref_pieces))]
+pub fn write_ref_type<P: Print>(
+    p: &mut P,
+    identifiers: &Identifiers<'_, '_>,
+    ref_type: RefType,
+) -> io::Result<()>
+    ensures { (o : Options) → Prints P.meaning o p.old p.new result (ref_pieces (shown identifiers.now) (ref_view ref_type)) }
 {
     if ref_type.nullable {
-        write_null_ref(p, ref_type.heap)
+        write_null_ref(p, identifiers, ref_type.heap)
     } else {
-        write_some_ref(p, ref_type.heap)
+        write_some_ref(p, identifiers, ref_type.heap)
     }
 }
 
 /// Writes a value type.
-#[tactic(auto, unfolding(wasmprinter_spec::specs::Layout::Types::val_pieces))]
-pub fn write_val_type<P: Print>(p: &mut P, value_type: ValType) -> io::Result<()>
-    ensures { (o : Options) → Prints P.meaning o p.old p.new result (val_pieces (type_view value_type)) }
+#[tactic(auto, unfolding(wasmprinter_spec::specs::Layout::ValTypes::val_pieces))]
+pub fn write_val_type<P: Print>(
+    p: &mut P,
+    identifiers: &Identifiers<'_, '_>,
+    value_type: ValType,
+) -> io::Result<()>
+    ensures { (o : Options) → Prints P.meaning o p.old p.new result (val_pieces (shown identifiers.now) (type_view value_type)) }
 {
     match value_type {
         ValType::I32 => type_word(p, "i32"),
@@ -130,56 +171,82 @@ pub fn write_val_type<P: Print>(p: &mut P, value_type: ValType) -> io::Result<()
         ValType::F32 => type_word(p, "f32"),
         ValType::F64 => type_word(p, "f64"),
         ValType::V128 => type_word(p, "v128"),
-        ValType::Ref(ref_type) => write_ref_type(p, ref_type),
+        ValType::Ref(ref_type) => write_ref_type(p, identifiers, ref_type),
     }
 }
 
 /// Writes a blank and a value type.
-pub fn write_type<P: Print>(p: &mut P, value_type: ValType) -> io::Result<()>
-    ensures { (o : Options) → Prints P.meaning o p.old p.new result (list_of_types (type_view value_type ∷ [])) }
+pub(crate) fn write_type<P: Print>(
+    p: &mut P,
+    identifiers: &Identifiers<'_, '_>,
+    value_type: ValType,
+) -> io::Result<()>
+    ensures { (o : Options) → Prints P.meaning o p.old p.new result
+        (list_of_types (shown identifiers.now) (type_view value_type ∷ [])) }
 {
     gap(p)?;
-    write_val_type(p, value_type)
+    write_val_type(p, identifiers, value_type)
 }
 
 /// Writes value types, a blank before each.
-fn type_list<P: Print>(p: &mut P, types: &ValTypes<'_>) -> io::Result<()>
-    ensures { (o : Options) → Prints P.meaning o p.old p.new result (list_of_types (types_view types.now)) }
+fn type_list<P: Print>(
+    p: &mut P,
+    identifiers: &Identifiers<'_, '_>,
+    types: &ValTypes<'_>,
+) -> io::Result<()>
+    ensures { (o : Options) → Prints P.meaning o p.old p.new result (list_of_types (shown identifiers.now) (types_view types.now)) }
 {
     for value_type in types.iter() {
-        write_type(p, value_type)?;
+        write_type(p, identifiers, value_type)?;
     }
     Ok(())
 }
 
 /// Writes a blank and a group of types behind a keyword.
 #[tactic(auto, unfolding(wasmprinter_spec::specs::Layout::Groups::line_group))]
-pub fn write_group<P: Print>(p: &mut P, keyword: &str, types: &ValTypes<'_>) -> io::Result<()>
+pub fn write_group<P: Print>(
+    p: &mut P,
+    identifiers: &Identifiers<'_, '_>,
+    keyword: &str,
+    types: &ValTypes<'_>,
+) -> io::Result<()>
     ensures { (o : Options) → Prints P.meaning o p.old p.new result
-        (Gap ∷ line_group keyword.now (list_of_types (types_view types.now))) }
+        (Gap ∷ line_group keyword.now (list_of_types (shown identifiers.now) (types_view types.now))) }
 {
     gap(p)?;
     open(p, keyword)?;
-    type_list(p, types)?;
+    type_list(p, identifiers, types)?;
     shut(p)
 }
 
 /// Writes a blank and a group of types behind a keyword, and nothing where there are none.
-fn list_group<P: Print>(p: &mut P, keyword: &str, types: &ValTypes<'_>) -> io::Result<()>
-    ensures { (o : Options) → Prints P.meaning o p.old p.new result (group_of_types keyword.now (types_view types.now)) }
+fn list_group<P: Print>(
+    p: &mut P,
+    identifiers: &Identifiers<'_, '_>,
+    keyword: &str,
+    types: &ValTypes<'_>,
+) -> io::Result<()>
+    ensures { (o : Options) → Prints P.meaning o p.old p.new result
+        (group_of_types (shown identifiers.now) keyword.now (types_view types.now)) }
 {
     if types.len() == 0 {
         Ok(())
     } else {
-        write_group(p, keyword, types)
+        write_group(p, identifiers, keyword, types)
     }
 }
 
-/// Writes the types of parameters and results, each kind as a group with a blank before it.
+/// Writes the parameters and results of a function, or of no function: parameters in groups, the results in one, with a blank before
+/// each group. The parameters of a function, `owner`, have identifiers.
 #[tactic(auto, unfolding(wasmprinter_spec::specs::Layout::Types::signature_pieces))]
-pub fn signature<P: Print>(p: &mut P, func_type: &FuncType<'_>) -> io::Result<()>
-    ensures { (o : Options) → Prints P.meaning o p.old p.new result (signature_pieces func_type.now) }
+pub fn signature<P: Print>(
+    p: &mut P,
+    identifiers: &Identifiers<'_, '_>,
+    owner: Option<u64>,
+    func_type: &FuncType<'_>,
+) -> io::Result<()>
+    ensures { (o : Options) → Prints P.meaning o p.old p.new result (signature_pieces (shown identifiers.now) owner func_type.now) }
 {
-    list_group(p, "param", &func_type.params())?;
-    list_group(p, "result", &func_type.results())
+    write_params(p, identifiers, owner, &func_type.params())?;
+    list_group(p, identifiers, "result", &func_type.results())
 }

@@ -10,12 +10,10 @@ use Rattle.wasmprinter_spec.specs.Repeated.{until_end}
 use Rattle.wasmprinter_spec.specs.Sized.{headed}
 use Rattle.wasmprinter_spec.specs.Operator.{Operator}
 use Rattle.wasmprinter_spec.specs.Types.{MemoryType}
-use Rattle.wasmprinter_spec.specs.Placed.{TypeGroup, Import, Global, Export, ElementEntry, Data, PlacedFunction, PlacedModule}
-use Rattle.wasmprinter_spec.specs.Sections.{TypeSection, ImportSection, FunctionSection, TableSection, MemorySection, TagSection, GlobalSection}
+use Rattle.wasmprinter_spec.specs.Placed.{TypeGroup, Import, Global, Export, ElementEntry, Data, Custom, PlacedFunction, PlacedModule}
+use Rattle.wasmprinter_spec.specs.Sections.{CustomSection, TypeSection, ImportSection, FunctionSection, TableSection, MemorySection, TagSection, GlobalSection}
 use Rattle.wasmprinter_spec.specs.Sections.{ExportSection, StartSection, ElementSection, DataCountSection, CodeSection, DataSection, Section, section, are_above}
-use Rattle.wasmprinter_spec.specs.Binary.{AreBytes, preamble, types_in, imports_in, type_indices_in, tables_in, memories_in, tags_in, globals_in, exports_in, elements_in, data_count_in, bodies_in, datas_in}
-use Rattle.wasmprinter_spec.specs.Binary.{counts_data, function_pairs, module_from, module_of_sections, binary, Spells}
-use Rattle.wasmprinter_spec.specs.Binary.{AreBytes, preamble, types_in, imports_in, type_indices_in, tables_in, memories_in, tags_in, globals_in, exports_in, elements_in, data_count_in, bodies_in, datas_in}
+use Rattle.wasmprinter_spec.specs.Binary.{AreBytes, preamble, types_in, imports_in, type_indices_in, tables_in, memories_in, tags_in, globals_in, exports_in, elements_in, data_count_in, bodies_in, datas_in, customs_in}
 use Rattle.wasmprinter_spec.specs.Binary.{counts_data, function_pairs, module_from, module_of_sections, binary, Spells}
 use Rattle.wasmprinter_spec.specs.Limits.{HasFewLocals, IsWithinLimits, most_functions}
 use Rattle.wasmprinter_bytes.specs.Reads.{end_of}
@@ -28,10 +26,10 @@ use Rattle.wasmprinter_entries.specs.Contents.{HasFew, HasNoEmpty}
 use Rattle.wasmprinter_wasm.specs.Gathering.{Gathered, IsWhole, sections_at, item_count_in, HoldsSections, sections_reasons}
 use Rattle.wasmprinter_wasm.specs.Modules.{functions_of, bodies_of, IsPaired, HasFewItems}
 use Rattle.wasmprinter_wasm.specs.Decoding.{HoldsSome, HoldsNothing, module_reasons, IsFaultOf, TakesModule}
-use Rattle.wasmprinter_entries.proofs.Later.{Later, later_none, later_more, many_later, empty_later, section_later, items_later}
+use Rattle.wasmprinter_entries.proofs.LaterPlaces.{IsLater, later_none, later_more, many_later, empty_later, section_later, kept_later}
 use Rattle.wasmprinter_segments.proofs.Emptied.{not_empty}
 use Rattle.wasmprinter_wasm.proofs.Pairing.{Paired, Pairs, paired_of, paired_length, pairs_of}
-use Rattle.wasmprinter_wasm.proofs.Held.{HoldsFew, few_held}
+use Rattle.wasmprinter_wasm.proofs.OrderedSections.{HoldsFew, few_held}
 use Rattle.wasmprinter_wasm.proofs.Listed.{bytes_apart, sections_listed, items_held}
 
 -- what the bytes of a module are: a preamble, and sections in order with as many type indices as bodies, and as many data segments as are counted
@@ -56,12 +54,13 @@ alike : {ts ts' : List (Placed TypeGroup)}
     {ss ss' : List (Placed ElementEntry)}
     {fs fs' : List PlacedFunction}
     {ds ds' : List (Placed (Data (Placed Operator)))}
+    {cs cs' : List (Placed Custom)}
     {n n' : ℕ}
-    → ts ≡ ts' → is ≡ is' → us ≡ us' → ms ≡ ms' → gs ≡ gs' → vs ≡ vs' → es ≡ es' → f ≡ f' → ss ≡ ss' → fs ≡ fs' → ds ≡ ds' → n ≡ n'
+    → ts ≡ ts' → is ≡ is' → us ≡ us' → ms ≡ ms' → gs ≡ gs' → vs ≡ vs' → es ≡ es' → f ≡ f' → ss ≡ ss' → fs ≡ fs' → ds ≡ ds' → cs ≡ cs' → n ≡ n'
     → ◌≡◌ {A = PlacedModule}
-    (record { types = ts; imports = is; tables = us; memories = ms; tags = gs; globals = vs; exports = es; start = f; elements = ss; functions = fs; datas = ds; size = n })
-    (record { types = ts'; imports = is'; tables = us'; memories = ms'; tags = gs'; globals = vs'; exports = es'; start = f'; elements = ss'; functions = fs'; datas = ds'; size = n' })
-alike a b c d h i j k l m n o = rw (a, b, c, d, h, i, j, k, l, m, n, o) refl
+    (record { types = ts; imports = is; tables = us; memories = ms; tags = gs; globals = vs; exports = es; start = f; elements = ss; functions = fs; datas = ds; customs = cs; size = n })
+    (record { types = ts'; imports = is'; tables = us'; memories = ms'; tags = gs'; globals = vs'; exports = es'; start = f'; elements = ss'; functions = fs'; datas = ds'; customs = cs'; size = n' })
+alike a b c d h i j k l m n o p = rw (a, b, c, d, h, i, j, k, l, m, n, o, p) refl
 
 -- functions whose bodies have few locals have few
 few_functions : (fs : List PlacedFunction) → AllByRecursion HasFew (bodies_of fs) → AllByRecursion HasFewLocals fs
@@ -95,7 +94,7 @@ module _ (bytes pre : List ℕ) (at : Input) (first : preamble.parse (input 0 by
       assembled_of c.0 m (ap sections_at (sym there) ∙ c.1) (ap (module_of_sections size) same ∙ a.2)
 
   -- the sections stand behind the preamble
-  later : Later (input 0 bytes) at
+  later : IsLater (input 0 bytes) at
   later = later_more preamble (input 0 bytes) (input 0 bytes) at pre first (later_none (input 0 bytes))
 
   -- the functions are those of its sections
@@ -115,6 +114,7 @@ module _ (bytes pre : List ℕ) (at : Input) (first : preamble.parse (input 0 by
       let exports : length m.exports ≡ length (exports_in s.sections) = ap (λ (x : PlacedModule). length x.exports) (sym s.is) in
       let elements : length m.elements ≡ length (elements_in s.sections) = ap (λ (x : PlacedModule). length x.elements) (sym s.is) in
       let datas : length m.datas ≡ length (datas_in s.sections) = ap (λ (x : PlacedModule). length x.datas) (sym s.is) in
+      let customs : length m.customs ≡ length (customs_in s.sections) = ap (λ (x : PlacedModule). length x.customs) (sym s.is) in
       let bodies = paired_length (type_indices_in s.sections) (bodies_in s.sections) s.functions s.pairs in
       omega (arith, (functions_are m s).count)
 
@@ -139,7 +139,7 @@ module _ (bytes pre : List ℕ) (at : Input) (first : preamble.parse (input 0 by
       empty_later (input 0 bytes) at place later h.0,
       λ m s. let p = spelled_of m s in subst (FirstIsEmpty place) (tables_are m p) (h.1 p.sections p.read p.rise),
     );
-    memory = λ h. (items_later (input 0 bytes) at later h.0, λ m s. let p = spelled_of m s in holds_some m p (h.1 p.sections p.read p.rise));
+    memory = λ h. (kept_later (input 0 bytes) at later h.0, λ m s. let p = spelled_of m s in holds_some m p (h.1 p.sections p.read p.rise));
   })
 
   -- the sections stand there
@@ -163,7 +163,7 @@ module _ (bytes pre : List ℕ) (at : Input) (first : preamble.parse (input 0 by
           let counted : counts_data (data_count_in h.sections) (length (datas_in h.sections)) ≡ true =
           subst (λ (ss : List Section). counts_data (data_count_in ss) (length (datas_in ss)) ≡ true) same p.counted in
           ne (record {
-            paired = ap length (h.held FunctionSection ∙ ap type_indices_in (sym same)) ∙ lengths ∙ ap length (ap bodies_in same ∙ sym (h.held CodeSection));
+            as_many = ap length (h.held FunctionSection ∙ ap type_indices_in (sym same)) ∙ lengths ∙ ap length (ap bodies_in same ∙ sym (h.held CodeSection));
             counted =
                 ap₂ (λ (n : Option ℕ) (ds : List (Placed (Data (Placed Operator)))). counts_data n (length ds)) (h.held DataCountSection) (h.held DataSection) ∙ counted;
           }),
@@ -177,11 +177,11 @@ module _ (bytes pre : List ℕ) (at : Input) (first : preamble.parse (input 0 by
       module_kept all =
           let s = preamble.sound (input 0 bytes) (pre, at) first in
           let rest : AreBytes at.bytes = (bytes_apart s.text at.bytes (subst AreBytes s.parts all)).1 in
-          (record { same = whole.paired; few = few.functions }, items_held g h.sections (sections_listed at h.sections h.read rest) h.held)
+          (record { same = whole.as_many; few = few.functions }, items_held g h.sections (sections_listed at h.sections h.read rest) h.held)
 
       -- the module that is put together
-      abbrev seen : PlacedModule
-      seen = record {
+      abbrev module_of_gathered : PlacedModule
+      module_of_gathered = record {
         types = g.types;
         imports = g.imports;
         tables = g.tables;
@@ -193,12 +193,13 @@ module _ (bytes pre : List ℕ) (at : Input) (first : preamble.parse (input 0 by
         elements = g.elements;
         functions = functions_of g.type_indices g.bodies;
         datas = g.datas;
+        customs = g.customs;
         size = length bytes;
       }
 
       -- the functions that are paired
       made : Pairs g.type_indices g.bodies
-      made = pairs_of g.type_indices g.bodies whole.paired
+      made = pairs_of g.type_indices g.bodies whole.as_many
 
       -- they are those of the module
       functions_made : functions_of g.type_indices g.bodies ≡ made.functions
@@ -217,14 +218,14 @@ module _ (bytes pre : List ℕ) (at : Input) (first : preamble.parse (input 0 by
       read = rw (first, h.read, h.rise, counts, pairs) refl
 
       -- the bytes spell the module
-      pub module_spelled : AreBytes bytes → Spells bytes seen
+      pub module_spelled : AreBytes bytes → Spells bytes module_of_gathered
       module_spelled all =
-          let same_module : module_from size h.sections made.functions ≡ seen =
-          alike (sym (h.held TypeSection)) (sym (h.held ImportSection)) (sym (h.held TableSection)) (sym (h.held MemorySection)) (sym (h.held TagSection)) (sym (h.held GlobalSection)) (sym (h.held ExportSection)) (sym (h.held StartSection)) (sym (h.held ElementSection)) (sym functions_made) (sym (h.held DataSection)) (omega arith) in
-          record { are_bytes = all; spelled = binary.sound (input 0 bytes) seen (read ∙ ap (λ (m : PlacedModule). Some m) same_module) }
+          let same_module : module_from size h.sections made.functions ≡ module_of_gathered =
+          alike (sym (h.held TypeSection)) (sym (h.held ImportSection)) (sym (h.held TableSection)) (sym (h.held MemorySection)) (sym (h.held TagSection)) (sym (h.held GlobalSection)) (sym (h.held ExportSection)) (sym (h.held StartSection)) (sym (h.held ElementSection)) (sym functions_made) (sym (h.held DataSection)) (sym (h.held CustomSection)) (omega arith) in
+          record { are_bytes = all; spelled = binary.sound (input 0 bytes) module_of_gathered (read ∙ ap (λ (m : PlacedModule). Some m) same_module) }
 
       -- the module is within the limits
-      pub module_within : IsWithinLimits seen
+      pub module_within : IsWithinLimits module_of_gathered
       module_within =
           let p = paired_of g.type_indices g.bodies made.functions made.are in
           let locals : AllByRecursion HasFew (bodies_of made.functions) = subst (AllByRecursion HasFew) (sym made.bodies) few.locals in

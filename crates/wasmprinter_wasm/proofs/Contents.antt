@@ -15,13 +15,13 @@ use Rattle.wasmprinter_entries.specs.Refusals.{BeginsSection}
 use Rattle.wasmprinter_wasm.specs.Sections.{section_view, section_reasons, TakesContent, TakesSection}
 use Rattle.wasmprinter_entries.specs.Contents.{HasOver, HasEmpty, HasCount, item_count, Counts, content_reasons}
 use Rattle.wasmprinter_entries.proofs.Parts.{sized, sized_is, sized_none, sized_some, old_parts, part_within}
-use Rattle.wasmprinter_entries.proofs.Later.{many_in_part, Later, later_none, later_more, many_later, empty_later, empty_in_part}
+use Rattle.wasmprinter_entries.proofs.LaterPlaces.{many_in_part, IsLater, later_none, later_more, many_later, empty_later, empty_in_part}
 
 -- an id and a size were read, and so many bytes cut out
 module _ (old behind mid part new : Input) (id size : ℕ) (id_read : byte.parse old ≡ Some (id, behind)) (size_read : u32.parse behind ≡ Some (size, mid))
     (cut : front_at size mid ≡ Some (part.bytes, new)) (begins : part.place ≡ mid.place) where
   -- the size stands behind the id
-  later : Later old behind
+  later : IsLater old behind
   later = later_more byte old old behind id id_read (later_none old)
 
   -- a place in the part is one in the whole

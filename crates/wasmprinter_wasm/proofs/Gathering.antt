@@ -1,10 +1,10 @@
 -- The loop over the sections of a module.
-use Rattle.std.proofs.Common.{◌≡◌, ℕ, ◌<◌, true, false, List, [], ◌∷◌, ◌++◌, length, Option, Some, None, refl, sym, ap, subst, ◌∙◌, arith, append_assoc, append-nil, length-append}
+use Rattle.std.proofs.Common.{◌≡◌, ℕ, ◌<◌, inl, inr, true, false, List, [], ◌∷◌, ◌++◌, length, Option, Some, None, refl, sym, ap, subst, ◌∙◌, arith, append_assoc, append-nil, length-append}
 use Rattle.std.specs.List.{AllByRecursion}
 use Rattle.wasmprinter_spec.specs.Grammar.{Input, bind_some, some_is}
-use Rattle.wasmprinter_spec.specs.Sections.{FunctionSection, Content, Section, section, section_kind, rank, follows, rank_behind, are_above}
+use Rattle.wasmprinter_spec.specs.Sections.{CustomSection, FunctionSection, Section, holds, section, section_kind, rank, follows, rank_behind, are_above}
 use Rattle.wasmprinter_spec.specs.Binary.{type_indices_in, tables_in, bodies_in}
-use Rattle.wasmprinter_spec.proofs.Ordered.{last_rank, last_rank_push, above_push, above_midst, with_one, held_push}
+use Rattle.wasmprinter_spec.proofs.Ordered.{last_rank, last_rank_push, above_push, above_midst}
 use Rattle.wasmprinter_bytes.specs.Reads.{end_of}
 use Rattle.wasmprinter_error.specs.declared.error.Error.{Error}
 use Rattle.wasmprinter_error.specs.Reasons.{HasReason}
@@ -12,10 +12,10 @@ use Rattle.wasmprinter_error.proofs.Reasons.{reason_implied}
 use Rattle.wasmprinter_entries.specs.Refusals.{AnyIsOver, FirstIsEmpty}
 use Rattle.wasmprinter_entries.specs.Contents.{IsSmall, HasCount, HasOver, HasEmpty, item_count}
 use Rattle.wasmprinter_wasm.specs.Sections.{section_reasons}
-use Rattle.wasmprinter_wasm.specs.Gathering.{Gathered, none_gathered, content_kept, with_section, IsHeld, sections_at, item_count_in, HoldsSections, sections_reasons}
-use Rattle.wasmprinter_entries.proofs.Later.{Later, later_none, later_more, many_later, empty_later, section_later, items_later}
-use Rattle.wasmprinter_wasm.proofs.Until.{in_front, until_item, until_fault, until_done}
-use Rattle.wasmprinter_wasm.proofs.Held.{rank_added, kept_added, some_midst, count_midst, over_midst, empty_midst}
+use Rattle.wasmprinter_wasm.specs.Gathering.{Gathered, none_gathered, Kept, kept, with_section, IsHeld, sections_at, item_count_in, HoldsSections, sections_reasons}
+use Rattle.wasmprinter_entries.proofs.LaterPlaces.{IsLater, later_none, later_more, many_later, empty_later, section_later, kept_later, custom_read}
+use Rattle.wasmprinter_wasm.proofs.ItemsToEnd.{in_front, until_item, until_fault, until_done}
+use Rattle.wasmprinter_wasm.proofs.OrderedSections.{custom_kind, rank_added, kept_none, kept_with, kept_push, kept_added, some_midst, count_midst, over_midst, empty_midst}
 
 -- a section takes a byte
 pub takes_byte : (at : Input) (x : Section × Input) → section.parse at ≡ Some x → length x.1.bytes < length at.bytes
@@ -32,7 +32,7 @@ pub record Gathering (start at : Input) (g : Gathered) : Type 0 where
   pub small : AllByRecursion IsSmall sections
   pub rank : g.rank ≡ last_rank 0 sections
   pub held : IsHeld g sections
-  pub later : Later start at
+  pub later : IsLater start at
   pub ends : end_of at ≡ end_of start
 
 -- no sections in front change nothing
@@ -48,7 +48,7 @@ gathering_none at g same = record {
   rise = refl;
   small = tt;
   rank = ap (λ (x : Gathered). x.rank) same;
-  held = λ kind. ap (content_kept kind) same;
+  held = λ kind. ap (kept kind) same ∙ kept_none kind;
   later = later_none at;
   ends = refl;
 }
@@ -78,7 +78,7 @@ module _ (start at after : Input) (g : Gathered) (s : Section) (read : section.p
     small = small-push k.sections s k.small small;
     rank = ap (λ (x : Gathered). x.rank) same ∙ rank_added g s ∙ ap (λ (r : ℕ). rank_behind r (rank (section_kind s))) k.rank ∙ sym (last_rank_push 0 k.sections s);
     held = λ kind.
-        ap (content_kept kind) same ∙ kept_added kind g s ∙ ap (λ (c : Content kind). with_one kind c s) (k.held kind) ∙ sym (held_push kind (content_kept kind none_gathered) k.sections s);
+        ap (kept kind) same ∙ kept_added kind g s ∙ ap (λ (c : Kept kind). kept_with kind c s) (k.held kind) ∙ sym (kept_push kind k.sections s);
     later = later_more section start at after s read k.later;
     ends = ends ∙ k.ends;
   }
@@ -141,8 +141,20 @@ module _ (start at : Input) (g : Gathered) (some : at.bytes ≡ [] → ⊥) (k :
       of_sections (HasCount count) (λ (ss : List Section). length (type_indices_in ss) ≡ count) (count_midst count) h.2,
     );
     tables = λ place h. (empty_later start at place k.later h.0, of_sections (HasEmpty place) (λ (ss : List Section). FirstIsEmpty place (tables_in ss)) (empty_midst place) h.1);
-    memory = λ h. (items_later start at k.later h.0, of_sections (λ (s : Section). 0 < item_count s) (λ (ss : List Section). 0 < item_count_in ss) some_midst h.1);
+    memory = λ h. (kept_later start at k.later (inl h.0), of_sections (λ (s : Section). 0 < item_count s) (λ (ss : List Section). 0 < item_count_in ss) some_midst h.1);
   })
+
+  -- memory was wanting to keep a section, which is a custom one
+  pub gathering_unkept : (s : Section) (after : Input) → section.parse at ≡ Some (s, after) → section_kind s ≡ CustomSection → (sections_reasons start).memory
+  gathering_unkept s after read is =
+      let c = custom_kind s is in
+      let custom : section.parse at ≡ Some (holds CustomSection c.0, after) = read ∙ ap (λ (x : Section). Some (x, after)) c.1 in
+      let one : (x : Section × Input) → section.parse at ≡ Some x → 0 < item_count x.0 = λ x e.
+      let same : holds CustomSection c.0 ≡ x.0 = ap (λ (y : Section × Input). y.0) (some_is (holds CustomSection c.0, after) x (sym custom ∙ e)) in
+      omega (arith, ap item_count same) in (
+        kept_later start at k.later (inr (custom_read at after c.0 custom)),
+        of_sections (λ (s : Section). 0 < item_count s) (λ (ss : List Section). 0 < item_count_in ss) some_midst one,
+      )
 
 -- nothing is left
 pub gathering_done : (start at : Input) (g : Gathered) → at.bytes ≡ [] → Gathering start at g → HoldsSections start g

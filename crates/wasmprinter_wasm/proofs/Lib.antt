@@ -1,9 +1,10 @@
 pub mod Contents
 pub mod Pairing
 pub mod Functions
-pub mod Until
-pub mod Held
+pub mod ItemsToEnd
+pub mod OrderedSections
 pub mod Listed
 pub mod Gathering
 pub mod Assembling
 pub mod Imported
+pub mod Naming

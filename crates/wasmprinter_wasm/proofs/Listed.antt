@@ -15,7 +15,7 @@ use Rattle.wasmprinter_spec.specs.Binary.Exports.{export}
 use Rattle.wasmprinter_spec.specs.Binary.Elements.{element}
 use Rattle.wasmprinter_spec.specs.Binary.DataSegments.{segment}
 use Rattle.wasmprinter_spec.specs.Binary.Code.{code_entry}
-use Rattle.wasmprinter_spec.specs.Sections.{TypeSection, ImportSection, FunctionSection, TableSection, MemorySection, TagSection, GlobalSection}
+use Rattle.wasmprinter_spec.specs.Sections.{CustomSection, TypeSection, ImportSection, FunctionSection, TableSection, MemorySection, TagSection, GlobalSection}
 use Rattle.wasmprinter_spec.specs.Sections.{ExportSection, StartSection, ElementSection, DataCountSection, CodeSection, DataSection}
 use Rattle.wasmprinter_spec.specs.Sections.{Kind, Content, content, Section, holds, section}
 use Rattle.wasmprinter_spec.specs.Binary.{AreBytes}
@@ -52,6 +52,7 @@ IsListed s = item_count s < 2 ^ 32
 
 -- what a section of each kind holds
 content_listed : (kind : Kind) (p : ℕ) (text : List ℕ) (c : Content kind) → AreBytes text → (content kind).spells p text c → IsListed (holds kind c)
+content_listed CustomSection p text c all s = lit≤ tt
 content_listed TypeSection p text c all s = vec_listed (placed group) p text c all s
 content_listed ImportSection p text c all s = vec_listed (placed import) p text c all s
 content_listed FunctionSection p text c all s = vec_listed u32 p text c all s

@@ -1,20 +1,20 @@
 -- What sections hold together.
-use Rattle.std.specs.Prelude.{◌≡◌, ℕ, ◌+◌, ◌<◌, ◌≤◌, List, [], length, true, Option, Some, None, Result, Ok, Err}
+use Rattle.std.specs.Prelude.{◌≡◌, ℕ, ◌+◌, ◌<◌, ◌≤◌, List, [], ◌∷◌, ◌++◌, length, true, Option, Some, None, Result, Ok, Err}
 use Rattle.std.specs.List.{AllByRecursion}
 use Rattle.wasmprinter_spec.specs.Grammar.{Input, Placed}
 use Rattle.wasmprinter_spec.specs.Repeated.{until_end}
 use Rattle.wasmprinter_spec.specs.Types.{MemoryType}
 use Rattle.wasmprinter_spec.specs.Operator.{Operator}
-use Rattle.wasmprinter_spec.specs.Placed.{TypeGroup, Import, Table, Global, ElementEntry, Data, Body, Export}
-use Rattle.wasmprinter_spec.specs.Sections.{TypeSection, ImportSection, FunctionSection, TableSection, MemorySection, TagSection, GlobalSection}
+use Rattle.wasmprinter_spec.specs.Placed.{TypeGroup, Import, Table, Global, ElementEntry, Data, Body, Export, Custom}
+use Rattle.wasmprinter_spec.specs.Sections.{CustomSection, TypeSection, ImportSection, FunctionSection, TableSection, MemorySection, TagSection, GlobalSection}
 use Rattle.wasmprinter_spec.specs.Sections.{ExportSection, StartSection, ElementSection, DataCountSection, CodeSection, DataSection}
-use Rattle.wasmprinter_spec.specs.Sections.{Kind, Content, Section, holds, section, rank, rank_behind, are_above, content_in}
-use Rattle.wasmprinter_spec.specs.Binary.{types_in, imports_in, type_indices_in, tables_in, memories_in, tags_in, globals_in, exports_in, elements_in, bodies_in, datas_in, counts_data}
+use Rattle.wasmprinter_spec.specs.Sections.{Kind, Content, Section, holds, section, rank, rank_behind, are_above}
+use Rattle.wasmprinter_spec.specs.Binary.{types_in, imports_in, type_indices_in, tables_in, memories_in, tags_in, globals_in, exports_in, start_in, elements_in, data_count_in, bodies_in, datas_in, customs_in, counts_data}
 use Rattle.wasmprinter_spec.specs.Limits.{most_functions}
 use Rattle.wasmprinter_bytes.specs.Reads.{end_of}
 use Rattle.wasmprinter_error.specs.declared.error.Error.{Error}
 use Rattle.wasmprinter_error.specs.Reasons.{Reasons, HasReason}
-use Rattle.wasmprinter_entries.specs.Refusals.{HasManyLocals, HasEmptyInit, BeginsSection, BeginsItems, AnyIsOver, FirstIsEmpty}
+use Rattle.wasmprinter_entries.specs.Refusals.{HasManyLocals, HasEmptyInit, BeginsSection, KeepsSome, AnyIsOver, FirstIsEmpty}
 use Rattle.wasmprinter_entries.specs.Contents.{IsSmall}
 
 -- what the sections hold, and the rank of the last
@@ -33,6 +33,7 @@ pub record Gathered : Type 0 where
   pub data_count : Option ℕ
   pub bodies : List (Placed Body)
   pub datas : List (Placed (Data (Placed Operator)))
+  pub customs : List (Placed Custom)
 
 -- before any section
 abbrev pub none_gathered : Gathered
@@ -51,26 +52,50 @@ none_gathered = record {
   data_count = None;
   bodies = [];
   datas = [];
+  customs = [];
 }
 
--- what is kept of each kind
-abbrev pub content_kept : (kind : Kind) → Gathered → Content kind
-content_kept TypeSection g = g.types
-content_kept ImportSection g = g.imports
-content_kept FunctionSection g = g.type_indices
-content_kept TableSection g = g.tables
-content_kept MemorySection g = g.memories
-content_kept TagSection g = g.tags
-content_kept GlobalSection g = g.globals
-content_kept ExportSection g = g.exports
-content_kept StartSection g = g.start
-content_kept ElementSection g = g.elements
-content_kept DataCountSection g = g.data_count
-content_kept CodeSection g = g.bodies
-content_kept DataSection g = g.datas
+-- what is kept of each kind: all custom sections, and of all others what the only one holds
+abbrev pub Kept : Kind → Type 0
+Kept CustomSection = List (Placed Custom)
+Kept kind = Content kind
 
--- with what one more section holds, in place of what one of its kind held
+abbrev pub kept : (kind : Kind) → Gathered → Kept kind
+kept CustomSection g = g.customs
+kept TypeSection g = g.types
+kept ImportSection g = g.imports
+kept FunctionSection g = g.type_indices
+kept TableSection g = g.tables
+kept MemorySection g = g.memories
+kept TagSection g = g.tags
+kept GlobalSection g = g.globals
+kept ExportSection g = g.exports
+kept StartSection g = g.start
+kept ElementSection g = g.elements
+kept DataCountSection g = g.data_count
+kept CodeSection g = g.bodies
+kept DataSection g = g.datas
+
+-- what sections hold of each kind
+abbrev pub kept_in : (kind : Kind) → List Section → Kept kind
+kept_in CustomSection ss = customs_in ss
+kept_in TypeSection ss = types_in ss
+kept_in ImportSection ss = imports_in ss
+kept_in FunctionSection ss = type_indices_in ss
+kept_in TableSection ss = tables_in ss
+kept_in MemorySection ss = memories_in ss
+kept_in TagSection ss = tags_in ss
+kept_in GlobalSection ss = globals_in ss
+kept_in ExportSection ss = exports_in ss
+kept_in StartSection ss = start_in ss
+kept_in ElementSection ss = elements_in ss
+kept_in DataCountSection ss = data_count_in ss
+kept_in CodeSection ss = bodies_in ss
+kept_in DataSection ss = datas_in ss
+
+-- with what one more section holds, in place of what one of its kind held; a custom section stands behind those that were kept
 abbrev pub with_section : Gathered → Section → Gathered
+with_section g (holds CustomSection c) = record g { rank = rank_behind g.rank (rank CustomSection); customs = g.customs ++ c ∷ [] }
 with_section g (holds TypeSection ts) = record g { rank = rank_behind g.rank (rank TypeSection); types = ts }
 with_section g (holds ImportSection is) = record g { rank = rank_behind g.rank (rank ImportSection); imports = is }
 with_section g (holds FunctionSection is) = record g { rank = rank_behind g.rank (rank FunctionSection); type_indices = is }
@@ -87,11 +112,11 @@ with_section g (holds DataSection ds) = record g { rank = rank_behind g.rank (ra
 
 -- what is gathered is what the sections hold of each kind
 abbrev pub IsHeld : Gathered → List Section → Type 0
-IsHeld g ss = (kind : Kind) → content_kept kind g ≡ content_in kind (content_kept kind none_gathered) ss
+IsHeld g ss = (kind : Kind) → kept kind g ≡ kept_in kind ss
 
 -- there are as many bodies as type indices, and as many data segments as are counted
 pub record IsWhole (g : Gathered) : Type 0 where
-  pub paired : length g.type_indices ≡ length g.bodies
+  pub as_many : length g.type_indices ≡ length g.bodies
   pub counted : counts_data g.data_count (length g.datas) ≡ true
 
 -- sections up to the end of the bytes
@@ -106,11 +131,11 @@ pub record HoldsSections (at : Input) (g : Gathered) : Type 0 where
   pub small : AllByRecursion IsSmall sections
   pub held : IsHeld g sections
 
--- how many items the sections hold
+-- how many items the sections hold, custom sections among them
 abbrev pub item_count_in : List Section → ℕ
 item_count_in ss =
     length (types_in ss) + length (imports_in ss) + length (type_indices_in ss) + length (tables_in ss) + length (memories_in ss) + length (tags_in ss)
-    + length (globals_in ss) + length (exports_in ss) + length (elements_in ss) + length (bodies_in ss) + length (datas_in ss)
+    + length (globals_in ss) + length (exports_in ss) + length (elements_in ss) + length (bodies_in ss) + length (datas_in ss) + length (customs_in ss)
 
 -- why sections up to the end of the bytes may be refused
 abbrev pub sections_reasons : Input → Reasons
@@ -122,7 +147,7 @@ sections_reasons at = record {
       BeginsSection at FunctionSection count × (most_functions < count)
       × ((ss : List Section) → sections_at at ≡ Some ss → are_above 0 ss ≡ true → length (type_indices_in ss) ≡ count);
   tables = λ place. HasEmptyInit at place × ((ss : List Section) → sections_at at ≡ Some ss → are_above 0 ss ≡ true → FirstIsEmpty place (tables_in ss));
-  memory = BeginsItems at × ((ss : List Section) → sections_at at ≡ Some ss → are_above 0 ss ≡ true → 0 < item_count_in ss);
+  memory = KeepsSome at × ((ss : List Section) → sections_at at ≡ Some ss → are_above 0 ss ≡ true → 0 < item_count_in ss);
 }
 
 -- sections in order and within the limits are read, or the refusal is true

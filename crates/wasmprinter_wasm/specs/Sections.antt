@@ -1,7 +1,7 @@
 -- Reading sections.
 use Rattle.std.specs.Prelude.{◌≡◌, ℕ, ◌<◌, ◌≤◌, Option, Some, None, Result, Ok, Err}
 use Rattle.wasmprinter_spec.specs.Grammar.{Input, ◌>>=◌}
-use Rattle.wasmprinter_spec.specs.Sections.{TypeSection, ImportSection, FunctionSection, TableSection, MemorySection, TagSection, GlobalSection}
+use Rattle.wasmprinter_spec.specs.Sections.{CustomSection, TypeSection, ImportSection, FunctionSection, TableSection, MemorySection, TagSection, GlobalSection}
 use Rattle.wasmprinter_spec.specs.Sections.{ExportSection, StartSection, ElementSection, DataCountSection, CodeSection, DataSection}
 use Rattle.wasmprinter_spec.specs.Sections.{Kind, content, holds, section, Section as SectionValue}
 use Rattle.wasmprinter_spec.specs.Limits.{most_functions}
@@ -16,6 +16,7 @@ use Rattle.wasmprinter_entries.specs.Refusals.{HasManyLocals, HasEmptyInit, Begi
 
 -- the section of the definitions
 abbrev pub section_view : Section → SectionValue
+section_view (s.Custom c) = holds CustomSection c
 section_view (s.Types ts) = holds TypeSection ts
 section_view (s.Imports is) = holds ImportSection is.items
 section_view (s.Functions is) = holds FunctionSection is.items

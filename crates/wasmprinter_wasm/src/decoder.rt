@@ -1,8 +1,8 @@
 //! Decoding: a preamble, and sections up to the end (section 5.5, "Modules").
-ghost use Rattle.std.specs.Prelude.{◌≡◌, ◌↔◌, length, IsTrue, IsOk, IfOk, IfErr, IsErrOf, IsOkUnless};
+ghost use Rattle.std.specs.Prelude.{◌≡◌, ◌↔◌, length, IsTrue, IsOk, IfOk, IfErr, OnOk, IsErrOf, IsOkUnless};
 ghost use Rattle.wasmprinter_spec.specs.Placed.{PlacedModule};
 ghost use Rattle.wasmprinter_spec.specs.Binary.{Spells, IsComponent, preamble, preamble_bytes, counts_data};
-ghost use Rattle.wasmprinter_spec.specs.Sections.{section_kind, rank, follows};
+ghost use Rattle.wasmprinter_spec.specs.Sections.{CustomSection, section_kind, rank, follows};
 ghost use Rattle.wasmprinter_spec.specs.Limits.{IsWithinLimits};
 ghost use Rattle.wasmprinter_bytes.specs.Reads.{Reads, IsWithin, end_of};
 ghost use Rattle.wasmprinter_wasm.specs.Sections.{section_view};
@@ -11,9 +11,10 @@ ghost use Rattle.wasmprinter_wasm.specs.Decoding.{IsRefusal, HoldsNothing, Takes
 
 use crate::module::Module;
 use crate::sections::Section;
-use std::alloc::Global;
+use std::alloc::{AllocError, Global};
 use std::marker::Model;
 use wasmprinter_bytes::bytes::Cursor;
+use wasmprinter_entries::customs::Custom;
 use wasmprinter_entries::exports::Export;
 use wasmprinter_entries::imports::Import;
 use wasmprinter_entries::memories::Memory;
@@ -70,6 +71,7 @@ struct Gathered<'a> {
     data_count: Option<u32>,
     bodies: Vec<Body<'a>>,
     datas: Vec<Data<'a>>,
+    customs: Vec<Custom<'a>>,
 }
 
 impl<'a> Model for Gathered<'a> {
@@ -92,6 +94,7 @@ impl<'a> Model for Gathered<'a> {
       data_count = g.data_count;
       bodies = g.bodies.items;
       datas = g.datas.items;
+      customs = g.customs.items;
     } };
 }
 
@@ -115,6 +118,7 @@ impl<'a> Gathered<'a> {
             data_count: None,
             bodies: Vec::new(alloc),
             datas: Vec::new(alloc),
+            customs: Vec::new(alloc),
         }
     }
 
@@ -128,12 +132,14 @@ impl<'a> Gathered<'a> {
         }
     }
 
-    /// Keeps what a section holds.
-    fn add(&mut self, section: Section<'a>)
-        ensures { self.new ≡ with_section self.old (section_view section.entry) }
+    /// Keeps what a section holds. Memory is wanted for custom sections alone.
+    fn add(&mut self, section: Section<'a>) -> Result<(), AllocError>
+        ensures added { OnOk result (self.new ≡ with_section self.old (section_view section.entry)) }
+        ensures needed { IfErr result (λ _. section_kind (section_view section.entry) ≡ CustomSection) }
     {
         self.rank = section.rank().unwrap_or(self.rank);
         match section {
+            Section::Custom(custom) => self.customs.push(custom)?,
             Section::Types(types) => self.types.replace(types),
             Section::Imports(imports) => self.imports = imports,
             Section::Functions(type_indices) => self.type_indices = type_indices,
@@ -148,6 +154,7 @@ impl<'a> Gathered<'a> {
             Section::Code(bodies) => self.bodies = bodies,
             Section::Data(datas) => self.datas = datas,
         }
+        Ok(())
     }
 
     /// Whether the data count, if there is one, is the number of data segments.
@@ -178,7 +185,7 @@ impl<'a> Gathered<'a> {
             if !gathered.may_precede(&section) {
                 return Err(Error::Malformed { place });
             }
-            gathered.add(section);
+            gathered.add(section)?;
         }
         Ok(gathered)
     }
@@ -208,6 +215,7 @@ fn read_module<'a>(alloc: Global, wasm: &'a [u8]) -> Result<Module<'a>, Error>
         elements: gathered.elements,
         bodies: gathered.bodies,
         datas: gathered.datas,
+        customs: gathered.customs,
         size,
     })
 }
@@ -219,7 +227,8 @@ fn read_module<'a>(alloc: Global, wasm: &'a [u8]) -> Result<Module<'a>, Error>
 /// `Component` where the bytes are marked as a component; `Malformed` where they are outside the binary format;
 /// `TooManyLocals` and `TooManyFunctions` where a limit of this printer is passed; `EmptyTableInit` where a
 /// table has an initialiser without operators, with the place of the first; `Memory` where a growth is refused, which needs a section of
-/// items with a count above zero. `Component` goes before the others; where several of these hold, any may be answered.
+/// items with a count above zero or a custom section. `Component` goes before the others; where several of these hold, any may be
+/// answered.
 pub fn decode<'a>(alloc: Global, wasm: &'a [u8]) -> Result<Module<'a>, Error>
     ensures ok { IfOk result (λ m. Spells wasm.now m × IsWithinLimits m) }
     ensures refused { IfErr result (IsRefusal wasm.now) }
@@ -228,7 +237,7 @@ pub fn decode<'a>(alloc: Global, wasm: &'a [u8]) -> Result<Module<'a>, Error>
     // Bytes that spell a module within the limits are refused for memory alone.
     ensures within { (m : PlacedModule) → Spells wasm.now m → IsWithinLimits m → IsOkUnless result Error.Memory }
 
-    // Bytes that spell a module without items are never refused.
+    // Bytes that spell a module without items and custom sections are never refused.
     ensures empty { (m : PlacedModule) → Spells wasm.now m → HoldsNothing m → IsOk result }
 {
     if is_component(wasm) {

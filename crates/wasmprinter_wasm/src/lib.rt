@@ -4,11 +4,13 @@
 mod decoder;
 mod function;
 mod module;
+mod names;
 mod sections;
 
 pub use decoder::decode;
 pub use function::Function;
 pub use module::Module;
+pub use wasmprinter_entries::customs::Custom;
 pub use wasmprinter_entries::exports::{Export, ExternKind};
 pub use wasmprinter_entries::global_types::GlobalType;
 pub use wasmprinter_entries::imports::{ExternType, Import};
@@ -18,12 +20,15 @@ pub use wasmprinter_entries::start::Start;
 pub use wasmprinter_entries::table_types::TableType;
 pub use wasmprinter_entries::tags::Tag;
 pub use wasmprinter_entries::types::TypeGroup;
+pub use wasmprinter_names::{Name, Names, Space};
 pub use wasmprinter_segments::code::{Body, LocalEntry, Locals};
 pub use wasmprinter_segments::data::{Data, DataMode};
 pub use wasmprinter_segments::elements::{Element, ElementItems, ElementMode};
 pub use wasmprinter_segments::globals::Global;
 pub use wasmprinter_segments::tables::Table;
 
+#[cfg(test)]
+mod custom_tests;
 #[cfg(test)]
 mod fault_tests;
 #[cfg(test)]

@@ -7,6 +7,7 @@ ghost use Rattle.wasmprinter_wasm.specs.Modules.{body_at};
 
 use crate::function::Function;
 use std::marker::Model;
+use wasmprinter_entries::customs::Custom;
 use wasmprinter_entries::exports::{Export, ExternKind};
 use wasmprinter_entries::imports::Import;
 use wasmprinter_entries::memories::Memory;
@@ -35,6 +36,7 @@ pub struct Module<'a> {
     pub(crate) elements: Vec<Element<'a>>,
     pub(crate) bodies: Vec<Body<'a>>,
     pub(crate) datas: Vec<Data<'a>>,
+    pub(crate) customs: Vec<Custom<'a>>,
     pub(crate) size: u64,
 }
 
@@ -56,6 +58,7 @@ impl<'a> Model for Module<'a> {
       elements = m.elements.items;
       functions = functions_of m.type_indices.items m.bodies.items;
       datas = m.datas.items;
+      customs = m.customs.items;
       size = m.size;
     } };
 
@@ -190,6 +193,13 @@ impl<'a> Module<'a> {
         ensures { result.now ≡ self.now.datas }
     {
         &self.datas
+    }
+
+    /// The custom sections, in their order.
+    pub fn customs(&self) -> &[Custom<'a>]
+        ensures { result.now ≡ self.now.customs }
+    {
+        &self.customs
     }
 
     /// How many bytes the module has.

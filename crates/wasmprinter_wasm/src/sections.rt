@@ -6,6 +6,7 @@ ghost use Rattle.wasmprinter_wasm.specs.Sections.{section_view, TakesContent, Ta
 
 use std::alloc::Global;
 use wasmprinter_bytes::bytes::Cursor;
+use wasmprinter_entries::customs::{Custom, read_custom};
 use wasmprinter_entries::exports::{Export, read_exports};
 use wasmprinter_entries::functions::read_functions;
 use wasmprinter_entries::imports::{Import, read_imports};
@@ -19,6 +20,8 @@ use wasmprinter_segments::data::{Data, read_data, read_data_count};
 use wasmprinter_segments::elements::{Element, read_elements};
 use wasmprinter_segments::globals::{Global as GlobalVariable, read_globals};
 use wasmprinter_segments::tables::{Table, read_tables};
+
+const CUSTOM: u8 = 0;
 
 const TYPE: u8 = 1;
 
@@ -49,6 +52,8 @@ const TAG: u8 = 13;
 /// What a section holds.
 #[derive(Drop)]
 pub(crate) enum Section<'a> {
+    /// A custom section.
+    Custom(Custom<'a>),
     /// Types.
     Types(Types<'a>),
     /// Imports.
@@ -87,6 +92,7 @@ fn read_content<'a>(
     ensures { TakesContent place (kind_of id) cursor.old result }
 {
     match id {
+        CUSTOM => Ok(Section::Custom(read_custom(cursor)?)),
         TYPE => Ok(Section::Types(Types::read(alloc, cursor)?)),
         IMPORT => Ok(Section::Imports(read_imports(alloc, cursor)?)),
         FUNCTION => Ok(Section::Functions(read_functions(alloc, cursor)?)),
@@ -122,6 +128,7 @@ impl<'a> Section<'a> {
         ensures { result ≡ rank (section_kind (section_view self.now)) }
     {
         match self {
+            Section::Custom(_) => None,
             Section::Types(_) => Some(1),
             Section::Imports(_) => Some(2),
             Section::Functions(_) => Some(3),

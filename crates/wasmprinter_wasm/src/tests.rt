@@ -20,13 +20,13 @@ const IDENTITY: [u8; 35] = [
 ];
 
 /// A type section with the one type of no parameters and no results.
-const TYPES: [u8; 6] = [0x01, 0x04, 0x01, 0x60, 0x00, 0x00];
+pub(crate) const TYPES: [u8; 6] = [0x01, 0x04, 0x01, 0x60, 0x00, 0x00];
 
 /// A function section with one function.
-const FUNCTIONS: [u8; 4] = [0x03, 0x02, 0x01, 0x00];
+pub(crate) const FUNCTIONS: [u8; 4] = [0x03, 0x02, 0x01, 0x00];
 
 /// A code section with one body without locals and operators.
-const CODE: [u8; 6] = [0x0a, 0x04, 0x01, 0x02, 0x00, 0x0b];
+pub(crate) const CODE: [u8; 6] = [0x0a, 0x04, 0x01, 0x02, 0x00, 0x0b];
 
 /// A preamble, and the sections behind it.
 pub(crate) fn module(alloc: Global, sections: &[&[u8]]) -> Result<Vec<u8>, AllocError> {

@@ -2,7 +2,7 @@
 ghost use Rattle.std.specs.Prelude.{[], ◌∷◌, ◌++◌, codes, decimal, true, false};
 ghost use Rattle.wasmprinter_spec.specs.Call.{Text, Comment};
 ghost use Rattle.wasmprinter_spec.specs.Options.{Options};
-ghost use Rattle.wasmprinter_spec.specs.Piece.{Remark, Ending, styled};
+ghost use Rattle.wasmprinter_spec.specs.Piece.{NumberRemark, Remark, Ending, styled};
 ghost use Rattle.wasmprinter_print.specs.Emits.{Emits};
 ghost use Rattle.wasmprinter_print.specs.Prints.{Prints};
 
@@ -24,6 +24,13 @@ pub fn unstyled_remark<P: Print>(p: &mut P, content: &str) -> io::Result<()>
     ensures { (o : Options) → Prints P.meaning o p.old p.new result (Remark false content.now ∷ []) }
 {
     write_between(p, " (;", content, ";)")
+}
+
+/// Writes the number of a declaration, as a comment without a style.
+pub fn number_remark<P: Print>(p: &mut P, n: u64) -> io::Result<()>
+    ensures { (o : Options) → Prints P.meaning o p.old p.new result (NumberRemark n ∷ []) }
+{
+    write_digits_between(p, "(;", DECIMAL, n, ";)")
 }
 
 /// Writes a number between two texts, in the style of comments.

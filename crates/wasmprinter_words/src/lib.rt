@@ -3,6 +3,7 @@
 #![tactic(auto)]
 
 pub mod comments;
+pub mod identifiers;
 pub mod limits;
 pub mod numbers;
 pub mod strings;

@@ -3,12 +3,11 @@ ghost use Rattle.std.specs.Prelude.{◌≡◌, ◌<◌, ◌≤◌, ◌/◌, ◌%
 ghost use Rattle.std.specs.Fmt.{digits, digit_glyph, signed_decimal};
 ghost use Rattle.wasmprinter_spec.specs.Call.{Text};
 ghost use Rattle.wasmprinter_spec.specs.Options.{Options};
-ghost use Rattle.wasmprinter_spec.specs.Piece.{Gap, Word, Number, Mark, Constant};
-ghost use Rattle.wasmprinter_spec.specs.Layout.Groups.{line_group_gap};
+ghost use Rattle.wasmprinter_spec.specs.Piece.{Gap, Word, Number, Constant};
 ghost use Rattle.wasmprinter_print.specs.Emits.{Emits};
 ghost use Rattle.wasmprinter_print.specs.Prints.{Prints};
 
-use crate::words::{gap, open_gap, shut};
+use crate::words::gap;
 use std::io;
 use wasmprinter_print::{Print, Style, reset, start, text};
 
@@ -125,26 +124,6 @@ pub fn numbered_word<P: Print>(p: &mut P, word: &str, n: u64) -> io::Result<()>
 {
     text(p, word)?;
     write_digits(p, DECIMAL, n)
-}
-
-/// Writes an index as a group behind a keyword.
-#[tactic(auto, unfolding(wasmprinter_spec::specs::Layout::Groups::line_group_gap))]
-pub fn write_index_group<P: Print>(p: &mut P, keyword: &str, index: u32) -> io::Result<()>
-    ensures { (o : Options) → Prints P.meaning o p.old p.new result
-        (line_group_gap keyword.now (Number index ∷ [])) }
-{
-    open_gap(p, keyword)?;
-    number(p, u64::from(index))?;
-    shut(p)
-}
-
-/// Writes the number of a declaration, as a comment.
-pub fn mark<P: Print>(p: &mut P, n: u64) -> io::Result<()>
-    ensures { (o : Options) → Prints P.meaning o p.old p.new result (Mark n ∷ []) }
-{
-    start(p, Style::Name)?;
-    write_digits_between(p, "(;", DECIMAL, n, ";)")?;
-    reset(p)
 }
 
 fn write_negative<P: Print>(p: &mut P, magnitude: u64) -> io::Result<()>

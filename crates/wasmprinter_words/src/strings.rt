@@ -29,7 +29,8 @@ fn write_char<P: Print>(p: &mut P, c: char) -> io::Result<()>
     write_digits_between(p, "\\u{", HEXADECIMAL, u64::from(u32::from(c)), "}")
 }
 
-fn write_chars<P: Print>(p: &mut P, s: &str) -> io::Result<()>
+/// Writes the characters of a text as they stand in quotes.
+pub(crate) fn write_chars<P: Print>(p: &mut P, s: &str) -> io::Result<()>
     ensures { Emits P.meaning p.old p.new result (Text (flat_map char_text (chars s.now)) ∷ []) }
 {
     for c in s.chars() {

@@ -1,7 +1,7 @@
 //! Parentheses, blanks and words.
 ghost use Rattle.std.specs.Prelude.{[], ◌∷◌, ◌++◌};
 ghost use Rattle.wasmprinter_spec.specs.Options.{Options};
-ghost use Rattle.wasmprinter_spec.specs.Piece.{Gap, Open, OpenBare, OpenGap, OpenPlain, OpenTypeGap, Shut};
+ghost use Rattle.wasmprinter_spec.specs.Piece.{Gap, Open, OpenBare, OpenGap, OpenPlain, OpenTypeGap, Shut, BeginName, EndStyle};
 ghost use Rattle.wasmprinter_spec.specs.Piece.{Word, TypeWord, TypeWordGap, GapTypeWord, styled as in_style};
 ghost use Rattle.wasmprinter_print.specs.Emits.{Emits};
 ghost use Rattle.wasmprinter_print.specs.Prints.{Prints};
@@ -100,4 +100,18 @@ pub fn gap_type_word<P: Print>(p: &mut P, word: &str) -> io::Result<()>
     ensures { (o : Options) → Prints P.meaning o p.old p.new result (GapTypeWord word.now ∷ []) }
 {
     styled_pair(p, Style::TypeName, " ", word)
+}
+
+/// Text in the style of names follows.
+pub fn begin_name<P: Print>(p: &mut P) -> io::Result<()>
+    ensures { (o : Options) → Prints P.meaning o p.old p.new result (BeginName ∷ []) }
+{
+    start(p, Style::Name)
+}
+
+/// Text without a style follows.
+pub fn end_style<P: Print>(p: &mut P) -> io::Result<()>
+    ensures { (o : Options) → Prints P.meaning o p.old p.new result (EndStyle ∷ []) }
+{
+    reset(p)
 }

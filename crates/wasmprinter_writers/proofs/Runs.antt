@@ -8,7 +8,7 @@ use Rattle.wasmprinter_writers.specs.Writing.{Writing, TakesWhole, WritesNothing
 use Rattle.wasmprinter_writers.specs.TextCalls.{WritesText, text_meaning}
 use Rattle.wasmprinter_writers.specs.Looks.{sequences_of}
 use Rattle.wasmprinter_writers.specs.ColourCalls.{Painting, PaintsBySequences, PaintsNothing, WritesInColour, coloured_meaning, look_of}
-use Rattle.wasmprinter_writers.specs.Sequences.{joined, coloured_bytes, coloured_text}
+use Rattle.wasmprinter_writers.specs.Sequences.{concatenation, coloured_bytes, coloured_text}
 
 appends_nothing : (a : Option (List ℕ)) → Appends a a []
 appends_nothing None = tt
@@ -30,11 +30,11 @@ Grows {T} view takes = (s : T) (bytes : List ℕ) (t : T) → takes s bytes (Ok 
 
 -- byte strings that were all written
 each_appended : {T : Type 0} (view : T → Option (List ℕ)) (takes : Writing T) → Grows view takes →
-    (all : List (List ℕ)) (s t : T) → WritesEach takes s all (Ok tt) t → Appends (view s) (view t) (joined all)
+    (all : List (List ℕ)) (s t : T) → WritesEach takes s all (Ok tt) t → Appends (view s) (view t) (concatenation all)
 each_appended view takes grows [] s t h = stays view s t h
 each_appended view takes grows (bytes ∷ rest) s t (inl h) = absurd h
 each_appended view takes grows (bytes ∷ rest) s t (inr h) =
-    appends_both (view s) (view h.0) (view t) bytes (joined rest) (grows s bytes h.0 h.1) (each_appended view takes grows rest h.0 t h.2)
+    appends_both (view s) (view h.0) (view t) bytes (concatenation rest) (grows s bytes h.0 h.1) (each_appended view takes grows rest h.0 t h.2)
 
 text_call : {T : Type 0} (view : T → Option (List ℕ)) (takes : Writing T) → Grows view takes →
     (s : T) (c : Call) (t : T) → WritesText takes s c (Ok tt) t → Appends (view s) (view t) (call_text c)
@@ -45,7 +45,7 @@ text_call view takes grows s (Start style) t h = stays view s t h
 text_call view takes grows s (Claim name place bytes claimed) t h = stays view s t h.1
 
 coloured_call : {T : Type 0} (view : T → Option (List ℕ)) (takes : Writing T) (paints : Painting T) → Grows view takes →
-    ((s : T) (look : _) (t : T) → paints s look (Ok tt) t → Appends (view s) (view t) (joined (sequences_of look))) →
+    ((s : T) (look : _) (t : T) → paints s look (Ok tt) t → Appends (view s) (view t) (concatenation (sequences_of look))) →
     (s : T) (c : Call) (t : T) → WritesInColour takes paints s c (Ok tt) t → Appends (view s) (view t) (coloured_bytes c)
 coloured_call view takes paints grows painted s (Text bytes) t h = grows s bytes t h
 coloured_call view takes paints grows painted s Newline t h = grows s (10 ∷ []) t h

@@ -8,7 +8,7 @@ use Rattle.wasmprinter_spec.specs.Plain.{IsPlainText}
 use Rattle.wasmprinter_lexical.proofs.Plain.{uncolour-byte}
 use Rattle.wasmprinter_writers.specs.Looks.{sequences_of}
 use Rattle.wasmprinter_writers.specs.ColourCalls.{look_of}
-use Rattle.wasmprinter_writers.specs.Sequences.{joined, coloured_text, ColoursKeepText}
+use Rattle.wasmprinter_writers.specs.Sequences.{concatenation, coloured_text, ColoursKeepText}
 
 -- plain text in front stays
 front_stays : (text rest : List ℕ) → IsPlainText (text ++ rest) → (more : List ℕ) → uncolour (text ++ more) ≡ text ++ uncolour more
@@ -20,7 +20,7 @@ behind [] rest h = h
 behind (b ∷ bs) rest h = behind bs rest h.1
 
 -- the sequences of a style go
-style_goes : (style : Style) (more : List ℕ) → uncolour (joined (sequences_of (look_of style)) ++ more) ≡ uncolour more
+style_goes : (style : Style) (more : List ℕ) → uncolour (concatenation (sequences_of (look_of style)) ++ more) ≡ uncolour more
 unfolding digits
 style_goes Literal more = refl
 style_goes Name more = refl

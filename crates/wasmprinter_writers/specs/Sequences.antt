@@ -7,16 +7,16 @@ use Rattle.wasmprinter_writers.specs.Looks.{sequences_of}
 use Rattle.wasmprinter_writers.specs.ColourCalls.{look_of}
 
 -- byte strings, one after the other
-abbrev pub joined : List (List ℕ) → List ℕ
-joined [] = []
-joined (bytes ∷ rest) = bytes ++ joined rest
+abbrev pub concatenation : List (List ℕ) → List ℕ
+concatenation [] = []
+concatenation (bytes ∷ rest) = bytes ++ concatenation rest
 
 -- the bytes that one call hands over: those of a text, a line feed, and the sequences of a style
 abbrev pub coloured_bytes : Call → List ℕ
 coloured_bytes (Text bytes) = bytes
 coloured_bytes Newline = 10 ∷ []
 coloured_bytes (Line place) = []
-coloured_bytes (Start style) = joined (sequences_of (look_of style))
+coloured_bytes (Start style) = concatenation (sequences_of (look_of style))
 coloured_bytes (Claim name place bytes claimed) = []
 
 -- the bytes of a list of calls

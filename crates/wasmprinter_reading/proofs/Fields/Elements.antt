@@ -1,53 +1,58 @@
 -- Element segments among the fields of a module.
-use Rattle.std.proofs.Common.{◌≡◌, ℕ, ◌<◌, ◌^◌, Bool, true, false, cond, List, [], ◌∷◌, ◌++◌, Some, None, option_map, map, refl, sym, ap, ◌∙◌, codes, decimal, bytes_eq, arith}
+use Rattle.std.proofs.Common.{◌≡◌, ℕ, ◌<◌, ◌^◌, Bool, true, false, cond, List, [], ◌∷◌, ◌++◌, Option, Some, None, option_map, map, refl, sym, ap, ◌∙◌, codes, bytes_eq, arith}
 use Rattle.std.specs.List.{AllByRecursion}
 use Rattle.wasmprinter_spec.specs.Character.{class}
 use Rattle.wasmprinter_spec.specs.Grammar.{Placed, ◌>>=◌}
 use Rattle.wasmprinter_spec.specs.Forest.{Forest, End, Word, Group, onto}
-use Rattle.wasmprinter_spec.specs.Types.{HeapType, Index, RefType, SubType, signature_at}
+use Rattle.wasmprinter_spec.specs.Types.{HeapType, Index, RefType, signature_at}
+use Rattle.wasmprinter_spec.specs.Row as row
+use Rattle.wasmprinter_spec.specs.Names.{AreNamed}
 use Rattle.wasmprinter_spec.specs.Operator.{Operator}
 use Rattle.wasmprinter_spec.specs.Placed.{Mode, Passive, Declared, Active, Items, Functions, Expressions, element_of, ElementEntry}
 use Rattle.wasmprinter_spec.specs.Module.{without_places, mode_without_places, items_without_places, element_without_places}
-use Rattle.wasmprinter_spec.specs.Indexed.{Counts}
+use Rattle.wasmprinter_spec.specs.Indexed.{Counts, IsDeclaredHeap}
+use Rattle.wasmprinter_spec.specs.Labels.{Named}
 use Rattle.wasmprinter_spec.specs.IndexSpaces.{index, Context}
 use Rattle.wasmprinter_spec.specs.Piece as piece
-use Rattle.wasmprinter_spec.specs.Layout.Expressions.{in_line, constant_group}
+use Rattle.wasmprinter_spec.specs.Layout.Declarations.{Scope}
+use Rattle.wasmprinter_spec.specs.Layout.Expressions.{constant_group}
 use Rattle.wasmprinter_spec.specs.Layout.Elements as layout
 use Rattle.wasmprinter_spec.specs.Layout.Elements.{named_table, mode_pieces, items_pieces, shown_items, element_pieces}
 use Rattle.wasmprinter_spec.specs.Text.Items.{identified}
 use Rattle.wasmprinter_spec.specs.Text.Types.{ref_named, ref_group}
 use Rattle.wasmprinter_spec.specs.Text.Elements.{function_indices, expressions, typed_items, items, with_mode, active_in, segment, read_element}
 use Rattle.wasmprinter_lexical.proofs.Pieces.{Free, Bound}
-use Rattle.wasmprinter_lexical.proofs.Writes.{Writes, both_write, nothing_writes, gap_writes, mark_writes, break_writes, word_writes, number_writes, line_group_gap_writes}
+use Rattle.wasmprinter_lexical.proofs.Writes.{Writes, both_write, nothing_writes, gap_writes, break_writes, word_writes, line_group_gap_writes}
 use Rattle.wasmprinter_reading.specs.Listed.{AreSignaturesInRange}
-use Rattle.wasmprinter_reading.specs.OperatorLaws.{HaveSameTypes}
-use Rattle.wasmprinter_reading.proofs.Items.{index-decimal, leading_item-reads}
+use Rattle.wasmprinter_reading.proofs.Items.{leading_item-reads}
+use Rattle.wasmprinter_reading.proofs.Declarations.{id}
+use Rattle.wasmprinter_reading.proofs.Identifiers.{index_items, declaration-items, declaration_writes, index_writes}
+use Rattle.wasmprinter_reading.proofs.Fields.Scopes.{own_id, own_index, AreScoped, own_index-reads, type_bound, type_indices-read, heap_bounded}
 use Rattle.wasmprinter_reading.proofs.Ranged.{IsRangedExpression, IsNamedTable, IsRangedMode, AreRangedItems, IsRangedElement}
-use Rattle.wasmprinter_reading.proofs.Types.Ranged.{IsRangedHeap}
 use Rattle.wasmprinter_reading.proofs.Types.Trees.{ref_items_by, ref_items, ref_writes}
 use Rattle.wasmprinter_reading.proofs.Types.Back.{ref_item, identified-ref}
 use Rattle.wasmprinter_reading.proofs.Fields.Expressions.{constant_held, constant_group_writes, AreIndexed, constant_group-items, IsOffset, offset_stands, no_offset, no_item}
 
 -- ---- what element segments are written as
 
--- numbers in a row
-abbrev pub numbers_items : List ℕ → Forest
-numbers_items [] = End
-numbers_items (i ∷ is) = Word (decimal i) (numbers_items is)
-
 -- the table stands there where the bytes name it
-abbrev pub named_table_items : Bool → ℕ → Forest → Forest
-named_table_items true t f = Group (Word (codes "table") (Word (decimal t) End)) f
-named_table_items false t f = f
+abbrev pub named_table_items : Scope → Bool → ℕ → Forest → Forest
+named_table_items s true t f = Group (Word (codes "table") (own_index s row.Table t)) f
+named_table_items s false t f = f
 
-module _ (ts : List SubType) where
+module _ (s : Scope) where
+  -- functions in a row
+  abbrev pub function_row : List ℕ → Forest
+  function_row [] = End
+  function_row (i ∷ is) = onto (own_index s row.Func i) (function_row is)
+
   abbrev pub expressions_items : List (List Operator) → Forest
   expressions_items [] = End
-  expressions_items (e ∷ es) = Group (constant_held ts (codes "item") e) (expressions_items es)
+  expressions_items (e ∷ es) = Group (constant_held s (codes "item") e) (expressions_items es)
 
   abbrev pub items_items : Items Operator → Forest
-  items_items (Functions is) = Word (codes "func") (numbers_items is)
-  items_items (Expressions t es) = onto (ref_items t) (expressions_items es)
+  items_items (Functions is) = Word (codes "func") (function_row is)
+  items_items (Expressions t es) = onto (ref_items s.names t) (expressions_items es)
 
   -- the items, or three points in a skeleton
   abbrev pub shown_items_items : Bool → Items Operator → Forest
@@ -58,134 +63,162 @@ module _ (ts : List SubType) where
   abbrev pub mode_items : Bool → Mode Operator → Forest → Forest
   mode_items names Passive f = f
   mode_items names Declared f = Word (codes "declare") f
-  mode_items names (Active t offset) f = named_table_items names t (Group (constant_held ts (codes "offset") offset) f)
+  mode_items names (Active t offset) f = named_table_items s names t (Group (constant_held s (codes "offset") offset) f)
+
+  -- an element segment without its identifier
+  abbrev pub segment_items : Bool → ElementEntry → Forest
+  segment_items skeleton e =
+      mode_items e.names_table (mode_without_places e.element.mode) (shown_items_items skeleton (items_without_places e.element.items))
 
   -- what an element segment holds behind its word
-  abbrev pub element_items : Bool → ElementEntry → Forest
-  element_items skeleton e =
-      mode_items e.names_table (mode_without_places e.element.mode) (shown_items_items skeleton (items_without_places e.element.items))
+  abbrev pub element_items : Bool → ℕ → ElementEntry → Forest
+  element_items skeleton i e = onto (own_id s row.Elem i) (segment_items skeleton e)
 
 -- ---- their pieces write it
 
-numbers_write : (is : List ℕ) → AllByRecursion (λ i. i < 2 ^ 32) is → Writes Bound (layout.function_items is) Bound (numbers_items is)
-unfolding layout.function_items
-numbers_write [] h = nothing_writes
-numbers_write (i ∷ is) h = let small : i < 2 ^ 64 = omega (arith, h.0) in gap_writes refl (number_writes small (numbers_write is h.1))
+module _ (s : Scope) (named : AreNamed s.names) (ranged : AreSignaturesInRange (signature_at s.types)) where
+  functions_write : (is : List ℕ) → AllByRecursion (λ i. i < 2 ^ 32) is → Writes Bound (layout.function_items s is) Bound (function_row s is)
+  unfolding layout.function_items
+  functions_write [] h = nothing_writes
+  functions_write (i ∷ is) h =
+      let small : i < 2 ^ 64 = omega (arith, h.0) in
+      gap_writes refl (both_write (index_writes (s.names.items row.Func i) i (named.items row.Func i) small) (functions_write is h.1))
 
-module _ (ts : List SubType) (s : AreSignaturesInRange (signature_at ts)) where
   expressions_write : (es : List (List (Placed Operator))) → AllByRecursion IsRangedExpression es →
-      Writes Bound (layout.expression_items ts es) Bound (expressions_items ts (map without_places es))
+      Writes Bound (layout.expression_items s es) Bound (expressions_items s (map without_places es))
   unfolding layout.expression_items class
   expressions_write [] h = nothing_writes
-  expressions_write (e ∷ es) h = gap_writes refl (both_write (constant_group_writes ts s (codes "item") e refl refl h.0) (expressions_write es h.1))
+  expressions_write (e ∷ es) h =
+      gap_writes refl (both_write (constant_group_writes s named ranged (codes "item") e refl refl h.0) (expressions_write es h.1))
 
-  items_write : (is : Items (Placed Operator)) → AreRangedItems is → Writes Free (items_pieces ts is) Bound (items_items ts (items_without_places is))
+  items_write : (is : Items (Placed Operator)) → AreRangedItems is → Writes Free (items_pieces s is) Bound (items_items s (items_without_places is))
   unfolding items_pieces class
-  items_write (Functions is) h = word_writes refl (numbers_write is h)
-  items_write (Expressions t es) h = both_write (ref_writes t h.0) (expressions_write es h.1)
+  items_write (Functions is) h = word_writes refl (functions_write is h)
+  items_write (Expressions t es) h = both_write (ref_writes s.names named t h.0) (expressions_write es h.1)
 
   shown_items_write : (skeleton : Bool) (is : Items (Placed Operator)) → AreRangedItems is →
-      Writes Free (shown_items skeleton ts is) Bound (shown_items_items ts skeleton (items_without_places is))
+      Writes Free (shown_items skeleton s is) Bound (shown_items_items s skeleton (items_without_places is))
   unfolding class
   shown_items_write true is h = word_writes refl nothing_writes
   shown_items_write false is h = items_write is h
 
   -- the mode, and a blank, before the items
   mode_writes : (names : Bool) (m : Mode (Placed Operator)) → IsRangedMode names m → {qs : List piece.Piece} {f : Forest} → Writes Free qs Bound f →
-      Writes Free (mode_pieces ts names m ++ (piece.Gap ∷ qs)) Bound (mode_items ts names (mode_without_places m) f)
+      Writes Bound (mode_pieces s names m ++ (piece.Gap ∷ qs)) Bound (mode_items s names (mode_without_places m) f)
   unfolding mode_pieces class
   mode_writes names Passive h w = gap_writes refl w
   mode_writes names Declared h w = gap_writes refl (word_writes refl (gap_writes refl w))
   mode_writes names (Active t offset) h {qs} {f} w = by names h.0
     where
       by : (b : Bool) → IsNamedTable b t →
-          Writes Free ((named_table b t ++ (piece.Gap ∷ constant_group ts (codes "offset") offset)) ++ (piece.Gap ∷ qs)) Bound
-          (named_table_items b t (Group (constant_held ts (codes "offset") (without_places offset)) f))
+          Writes Bound ((named_table s b t ++ (piece.Gap ∷ constant_group s (codes "offset") offset)) ++ (piece.Gap ∷ qs)) Bound
+          (named_table_items s b t (Group (constant_held s (codes "offset") (without_places offset)) f))
       by true k =
           let small : t < 2 ^ 64 = omega (arith, k) in
-          gap_writes refl (both_write (both_write (line_group_gap_writes (codes "table") _ refl refl (number_writes small nothing_writes))
-          (gap_writes {a = Bound} refl (constant_group_writes ts s (codes "offset") offset refl refl h.1))) (gap_writes refl w))
-      by false k = both_write (gap_writes refl (constant_group_writes ts s (codes "offset") offset refl refl h.1)) (gap_writes refl w)
+          gap_writes refl (both_write (both_write
+          (line_group_gap_writes (codes "table") _ refl refl (index_writes (s.names.items row.Table t) t (named.items row.Table t) small))
+          (gap_writes {a = Bound} refl (constant_group_writes s named ranged (codes "offset") offset refl refl h.1))) (gap_writes refl w))
+      by false k = both_write (gap_writes refl (constant_group_writes s named ranged (codes "offset") offset refl refl h.1)) (gap_writes refl w)
 
   pub element_writes : (skeleton : Bool) (i : ℕ) (e : Placed ElementEntry) → i < 2 ^ 64 → IsRangedElement e.value →
-      Writes Bound (element_pieces skeleton ts i e) Bound (Group (Word (codes "elem") (element_items ts skeleton e.value)) End)
+      Writes Bound (element_pieces skeleton s i e) Bound (Group (Word (codes "elem") (element_items s skeleton i e.value)) End)
   unfolding element_pieces class
   element_writes skeleton i e small h =
       break_writes (line_group_gap_writes (codes "elem") _ refl refl
-      (mark_writes refl small (mode_writes e.value.names_table e.value.element.mode h.mode (shown_items_write skeleton e.value.element.items h.items))))
+      (both_write (declaration_writes (s.names.items row.Elem i) i (named.items row.Elem i) small)
+      (mode_writes e.value.names_table e.value.element.mode h.mode (shown_items_write skeleton e.value.element.items h.items))))
 
 -- ---- they read back
 
-numbers-items : (c : Context) (is : List ℕ) → AllByRecursion (λ i. i < 2 ^ 32) is → function_indices c (numbers_items is) ≡ Some is
-numbers-items c [] h = refl
-numbers-items c (i ∷ is) h = rw (index-decimal c.spaces.functions i h.0, numbers-items c is h.1)
+-- no identifier stands in front of the items
+identified-items : (s : Scope) (is : Items Operator) → identified (items_items s is) ≡ (None, items_items s is)
+identified-items s (Functions is) = refl
+identified-items s (Expressions t es) = identified-ref s.names t.nullable t.heap (expressions_items s es)
 
--- no identifier stands in front
-identified-items : (ts : List SubType) (is : Items Operator) → identified (items_items ts is) ≡ (None, items_items ts is)
-identified-items ts (Functions is) = refl
-identified-items ts (Expressions t es) = identified-ref t.nullable t.heap (expressions_items ts es)
-
-pub identified-element : (ts : List SubType) (e : ElementEntry) → identified (element_items ts false e) ≡ (None, element_items ts false e)
-identified-element ts e = by e.names_table (mode_without_places e.element.mode)
+identified-segment : (s : Scope) (e : ElementEntry) → identified (segment_items s false e) ≡ (None, segment_items s false e)
+identified-segment s e = by e.names_table (mode_without_places e.element.mode)
   where
     by : (names : Bool) (m : Mode Operator) →
-        identified (mode_items ts names m (items_items ts (items_without_places e.element.items))) ≡
-        (None, mode_items ts names m (items_items ts (items_without_places e.element.items)))
-    by names Passive = identified-items ts (items_without_places e.element.items)
+        identified (mode_items s names m (items_items s (items_without_places e.element.items))) ≡
+        (None, mode_items s names m (items_items s (items_without_places e.element.items)))
+    by names Passive = identified-items s (items_without_places e.element.items)
     by names Declared = refl
     by true (Active t offset) = refl
     by false (Active t offset) = refl
 
-module _ (c : Context) (ts : List SubType) (k : Counts) (same : HaveSameTypes (in_line ts) c k) where
-  -- every index in the expressions is declared
-  abbrev pub AreIndexedItems : Items (Placed Operator) → Type 0
-  AreIndexedItems (Functions is) = Unit {0}
-  AreIndexedItems (Expressions t es) = AllByRecursion (AreIndexed c ts k same) es
+-- the identifier of an element segment, and what it is
+pub identified-element : (s : Scope) (i : ℕ) (e : ElementEntry) → identified (element_items s false i e) ≡ (id (s.names.items row.Elem i), segment_items s false e)
+identified-element s i e = declaration-items (s.names.items row.Elem i) (segment_items s false e) (identified-segment s e)
 
+-- functions in a row, read one by one
+first_function : (c : Context) (o : Option Named) (i : ℕ) (f : Forest) (is : List ℕ) → index c.spaces.functions (index_items o i) ≡ Some i →
+    function_indices c f ≡ Some is → function_indices c (onto (index_items o i) f) ≡ Some (i ∷ is)
+first_function c None i f is h k = rw (h, k)
+first_function c (Some n) i f is h k = rw (h, k)
+
+module _ (s : Scope) (c : Context) (n : Counts) (scoped : AreScoped s c n) where
+  -- every index in the mode and in the items is declared
   abbrev pub IsIndexedMode : Mode (Placed Operator) → Type 0
-  IsIndexedMode (Active t offset) = AreIndexed c ts k same offset
+  IsIndexedMode (Active t offset) = (t < n.tables) × AreIndexed n offset
   IsIndexedMode _ = Unit {0}
 
-  expressions-items : (es : List (List (Placed Operator))) → AllByRecursion IsRangedExpression es → AllByRecursion (AreIndexed c ts k same) es →
-      expressions c (expressions_items ts (map without_places es)) ≡ Some (map without_places es)
-  expressions-items [] h d = refl
-  expressions-items (e ∷ es) h d = rw (constant_group-items c ts k same (codes "item") no_item e h.0 d.0, expressions-items es h.1 d.1)
+  abbrev pub AreIndexedItems : Items (Placed Operator) → Type 0
+  AreIndexedItems (Functions is) = AllByRecursion (λ i. i < n.functions) is
+  AreIndexedItems (Expressions t es) = IsDeclaredHeap n.types t.heap × AllByRecursion (AreIndexed n) es
 
-  typed_items-items : (t : RefType) (es : List (List (Placed Operator))) → IsRangedHeap t.heap → AllByRecursion IsRangedExpression es →
-      AllByRecursion (AreIndexed c ts k same) es →
-      typed_items c (onto (ref_items t) (expressions_items ts (map without_places es))) ≡ Some (Expressions t (map without_places es))
+  functions-items : (is : List ℕ) → AllByRecursion (λ i. i < 2 ^ 32) is → AllByRecursion (λ i. i < n.functions) is →
+      function_indices c (function_row s is) ≡ Some is
+  functions-items [] h d = refl
+  functions-items (i ∷ is) h d =
+      first_function c (s.names.items row.Func i) i (function_row s is) is
+      (own_index-reads s c n scoped row.Func (λ names f. refl) i d.0 h.0) (functions-items is h.1 d.1)
+
+  expressions-items : (es : List (List (Placed Operator))) → AllByRecursion IsRangedExpression es → AllByRecursion (AreIndexed n) es →
+      expressions c (expressions_items s (map without_places es)) ≡ Some (map without_places es)
+  expressions-items [] h d = refl
+  expressions-items (e ∷ es) h d = rw (constant_group-items s c n scoped (codes "item") no_item e h.0 d.0, expressions-items es h.1 d.1)
+
+  typed_items-items : (t : RefType) (es : List (List (Placed Operator))) → IsDeclaredHeap (type_bound s c n scoped) t.heap → AllByRecursion IsRangedExpression es →
+      AllByRecursion (AreIndexed n) es →
+      typed_items c (onto (ref_items s.names t) (expressions_items s (map without_places es))) ≡ Some (Expressions t (map without_places es))
   typed_items-items t es r h d =
-      let rest : Forest = expressions_items ts (map without_places es) in
-      rw (leading_item-reads ref_named (ref_group c.spaces.types) (ref_items t) t rest (ref_item c.spaces.types t.nullable t.heap r), expressions-items es h d)
+      let rest : Forest = expressions_items s (map without_places es) in
+      rw (
+        leading_item-reads ref_named (ref_group c.spaces.types) (ref_items s.names t) t rest
+            (ref_item s.names c.spaces.types (type_bound s c n scoped) (type_indices-read s c n scoped) t.nullable t.heap r),
+        expressions-items es h d,
+      )
 
   -- a reference type does not begin as other items and other modes do
-  items-typed : (null : Bool) (h : HeapType) (f : Forest) → items c (onto (ref_items_by null h) f) ≡ typed_items c (onto (ref_items_by null h) f)
+  items-typed : (null : Bool) (h : HeapType) (f : Forest) → items c (onto (ref_items_by s.names null h) f) ≡ typed_items c (onto (ref_items_by s.names null h) f)
   items-typed true (Index n) f = refl
   items-typed true _ f = refl
   items-typed false h f = refl
 
-  segment-typed : (null : Bool) (h : HeapType) (f : Forest) → segment c (onto (ref_items_by null h) f) ≡ with_mode c Passive (onto (ref_items_by null h) f)
+  segment-typed : (null : Bool) (h : HeapType) (f : Forest) →
+      segment c (onto (ref_items_by s.names null h) f) ≡ with_mode c Passive (onto (ref_items_by s.names null h) f)
   segment-typed true (Index n) f = refl
   segment-typed true _ f = refl
   segment-typed false h f = refl
 
   items-items : (is : Items (Placed Operator)) → AreRangedItems is → AreIndexedItems is →
-      items c (items_items ts (items_without_places is)) ≡ Some (items_without_places is)
-  items-items (Functions is) h d = rw (numbers-items c is h)
+      items c (items_items s (items_without_places is)) ≡ Some (items_without_places is)
+  items-items (Functions is) h d = rw (functions-items is h d)
   items-items (Expressions t es) h d =
-      items-typed t.nullable t.heap (expressions_items ts (map without_places es)) ∙ typed_items-items t es h.0 h.1 d
+      items-typed t.nullable t.heap (expressions_items s (map without_places es))
+      ∙ typed_items-items t es (heap_bounded s c n scoped t.heap h.0 d.0) h.1 d.1
 
   -- a passive segment
   segment-passive : (is : Items (Placed Operator)) →
-      segment c (items_items ts (items_without_places is)) ≡ with_mode c Passive (items_items ts (items_without_places is))
+      segment c (items_items s (items_without_places is)) ≡ with_mode c Passive (items_items s (items_without_places is))
   segment-passive (Functions is) = refl
-  segment-passive (Expressions t es) = segment-typed t.nullable t.heap (expressions_items ts (map without_places es))
+  segment-passive (Expressions t es) = segment-typed t.nullable t.heap (expressions_items s (map without_places es))
 
   -- an active segment, behind its table
-  active-items : (t : ℕ) (offset : List (Placed Operator)) (f : Forest) → IsRangedExpression offset → AreIndexed c ts k same offset →
-      active_in c t (Group (constant_held ts (codes "offset") (without_places offset)) f) ≡ with_mode c (Active t (without_places offset)) f
+  active-items : (t : ℕ) (offset : List (Placed Operator)) (f : Forest) → IsRangedExpression offset → AreIndexed n offset →
+      active_in c t (Group (constant_held s (codes "offset") (without_places offset)) f) ≡ with_mode c (Active t (without_places offset)) f
   active-items t offset f h d =
-      ap (λ o. o >>= λ e. with_mode c (Active t e) f) (constant_group-items c ts k same (codes "offset") no_offset offset h d)
+      ap (λ o. o >>= λ e. with_mode c (Active t e) f) (constant_group-items s c n scoped (codes "offset") no_offset offset h d)
 
   -- the group of an offset is no type and no table
   segment-offset : (g f : Forest) → IsOffset g → segment c (Group g f) ≡ active_in c 0 (Group g f)
@@ -198,26 +231,27 @@ module _ (c : Context) (ts : List SubType) (k : Counts) (same : HaveSameTypes (i
       ∙ ap (λ b. cond b (index c.spaces.tables o.rest >>= (λ t. active_in c t f)) (active_in c 0 inner)) o.table
       ∙ ap (λ x. active_in c 0 (Group x f)) (sym o.is)
 
-  segment-active : (names : Bool) (t : ℕ) (offset : List (Placed Operator)) (f : Forest) → IsNamedTable names t → IsRangedExpression offset →
-      AreIndexed c ts k same offset →
-      segment c (named_table_items names t (Group (constant_held ts (codes "offset") (without_places offset)) f)) ≡ with_mode c
+  segment-active : (names : Bool) (t : ℕ) (offset : List (Placed Operator)) (f : Forest) → IsNamedTable names t → t < n.tables → IsRangedExpression offset →
+      AreIndexed n offset →
+      segment c (named_table_items s names t (Group (constant_held s (codes "offset") (without_places offset)) f)) ≡ with_mode c
       (Active t (without_places offset)) f
-  segment-active true t offset f n h d =
-      ap (λ o. o >>= λ i. active_in c i (Group (constant_held ts (codes "offset") (without_places offset)) f)) (index-decimal c.spaces.tables t n)
+  segment-active true t offset f small declared h d =
+      ap (λ o. o >>= λ i. active_in c i (Group (constant_held s (codes "offset") (without_places offset)) f))
+      (own_index-reads s c n scoped row.Table (λ names f. refl) t declared small)
       ∙ active-items t offset f h d
-  segment-active false t offset f n h d =
-      segment-offset _ f (offset_stands ts offset h) ∙ active-items 0 offset f h d ∙ ap (λ i. with_mode c (Active i (without_places offset)) f) (sym n)
+  segment-active false t offset f zero declared h d =
+      segment-offset _ f (offset_stands s offset h) ∙ active-items 0 offset f h d ∙ ap (λ i. with_mode c (Active i (without_places offset)) f) (sym zero)
 
   segment-items : (names : Bool) (m : Mode (Placed Operator)) (is : Items (Placed Operator)) → IsRangedMode names m → IsIndexedMode m →
-      segment c (mode_items ts names (mode_without_places m) (items_items ts (items_without_places is))) ≡ with_mode c (mode_without_places m)
-      (items_items ts (items_without_places is))
+      segment c (mode_items s names (mode_without_places m) (items_items s (items_without_places is))) ≡ with_mode c (mode_without_places m)
+      (items_items s (items_without_places is))
   segment-items names Passive is h d = segment-passive is
   segment-items names Declared is h d = refl
-  segment-items names (Active t offset) is h d = segment-active names t offset _ h.0 h.1 d
+  segment-items names (Active t offset) is h d = segment-active names t offset _ h.0 d.0 h.1 d.1
 
-  pub read_element-items : (e : ElementEntry) → IsRangedElement e → IsIndexedMode e.element.mode → AreIndexedItems e.element.items →
-      read_element c (element_items ts false e) ≡ Some (element_without_places e)
-  read_element-items e h d i =
-      ap (λ x. segment c x.1) (identified-element ts e)
+  pub read_element-items : (i : ℕ) (e : ElementEntry) → IsRangedElement e → IsIndexedMode e.element.mode → AreIndexedItems e.element.items →
+      read_element c (element_items s false i e) ≡ Some (element_without_places e)
+  read_element-items i e h d k =
+      ap (λ x. segment c x.1) (identified-element s i e)
       ∙ segment-items e.names_table e.element.mode e.element.items h.mode d
-      ∙ ap (option_map (element_of (mode_without_places e.element.mode))) (items-items e.element.items h.items i)
+      ∙ ap (option_map (element_of (mode_without_places e.element.mode))) (items-items e.element.items h.items k)

@@ -1,19 +1,20 @@
 -- Expressions of fields: in one line, or in a group of their own, where a single operator stands alone.
-use Rattle.std.proofs.Common.{◌≡◌, ℕ, true, false, cond, List, [], ◌∷◌, Option, Some, None, refl, sym, ap, ◌∙◌, codes, bytes_eq}
+use Rattle.std.proofs.Common.{◌≡◌, ℕ, true, false, cond, List, [], ◌∷◌, Option, Some, refl, sym, ap, ◌∙◌, codes, bytes_eq}
 use Rattle.std.specs.List.{AllByRecursion}
 use Rattle.wasmprinter_spec.specs.Grammar.{Placed, ◌>>=◌}
 use Rattle.wasmprinter_spec.specs.Forest.{Forest, End, Word, Group, onto}
-use Rattle.wasmprinter_spec.specs.Types.{SubType, signature_at}
+use Rattle.wasmprinter_spec.specs.Types.{signature_at}
+use Rattle.wasmprinter_spec.specs.Names.{AreNamed}
 use Rattle.wasmprinter_spec.specs.Operator.{Operator}
 use Rattle.wasmprinter_spec.specs.Row.{Row, Role, Plain, Opens, OpensIf, Turns, OpensTry, Catches, CatchesAll, Delegates, Ends}
 use Rattle.wasmprinter_spec.specs.Table.{table, rows_of, word_of_row, word_of, role_of_row, role_of, shape_of}
-use Rattle.wasmprinter_spec.specs.Labels.{outside, inside}
+use Rattle.wasmprinter_spec.specs.Labels.{Label, outside, inside}
 use Rattle.wasmprinter_spec.specs.Stepped.{stops}
 use Rattle.wasmprinter_spec.specs.Nesting.{Nests, Sequence, advance, at_start}
 use Rattle.wasmprinter_spec.specs.NestingSteps.{stops_at_end}
 use Rattle.wasmprinter_spec.specs.Module.{without_places}
 use Rattle.wasmprinter_spec.specs.Indexed.{Counts, IsIndexedOperator}
-use Rattle.wasmprinter_spec.specs.LabelNames.{no_label_names}
+use Rattle.wasmprinter_spec.specs.Layout.Declarations.{Scope}
 use Rattle.wasmprinter_spec.specs.Code.{Chunk, chunk, code_of, only_instructions, flattened, folded_as, before, PartHead, ThenHead, ElseHead, OperatorHead, head_by, head, with_group, code, unfolded}
 use Rattle.wasmprinter_spec.specs.IndexSpaces.{Context}
 use Rattle.wasmprinter_spec.specs.Piece as piece
@@ -25,47 +26,46 @@ use Rattle.wasmprinter_lexical.proofs.Runs.{is_word}
 use Rattle.wasmprinter_lexical.proofs.Pieces.{Edge, Free, Bound, Opened}
 use Rattle.wasmprinter_lexical.proofs.Writes.{Writes, is_open, nothing_writes, word_writes, gap_writes, opened_writes, bare_group_then}
 use Rattle.wasmprinter_reading.specs.Listed.{AreSignaturesInRange, IsListed}
-use Rattle.wasmprinter_reading.specs.OperatorLaws.{HaveSameTypes}
 use Rattle.wasmprinter_reading.proofs.Bytes.{same_bytes}
 use Rattle.wasmprinter_reading.proofs.Tabled.{HasRow, row_for, StandsAlone, plain_alone, plain_by_word}
 use Rattle.wasmprinter_reading.proofs.Ranged.{IsRangedExpression}
 use Rattle.wasmprinter_reading.proofs.Operators.Arguments.{AreArguments, arguments_front}
-use Rattle.wasmprinter_reading.proofs.Operators.Immediates.{arguments_by}
 use Rattle.wasmprinter_reading.proofs.Operators.Rows.{IsSome, rows_of-row, first_of_rows}
-use Rattle.wasmprinter_reading.proofs.Operators.LabelNames.{no_label_names_are_names, no_label_names_are_apart}
+use Rattle.wasmprinter_reading.proofs.Operators.Immediates.{arguments_by}
 use Rattle.wasmprinter_reading.proofs.Operators.Lists.{arguments_items, expression_items, chunks_of, unfolded-operators, expression_writes, expression_reads}
+use Rattle.wasmprinter_reading.proofs.Fields.Scopes.{AreScoped}
 
 -- ---- what they are written as
 
 -- the operators in one line
-abbrev pub constant_items : List SubType → List Operator → Forest
-constant_items ts os = expression_items (signature_at ts) no_label_names os
+abbrev pub constant_items : Scope → List Operator → Forest
+constant_items s os = expression_items (in_line s) os
 
 -- what a group of its own holds: one operator alone, else a word and the operators
-abbrev pub constant_held : List SubType → List ℕ → List Operator → Forest
-constant_held ts w (o ∷ []) = constant_items ts (o ∷ [])
-constant_held ts w os = Word w (constant_items ts os)
+abbrev pub constant_held : Scope → List ℕ → List Operator → Forest
+constant_held s w (o ∷ []) = constant_items s (o ∷ [])
+constant_held s w os = Word w (constant_items s os)
 
 -- ---- their pieces write it
 
-module _ (ts : List SubType) (s : AreSignaturesInRange (signature_at ts)) where
-  pub in_line_writes : (os : List (Placed Operator)) → IsRangedExpression os → Writes Free (constant_pieces ts os) Bound (constant_items ts (without_places os))
+module _ (s : Scope) (named : AreNamed s.names) (ranged : AreSignaturesInRange (signature_at s.types)) where
+  pub in_line_writes : (os : List (Placed Operator)) → IsRangedExpression os → Writes Free (constant_pieces s os) Bound (constant_items s (without_places os))
   unfolding constant_pieces
-  in_line_writes os h = expression_writes (in_line ts) s no_label_names no_label_names_are_names os h.listed
+  in_line_writes os h = expression_writes (in_line s) named ranged os h.listed
 
   -- the first operator of a line stands right behind a bare parenthesis
   opened_line_writes : (o : Placed Operator) (os : List (Placed Operator)) → IsRangedExpression (o ∷ os) →
-      Writes Opened (constant_pieces ts (o ∷ os)) Bound (constant_items ts (without_places (o ∷ os)))
+      Writes Opened (constant_pieces s (o ∷ os)) Bound (constant_items s (without_places (o ∷ os)))
   unfolding constant_pieces expression_pieces operators_pieces operator_pieces
   opened_line_writes o os h = opened_writes refl (in_line_writes (o ∷ os) h)
 
   -- a word and operators
   worded_writes : (w : List ℕ) (os : List (Placed Operator)) → is_word w ≡ true → IsRangedExpression os →
-      Writes Opened (piece.Word w ∷ (piece.Gap ∷ constant_pieces ts os)) Bound (Word w (constant_items ts (without_places os)))
+      Writes Opened (piece.Word w ∷ (piece.Gap ∷ constant_pieces s os)) Bound (Word w (constant_items s (without_places os)))
   worded_writes w os h r = opened_writes refl (word_writes h (gap_writes refl (in_line_writes os r)))
 
   pub constant_group_writes : {a : Edge} (w : List ℕ) (os : List (Placed Operator)) → is_open a ≡ true → is_word w ≡ true → IsRangedExpression os →
-      Writes a (constant_group ts w os) Bound (Group (constant_held ts w (without_places os)) End)
+      Writes a (constant_group s w os) Bound (Group (constant_held s w (without_places os)) End)
   unfolding constant_group
   constant_group_writes w [] e h r = bare_group_then e (worded_writes w [] h r) nothing_writes
   constant_group_writes w (o ∷ []) e h r = bare_group_then e (opened_line_writes o [] r) nothing_writes
@@ -133,46 +133,47 @@ unfolded-alone o a h args =
 
 -- ---- they read back
 
-module _ (c : Context) (ts : List SubType) (k : Counts) (same : HaveSameTypes (in_line ts) c k) where
-  -- operators of which every used index is declared
-  abbrev pub AreIndexed : List (Placed Operator) → Type 0
-  AreIndexed os = AllByRecursion (IsIndexedOperator k) (without_places os)
+-- operators of which every used index is declared
+abbrev pub AreIndexed : Counts → List (Placed Operator) → Type 0
+AreIndexed n os = AllByRecursion (IsIndexedOperator n) (without_places os)
 
-  chunks-read : (os : List (Placed Operator)) → IsRangedExpression os → AreIndexed os →
-      read_operators c (chunks_of (signature_at ts) no_label_names 0 [] (without_places os)) ≡ Some (without_places os)
+module _ (s : Scope) (c : Context) (n : Counts) (scoped : AreScoped s c n) where
+  chunks-read : (os : List (Placed Operator)) → IsRangedExpression os → AreIndexed n os →
+      read_operators c (chunks_of (in_line s) 0 [] (without_places os)) ≡ Some (without_places os)
   chunks-read os h d =
-      expression_reads (in_line ts) c k same no_label_names no_label_names_are_apart os (record { listed = h.listed; nested = h.nested; count = h.count; indexed = d })
+      expression_reads (in_line s) c n scoped.types scoped.names scoped.apart os (record { listed = h.listed; nested = h.nested; count = h.count; indexed = d })
 
-  pub expression-items : (os : List (Placed Operator)) → IsRangedExpression os → AreIndexed os →
-      expression c (constant_items ts (without_places os)) ≡ Some (without_places os)
+  pub expression-items : (os : List (Placed Operator)) → IsRangedExpression os → AreIndexed n os →
+      expression c (constant_items s (without_places os)) ≡ Some (without_places os)
   expression-items os h d =
-      ap (λ cs. cs >>= read_operators c) (unfolded-operators (signature_at ts) no_label_names 0 [] (without_places os) h.listed) ∙ chunks-read os h d
+      ap (λ cs. cs >>= read_operators c) (unfolded-operators (in_line s) 0 [] (without_places os) h.listed) ∙ chunks-read os h d
 
   -- behind the word of the group
-  worded-items : (w : List ℕ) (os : List (Placed Operator)) → IsRangedExpression os → AreIndexed os →
-      expression_group c w (Word w (constant_items ts (without_places os))) ≡ Some (without_places os)
+  worded-items : (w : List ℕ) (os : List (Placed Operator)) → IsRangedExpression os → AreIndexed n os →
+      expression_group c w (Word w (constant_items s (without_places os))) ≡ Some (without_places os)
   worded-items w os h d =
-      ap (λ t. cond t (expression c (constant_items ts (without_places os)))
-      (expression c (Group (Word w (constant_items ts (without_places os))) End))) (same_bytes w)
+      ap (λ t. cond t (expression c (constant_items s (without_places os)))
+      (expression c (Group (Word w (constant_items s (without_places os))) End))) (same_bytes w)
       ∙ expression-items os h d
 
   alone-items : (w : List ℕ) → ((v : List ℕ) → StandsAlone v → bytes_eq v w ≡ false) → (o : Placed Operator) → IsRangedExpression (o ∷ []) →
-      AreIndexed (o ∷ []) →
-      expression_group c w (constant_items ts (o.value ∷ [])) ≡ Some (o.value ∷ [])
+      AreIndexed n (o ∷ []) →
+      expression_group c w (constant_items s (o.value ∷ [])) ≡ Some (o.value ∷ [])
   alone-items w apart o h d =
-      let a : Forest = arguments_items (signature_at ts) None [] o.value in
+      let own : Label = s.names.labels s.function 0 0 in
+      let a : Forest = arguments_items (in_line s) own [] o.value in
       let v : List ℕ = word_of o.value.opcode in
       let role : Role = role_of o.value.opcode in
       let its : IsAlone o.value = alone_for o.value h.listed.0 h.nested in
-      let args : AreArguments a = arguments_by (signature_at ts) (inside role []) (outside role []) None
+      let args : AreArguments a = arguments_by (in_line s) (inside role []) (outside role []) own
       (shape_of o.value.opcode) o.value.immediates h.listed.0.range in
       ap (λ t. cond t (expression c (onto a End)) (expression c (Group (Word v (onto a End)) End))) (apart v its.alone)
       ∙ ap (λ cs. cs >>= read_operators c) (unfolded-alone o.value a its args)
       ∙ chunks-read (o ∷ []) h d
 
   pub constant_group-items : (w : List ℕ) → ((v : List ℕ) → StandsAlone v → bytes_eq v w ≡ false) → (os : List (Placed Operator)) → IsRangedExpression os →
-      AreIndexed os →
-      expression_group c w (constant_held ts w (without_places os)) ≡ Some (without_places os)
+      AreIndexed n os →
+      expression_group c w (constant_held s w (without_places os)) ≡ Some (without_places os)
   constant_group-items w apart [] h d = worded-items w [] h d
   constant_group-items w apart (o ∷ []) h d = alone-items w apart o h d
   constant_group-items w apart (o ∷ p ∷ os) h d = worded-items w (o ∷ p ∷ os) h d
@@ -188,12 +189,12 @@ pub record IsOffset (f : Forest) : Type 0 where
   pub table : bytes_eq word (codes "table") ≡ false
   pub memory : bytes_eq word (codes "memory") ≡ false
 
-pub offset_stands : (ts : List SubType) (os : List (Placed Operator)) → IsRangedExpression os → IsOffset (constant_held ts (codes "offset") (without_places os))
-offset_stands ts [] h = record { word = codes "offset"; rest = _; is = refl; ref = refl; table = refl; memory = refl }
-offset_stands ts (o ∷ []) h =
+pub offset_stands : (s : Scope) (os : List (Placed Operator)) → IsRangedExpression os → IsOffset (constant_held s (codes "offset") (without_places os))
+offset_stands s [] h = record { word = codes "offset"; rest = _; is = refl; ref = refl; table = refl; memory = refl }
+offset_stands s (o ∷ []) h =
     let a : StandsAlone (word_of o.value.opcode) = (alone_for o.value h.listed.0 h.nested).alone in
     record { word = word_of o.value.opcode; rest = _; is = refl; ref = a.others.1.1.1.1.0; table = a.others.1.1.1.1.1.0; memory = a.others.1.1.1.1.1.1.0 }
-offset_stands ts (o ∷ p ∷ os) h = record { word = codes "offset"; rest = _; is = refl; ref = refl; table = refl; memory = refl }
+offset_stands s (o ∷ p ∷ os) h = record { word = codes "offset"; rest = _; is = refl; ref = refl; table = refl; memory = refl }
 
 pub no_offset : (v : List ℕ) → StandsAlone v → bytes_eq v (codes "offset") ≡ false
 no_offset v a = a.others.1.1.0

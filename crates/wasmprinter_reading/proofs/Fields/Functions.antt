@@ -1,67 +1,82 @@
 -- Functions among the fields of a module.
-use Rattle.std.proofs.Common.{◌≡◌, ℕ, zero, suc, ◌<◌, ◌^◌, true, false, Bool, cond, List, [], ◌∷◌, ◌++◌, Option, Some, refl, codes, replicate}
+use Rattle.std.proofs.Common.{◌≡◌, ℕ, zero, suc, ◌+◌, ◌<◌, ◌≤◌, ◌^◌, true, false, Bool, cond, List, [], ◌∷◌, ◌++◌, length, Option, Some, refl, ap, ◌∙◌, subst, codes, replicate, arith}
 use Rattle.std.specs.List.{AllByRecursion}
 use Rattle.wasmprinter_spec.specs.Character.{class}
 use Rattle.wasmprinter_spec.specs.Forest.{Forest, End, Word, Group, onto}
 use Rattle.wasmprinter_spec.specs.Grammar.{Placed}
-use Rattle.wasmprinter_spec.specs.Types.{ValType, FuncType, SubType, signature_at}
+use Rattle.wasmprinter_spec.specs.Types.{ValType, FuncType, signature_at}
+use Rattle.wasmprinter_spec.specs.Row as row
+use Rattle.wasmprinter_spec.specs.Row.{Space, Types, Func}
+use Rattle.wasmprinter_spec.specs.Labels.{Named}
+use Rattle.wasmprinter_spec.specs.Names.{AreNamed, AreDistinct, identifiers_at, identifiers, in_function}
 use Rattle.wasmprinter_spec.specs.Operator.{Operator}
 use Rattle.wasmprinter_spec.specs.Placed.{LocalEntry, PlacedFunction}
 use Rattle.wasmprinter_spec.specs.Module.{without_places, locals_of, function_of}
-use Rattle.wasmprinter_spec.specs.Indexed.{Counts, IsIndexedOperator}
+use Rattle.wasmprinter_spec.specs.Indexed.{Counts, IsDeclaredVal, IsIndexedOperator, parameter_count}
 use Rattle.wasmprinter_spec.specs.Piece as piece
 use Rattle.wasmprinter_spec.specs.Piece.{Piece, Gap}
 use Rattle.wasmprinter_spec.specs.Layout.Groups.{group_gap_at, breaks, has_break}
+use Rattle.wasmprinter_spec.specs.Layout.Variables.{Variables, grouped}
+use Rattle.wasmprinter_spec.specs.Layout.Declarations.{Scope}
+use Rattle.wasmprinter_spec.specs.Layout.Types.{parameters_of}
 use Rattle.wasmprinter_spec.specs.Layout.Operators.{OverLines, Setting, operator_pieces, operators_pieces, expression_pieces}
-use Rattle.wasmprinter_spec.specs.LabelNames.{no_label_names}
-use Rattle.wasmprinter_spec.specs.Layout.Functions.{locals_place, local_group, local_pieces, header_pieces, body_pieces, function_group}
-use Rattle.wasmprinter_spec.specs.IndexSpaces.{Identifiers, Context}
-use Rattle.wasmprinter_spec.specs.Text.Items.{groups, ids_of}
+use Rattle.wasmprinter_spec.specs.Layout.Functions.{locals_place, local_line, local_pieces, header_pieces, body_pieces, inner_pieces, function_group}
+use Rattle.wasmprinter_spec.specs.IndexSpaces.{Identifiers, index_space, space_in, index, Context}
+use Rattle.wasmprinter_spec.specs.Text.Items.{identified, groups, ids_of}
 use Rattle.wasmprinter_spec.specs.Text.Types.{val_types, variables, signature}
-use Rattle.wasmprinter_spec.specs.Text.Functions.{read_function}
+use Rattle.wasmprinter_spec.specs.Text.Functions.{function_of_type, read_function}
 use Rattle.wasmprinter_spec.specs.Text.Operators.{read_operators}
 use Rattle.wasmprinter_lexical.proofs.Pieces.{Edge, Bound, Ended}
-use Rattle.wasmprinter_lexical.proofs.Writes.{Writes, writing, is_open, both_write, behind_anything, nothing_writes, group_gap_at_writes, ended_group_gap_at_writes}
-use Rattle.wasmprinter_reading.specs.Listed.{IsSignatureInRange, AreSignaturesInRange, IsListed}
-use Rattle.wasmprinter_reading.specs.OperatorLaws.{HaveSameTypes}
-use Rattle.wasmprinter_reading.proofs.Ranged.{IsRangedFunction}
-use Rattle.wasmprinter_reading.proofs.Items.{unnamed, types_of-unnamed, unnamed_spaces, index-decimal}
-use Rattle.wasmprinter_reading.proofs.Types.Ranged.{IsRangedVal, IsRangedFunc}
-use Rattle.wasmprinter_reading.proofs.Types.Trees.{group_items, signature_items, type_list_writes}
-use Rattle.wasmprinter_reading.proofs.Types.Back.{reads_variables, groups_take, groups_leave, IsBehindSignature, printed_signature, signature-items, own_parameters}
-use Rattle.wasmprinter_reading.proofs.Fields.Headers.{header_items, header_writes}
-use Rattle.wasmprinter_reading.proofs.Operators.LabelNames.{no_label_names_are_names, no_label_names_are_apart}
+use Rattle.wasmprinter_lexical.proofs.Writes.{Writes, writing, is_open, both_write, behind_anything, nothing_writes, break_writes, line_group_gap_writes, group_gap_at_writes, ended_group_gap_at_writes}
+use Rattle.wasmprinter_reading.specs.Listed.{AreSignaturesInRange, IsListed}
+use Rattle.wasmprinter_reading.specs.OperatorLaws.{count_in, HaveSameTypes, HaveSameNames}
+use Rattle.wasmprinter_reading.proofs.Ranged.{IsRangedLocal, IsRangedFunction}
+use Rattle.wasmprinter_reading.proofs.Declarations.{id, declared_from, types_of-declared, ids_of-declared, identifiers_at-more}
+use Rattle.wasmprinter_reading.proofs.Spaces.{identifiers_space}
+use Rattle.wasmprinter_reading.proofs.Types.Ranged.{IsRangedVal}
+use Rattle.wasmprinter_reading.proofs.Types.Trees.{groups_items, signature_items, type_use_items, HaveTypes, HaveNames, grouped_types, grouped_names, variables_write, groups_write}
+use Rattle.wasmprinter_reading.proofs.Types.Back.{variables_leave, variables_take, IsBehindSignature, printed_signature, signature-items, own_parameters}
 use Rattle.wasmprinter_reading.proofs.Operators.Lists.{expression_items, chunks_of, unfolded-operators, expression_writes, expression_reads}
+use Rattle.wasmprinter_reading.proofs.Fields.Scopes.{own_index, AreScoped, own_index-reads, type_bound, type_indices-read, vals_bounded, signature_bounded, signature_declared}
+use Rattle.wasmprinter_reading.proofs.Fields.Headers.{header_items, header_writes, identified-header}
 
 -- ---- what functions are written as
 
-abbrev pub body_items : List SubType → List ValType → List (Placed Operator) → Forest
-body_items ts ls os = onto (group_items (codes "local") ls) (expression_items (signature_at ts) no_label_names (without_places os))
+-- what the operators of a body are laid out by
+abbrev body_setting : Scope → Setting
+body_setting s = record { form = OverLines; signature = signature_at s.types; nesting = 2; names = s.names; function = s.function }
+
+-- the locals behind so many parameters
+abbrev local_items : Scope → ℕ → List ValType → Forest
+local_items s count ls = groups_items s.names (codes "local") (grouped (s.names.locals s.function) count ls)
+
+-- what a function holds behind its type
+abbrev inner_items : Scope → ℕ → PlacedFunction → Forest
+inner_items s count f = onto (local_items s count (locals_of f.body.value.locals)) (expression_items (body_setting s) (without_places f.body.value.operators))
 
 -- a function, whole or a skeleton
-abbrev pub function_items : Bool → List SubType → Option FuncType → PlacedFunction → Forest
-function_items true ts t f = header_items t f.type_index (Word (codes "...") End)
-function_items false ts t f = header_items t f.type_index (body_items ts (locals_of f.body.value.locals) f.body.value.operators)
+abbrev function_items_by : Bool → Scope → PlacedFunction → Forest
+function_items_by true s f = header_items s Func (Some s.function) s.function f.type_index (Word (codes "...") End)
+function_items_by false s f =
+    header_items s Func (Some s.function) s.function f.type_index (inner_items s (parameter_count (signature_at s.types f.type_index)) f)
+
+-- the function i
+abbrev pub function_scope : Scope → ℕ → Scope
+function_scope s i = record s { function = i }
+
+abbrev pub function_items : Bool → Scope → ℕ → PlacedFunction → Forest
+function_items skeleton s i f = function_items_by skeleton (function_scope s i) f
 
 -- ---- their pieces write it
-
-local_group_writes : (place : Option ℕ) (ts : List ValType) → AllByRecursion IsRangedVal ts → Writes Bound (local_group place ts) Bound (group_items (codes "local") ts)
-unfolding local_group class
-local_group_writes place [] r = search writing
-local_group_writes place (t ∷ ts) r = search (writing, type_list_writes (t ∷ ts) r)
 
 -- the same type many times
 replicated_ranged : (n : ℕ) (t : ValType) (ts : List ValType) → IsRangedVal t → AllByRecursion IsRangedVal ts → AllByRecursion IsRangedVal (replicate n t ++ ts)
 replicated_ranged zero t ts h r = r
 replicated_ranged (suc n) t ts h r = (h, replicated_ranged n t ts h r)
 
-locals_ranged : (es : List (Placed LocalEntry)) → AllByRecursion (λ e. IsRangedVal e.value.type) es → AllByRecursion IsRangedVal (locals_of es)
+locals_ranged : (es : List (Placed LocalEntry)) → AllByRecursion (λ e. IsRangedLocal e.value) es → AllByRecursion IsRangedVal (locals_of es)
 locals_ranged [] r = tt
-locals_ranged (e ∷ es) r = replicated_ranged e.value.count e.value.type (locals_of es) r.0 (locals_ranged es r.1)
-
-local_writes : (es : List (Placed LocalEntry)) → AllByRecursion (λ e. IsRangedVal e.value.type) es → Writes Bound (local_pieces es) Bound (group_items (codes "local") (locals_of es))
-unfolding local_pieces
-local_writes es r = local_group_writes (locals_place es) (locals_of es) (locals_ranged es r)
+locals_ranged (e ∷ es) r = replicated_ranged e.value.count e.value.type (locals_of es) r.0.type (locals_ranged es r.1)
 
 has_break-behind : (hs ps : List Piece) → has_break ps ≡ true → has_break (hs ++ ps) ≡ true
 has_break-behind [] ps h = h
@@ -72,82 +87,212 @@ has_break-behind (p ∷ hs) ps h = by (breaks p) (has_break-behind hs ps h)
     by false e = e
 
 -- operators begin with a line
-body_breaks : (ts : List SubType) (o : Placed Operator) (os : List (Placed Operator)) → has_break (body_pieces ts (o ∷ os)) ≡ true
+body_breaks : (s : Scope) (o : Placed Operator) (os : List (Placed Operator)) → has_break (body_pieces s (o ∷ os)) ≡ true
 unfolding body_pieces expression_pieces operators_pieces operator_pieces
-body_breaks ts o os = refl
+body_breaks s o os = refl
 
--- what the operators of a body are laid out by
-abbrev body_setting : List SubType → Setting
-body_setting ts = record { form = OverLines; signature = signature_at ts; nesting = 2 }
+module _ (s : Scope) (named : AreNamed s.names) (ranged : AreSignaturesInRange (signature_at s.types)) where
+  local_line_writes : (place : Option ℕ) (gs : List Variables) → AllByRecursion HaveNames gs → AllByRecursion (HaveTypes IsRangedVal) gs →
+      Writes Bound (local_line s.names place gs) Bound (groups_items s.names (codes "local") gs)
+  unfolding local_line class
+  local_line_writes place [] h r = nothing_writes
+  local_line_writes place (g ∷ gs) h r =
+      break_writes (both_write (variables_write s.names named (codes "local") g refl refl h.0 r.0)
+      (groups_write s.names named (codes "local") gs refl h.1 r.1))
 
-body_writes : (ts : List SubType) → AreSignaturesInRange (signature_at ts) → (es : List (Placed LocalEntry)) (os : List (Placed Operator)) → AllByRecursion (λ e. IsRangedVal e.value.type) es → AllByRecursion IsListed (without_places os) →
-    Writes Bound (local_pieces es ++ body_pieces ts os) Ended (body_items ts (locals_of es) os)
-unfolding body_pieces
-body_writes ts s es os r l = both_write (local_writes es r) (behind_anything Bound (expression_writes (body_setting ts) s no_label_names no_label_names_are_names os l))
+  local_writes : (count : ℕ) (es : List (Placed LocalEntry)) → AllByRecursion (λ e. IsRangedLocal e.value) es →
+      Writes Bound (local_pieces s.names s.function count es) Bound (local_items s count (locals_of es))
+  unfolding local_pieces
+  local_writes count es r =
+      let own : ℕ → Option Named = s.names.locals s.function in
+      local_line_writes (locals_place es) (grouped own count (locals_of es))
+      (grouped_names own (named.locals s.function) count (locals_of es))
+      (grouped_types IsRangedVal own count (locals_of es) (locals_ranged es r))
 
-empty_body_writes : (ts : List SubType) (es : List (Placed LocalEntry)) → AllByRecursion (λ e. IsRangedVal e.value.type) es → Writes Bound (local_pieces es ++ body_pieces ts []) Bound (body_items ts (locals_of es) [])
-unfolding body_pieces expression_pieces operators_pieces
-empty_body_writes ts es r = both_write (local_writes es r) nothing_writes
+  body_writes : (os : List (Placed Operator)) → AllByRecursion IsListed (without_places os) →
+      Writes Bound (body_pieces s os) Ended (expression_items (body_setting s) (without_places os))
+  unfolding body_pieces
+  body_writes os l = behind_anything Bound (expression_writes (body_setting s) named ranged os l)
 
--- a function closes on a line of its own behind its operators, so that no comment hides its parenthesis
-pub function_writes : {a : Edge} → is_open a ≡ true → (skeleton offsets : Bool) (ts : List SubType) → AreSignaturesInRange (signature_at ts) → (t : Option FuncType) (i : ℕ) (f : PlacedFunction) → i < 2 ^ 64 →
-    IsSignatureInRange t → IsRangedFunction f → Writes a (function_group skeleton offsets ts t i f) Bound (Group (Word (codes "func") (function_items skeleton ts t f)) End)
-unfolding function_group class
-function_writes e true offsets ts s t i f h k r =
-    let rest : Writes Bound (Gap ∷ (piece.Word (codes "...") ∷ [])) Bound (Word (codes "...") End) = search writing in
-    let held = header_writes t i f.type_index _ _ h k r.type_index rest in
-    search (writing, held)
-function_writes {a = a} e false offsets ts s t i f h k r = by f.body.value.operators r.body.listed
-  where
-    by : (os : List (Placed Operator)) → AllByRecursion IsListed (without_places os) →
-        Writes a (group_gap_at offsets f.body.value.end 1 (codes "func") (header_pieces i f.type_index t ++ (local_pieces f.body.value.locals ++ body_pieces ts os))) Bound
-        (Group (Word (codes "func") (header_items t f.type_index (body_items ts (locals_of f.body.value.locals) os))) End)
-    by [] l =
-        group_gap_at_writes offsets f.body.value.end 1 (codes "func") _ e refl
-        (header_writes t i f.type_index _ _ h k r.type_index (empty_body_writes ts f.body.value.locals r.body.locals))
-    by (o ∷ os) l =
-        ended_group_gap_at_writes offsets f.body.value.end 1 (codes "func") _ e refl
-        (has_break-behind (header_pieces i f.type_index t) _ (has_break-behind (local_pieces f.body.value.locals) (body_pieces ts (o ∷ os)) (body_breaks ts o os)))
-        (header_writes t i f.type_index _ _ h k r.type_index (body_writes ts s f.body.value.locals (o ∷ os) r.body.locals l))
+  empty_body_writes : Writes Bound (body_pieces s []) Bound End
+  unfolding body_pieces expression_pieces operators_pieces
+  empty_body_writes = nothing_writes
+
+  -- a function closes on a line of its own behind its operators, so that no comment hides its parenthesis
+  pub function_group_writes : {a : Edge} → is_open a ≡ true → (skeleton offsets : Bool) (f : PlacedFunction) → s.function < 2 ^ 64 → IsRangedFunction f →
+      Writes a (function_group skeleton offsets s f) Bound (Group (Word (codes "func") (function_items_by skeleton s f)) End)
+  unfolding function_group inner_pieces class
+  function_group_writes e true offsets f h r =
+      let rest : Writes Bound (Gap ∷ (piece.Word (codes "...") ∷ [])) Bound (Word (codes "...") End) = search writing in
+      line_group_gap_writes (codes "func") _ e refl (header_writes s named ranged Func (Some s.function) s.function f.type_index _ _ h r.type_index rest)
+  function_group_writes {a = a} e false offsets f h r = by f.body.value.operators r.body.listed
+    where
+      count : ℕ
+      count = parameter_count (signature_at s.types f.type_index)
+
+      locals : List (Placed LocalEntry)
+      locals = f.body.value.locals
+
+      header : List Piece
+      header = header_pieces s Func (Some s.function) s.function f.type_index
+
+      by : (os : List (Placed Operator)) → AllByRecursion IsListed (without_places os) →
+          Writes a (group_gap_at offsets f.body.value.end 1 (codes "func") (header ++ (local_pieces s.names s.function count locals ++ body_pieces s os))) Bound
+          (Group (Word (codes "func") (header_items s Func (Some s.function) s.function f.type_index
+          (onto (local_items s count (locals_of locals)) (expression_items (body_setting s) (without_places os))))) End)
+      by [] l =
+          group_gap_at_writes offsets f.body.value.end 1 (codes "func") _ e refl
+          (header_writes s named ranged Func (Some s.function) s.function f.type_index _ _ h r.type_index
+          (both_write (local_writes count locals r.body.locals) empty_body_writes))
+      by (o ∷ os) l =
+          ended_group_gap_at_writes offsets f.body.value.end 1 (codes "func") _ e refl
+          (has_break-behind header _ (has_break-behind (local_pieces s.names s.function count locals) (body_pieces s (o ∷ os)) (body_breaks s o os)))
+          (header_writes s named ranged Func (Some s.function) s.function f.type_index _ _ h r.type_index
+          (both_write (local_writes count locals r.body.locals) (body_writes (o ∷ os) l)))
+
+pub function_writes : (s : Scope) → AreNamed s.names → AreSignaturesInRange (signature_at s.types) → {a : Edge} → is_open a ≡ true → (skeleton offsets : Bool) (i : ℕ)
+    (f : PlacedFunction) → i < 2 ^ 64 → IsRangedFunction f →
+    Writes a (function_group skeleton offsets (function_scope s i) f) Bound (Group (Word (codes "func") (function_items skeleton s i f)) End)
+function_writes s named ranged e skeleton offsets i f h r = function_group_writes (function_scope s i) named ranged e skeleton offsets f h r
 
 -- ---- they read back
 
-groups_operators : {A : Type 0} (read : Forest → Option (List A)) (w : List ℕ) (ts : List SubType) (os : List Operator) →
-    groups read w (expression_items (signature_at ts) no_label_names os) ≡ Some ([], expression_items (signature_at ts) no_label_names os)
+groups_operators : {A : Type 0} (read : Forest → Option (List A)) (w : List ℕ) (s : Setting) (os : List Operator) →
+    groups read w (expression_items s os) ≡ Some ([], expression_items s os)
 unfolding groups
-groups_operators read w ts [] = refl
-groups_operators read w ts (o ∷ os) = refl
+groups_operators read w s [] = refl
+groups_operators read w s (o ∷ os) = refl
 
-module _ (c : Context) (ts : List SubType) (k : Counts) (same : HaveSameTypes (body_setting ts) c k) where
-  -- the operators of a body, with any locals
-  body_reads : (ls : Identifiers) (f : PlacedFunction) → IsRangedFunction f → AllByRecursion (IsIndexedOperator k) (without_places f.body.value.operators) →
-      read_operators (record c { spaces = record c.spaces { locals = ls } }) (chunks_of (signature_at ts) no_label_names 0 [] (without_places f.body.value.operators)) ≡ Some (without_places f.body.value.operators)
-  body_reads ls f h d =
-      expression_reads (body_setting ts) (record c { spaces = record c.spaces { locals = ls } }) k (record { read = same.read; counted = same.counted; in_range = same.in_range }) no_label_names no_label_names_are_apart
+-- parameters and the locals behind them are one space
+variables_space : (named : ℕ → Option Named) → AreDistinct named → (count : ℕ) (ls : List ValType) → count + length ls ≤ 2 ^ 64 →
+    index_space (identifiers named count ++ ids_of (declared_from named count ls)) ≡ Some (identifiers named (count + length ls))
+variables_space named apart count ls few =
+    let start : count ≡ 0 + count = omega arith in
+    let are : identifiers named count ++ ids_of (declared_from named count ls) ≡ identifiers named (count + length ls) =
+    ap (λ ids. identifiers named count ++ ids) (ids_of-declared named count ls)
+    ∙ ap (λ (k : ℕ). identifiers named count ++ identifiers_at named k (length ls)) start
+    ∙ identifiers_at-more named 0 count (length ls) in
+    ap index_space are ∙ identifiers_space named apart (count + length ls) few
+
+module _ (s : Scope) (c : Context) (n : Counts) (scoped : AreScoped s c n) (i count : ℕ) (few : count ≤ 2 ^ 64) where
+  -- what a function's operators are counted in and read with: so many parameters and locals
+  abbrev own_counts : Counts
+  own_counts = record n { locals = count }
+
+  abbrev own_locals : Identifiers
+  own_locals = identifiers (s.names.locals i) count
+
+  abbrev own_context : Context
+  own_context = record c { spaces = record c.spaces { locals = own_locals } }
+
+  own_spaces : (space : Space) → space_in own_context.spaces space ≡ identifiers (in_function s.names i space) (count_in own_counts space)
+  own_spaces Types = scoped.names.spaces Types
+  own_spaces Func = scoped.names.spaces Func
+  own_spaces row.Table = scoped.names.spaces row.Table
+  own_spaces row.Memory = scoped.names.spaces row.Memory
+  own_spaces row.Tag = scoped.names.spaces row.Tag
+  own_spaces row.Global = scoped.names.spaces row.Global
+  own_spaces row.Elem = scoped.names.spaces row.Elem
+  own_spaces row.Data = scoped.names.spaces row.Data
+  own_spaces row.Local = refl
+  own_spaces row.Label = scoped.names.spaces row.Label
+
+  own_few : (space : Space) → count_in own_counts space ≤ 2 ^ 64
+  own_few row.Local = few
+  own_few Types = scoped.names.few Types
+  own_few Func = scoped.names.few Func
+  own_few row.Table = scoped.names.few row.Table
+  own_few row.Memory = scoped.names.few row.Memory
+  own_few row.Tag = scoped.names.few row.Tag
+  own_few row.Global = scoped.names.few row.Global
+  own_few row.Elem = scoped.names.few row.Elem
+  own_few row.Data = scoped.names.few row.Data
+  own_few row.Label = scoped.names.few row.Label
+
+  own_names : HaveSameNames (body_setting (function_scope s i)) own_context own_counts
+  own_names = record {
+    spaces = own_spaces;
+    fields = scoped.names.fields;
+    few = own_few;
+    few_fields = scoped.names.few_fields;
+    functions = scoped.names.functions;
+    signatures = scoped.names.signatures;
+    structures = scoped.names.structures;
+  }
+
+  own_types : HaveSameTypes (body_setting (function_scope s i)) own_context own_counts
+  own_types = record { read = scoped.types.read; counted = scoped.types.counted; in_range = scoped.types.in_range }
+
+  body_reads : (f : PlacedFunction) → IsRangedFunction f → AllByRecursion (IsIndexedOperator own_counts) (without_places f.body.value.operators) →
+      read_operators own_context (chunks_of (body_setting (function_scope s i)) 0 [] (without_places f.body.value.operators)) ≡ Some (without_places f.body.value.operators)
+  body_reads f h d =
+      expression_reads (body_setting (function_scope s i)) own_context own_counts own_types own_names scoped.apart
       f.body.value.operators (record { listed = h.body.listed; nested = h.body.nested; count = h.body.count; indexed = d })
 
-  pub read_function-items : (t : FuncType) (f : PlacedFunction) → c.signature f.type_index ≡ Some t → IsRangedFunc t → IsRangedFunction f → AllByRecursion (IsIndexedOperator k) (without_places f.body.value.operators) →
-      read_function c (function_items false ts (Some t) f) ≡ Some (function_of f)
-  read_function-items t f own s h d =
+-- how many parameters and locals a function has
+abbrev pub variable_count : Option FuncType → PlacedFunction → ℕ
+variable_count t f = parameter_count t + length (locals_of f.body.value.locals)
+
+-- what its operators are counted in
+abbrev pub counts_with : Counts → Option FuncType → PlacedFunction → Counts
+counts_with n t f = record n { locals = variable_count t f }
+
+module _ (s : Scope) (c : Context) (n : Counts) (scoped : AreScoped s c n) where
+  -- what a function holds behind its identifier
+  typed-items : (i : ℕ) (t : FuncType) (f : PlacedFunction) → signature_at s.types f.type_index ≡ Some t → IsRangedFunction f →
+      AllByRecursion (IsDeclaredVal n.types) (locals_of f.body.value.locals) → variable_count (Some t) f ≤ 2 ^ 64 →
+      AllByRecursion (IsIndexedOperator (counts_with n (Some t) f)) (without_places f.body.value.operators) →
+      function_of_type c (onto (type_use_items s.names (Some i) f.type_index (Some t)) (inner_items (function_scope s i) (length t.params) f)) ≡ Some (function_of f)
+  typed-items i t f own h locals few d =
       let ids : Identifiers = c.spaces.types in
       let os : List Operator = without_places f.body.value.operators in
       let ls : List ValType = locals_of f.body.value.locals in
-      let rest : Forest = onto (group_items (codes "local") ls) (expression_items (signature_at ts) no_label_names os) in
+      let named : ℕ → Option Named = s.names.locals i in
+      let count : ℕ = length t.params in
+      let setting : Setting = body_setting (function_scope s i) in
+      let code : Forest = expression_items setting os in
+      let gs : List Variables = grouped named count ls in
+      let rest : Forest = onto (groups_items s.names (codes "local") gs) code in
+      let bound : ℕ = type_bound s c n scoped in
+      let reads = type_indices-read s c n scoped in
       let behind : IsBehindSignature ids rest = record {
-        params = groups_leave (variables ids) (codes "param") (codes "local") ls _ refl (groups_operators (variables ids) (codes "param") ts os);
-        results = groups_leave (val_types ids) (codes "result") (codes "local") ls _ refl (groups_operators (val_types ids) (codes "result") ts os);
+        params = variables_leave s.names (variables ids) (codes "param") (codes "local") gs code refl (groups_operators (variables ids) (codes "param") setting os);
+        results = variables_leave s.names (val_types ids) (codes "result") (codes "local") gs code refl (groups_operators (val_types ids) (codes "result") setting os);
       } in
-      let e : signature ids (onto (signature_items t) rest) ≡ Some (printed_signature t, rest) = signature-items ids t rest s behind in
-      let locals : groups (variables ids) (codes "local") rest ≡ Some (unnamed ls, expression_items (signature_at ts) no_label_names os) =
-      groups_take (reads_variables ids) (codes "local") ls _ (locals_ranged f.body.value.locals h.body.locals) (groups_operators (variables ids) (codes "local") ts os) in
+      let type : index ids (own_index s Types f.type_index) ≡ Some f.type_index =
+      own_index-reads s c n scoped Types (λ names g. refl) f.type_index (signature_declared s c n scoped t f.type_index own) h.type_index in
+      let sig : signature ids (onto (signature_items s.names (Some i) t) rest) ≡ Some (printed_signature (parameters_of s.names (Some i)) t, rest) =
+      signature-items s.names ids bound reads (Some i) t rest (signature_bounded s c n scoped t f.type_index own) behind in
+      let variables : groups (variables ids) (codes "local") rest ≡ Some (declared_from named count ls, code) =
+      variables_take s.names ids bound reads named count (codes "local") ls code
+      (vals_bounded s c n scoped ls (locals_ranged f.body.value.locals h.body.locals) locals) (groups_operators (variables ids) (codes "local") setting os) in
+      let read : c.signature f.type_index ≡ Some t = scoped.types.read f.type_index ∙ own in
       rw (
-        index-decimal ids f.type_index h.type_index,
-        e,
-        locals,
-        unfolded-operators (signature_at ts) no_label_names 0 [] os h.body.listed,
-        own,
-        own_parameters t,
-        unnamed_spaces t.params ls,
-        body_reads (ids_of (unnamed t.params) ++ ids_of (unnamed ls)) f h d,
-        types_of-unnamed ls,
+        type,
+        sig,
+        variables,
+        unfolded-operators setting 0 [] os h.body.listed,
+        read,
+        own_parameters (parameters_of s.names (Some i)) t,
+        variables_space named (scoped.apart.locals i) count ls few,
+        body_reads s c n scoped i (count + length ls) few f h d,
+        types_of-declared named count ls,
       )
+
+  pub read_function-items : (i : ℕ) (t : FuncType) (f : PlacedFunction) → signature_at s.types f.type_index ≡ Some t → IsRangedFunction f →
+      AllByRecursion (IsDeclaredVal n.types) (locals_of f.body.value.locals) → variable_count (signature_at s.types f.type_index) f ≤ 2 ^ 64 →
+      AllByRecursion (IsIndexedOperator (counts_with n (signature_at s.types f.type_index) f)) (without_places f.body.value.operators) →
+      read_function c (function_items false s i f) ≡ Some (function_of f)
+  read_function-items i t f own h locals few d =
+      let rest : Option FuncType → Forest = λ x. inner_items (function_scope s i) (parameter_count x) f in
+      let os : List Operator = without_places f.body.value.operators in
+      ap (λ x. function_of_type c x.1) (identified-header (function_scope s i) Func (Some i) i f.type_index (rest (signature_at s.types f.type_index)))
+      ∙ ap (λ x. function_of_type c (onto (type_use_items s.names (Some i) f.type_index x) (rest x))) own
+      ∙ typed-items i t f own h locals (subst (λ x. variable_count x f ≤ 2 ^ 64) own few)
+      (subst (λ x. AllByRecursion (IsIndexedOperator (counts_with n x f)) os) own d)
+
+-- the identifier of a function
+pub identified-function : (s : Scope) (i : ℕ) (f : PlacedFunction) → (identified (function_items false s i f)).0 ≡ id (s.names.items Func i)
+identified-function s i f =
+    ap (λ x. x.0)
+    (identified-header (function_scope s i) Func (Some i) i f.type_index (inner_items (function_scope s i) (parameter_count (signature_at s.types f.type_index)) f))

@@ -1,49 +1,81 @@
--- What functions and tags begin with: a number, the index of a type, and its signature. It is all that a tag holds, and a function or tag that
+-- What functions and tags begin with: an identifier, the index of a type, and its signature. It is all that a tag holds, and a function or tag that
 -- is imported.
-use Rattle.std.proofs.Common.{◌≡◌, ℕ, ◌<◌, ◌^◌, [], ◌∷◌, List, ◌++◌, Option, Some, None, refl, append_assoc, append-nil, codes, decimal, arith}
-use Rattle.wasmprinter_spec.specs.Character.{class}
-use Rattle.wasmprinter_spec.specs.Forest.{Forest, End, Word, Group, onto}
-use Rattle.wasmprinter_spec.specs.Types.{FuncType}
-use Rattle.wasmprinter_spec.specs.Piece.{Piece, Gap, Mark, Number}
-use Rattle.wasmprinter_spec.specs.Layout.Groups.{line_group_gap}
-use Rattle.wasmprinter_spec.specs.Layout.Types.{signature_if_any}
+use Rattle.std.proofs.Common.{◌≡◌, ℕ, ◌<◌, ◌^◌, [], List, ◌++◌, length, Option, Some, None, refl, ap, ◌∙◌, subst, append-nil, arith}
+use Rattle.wasmprinter_spec.specs.Forest.{Forest, End, onto}
+use Rattle.wasmprinter_spec.specs.Types.{FuncType, signature_at}
+use Rattle.wasmprinter_spec.specs.Row.{Space, Types}
+use Rattle.wasmprinter_spec.specs.Labels.{Named}
+use Rattle.wasmprinter_spec.specs.Names.{AreNamed, AreDistinct, identifiers}
+use Rattle.wasmprinter_spec.specs.Indexed.{Counts, parameter_count}
+use Rattle.wasmprinter_spec.specs.IndexSpaces.{Identifiers, index_space, index, Context}
+use Rattle.wasmprinter_spec.specs.Piece.{Piece}
+use Rattle.wasmprinter_spec.specs.Layout.Declarations.{Scope}
+use Rattle.wasmprinter_spec.specs.Layout.Types.{parameters_of}
 use Rattle.wasmprinter_spec.specs.Layout.Functions.{header_pieces}
-use Rattle.wasmprinter_spec.specs.IndexSpaces.{Context}
+use Rattle.wasmprinter_spec.specs.Text.Items.{identified}
 use Rattle.wasmprinter_spec.specs.Text.Types.{signature}
 use Rattle.wasmprinter_spec.specs.Text.TypeIndices.{type_index}
+use Rattle.wasmprinter_lexical.proofs.Grown.{onto_assoc}
 use Rattle.wasmprinter_lexical.proofs.Pieces.{Edge, Free, Bound}
-use Rattle.wasmprinter_lexical.proofs.Writes.{Writes, writing, both_write, nothing_writes, mark_writes, gap_writes, line_group_gap_then}
-use Rattle.wasmprinter_reading.specs.Listed.{IsSignatureInRange}
-use Rattle.wasmprinter_reading.proofs.Items.{index-decimal, unnamed_space}
-use Rattle.wasmprinter_reading.proofs.Types.Ranged.{IsRangedFunc}
-use Rattle.wasmprinter_reading.proofs.Types.Trees.{signature_items, signature_if_any_items, signature_if_any_writes}
+use Rattle.wasmprinter_lexical.proofs.Writes.{Writes, both_write, nothing_writes, gap_writes}
+use Rattle.wasmprinter_reading.specs.Listed.{AreSignaturesInRange}
+use Rattle.wasmprinter_reading.proofs.Declarations.{id}
+use Rattle.wasmprinter_reading.proofs.Identifiers.{declaration-items, declaration_writes}
+use Rattle.wasmprinter_reading.proofs.Spaces.{identifiers_space}
+use Rattle.wasmprinter_reading.proofs.Types.Trees.{signature_items, type_use_items, type_use_writes}
 use Rattle.wasmprinter_reading.proofs.Types.Back.{end_behind_signature, printed_signature, signature-items, own_parameters}
+use Rattle.wasmprinter_reading.proofs.Fields.Scopes.{own_id, own_index, AreScoped, own_index-reads, type_bound, type_indices-read, signature_bounded, signature_declared}
 
--- the type and its signature, before the rest
-abbrev pub header_items : Option FuncType → ℕ → Forest → Forest
-header_items t type_index rest = Group (Word (codes "type") (Word (decimal type_index) End)) (onto (signature_if_any_items t) rest)
+-- the type and its signature, with the parameters of a function or of none
+abbrev pub use_items : Scope → Option ℕ → ℕ → Forest
+use_items s f type_index = type_use_items s.names f type_index (signature_at s.types type_index)
 
-pub header_writes : {b : Edge} (t : Option FuncType) (i type_index : ℕ) (qs : List Piece) (rest : Forest) →
-    i < 2 ^ 64 → IsSignatureInRange t → type_index < 2 ^ 32 → Writes Bound qs b rest → Writes Free (header_pieces i type_index t ++ qs) b (header_items t type_index rest)
-unfolding header_pieces class
-header_writes {b = b} t i type_index qs rest h s r w =
-    let small : type_index < 2 ^ 64 = omega (arith, r) in
-    let signature : Writes Bound (signature_if_any t ++ qs) b (onto (signature_if_any_items t) rest) = both_write (signature_if_any_writes t s) w in
-    let type : List Piece = line_group_gap (codes "type") (Number type_index ∷ []) in
-    let joined : Writes Free (Mark i ∷ (Gap ∷ (type ++ (signature_if_any t ++ qs)))) b (header_items t type_index rest) =
-    mark_writes refl h (gap_writes refl
-    (line_group_gap_then (codes "type") (Number type_index ∷ []) (signature_if_any t ++ qs) refl refl (search writing) signature)) in
-    rw (append_assoc type (signature_if_any t) qs) joined
+-- the declaration and its type, before the rest
+abbrev pub header_items : Scope → Space → Option ℕ → ℕ → ℕ → Forest → Forest
+header_items s space f i type_index rest = onto (own_id s space i) (onto (use_items s f type_index) rest)
 
--- where nothing stands behind it
-pub header_alone_writes : (t : Option FuncType) (i n : ℕ) → i < 2 ^ 64 → IsSignatureInRange t → n < 2 ^ 32 →
-    Writes Free (header_pieces i n t) Bound (header_items t n End)
-header_alone_writes t i n h s r = rw append-nil at (header_writes t i n [] End h s r nothing_writes)
+module _ (s : Scope) (named : AreNamed s.names) (ranged : AreSignaturesInRange (signature_at s.types)) where
+  pub header_writes : {b : Edge} (space : Space) (f : Option ℕ) (i type_index : ℕ) (qs : List Piece) (rest : Forest) → i < 2 ^ 64 → type_index < 2 ^ 32 →
+      Writes Bound qs b rest → Writes Free (header_pieces s space f i type_index ++ qs) b (header_items s space f i type_index rest)
+  unfolding header_pieces
+  header_writes {b = b} space f i type_index qs rest h r w =
+      subst (Writes Free (header_pieces s space f i type_index ++ qs) b) (onto_assoc (own_id s space i) (use_items s f type_index) rest)
+      (both_write (both_write (declaration_writes (s.names.items space i) i (named.items space i) h)
+      (gap_writes {a = Bound} refl (type_use_writes s.names named f type_index (signature_at s.types type_index) refl r (ranged type_index)))) w)
 
--- the type is a function type
-pub type_index-items : (c : Context) (t : FuncType) (i : ℕ) → c.signature i ≡ Some t → IsRangedFunc t → i < 2 ^ 32 →
-    type_index c (header_items (Some t) i End) ≡ Some i
-type_index-items c t i own r h =
-    let e : signature c.spaces.types (onto (signature_items t) End) ≡ Some (printed_signature t, End) =
-    signature-items c.spaces.types t End r (end_behind_signature c.spaces.types) in
-    rw (index-decimal c.spaces.types i h, e, own, own_parameters t, unnamed_space t.params)
+  -- where nothing stands behind it
+  pub header_alone_writes : (space : Space) (f : Option ℕ) (i type_index : ℕ) → i < 2 ^ 64 → type_index < 2 ^ 32 →
+      Writes Free (header_pieces s space f i type_index) Bound (header_items s space f i type_index End)
+  header_alone_writes space f i type_index h r = rw append-nil at (header_writes space f i type_index [] End h r nothing_writes)
+
+-- the identifier, and the rest
+pub identified-header : (s : Scope) (space : Space) (f : Option ℕ) (i type_index : ℕ) (rest : Forest) →
+    identified (header_items s space f i type_index rest) ≡ (id (s.names.items space i), onto (use_items s f type_index) rest)
+identified-header s space f i type_index rest = declaration-items (s.names.items space i) (onto (use_items s f type_index) rest) refl
+
+-- ---- they read back
+
+module _ (s : Scope) (c : Context) (n : Counts) (scoped : AreScoped s c n) where
+  parameters_apart : (f : Option ℕ) → AreDistinct (parameters_of s.names f)
+  parameters_apart None i j a b p q e g h = absurd cc
+  parameters_apart (Some f) i j a b p q e g h = scoped.apart.locals f i j a b p q e g h
+
+  -- so few parameters
+  pub parameters_fit : (t : FuncType) (i : ℕ) → signature_at s.types i ≡ Some t → length t.params < 2 ^ 32
+  parameters_fit t i own = subst (λ o. parameter_count o < 2 ^ 32) own (scoped.few i)
+
+  -- the type is a function type
+  pub use-items : (f : Option ℕ) (t : FuncType) (i : ℕ) → signature_at s.types i ≡ Some t → i < 2 ^ 32 → type_index c (onto (use_items s f i) End) ≡ Some i
+  use-items f t i own small =
+      let ids : Identifiers = c.spaces.types in
+      let named : ℕ → Option Named = parameters_of s.names f in
+      let read : c.signature i ≡ Some t = scoped.types.read i ∙ own in
+      let index : index ids (own_index s Types i) ≡ Some i =
+      own_index-reads s c n scoped Types (λ names g. refl) i (signature_declared s c n scoped t i own) small in
+      let sig : signature ids (onto (signature_items s.names f t) End) ≡ Some (printed_signature named t, End) =
+      signature-items s.names ids (type_bound s c n scoped) (type_indices-read s c n scoped) f t End (signature_bounded s c n scoped t i own) (end_behind_signature ids) in
+      let fit : length t.params < 2 ^ 32 = parameters_fit t i own in
+      let space : index_space (identifiers named (length t.params)) ≡ Some (identifiers named (length t.params)) =
+      identifiers_space named (parameters_apart f) (length t.params) (omega (arith, fit)) in
+      let whole : type_index c (onto (type_use_items s.names f i (Some t)) End) ≡ Some i = rw (index, sig, read, own_parameters named t, space) in
+      ap (λ x. type_index c (onto (type_use_items s.names f i x) End)) own ∙ whole

@@ -1,40 +1,40 @@
 -- Imports among the fields of a module.
-use Rattle.std.proofs.Common.{◌≡◌, ℕ, suc, ◌+◌, ◌<◌, ◌≤◌, ◌^◌, true, List, [], ◌∷◌, length, map, Some, None, refl, sym, ap, ◌∙◌, subst, codes, chars, arith, encode_utf8_all}
+use Rattle.std.proofs.Common.{◌≡◌, ℕ, suc, ◌+◌, ◌<◌, ◌≤◌, ◌^◌, true, List, [], ◌∷◌, length, Some, None, option_map, refl, ap, codes, chars, arith, encode_utf8_all}
 use Rattle.std.specs.List.{AllByRecursion}
 use Rattle.std.proofs.Math.Utf8.{scalars}
 use Rattle.std.proofs.lemmas.Str.{encodes-chars, scalars-chars, is_utf8-from_IsUtf8}
 use Rattle.wasmprinter_spec.specs.Character.{class}
 use Rattle.wasmprinter_spec.specs.Grammar.{Placed}
-use Rattle.wasmprinter_spec.specs.Forest.{Forest, End, Word, String, Group}
-use Rattle.wasmprinter_spec.specs.Types.{FuncType, SubType, signature_at, ExternKind, FuncKind, TableKind, MemoryKind, GlobalKind, TagKind, ExternType, FuncExtern, TableExtern, MemoryExtern, GlobalExtern, TagExtern}
+use Rattle.wasmprinter_spec.specs.Forest.{Forest, End, Word, String, Group, onto}
+use Rattle.wasmprinter_spec.specs.Types.{FuncType, signature_at, ExternType, FuncExtern, TableExtern, MemoryExtern, GlobalExtern, TagExtern}
+use Rattle.wasmprinter_spec.specs.Row as row
+use Rattle.wasmprinter_spec.specs.Row.{Func, Tag}
+use Rattle.wasmprinter_spec.specs.Names.{AreNamed}
 use Rattle.wasmprinter_spec.specs.Placed.{Import}
 use Rattle.wasmprinter_spec.specs.IndexSpaces.{Context}
+use Rattle.wasmprinter_spec.specs.Indexed.{Counts, IsDeclaredHeap, IsDeclaredVal, space_of}
+use Rattle.wasmprinter_spec.specs.Layout.Declarations.{Scope}
 use Rattle.wasmprinter_spec.specs.Layout.Imports.{Numbers, number_of, numbers_behind, extern_pieces, import_pieces, imports_pieces}
 use Rattle.wasmprinter_spec.specs.Text.Items.{identified}
 use Rattle.wasmprinter_spec.specs.Text.Exports.{kind_of_word}
-use Rattle.wasmprinter_spec.specs.Text.TypeIndices.{type_index}
 use Rattle.wasmprinter_spec.specs.Text.Tables.{table_type}
 use Rattle.wasmprinter_spec.specs.Text.Globals.{global_type}
-use Rattle.wasmprinter_spec.specs.Text.Imports.{ImportField, field_of, import_field, extern_type, read_import}
+use Rattle.wasmprinter_spec.specs.Text.Imports.{field_of, import_field, extern_type, read_import}
 use Rattle.wasmprinter_lexical.proofs.Grown.{onto-End}
 use Rattle.wasmprinter_lexical.proofs.Pieces.{Edge, Bound}
-use Rattle.wasmprinter_lexical.proofs.Writes.{Writes, is_open, both_write, nothing_writes, gap_writes, mark_writes, break_writes, quoted_writes, line_group_gap_writes}
-use Rattle.wasmprinter_reading.specs.Listed.{IsSignatureInRange, AreSignaturesInRange}
-use Rattle.wasmprinter_reading.proofs.Numbered.{rows}
+use Rattle.wasmprinter_lexical.proofs.Writes.{Writes, is_open, both_write, nothing_writes, gap_writes, break_writes, quoted_writes, line_group_gap_writes}
+use Rattle.wasmprinter_reading.specs.Listed.{AreSignaturesInRange}
+use Rattle.wasmprinter_reading.proofs.Declarations.{id}
+use Rattle.wasmprinter_reading.proofs.Identifiers.{declaration-items, declaration_writes}
+use Rattle.wasmprinter_reading.proofs.Spaces.{kind_of_extern}
 use Rattle.wasmprinter_reading.proofs.Ranged.{IsRangedExtern, IsRangedImport}
-use Rattle.wasmprinter_reading.proofs.Fields.Headers.{header_items, header_alone_writes, type_index-items}
+use Rattle.wasmprinter_reading.proofs.Fields.Scopes.{own_id, AreScoped}
+use Rattle.wasmprinter_reading.proofs.Fields.Headers.{use_items, header_items, header_alone_writes, identified-header, use-items}
 use Rattle.wasmprinter_reading.proofs.Fields.Tables.{table_type_items, table_type_writes, table_type-items, identified-table_type}
-use Rattle.wasmprinter_reading.proofs.Fields.Memories.{memory_items, memory_type_writes, memory_type-items, identified-memory}
+use Rattle.wasmprinter_reading.proofs.Fields.Memories.{memory_type_items, memory_type_writes, memory_type-items, identified-memory_type}
 use Rattle.wasmprinter_reading.proofs.Fields.Globals.{global_type_items, global_type_writes, global_type-items, identified-global_type}
 
 -- ---- what imports are written as
-
-abbrev pub kind_of_extern : ExternType → ExternKind
-kind_of_extern (FuncExtern i) = FuncKind
-kind_of_extern (TableExtern t) = TableKind
-kind_of_extern (MemoryExtern t) = MemoryKind
-kind_of_extern (GlobalExtern t) = GlobalKind
-kind_of_extern (TagExtern i) = TagKind
 
 abbrev pub extern_word : ExternType → List ℕ
 extern_word (FuncExtern i) = codes "func"
@@ -43,23 +43,22 @@ extern_word (MemoryExtern t) = codes "memory"
 extern_word (GlobalExtern t) = codes "global"
 extern_word (TagExtern i) = codes "tag"
 
-abbrev pub extern_items : List SubType → ExternType → Forest
-extern_items ts (FuncExtern i) = header_items (signature_at ts i) i End
-extern_items ts (TableExtern t) = table_type_items t
-extern_items ts (MemoryExtern t) = memory_items t
-extern_items ts (GlobalExtern t) = global_type_items t
-extern_items ts (TagExtern i) = header_items (signature_at ts i) i End
+-- with its number
+abbrev pub extern_items : Scope → ℕ → ExternType → Forest
+extern_items s n (FuncExtern i) = header_items s Func (Some n) n i End
+extern_items s n (TableExtern t) = onto (own_id s row.Table n) (table_type_items s.names t)
+extern_items s n (MemoryExtern t) = onto (own_id s row.Memory n) (memory_type_items t)
+extern_items s n (GlobalExtern t) = onto (own_id s row.Global n) (global_type_items s.names t)
+extern_items s n (TagExtern i) = header_items s Tag None n i End
 
 -- what an import holds behind its word
-abbrev pub import_items : List SubType → Import → Forest
-import_items ts i = String i.source (String i.name (Group (Word (extern_word i.type) (extern_items ts i.type)) End))
+abbrev pub import_items : Scope → ℕ → Import → Forest
+import_items s n i = String i.source (String i.name (Group (Word (extern_word i.type) (extern_items s n i.type)) End))
 
--- the field as it is sorted
-abbrev pub import_held : List SubType → Import → ImportField
-import_held ts i = field_of i.source i.name (extern_items ts i.type) (kind_of_extern i.type)
-
-abbrev pub imports_items : List SubType → List (Placed Import) → Forest
-imports_items ts is = rows (map (λ i. Word (codes "import") (import_items ts i.value)) is)
+abbrev pub imports_items : Scope → Numbers → List (Placed Import) → Forest
+imports_items s n [] = End
+imports_items s n (i ∷ is) =
+    Group (Word (codes "import") (import_items s (number_of i.value.type n) i.value)) (imports_items s (numbers_behind i.value.type n) is)
 
 -- ---- their pieces write it
 
@@ -92,32 +91,41 @@ room_behind t n more h =
     by (GlobalExtern i) f t m g k = record { functions = omega arith; tables = omega arith; memories = omega arith; globals = g; tags = omega arith }
     by (TagExtern i) f t m g k = record { functions = omega arith; tables = omega arith; memories = omega arith; globals = omega arith; tags = k }
 
-module _ (ts : List SubType) (s : AreSignaturesInRange (signature_at ts)) where
+module _ (s : Scope) (named : AreNamed s.names) (ranged : AreSignaturesInRange (signature_at s.types)) where
   extern_writes : {a : Edge} (n : ℕ) (t : ExternType) → is_open a ≡ true → n < 2 ^ 64 → IsRangedExtern t →
-      Writes a (extern_pieces ts n t) Bound (Group (Word (extern_word t) (extern_items ts t)) End)
+      Writes a (extern_pieces s n t) Bound (Group (Word (extern_word t) (extern_items s n t)) End)
   unfolding extern_pieces class
-  extern_writes n (FuncExtern i) e small h = line_group_gap_writes (codes "func") _ e refl (header_alone_writes (signature_at ts i) n i small (s i) h)
-  extern_writes n (TableExtern t) e small h = line_group_gap_writes (codes "table") _ e refl (mark_writes refl small (gap_writes refl (table_type_writes t h)))
-  extern_writes n (MemoryExtern t) e small h = line_group_gap_writes (codes "memory") _ e refl (mark_writes refl small (gap_writes refl (memory_type_writes t h)))
-  extern_writes n (GlobalExtern t) e small h = line_group_gap_writes (codes "global") _ e refl (mark_writes refl small (gap_writes refl (global_type_writes t h)))
-  extern_writes n (TagExtern i) e small h = line_group_gap_writes (codes "tag") _ e refl (header_alone_writes (signature_at ts i) n i small (s i) h)
+  extern_writes n (FuncExtern i) e small h = line_group_gap_writes (codes "func") _ e refl (header_alone_writes s named ranged Func (Some n) n i small h)
+  extern_writes n (TableExtern t) e small h =
+      line_group_gap_writes (codes "table") _ e refl
+      (both_write (declaration_writes (s.names.items row.Table n) n (named.items row.Table n) small)
+      (gap_writes {a = Bound} refl (table_type_writes s.names named t h)))
+  extern_writes n (MemoryExtern t) e small h =
+      line_group_gap_writes (codes "memory") _ e refl
+      (both_write (declaration_writes (s.names.items row.Memory n) n (named.items row.Memory n) small)
+      (gap_writes {a = Bound} refl (memory_type_writes t h)))
+  extern_writes n (GlobalExtern t) e small h =
+      line_group_gap_writes (codes "global") _ e refl
+      (both_write (declaration_writes (s.names.items row.Global n) n (named.items row.Global n) small)
+      (gap_writes {a = Bound} refl (global_type_writes s.names named t h)))
+  extern_writes n (TagExtern i) e small h = line_group_gap_writes (codes "tag") _ e refl (header_alone_writes s named ranged Tag None n i small h)
 
   import_writes : (n : ℕ) (i : Placed Import) → n < 2 ^ 64 → IsRangedImport i.value →
-      Writes Bound (import_pieces ts n i) Bound (Group (Word (codes "import") (import_items ts i.value)) End)
+      Writes Bound (import_pieces s n i) Bound (Group (Word (codes "import") (import_items s n i.value)) End)
   unfolding import_pieces class
   import_writes n i small h =
-      let inner : Forest = Group (Word (extern_word i.value.type) (extern_items ts i.value.type)) End in
+      let inner : Forest = Group (Word (extern_word i.value.type) (extern_items s n i.value.type)) End in
       let source : scalars (chars i.value.source) ≡ true = scalars-chars i.value.source h.source in
       let name : scalars (chars i.value.name) ≡ true = scalars-chars i.value.name h.name in
-      let written : Writes Bound (import_pieces ts n i) Bound
+      let written : Writes Bound (import_pieces s n i) Bound
       (Group (Word (codes "import") (String (encode_utf8_all (chars i.value.source)) (String (encode_utf8_all (chars i.value.name)) inner))) End) =
       break_writes (line_group_gap_writes (codes "import") _ refl refl
       (quoted_writes source (gap_writes refl (quoted_writes name (gap_writes refl (extern_writes n i.value.type refl small h.type)))))) in
       rw (encodes-chars i.value.source h.source, encodes-chars i.value.name h.name) at written
 
   pub imports_write : (n : Numbers) (is : List (Placed Import)) → LeaveRoom n (length is) → AllByRecursion (λ i. IsRangedImport i.value) is →
-      Writes Bound (imports_pieces ts n is) Bound (imports_items ts is)
-  unfolding imports_pieces rows
+      Writes Bound (imports_pieces s n is) Bound (imports_items s n is)
+  unfolding imports_pieces
   imports_write n [] room h = nothing_writes
   imports_write n (i ∷ is) room h =
       both_write (import_writes (number_of i.value.type n) i (number_small i.value.type n (length is) room) h.0)
@@ -133,40 +141,48 @@ kind_of_word-extern (MemoryExtern t) = refl
 kind_of_word-extern (GlobalExtern t) = refl
 kind_of_word-extern (TagExtern i) = refl
 
-pub import_field-items : (ts : List SubType) (i : Import) → IsRangedImport i → import_field (import_items ts i) ≡ Some (import_held ts i)
-import_field-items ts i h = rw (is_utf8-from_IsUtf8 i.source h.source, is_utf8-from_IsUtf8 i.name h.name, kind_of_word-extern i.type)
+pub import_field-items : (s : Scope) (n : ℕ) (i : Import) → IsRangedImport i →
+    import_field (import_items s n i) ≡ Some (field_of i.source i.name (extern_items s n i.type) (kind_of_extern i.type))
+import_field-items s n i h = rw (is_utf8-from_IsUtf8 i.source h.source, is_utf8-from_IsUtf8 i.name h.name, kind_of_word-extern i.type)
 
--- no identifier stands in front
-pub identified-extern : (ts : List SubType) (t : ExternType) → identified (extern_items ts t) ≡ (None, extern_items ts t)
-identified-extern ts (FuncExtern i) = refl
-identified-extern ts (TableExtern t) = rw onto-End at (identified-table_type t End)
-identified-extern ts (MemoryExtern t) = identified-memory t
-identified-extern ts (GlobalExtern t) = rw onto-End at (identified-global_type t End)
-identified-extern ts (TagExtern i) = refl
+-- what is imported, behind its identifier
+abbrev pub behind_id : Scope → ℕ → ExternType → Forest
+behind_id s n (FuncExtern i) = onto (use_items s (Some n) i) End
+behind_id s n (TableExtern t) = table_type_items s.names t
+behind_id s n (MemoryExtern t) = memory_type_items t
+behind_id s n (GlobalExtern t) = global_type_items s.names t
+behind_id s n (TagExtern i) = onto (use_items s None i) End
 
--- the type of a function or of a tag is a function type
-abbrev pub HasType : Context → ExternType → Type 0
-HasType c (FuncExtern i) = (t : FuncType) × (c.signature i ≡ Some t)
-HasType c (TagExtern i) = (t : FuncType) × (c.signature i ≡ Some t)
-HasType c _ = Unit {0}
+pub identified-extern : (s : Scope) (n : ℕ) (t : ExternType) →
+    identified (extern_items s n t) ≡ (id (s.names.items (space_of (kind_of_extern t)) n), behind_id s n t)
+identified-extern s n (FuncExtern i) = identified-header s Func (Some n) n i End
+identified-extern s n (TableExtern t) =
+    declaration-items (s.names.items row.Table n) (table_type_items s.names t) (rw onto-End at (identified-table_type s.names t End))
+identified-extern s n (MemoryExtern t) = declaration-items (s.names.items row.Memory n) (memory_type_items t) (identified-memory_type t)
+identified-extern s n (GlobalExtern t) =
+    declaration-items (s.names.items row.Global n) (global_type_items s.names t) (rw onto-End at (identified-global_type s.names t End))
+identified-extern s n (TagExtern i) = identified-header s Tag None n i End
 
-module _ (c : Context) (ts : List SubType) (own : (i : ℕ) → c.signature i ≡ signature_at ts i) (s : AreSignaturesInRange (signature_at ts)) where
-  index-items : (i : ℕ) → i < 2 ^ 32 → (t : FuncType) × (c.signature i ≡ Some t) → type_index c (header_items (signature_at ts i) i End) ≡ Some i
-  index-items i h t =
-      let its : signature_at ts i ≡ Some t.0 = sym (own i) ∙ t.1 in
-      ap (λ x. type_index c (header_items x i End)) its
-      ∙ type_index-items c t.0 i t.1 (subst IsSignatureInRange its (s i)) h
+-- every index in the type of what is imported is declared
+abbrev pub IsScopedExtern : Scope → Counts → ExternType → Type 0
+IsScopedExtern s n (FuncExtern i) = (t : FuncType) × (signature_at s.types i ≡ Some t)
+IsScopedExtern s n (TableExtern t) = IsDeclaredHeap n.types t.element.heap
+IsScopedExtern s n (MemoryExtern t) = Unit {0}
+IsScopedExtern s n (GlobalExtern t) = IsDeclaredVal n.types t.type
+IsScopedExtern s n (TagExtern i) = (t : FuncType) × (signature_at s.types i ≡ Some t)
 
-  extern_type-items : (t : ExternType) → IsRangedExtern t → HasType c t → extern_type c (kind_of_extern t) (extern_items ts t) ≡ Some t
-  extern_type-items (FuncExtern i) h t = rw (index-items i h t)
-  extern_type-items (TableExtern t) h _ =
-      let e : table_type c (table_type_items t) ≡ Some (t, End) = rw onto-End at (table_type-items c t End h) in
+module _ (s : Scope) (c : Context) (n : Counts) (scoped : AreScoped s c n) where
+  extern_type-items : (k : ℕ) (t : ExternType) → IsRangedExtern t → IsScopedExtern s n t → extern_type c (kind_of_extern t) (behind_id s k t) ≡ Some t
+  extern_type-items k (FuncExtern i) h d = ap (option_map FuncExtern) (use-items s c n scoped (Some k) d.0 i d.1 h)
+  extern_type-items k (TableExtern t) h d =
+      let e : table_type c (table_type_items s.names t) ≡ Some (t, End) = rw onto-End at (table_type-items s c n scoped t End h d) in
       rw e
-  extern_type-items (MemoryExtern t) h _ = rw (memory_type-items t h)
-  extern_type-items (GlobalExtern t) h _ =
-      let e : global_type c (global_type_items t) ≡ Some (t, End) = rw onto-End at (global_type-items c t End h) in
+  extern_type-items k (MemoryExtern t) h d = rw (memory_type-items t h)
+  extern_type-items k (GlobalExtern t) h d =
+      let e : global_type c (global_type_items s.names t) ≡ Some (t, End) = rw onto-End at (global_type-items s c n scoped t End h d) in
       rw e
-  extern_type-items (TagExtern i) h t = rw (index-items i h t)
+  extern_type-items k (TagExtern i) h d = ap (option_map TagExtern) (use-items s c n scoped None d.0 i d.1 h)
 
-  pub read_import-items : (i : Import) → IsRangedImport i → HasType c i.type → read_import c (import_held ts i) ≡ Some i
-  read_import-items i h t = rw (identified-extern ts i.type, extern_type-items i.type h.type t)
+  pub read_import-items : (k : ℕ) (i : Import) → IsRangedImport i → IsScopedExtern s n i.type →
+      read_import c (field_of i.source i.name (extern_items s k i.type) (kind_of_extern i.type)) ≡ Some i
+  read_import-items k i h d = rw (identified-extern s k i.type, extern_type-items k i.type h.type d)

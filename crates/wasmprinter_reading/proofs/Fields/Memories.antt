@@ -8,14 +8,20 @@ use Rattle.wasmprinter_spec.specs.Forest.{Forest, End, Word, Group, onto}
 use Rattle.wasmprinter_spec.specs.Grammar.{Placed, ◌>>=◌}
 use Rattle.wasmprinter_spec.specs.Numeral.{numeral, natural, below, exponent_below, exponent_of}
 use Rattle.wasmprinter_spec.specs.Types.{MemoryType}
+use Rattle.wasmprinter_spec.specs.Row.{Memory}
+use Rattle.wasmprinter_spec.specs.Names.{AreNamed}
+use Rattle.wasmprinter_spec.specs.Layout.Declarations.{Scope}
 use Rattle.wasmprinter_spec.specs.Layout.Memories.{shared_pieces, page_pieces, memory_type_pieces, memory_pieces}
 use Rattle.wasmprinter_spec.specs.Text.Items.{identified}
 use Rattle.wasmprinter_spec.specs.Text.Memories.{shared, page, memory_type, read_memory}
 use Rattle.wasmprinter_lexical.proofs.Runs.{is_word}
 use Rattle.wasmprinter_lexical.proofs.Numbers.{natural-hexadecimal, is_word-hexadecimal}
 use Rattle.wasmprinter_lexical.proofs.Pieces.{Free, Bound}
-use Rattle.wasmprinter_lexical.proofs.Writes.{Writes, writing, both_write, nothing_writes}
+use Rattle.wasmprinter_lexical.proofs.Writes.{Writes, writing, both_write, nothing_writes, gap_writes, break_writes, line_group_gap_writes}
 use Rattle.wasmprinter_reading.proofs.Ranged.{IsRangedPage, IsRangedMemory}
+use Rattle.wasmprinter_reading.proofs.Identifiers.{declaration-items, declaration_writes}
+use Rattle.wasmprinter_reading.proofs.Declarations.{id}
+use Rattle.wasmprinter_reading.proofs.Fields.Scopes.{own_id}
 use Rattle.wasmprinter_reading.proofs.Fields.Limits.{wide_items, limits_items, wide_writes, limits_write, IsNoNumber, address_type-items, limits-items, identified-limits}
 
 -- ---- what memories are written as
@@ -32,9 +38,12 @@ abbrev page_items : Option ℕ → Forest
 page_items None = End
 page_items (Some e) = Group (Word (codes "pagesize") (Word (size_text e) End)) End
 
+abbrev pub memory_type_items : MemoryType → Forest
+memory_type_items m = onto (wide_items m.wide) (onto (limits_items m.limits) (onto (shared_items m.shared) (page_items m.page)))
+
 -- what a memory holds behind its word
-abbrev pub memory_items : MemoryType → Forest
-memory_items m = onto (wide_items m.wide) (onto (limits_items m.limits) (onto (shared_items m.shared) (page_items m.page)))
+abbrev pub memory_items : Scope → ℕ → MemoryType → Forest
+memory_items s i m = onto (own_id s Memory i) (memory_type_items m)
 
 -- ---- their pieces write it
 
@@ -55,17 +64,17 @@ page_writes (Some e) h =
     let word : is_word (size_text e) ≡ true = is_word-hexadecimal (2 ^ e) (omega arith) in
     search writing
 
-pub memory_type_writes : (m : MemoryType) → IsRangedMemory m → Writes Free (memory_type_pieces m) Bound (memory_items m)
+pub memory_type_writes : (m : MemoryType) → IsRangedMemory m → Writes Free (memory_type_pieces m) Bound (memory_type_items m)
 unfolding memory_type_pieces
 memory_type_writes m h =
     both_write (wide_writes m.wide) (both_write (limits_write m.limits h.min h.max) (both_write (shared_writes m.shared) (page_writes m.page h.page)))
 
-pub memory_writes : (i : ℕ) (m : Placed MemoryType) → i < 2 ^ 64 → IsRangedMemory m.value →
-    Writes Bound (memory_pieces i m) Bound (Group (Word (codes "memory") (memory_items m.value)) End)
+pub memory_writes : (s : Scope) → AreNamed s.names → (i : ℕ) (m : Placed MemoryType) → i < 2 ^ 64 → IsRangedMemory m.value →
+    Writes Bound (memory_pieces s i m) Bound (Group (Word (codes "memory") (memory_items s i m.value)) End)
 unfolding memory_pieces class
-memory_writes i m h r =
-    let held = memory_type_writes m.value r in
-    search writing
+memory_writes s named i m h r =
+    break_writes (line_group_gap_writes (codes "memory") _ refl refl
+    (both_write (declaration_writes (s.names.items Memory i) i (named.items Memory i) h) (gap_writes {a = Bound} refl (memory_type_writes m.value r))))
 
 -- ---- they read back
 
@@ -108,10 +117,10 @@ page-items None h = refl
 page-items (Some e) h = ap (λ o. o >>= λ n. Some (Some n)) (exponent_of-size e h)
 
 -- no identifier stands in front
-pub identified-memory : (m : MemoryType) → identified (memory_items m) ≡ (None, memory_items m)
-identified-memory m = identified-limits m.wide m.limits (behind_items m.shared m.page)
+pub identified-memory_type : (m : MemoryType) → identified (memory_type_items m) ≡ (None, memory_type_items m)
+identified-memory_type m = identified-limits m.wide m.limits (behind_items m.shared m.page)
 
-pub memory_type-items : (m : MemoryType) → IsRangedMemory m → memory_type (memory_items m) ≡ Some m
+pub memory_type-items : (m : MemoryType) → IsRangedMemory m → memory_type (memory_type_items m) ≡ Some m
 memory_type-items m h =
     rw (
       address_type-items m.wide m.limits (behind_items m.shared m.page) h.min,
@@ -120,5 +129,9 @@ memory_type-items m h =
       page-items m.page h.page,
     )
 
-pub read_memory-items : (m : MemoryType) → IsRangedMemory m → read_memory (memory_items m) ≡ Some m
-read_memory-items m h = rw (identified-memory m, memory_type-items m h)
+-- the identifier of a memory, and what it is
+pub identified-memory : (s : Scope) (i : ℕ) (m : MemoryType) → identified (memory_items s i m) ≡ (id (s.names.items Memory i), memory_type_items m)
+identified-memory s i m = declaration-items (s.names.items Memory i) (memory_type_items m) (identified-memory_type m)
+
+pub read_memory-items : (s : Scope) (i : ℕ) (m : MemoryType) → IsRangedMemory m → read_memory (memory_items s i m) ≡ Some m
+read_memory-items s i m h = rw (identified-memory s i m, memory_type-items m h)

@@ -1,27 +1,38 @@
 -- Tags among the fields of a module.
-use Rattle.std.proofs.Common.{◌≡◌, ℕ, ◌<◌, ◌^◌, List, Option, Some, refl, codes}
+use Rattle.std.proofs.Common.{◌≡◌, ℕ, ◌<◌, ◌^◌, Some, None, refl, ap, codes}
 use Rattle.wasmprinter_spec.specs.Character.{class}
 use Rattle.wasmprinter_spec.specs.Forest.{Forest, End, Word, Group}
 use Rattle.wasmprinter_spec.specs.Grammar.{Placed}
-use Rattle.wasmprinter_spec.specs.Types.{FuncType, SubType, signature_at}
-use Rattle.wasmprinter_spec.specs.Layout.{tag_pieces}
+use Rattle.wasmprinter_spec.specs.Types.{FuncType, signature_at}
+use Rattle.wasmprinter_spec.specs.Indexed.{Counts}
 use Rattle.wasmprinter_spec.specs.IndexSpaces.{Context}
+use Rattle.wasmprinter_spec.specs.Text.Items.{identified}
 use Rattle.wasmprinter_spec.specs.Text.Tags.{read_tag}
+use Rattle.wasmprinter_spec.specs.Row.{Tag}
+use Rattle.wasmprinter_spec.specs.Names.{AreNamed}
+use Rattle.wasmprinter_spec.specs.Layout.Declarations.{Scope}
+use Rattle.wasmprinter_spec.specs.Layout.{tag_pieces}
 use Rattle.wasmprinter_lexical.proofs.Pieces.{Bound}
 use Rattle.wasmprinter_lexical.proofs.Writes.{Writes, break_writes, line_group_gap_writes}
-use Rattle.wasmprinter_reading.specs.Listed.{IsSignatureInRange}
-use Rattle.wasmprinter_reading.proofs.Types.Ranged.{IsRangedFunc}
-use Rattle.wasmprinter_reading.proofs.Fields.Headers.{header_items, header_alone_writes, type_index-items}
+use Rattle.wasmprinter_reading.specs.Listed.{AreSignaturesInRange}
+use Rattle.wasmprinter_reading.proofs.Declarations.{id}
+use Rattle.wasmprinter_reading.proofs.Fields.Scopes.{AreScoped}
+use Rattle.wasmprinter_reading.proofs.Fields.Headers.{header_items, header_alone_writes, identified-header, use-items}
 
 -- what a tag holds behind its word
-abbrev pub tag_items : Option FuncType → ℕ → Forest
-tag_items t i = header_items t i End
+abbrev pub tag_items : Scope → ℕ → ℕ → Forest
+tag_items s i type_index = header_items s Tag None i type_index End
 
-pub tag_writes : (ts : List SubType) (i : ℕ) (tag : Placed ℕ) → i < 2 ^ 64 → IsSignatureInRange (signature_at ts tag.value) → tag.value < 2 ^ 32 →
-    Writes Bound (tag_pieces ts i tag) Bound (Group (Word (codes "tag") (tag_items (signature_at ts tag.value) tag.value)) End)
+pub tag_writes : (s : Scope) → AreNamed s.names → AreSignaturesInRange (signature_at s.types) → (i : ℕ) (tag : Placed ℕ) → i < 2 ^ 64 → tag.value < 2 ^ 32 →
+    Writes Bound (tag_pieces s i tag) Bound (Group (Word (codes "tag") (tag_items s i tag.value)) End)
 unfolding tag_pieces class
-tag_writes ts i tag h s r = break_writes (line_group_gap_writes (codes "tag") _ refl refl (header_alone_writes (signature_at ts tag.value) i tag.value h s r))
+tag_writes s named ranged i tag h r = break_writes (line_group_gap_writes (codes "tag") _ refl refl (header_alone_writes s named ranged Tag None i tag.value h r))
+
+-- the identifier of a tag
+pub identified-tag : (s : Scope) (i type_index : ℕ) → (identified (tag_items s i type_index)).0 ≡ id (s.names.items Tag i)
+identified-tag s i type_index = ap (λ x. x.0) (identified-header s Tag None i type_index End)
 
 -- the type is a function type
-pub read_tag-items : (c : Context) (t : FuncType) (i : ℕ) → c.signature i ≡ Some t → IsRangedFunc t → i < 2 ^ 32 → read_tag c (tag_items (Some t) i) ≡ Some i
-read_tag-items c t i own r h = type_index-items c t i own r h
+pub read_tag-items : (s : Scope) (c : Context) (n : Counts) → AreScoped s c n → (i : ℕ) (t : FuncType) (type_index : ℕ) → signature_at s.types type_index ≡ Some t →
+    type_index < 2 ^ 32 → read_tag c (tag_items s i type_index) ≡ Some type_index
+read_tag-items s c n scoped i t type_index own h = rw (identified-header s Tag None i type_index End, use-items s c n scoped None t type_index own h)

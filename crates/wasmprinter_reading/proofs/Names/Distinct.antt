@@ -33,15 +33,15 @@ behind_group (c ∷ g) xs ys e = behind_group g xs ys (let f : g ++ xs ≡ g ++ 
 behind_sign : (g xs ys : List ℕ) → ◌≡◌ {A = List ℕ} (35 ∷ (g ++ xs)) (35 ∷ (g ++ ys)) → xs ≡ ys
 behind_sign g xs ys e = behind_group g xs ys (let f : g ++ xs ≡ g ++ ys = cc in f)
 
-number : (i j : ℕ) → i < 2 ^ 32 → j < 2 ^ 32 → decimal i ≡ decimal j → i ≡ j
-number i j p q e = decimal_injective i j (omega (arith, p)) (omega (arith, q)) e
+number : (i j : ℕ) → i < 2 ^ 64 → j < 2 ^ 64 → decimal i ≡ decimal j → i ≡ j
+number i j p q e = decimal_injective i j p q e
 
-marked-index : (g m n : List ℕ) (i j : ℕ) → i < 2 ^ 32 → j < 2 ^ 32 → marked_content g i m ≡ marked_content g j n → i ≡ j
+marked-index : (g m n : List ℕ) (i j : ℕ) → i < 2 ^ 64 → j < 2 ^ 64 → marked_content g i m ≡ marked_content g j n → i ≡ j
 marked-index g m n i j p q e =
     number i j p q (around_blank (decimal i) (decimal j) m n (no_blank-decimal i) (no_blank-decimal j)
     (behind_sign g (decimal i ++ (32 ∷ m)) (decimal j ++ (32 ∷ n)) e)).0
 
-index-index : (g : List ℕ) (i j : ℕ) → i < 2 ^ 32 → j < 2 ^ 32 → index_content g i ≡ index_content g j → i ≡ j
+index-index : (g : List ℕ) (i j : ℕ) → i < 2 ^ 64 → j < 2 ^ 64 → index_content g i ≡ index_content g j → i ≡ j
 index-index g i j p q e = number i j p q (behind_sign g (decimal i) (decimal j) e)
 
 marked-not_index : (g n : List ℕ) (i j : ℕ) → marked_content g j n ≡ index_content g i → ⊥
@@ -110,7 +110,7 @@ still_calls s given i c n (Given h k) = Given (or-second (bytes_eq n c) (is_amon
 module _ (s : ℕ) (counted : is_counted s ≡ true) where
   -- what an entry gives is not what another index is called
   apart_by : (given : List (List ℕ)) (e : Entry) (b : Bool) (j : ℕ) (d : List ℕ) → needs_mark s given e ≡ b
-      → e.index < 2 ^ 32 → j < 2 ^ 32 → e.index ≢ j → Calls s given j d → (if b then marked_content (group_of s) e.index e.name else e.name) ≢ d
+      → e.index < 2 ^ 64 → j < 2 ^ 64 → e.index ≢ j → Calls s given j d → (if b then marked_content (group_of s) e.index e.name else e.name) ≢ d
   apart_by given e true j d h p q ne (Marked n r) f = ne (marked-index (group_of s) e.name n e.index j p q (f ∙ r))
   apart_by given e true j d h p q ne (Invented r) f = marked-not_index (group_of s) e.name j e.index (f ∙ r)
   apart_by given e true j d h p q ne (Given a k) f = unclean d (marked_content (group_of s) e.index e.name) k refl (sym f)
@@ -133,7 +133,7 @@ module _ (s : ℕ) (counted : is_counted s ≡ true) where
 
   -- two indices stay apart over an entry
   apart_next : (given : List (List ℕ)) (e : Entry) (hit strike : Bool) (i j : ℕ) (a b : Option Named)
-      → nat_eq e.index i ≡ hit → nat_eq e.index j ≡ strike → e.index < 2 ^ 32 → i < 2 ^ 32 → j < 2 ^ 32 → i ≢ j
+      → nat_eq e.index i ≡ hit → nat_eq e.index j ≡ strike → e.index < 2 ^ 64 → i < 2 ^ 64 → j < 2 ^ 64 → i ≢ j
       → Calls s given i (text_at s a i) → Calls s given j (text_at s b j) → text_at s a i ≢ text_at s b j
       → text_at s (next given e hit a) i ≢ text_at s (next given e strike b) j
   apart_next given e true true i j a b h k small p q ne r t apart f = ne (sym (eqb-true e.index i h) ∙ eqb-true e.index j k)
@@ -144,15 +144,15 @@ module _ (s : ℕ) (counted : is_counted s ≡ true) where
   apart_next given e false false i j a b h k small p q ne r t apart f = apart f
 
   stay_apart : (entries : List Entry) (given : List (List ℕ)) (a b : Option Named) (i j : ℕ) → AreEntries entries
-      → i < 2 ^ 32 → j < 2 ^ 32 → i ≢ j → Calls s given i (text_at s a i) → Calls s given j (text_at s b j) → text_at s a i ≢ text_at s b j
+      → i < 2 ^ 64 → j < 2 ^ 64 → i ≢ j → Calls s given i (text_at s a i) → Calls s given j (text_at s b j) → text_at s a i ≢ text_at s b j
       → text_at s (last_name s given a entries i) i ≢ text_at s (last_name s given b entries j) j
   stay_apart [] given a b i j h p q ne r t apart = apart
   stay_apart (e ∷ entries) given a b i j h p q ne r t apart =
       stay_apart entries (e.name ∷ given) (next given e (nat_eq e.index i) a) (next given e (nat_eq e.index j) b) i j h.1 p q ne
       (calls_next given e (nat_eq e.index i) i a refl r) (calls_next given e (nat_eq e.index j) j b refl t)
-      (apart_next given e (nat_eq e.index i) (nat_eq e.index j) i j a b refl refl h.0.index p q ne r t apart)
+      (apart_next given e (nat_eq e.index i) (nat_eq e.index j) i j a b refl refl (omega (arith, h.0.index)) p q ne r t apart)
 
-  texts_apart : (entries : List Entry) (outer i j : ℕ) → AreEntries entries → i < 2 ^ 32 → j < 2 ^ 32 → i ≢ j
+  texts_apart : (entries : List Entry) (outer i j : ℕ) → AreEntries entries → i < 2 ^ 64 → j < 2 ^ 64 → i ≢ j
       → text_at s (name_of entries s outer i) i ≢ text_at s (name_of entries s outer j) j
   texts_apart entries outer i j h p q ne =
       stay_apart (entries_in s outer entries) [] None None i j (are_entries-in s outer entries h) p q ne (Invented refl) (Invented refl)
@@ -165,7 +165,7 @@ module _ (s : ℕ) (counted : is_counted s ≡ true) where
       ap (λ (x : Named). x.content) (sym same)
   text-content false None i n e = absurd cc
 
-  distinct : (invents : Bool) (entries : List Entry) (outer : ℕ) → AreEntries entries → AreDistinct (name_in invents entries s outer)
+  distinct : (invents : Bool) (entries : List Entry) (outer : ℕ) → AreEntries entries → AreDistinct (name_in invents (name_of entries) s outer)
   distinct invents entries outer h i j a b p q f g e = by (nat_eq i j) refl
     where
       texts : text_at s (name_of entries s outer i) i ≡ text_at s (name_of entries s outer j) j

@@ -3,14 +3,13 @@ use Rattle.std.proofs.Common.{◌≡◌, ℕ, ◌<◌, List, [], ◌∷◌, ◌+
 use Rattle.std.specs.Prelude.{nat_eq, ◌==◌, IsUtf8, if◌then◌else◌}
 use Rattle.std.proofs.lemmas.Str.{IsUtf8-append}
 use Rattle.wasmprinter_lexical.proofs.Printed.{all_printed}
-use Rattle.wasmprinter_spec.specs.Grammar.{◌>>=◌, some_is}
+use Rattle.wasmprinter_spec.specs.Grammar.{◌>>=◌}
 use Rattle.wasmprinter_spec.specs.Labels.{Named}
 use Rattle.wasmprinter_spec.specs.LabelNames.{is_clean}
 use Rattle.wasmprinter_spec.specs.Row.{Space, Types, Func, Table, Memory, Tag, Global, Elem, Data, Local, Label}
 use Rattle.wasmprinter_spec.specs.Names.Section.{Entry, module_subsection, function_subsection, local_subsection, label_subsection, type_subsection, table_subsection, memory_subsection, global_subsection, elem_subsection, data_subsection, field_subsection, tag_subsection}
 use Rattle.wasmprinter_spec.specs.Names.Content.{group_of, index_content, marked_content, is_counted, is_among, entry_name, last_name, entries_in, name_of}
-use Rattle.wasmprinter_spec.specs.Names.{Names, names_of, no_names, or_invented, name_in, IsGiven, IsNamed, IsNamedIfAny, AreNamed}
-use Rattle.wasmprinter_reading.specs.OperatorLaws.{AreNames}
+use Rattle.wasmprinter_spec.specs.Names.{names_of, no_names, or_invented, name_in, IsGiven, IsNamed, IsNamedIfAny, AreNamed}
 use Rattle.wasmprinter_reading.specs.NameLaws.{AreEntries, IsEntry, IdentifiersAreNamed}
 use Rattle.wasmprinter_reading.proofs.Operators.LabelNames.{printed_is_utf8, utf8-decimal, label_naming_names}
 use Rattle.wasmprinter_reading.proofs.Names.Distinct.{are_entries-in}
@@ -84,7 +83,7 @@ or_invented-named invents s i (Some n) h = h
 or_invented-named true s i None h = index-named s i
 or_invented-named false s i None h = tt
 
-named : (invents : Bool) (entries : List Entry) (s outer i : ℕ) → AreEntries entries → IsNamedIfAny (name_in invents entries s outer i)
+named : (invents : Bool) (entries : List Entry) (s outer i : ℕ) → AreEntries entries → IsNamedIfAny (name_in invents (name_of entries) s outer i)
 named invents entries s outer i h = or_invented-named invents s i (name_of entries s outer i) (name_of-named entries s outer i h)
 
 items_named : (invents : Bool) (entries : List Entry) → AreEntries entries → (space : Space) (i : ℕ) → IsNamedIfAny ((names_of invents entries).items space i)
@@ -108,30 +107,16 @@ given-utf8 : (o : Option Named) (text : List ℕ) → IsNamedIfAny o → (o >>= 
 given-utf8 (Some n) text h e = subst IsGiven e h.given
 given-utf8 None text h e = absurd cc
 
-if_any : (o : Option Named) → ((n : Named) → o ≡ Some n → IsNamed n) → IsNamedIfAny o
-if_any (Some n) h = h n refl
-if_any None h = tt
-
 pub identifiers_are_named : IdentifiersAreNamed
 identifiers_are_named invents entries h = record {
   module_name = name_of-named entries module_subsection 0 0 h;
   items = items_named invents entries h;
   fields = λ t i. named invents entries field_subsection t i h;
   locals = λ f i. named invents entries local_subsection f i h;
-  labels = λ f i d.
-      if_any _
-      (label_naming_names invents (λ j. name_of entries label_subsection f j >>= λ n. n.given)
-      (λ j text e. given-utf8 (name_of entries label_subsection f j) text (name_of-named entries label_subsection f j h) e) i d);
+  labels = λ f.
+      label_naming_names invents (λ j. name_of entries label_subsection f j >>= λ n. n.given)
+      (λ j text e. given-utf8 (name_of entries label_subsection f j) text (name_of-named entries label_subsection f j h) e);
 }
 
 pub no_names_are_named : AreNamed no_names
 no_names_are_named = record { module_name = tt; items = λ space i. tt; fields = λ t i. tt; locals = λ f i. tt; labels = λ f i d. tt }
-
--- ---- the names of one function's labels
-
-if_named : (o : Option Named) → IsNamedIfAny o → (n : Named) → o ≡ Some n → IsNamed n
-if_named (Some m) h n e = subst IsNamed (some_is m n e) h
-if_named None h n e = absurd cc
-
-pub labels_are_names : (n : Names) → AreNamed n → (f : ℕ) → AreNames (n.labels f)
-labels_are_names n h f i d m e = if_named (n.labels f i d) (h.labels f i d) m e

@@ -5,6 +5,7 @@ use Rattle.std.proofs.lemmas.Bool.{eqb-true, eqb-false, false_from_ne_true}
 use Rattle.wasmprinter_spec.specs.IndexSpaces.{declares, is_declared, are_distinct, resolve}
 use Rattle.wasmprinter_spec.specs.Labels.{Named}
 use Rattle.wasmprinter_spec.specs.Names.{identifiers_at, identifiers, AreDistinct}
+use Rattle.wasmprinter_reading.specs.NameLaws.{IdentifiersResolve}
 use Rattle.wasmprinter_reading.proofs.Bytes.{bytes_same, same_bytes}
 
 -- an item's identifier
@@ -44,12 +45,12 @@ module _ (named : ℕ → Option Named) (c : List ℕ) where
 
 module _ (named : ℕ → Option Named) (apart : AreDistinct named) where
   -- no other item has an item's identifier
-  other_by : (i j : ℕ) (n : Named) (o : Option Named) → i < 2 ^ 32 → j < 2 ^ 32 → j ≢ i → named i ≡ Some n → named j ≡ o → declares n.content (id_of o) ≡ false
+  other_by : (i j : ℕ) (n : Named) (o : Option Named) → i < 2 ^ 64 → j < 2 ^ 64 → j ≢ i → named i ≡ Some n → named j ≡ o → declares n.content (id_of o) ≡ false
   other_by i j n None p q ne e f = refl
   other_by i j n (Some m) p q ne e f =
       false_from_ne_true (bytes_eq m.content n.content) (λ t. ne (apart j i m n q p f e (bytes_same m.content n.content t)))
 
-  pub resolves : (count i : ℕ) (n : Named) → count ≤ 2 ^ 32 → i < count → named i ≡ Some n → resolve n.content (identifiers named count) ≡ Some i
+  pub resolves : (count i : ℕ) (n : Named) → count ≤ 2 ^ 64 → i < count → named i ≡ Some n → resolve n.content (identifiers named count) ≡ Some i
   resolves count i n le lt e =
       let here : declares n.content (id_of (named i)) ≡ true = ap (λ o. declares n.content (id_of o)) e ∙ same_bytes n.content in
       let at_start : i - 0 ≡ i = omega arith in
@@ -57,7 +58,7 @@ module _ (named : ℕ → Option Named) (apart : AreDistinct named) where
       (place_of named n.content count 0 i (omega arith) (omega (arith, lt)) here
       (λ j a b ne. other_by i j n (named j) (omega (arith, lt, le)) (omega (arith, b, le)) ne e refl))
 
-  distinct_by : (k n : ℕ) (o : Option Named) → k + suc n ≤ 2 ^ 32 → named k ≡ o → are_distinct (identifiers_at named (k + 1) n) ≡ true
+  distinct_by : (k n : ℕ) (o : Option Named) → k + suc n ≤ 2 ^ 64 → named k ≡ o → are_distinct (identifiers_at named (k + 1) n) ≡ true
       → are_distinct (id_of o ∷ identifiers_at named (k + 1) n) ≡ true
   distinct_by k n None le e rest = rest
   distinct_by k n (Some m) le e rest =
@@ -65,9 +66,12 @@ module _ (named : ℕ → Option Named) (apart : AreDistinct named) where
       undeclared named m.content n (k + 1) (λ j a b. other_by k j m (named j) (omega (arith, le)) (omega (arith, b, le)) (λ s. absurd (omega (arith, a, s))) e refl) in
       rw (new, rest) refl
 
-  distinct_at : (n k : ℕ) → k + n ≤ 2 ^ 32 → are_distinct (identifiers_at named k n) ≡ true
+  distinct_at : (n k : ℕ) → k + n ≤ 2 ^ 64 → are_distinct (identifiers_at named k n) ≡ true
   distinct_at zero k le = refl
   distinct_at (suc n) k le = distinct_by k n (named k) le refl (distinct_at n (k + 1) (omega (arith, le)))
 
-  pub identifiers_are_distinct : (count : ℕ) → count ≤ 2 ^ 32 → are_distinct (identifiers named count) ≡ true
+  pub identifiers_are_distinct : (count : ℕ) → count ≤ 2 ^ 64 → are_distinct (identifiers named count) ≡ true
   identifiers_are_distinct count le = distinct_at count 0 (omega (arith, le))
+
+pub identifiers_resolve : IdentifiersResolve
+identifiers_resolve named count apart few = (identifiers_are_distinct named apart count few, λ i n lt e. resolves named apart count i n few lt e)

@@ -1,41 +1,41 @@
 -- The identifier and the type of a block.
-use Rattle.std.proofs.Common.{◌≡◌, ℕ, ◌<◌, ◌^◌, true, List, [], ◌∷◌, ◌++◌, Option, Some, None, refl, codes, decimal, arith, subst}
+use Rattle.std.proofs.Common.{◌≡◌, ℕ, ◌+◌, ◌<◌, ◌^◌, true, List, [], ◌∷◌, ◌++◌, Option, Some, None, refl, ◌∙◌, codes, decimal, subst}
 use Rattle.wasmprinter_spec.specs.Character.{class}
 use Rattle.wasmprinter_spec.specs.Grammar.{◌>>=◌}
-use Rattle.wasmprinter_spec.specs.Forest.{Forest, End, Word, Name, Group, onto}
+use Rattle.wasmprinter_spec.specs.Forest.{Forest, End, Word, Group, onto}
+use Rattle.wasmprinter_spec.specs.Row as row
 use Rattle.wasmprinter_spec.specs.Types.{ValType, FuncType}
 use Rattle.wasmprinter_spec.specs.Operator.{BlockType, Empty, Value, OfType}
 use Rattle.wasmprinter_spec.specs.Labels.{Label}
-use Rattle.wasmprinter_spec.specs.Indexed.{Counts, IsFunctionType, IsBlockType}
+use Rattle.wasmprinter_spec.specs.Names.{Names, AreNamed, AreApart}
+use Rattle.wasmprinter_spec.specs.Indexed.{Counts, IsFunctionType, IsBlockType, IsDeclaredVal, IsDeclaredFunc}
 use Rattle.wasmprinter_spec.specs.Code.{PartHead, head}
 use Rattle.wasmprinter_spec.specs.IndexSpaces.{Context}
 use Rattle.wasmprinter_spec.specs.Text.Items.{ids_of}
 use Rattle.wasmprinter_spec.specs.Text.Types.{signature}
 use Rattle.wasmprinter_spec.specs.Text.Operators.{id_of, behind_id, are_unnamed, type_with, block_type}
-use Rattle.wasmprinter_spec.specs.Piece.{Number}
-use Rattle.wasmprinter_spec.specs.Layout.Types.{signature_if_any}
-use Rattle.wasmprinter_spec.specs.Layout.Operators.{Form, OverLines, InLine, id_pieces, ending_pieces, block_pieces}
+use Rattle.wasmprinter_spec.specs.Layout.Variables.{Variables, Alone, Together, grouped}
+use Rattle.wasmprinter_spec.specs.Layout.Types.{parameters_of}
+use Rattle.wasmprinter_spec.specs.Layout.Operators.{Setting, Form, OverLines, InLine, ending_pieces, block_pieces}
 use Rattle.wasmprinter_lexical.proofs.Printed.{is_remark, is_remark-decimal, is_remark-append}
 use Rattle.wasmprinter_lexical.proofs.Pieces.{Bound}
-use Rattle.wasmprinter_lexical.proofs.Writes.{Writes, writing, nothing_writes, gap_writes, line_group_gap_writes, line_group_gap_then}
+use Rattle.wasmprinter_lexical.proofs.Writes.{Writes, writing, nothing_writes, gap_writes, line_group_gap_writes}
 use Rattle.wasmprinter_reading.specs.Listed.{IsBlockInRange, IsSignatureInRange, AreSignaturesInRange}
-use Rattle.wasmprinter_reading.proofs.Items.{unnamed, index-decimal}
-use Rattle.wasmprinter_reading.proofs.Types.Trees.{val_items, group_items, signature_if_any_items, val_writes, signature_if_any_writes}
+use Rattle.wasmprinter_reading.specs.OperatorLaws.{HaveSameTypes, HaveSameNames}
+use Rattle.wasmprinter_reading.proofs.Identifiers.{id_items, of_least}
+use Rattle.wasmprinter_reading.proofs.Declarations.{id, declared_from}
+use Rattle.wasmprinter_reading.proofs.Types.Trees.{val_items, group_items, groups_items, signature_if_any_items, type_use_items, val_writes, type_use_writes}
 use Rattle.wasmprinter_reading.proofs.Types.Back.{IsBehindSignature, end_behind_signature, val_types-one, signature-items, printed_agrees}
-use Rattle.wasmprinter_reading.proofs.Operators.Labels.{id, IsLabel, mark_writes}
 use Rattle.wasmprinter_reading.proofs.Operators.Arguments.{AreArguments, arguments_onto}
 use Rattle.wasmprinter_reading.proofs.Operators.Forms.{behind, may_end}
+use Rattle.wasmprinter_reading.proofs.Operators.Spaces.{least, item_reads, types_read}
 
 -- ---- what they are written as
 
-abbrev pub id_items : Label → Forest
-id_items None = End
-id_items (Some n) = Name n.content End
-
-abbrev pub block_items : (ℕ → Option FuncType) → BlockType → Forest
-block_items signature Empty = End
-block_items signature (Value t) = Group (Word (codes "result") (val_items t)) End
-block_items signature (OfType n) = Group (Word (codes "type") (Word (decimal n) End)) (signature_if_any_items (signature n))
+abbrev pub block_items : Setting → BlockType → Forest
+block_items s Empty = End
+block_items s (Value t) = Group (Word (codes "result") (val_items s.names t)) End
+block_items s (OfType n) = type_use_items s.names None n (s.signature n)
 
 -- ---- arguments
 
@@ -43,22 +43,27 @@ pub id_arguments : (own : Label) → AreArguments (id_items own)
 id_arguments None = tt
 id_arguments (Some n) = tt
 
-group_arguments : (w : List ℕ) (ts : List ValType) → head w ≡ PartHead → AreArguments (group_items w ts)
-group_arguments w [] h = tt
-group_arguments w (t ∷ ts) h = (h, tt)
+group_arguments : (names : Names) (w : List ℕ) (ts : List ValType) → head w ≡ PartHead → AreArguments (group_items names w ts)
+group_arguments names w [] h = tt
+group_arguments names w (t ∷ ts) h = (h, tt)
 
-behind_arguments : (t : Option FuncType) → AreArguments (signature_if_any_items t)
-unfolding head
-behind_arguments None = tt
-behind_arguments (Some t) =
-    arguments_onto (group_items (codes "param") t.params) (group_items (codes "result") t.results)
-    (group_arguments (codes "param") t.params refl) (group_arguments (codes "result") t.results refl)
+groups_arguments : (names : Names) (w : List ℕ) (gs : List Variables) → head w ≡ PartHead → AreArguments (groups_items names w gs)
+groups_arguments names w [] h = tt
+groups_arguments names w (Alone n t ∷ gs) h = (h, groups_arguments names w gs h)
+groups_arguments names w (Together ts ∷ gs) h = (h, groups_arguments names w gs h)
 
-pub block_arguments : (signature : ℕ → Option FuncType) (t : BlockType) → AreArguments (block_items signature t)
+behind_arguments : (names : Names) (t : Option FuncType) → AreArguments (signature_if_any_items names None t)
 unfolding head
-block_arguments signature Empty = tt
-block_arguments signature (Value t) = (refl, tt)
-block_arguments signature (OfType n) = (refl, behind_arguments (signature n))
+behind_arguments names None = tt
+behind_arguments names (Some t) =
+    arguments_onto (groups_items names (codes "param") (grouped (parameters_of names None) 0 t.params)) (group_items names (codes "result") t.results)
+    (groups_arguments names (codes "param") (grouped (parameters_of names None) 0 t.params) refl) (group_arguments names (codes "result") t.results refl)
+
+pub block_arguments : (s : Setting) (t : BlockType) → AreArguments (block_items s t)
+unfolding head
+block_arguments s Empty = tt
+block_arguments s (Value t) = (refl, tt)
+block_arguments s (OfType n) = (refl, behind_arguments s.names (s.signature n))
 
 -- ---- they read back
 
@@ -72,54 +77,67 @@ pub record IsBehindBlock (c : Context) (f : Forest) : Type 0 where
 pub end_behind_block : (c : Context) → IsBehindBlock c End
 end_behind_block c = record { no_id = refl; all_behind_id = refl; no_type = refl; no_signature = end_behind_signature c.spaces.types }
 
-pub behind_id-block : (signature : ℕ → Option FuncType) (own : Label) (t : BlockType) (f : Forest) → behind_id f ≡ f →
-    behind_id (onto (id_items own) (onto (block_items signature t) f)) ≡ onto (block_items signature t) f
-behind_id-block signature (Some n) t f e = refl
-behind_id-block signature None Empty f e = e
-behind_id-block signature None (Value t) f e = refl
-behind_id-block signature None (OfType n) f e = refl
+pub behind_id-block : (s : Setting) (own : Label) (t : BlockType) (f : Forest) → behind_id f ≡ f →
+    behind_id (onto (id_items own) (onto (block_items s t) f)) ≡ onto (block_items s t) f
+behind_id-block s (Some n) t f e = refl
+behind_id-block s None Empty f e = e
+behind_id-block s None (Value t) f e = refl
+behind_id-block s None (OfType n) f e = refl
 
-pub id_of-block : (signature : ℕ → Option FuncType) (own : Label) (t : BlockType) (f : Forest) → id_of f ≡ None →
-    id_of (onto (id_items own) (onto (block_items signature t) f)) ≡ id own
-id_of-block signature (Some n) t f e = refl
-id_of-block signature None Empty f e = e
-id_of-block signature None (Value t) f e = refl
-id_of-block signature None (OfType n) f e = refl
+pub id_of-block : (s : Setting) (own : Label) (t : BlockType) (f : Forest) → id_of f ≡ None →
+    id_of (onto (id_items own) (onto (block_items s t) f)) ≡ id own
+id_of-block s (Some n) t f e = refl
+id_of-block s None Empty f e = e
+id_of-block s None (Value t) f e = refl
+id_of-block s None (OfType n) f e = refl
 
-unnamed_are_unnamed : (ts : List ValType) → are_unnamed (ids_of (unnamed ts)) ≡ true
-unnamed_are_unnamed [] = refl
-unnamed_are_unnamed (t ∷ ts) = unnamed_are_unnamed ts
+nameless : (k : ℕ) (ts : List ValType) → are_unnamed (ids_of (declared_from (λ i. None) k ts)) ≡ true
+nameless k [] = refl
+nameless k (t ∷ ts) = nameless (k + 1) ts
 
--- a signature behind the index of its type
-type_reads : (c : Context) (n : ℕ) (x : Option FuncType) (f : Forest) → IsFunctionType x → IsSignatureInRange x → IsBehindSignature c.spaces.types f →
-    (signature c.spaces.types (onto (signature_if_any_items x) f) >>= type_with n x) ≡ Some (OfType n, f)
-type_reads c n None f k r h = absurd k
-type_reads c n (Some t) f k r h = rw (signature-items c.spaces.types t f r h, printed_agrees t, unnamed_are_unnamed t.params)
+module _ (s : Setting) (c : Context) (k : Counts) (types : HaveSameTypes s c k) (same : HaveSameNames s c k) (apart : AreApart s.names) where
+  -- a signature behind the index of its type
+  type_reads : (n : ℕ) (x : Option FuncType) (f : Forest) → IsFunctionType x → ((t : FuncType) → x ≡ Some t → IsDeclaredFunc (least k) t) → IsBehindSignature c.spaces.types f →
+      (signature c.spaces.types (onto (signature_if_any_items s.names None x) f) >>= type_with n x) ≡ Some (OfType n, f)
+  type_reads n None f i r h = absurd i
+  type_reads n (Some t) f i r h =
+      rw (
+        signature-items s.names c.spaces.types (least k) (types_read s c k same apart) None t f (r t refl) h,
+        printed_agrees (λ i. None) t,
+        nameless 0 t.params,
+      )
 
-pub block_reads : (c : Context) (signature : ℕ → Option FuncType) → ((i : ℕ) → c.signature i ≡ signature i) → (n : Counts) →
-    ((i : ℕ) → n.signature i ≡ signature i) → AreSignaturesInRange signature →
-    (t : BlockType) (f : Forest) → IsBlockInRange t → IsBlockType n t → IsBehindBlock c f → block_type c (onto (block_items signature t) f) ≡ Some (t, f)
-block_reads c signature same n counted ranged Empty f r k h = h.no_type
-block_reads c signature same n counted ranged (Value t) f r k h = rw (val_types-one c.spaces.types t r)
-block_reads c signature same n counted ranged (OfType i) f r k h =
-    let is : IsFunctionType (signature i) = subst IsFunctionType (counted i) k in
-    rw (index-decimal c.spaces.types i r, same i, type_reads c i (signature i) f is (ranged i) h.no_signature)
+  -- the signature of a declared type names declared types
+  pub declared_signature : (n : ℕ) (t : FuncType) → s.signature n ≡ Some t → IsDeclaredFunc (least k) t
+  declared_signature n t e =
+      let ranged : IsSignatureInRange (Some t) = subst IsSignatureInRange e (types.in_range n) in
+      of_least (λ m. IsDeclaredFunc m t) (2 ^ 32) k.types ranged (same.signatures n t (types.counted n ∙ e))
+
+  pub function_is_type : (n : ℕ) (x : Option FuncType) → k.signature n ≡ x → IsFunctionType x → n < k.types
+  function_is_type n None e i = absurd i
+  function_is_type n (Some t) e i = same.functions n t e
+
+  pub block_reads : (t : BlockType) (f : Forest) → IsBlockInRange t → IsBlockType k t → IsBehindBlock c f → block_type c (onto (block_items s t) f) ≡ Some (t, f)
+  block_reads Empty f r d h = h.no_type
+  block_reads (Value t) f r d h =
+      rw (val_types-one s.names c.spaces.types (least k) (types_read s c k same apart) t (of_least (λ m. IsDeclaredVal m t) (2 ^ 32) k.types r d))
+  block_reads (OfType n) f r d h =
+      let is : IsFunctionType (s.signature n) = subst IsFunctionType (types.counted n) d in
+      let declared : n < k.types = function_is_type n (k.signature n) refl d in
+      rw (
+        item_reads s c k same apart row.Types n refl r declared,
+        types.read n,
+        type_reads n (s.signature n) f is (declared_signature n) h.no_signature,
+      )
 
 -- ---- their pieces write them
 
-pub id_writes : (own : Label) → IsLabel own → Writes Bound (id_pieces own) Bound (id_items own)
-unfolding id_pieces
-id_writes None h = search writing
-id_writes (Some n) h = let held = mark_writes n h in search (writing, held)
-
-pub block_writes : (signature : ℕ → Option FuncType) → AreSignaturesInRange signature → (t : BlockType) → IsBlockInRange t →
-    Writes Bound (block_pieces signature t) Bound (block_items signature t)
+pub block_writes : (s : Setting) → AreNamed s.names → AreSignaturesInRange s.signature → (t : BlockType) → IsBlockInRange t →
+    Writes Bound (block_pieces s t) Bound (block_items s t)
 unfolding block_pieces class
-block_writes signature ranged Empty h = search writing
-block_writes signature ranged (Value t) h = gap_writes refl (line_group_gap_writes (codes "result") _ refl refl (val_writes t h))
-block_writes signature ranged (OfType n) h =
-    let small : n < 2 ^ 64 = omega arith in
-    gap_writes refl (line_group_gap_then (codes "type") (Number n ∷ []) (signature_if_any (signature n)) refl refl (search writing) (signature_if_any_writes (signature n) (ranged n)))
+block_writes s named ranged Empty h = search writing
+block_writes s named ranged (Value t) h = gap_writes refl (line_group_gap_writes (codes "result") _ refl refl (val_writes s.names named t h))
+block_writes s named ranged (OfType n) h = gap_writes refl (type_use_writes s.names named None n (s.signature n) refl h (ranged n))
 
 pub comment_writes : (form : Form) (own : Label) (d : ℕ) → Writes Bound (ending_pieces form own d) (behind form) End
 unfolding ending_pieces class

@@ -1,5 +1,5 @@
 -- Labels with the names of a name section, and with identifiers made up for the others or none, are apart, and their names are UTF-8.
-use Rattle.std.proofs.Common.{◌≡◌, ℕ, zero, suc, ◌<◌, ◌^◌, ◌/◌, ◌%◌, Bool, true, false, ◌&&◌, not, cond, eqb, List, [], ◌∷◌, ◌++◌, Option, Some, None, refl, sym, ap, ◌∙◌, subst, arith, true≢false, codes, decimal, bytes_eq, length}
+use Rattle.std.proofs.Common.{◌≡◌, ℕ, zero, suc, ◌<◌, ◌^◌, ◌/◌, ◌%◌, Bool, true, false, ◌&&◌, not, cond, eqb, List, [], ◌∷◌, ◌++◌, Option, Some, None, refl, sym, ap, ◌∙◌, arith, true≢false, codes, decimal, bytes_eq, length}
 use Rattle.std.proofs.lemmas.Bool.{and_parts, and_from, agree_below, agree_below_at}
 use Rattle.std.proofs.lemmas.Fmt.{decimal_injective}
 use Rattle.std.specs.Fmt.{digits, digits_onto, digit_glyph}
@@ -9,8 +9,7 @@ use Rattle.wasmprinter_lexical.proofs.Printed.{all_printed, remark, is_remark-de
 use Rattle.wasmprinter_lexical.proofs.Plain.{plain_text, plain_is_utf8}
 use Rattle.wasmprinter_spec.specs.Labels.{Named, same_name, AreApart}
 use Rattle.wasmprinter_spec.specs.LabelNames.{is_clean, label_content, label_named, label_naming, no_label_names}
-use Rattle.wasmprinter_spec.specs.Names.{IsNamed}
-use Rattle.wasmprinter_reading.specs.OperatorLaws.{AreNames}
+use Rattle.wasmprinter_spec.specs.Names.{IsNamed, IsNamedIfAny}
 use Rattle.wasmprinter_reading.proofs.Bytes.{same_bytes}
 
 -- ---- no blank stands in a number
@@ -120,11 +119,8 @@ printed_is_utf8 text h = plain_is_utf8 text (plain_text text h)
 pub utf8-decimal : (n : ℕ) → IsUtf8 (decimal n)
 utf8-decimal n = printed_is_utf8 (decimal n) (remark (decimal n) (is_remark-decimal n)).printed
 
-label_is_named : (invents : Bool) (n d : ℕ) (x : Option (List ℕ)) (m : Named) → ((s : List ℕ) → x ≡ Some s → IsUtf8 s) → label_named invents n d x ≡ Some m →
-    IsNamed m
-label_is_named invents n d (Some s) m utf8 e =
-    let same : record { given = Some s; content = label_content n s } ≡ m = cc in
-    subst IsNamed same (by (is_clean s) refl)
+label_is_named : (invents : Bool) (n d : ℕ) (x : Option (List ℕ)) → ((s : List ℕ) → x ≡ Some s → IsUtf8 s) → IsNamedIfAny (label_named invents n d x)
+label_is_named invents n d (Some s) utf8 = by (is_clean s) refl
   where
     blank : IsUtf8 (32 ∷ [])
     blank = printed_is_utf8 (32 ∷ []) refl
@@ -143,19 +139,14 @@ label_is_named invents n d (Some s) m utf8 e =
       content = IsUtf8-append (codes "#label") (decimal n ++ (32 ∷ s)) group (IsUtf8-append (decimal n) (32 ∷ s) (utf8-decimal n) (IsUtf8-append (32 ∷ []) s blank (utf8 s refl)));
       some = omega arith;
     }
-label_is_named true n d None m utf8 e =
-    let same : record { given = None; content = codes "#label" ++ decimal d } ≡ m = cc in
-    subst IsNamed same (record { given = tt; content = IsUtf8-append (codes "#label") (decimal d) (printed_is_utf8 (codes "#label") refl) (utf8-decimal d); some = omega arith })
-label_is_named false n d None m utf8 e = absurd cc
+label_is_named true n d None utf8 = record { given = tt; content = IsUtf8-append (codes "#label") (decimal d) (printed_is_utf8 (codes "#label") refl) (utf8-decimal d); some = omega arith }
+label_is_named false n d None utf8 = tt
 
 pub label_naming_names : (invents : Bool) (names : ℕ → Option (List ℕ)) → ((n : ℕ) (s : List ℕ) → names n ≡ Some s → IsUtf8 s) →
-    AreNames (label_naming invents names)
-label_naming_names invents names utf8 i d m e = label_is_named invents i d (names i) m (utf8 i) e
+    (i d : ℕ) → IsNamedIfAny (label_naming invents names i d)
+label_naming_names invents names utf8 i d = label_is_named invents i d (names i) (utf8 i)
 
 -- ---- no label has a name
-
-pub no_label_names_are_names : AreNames no_label_names
-no_label_names_are_names i d n e = absurd cc
 
 pub no_label_names_are_apart : AreApart no_label_names
 no_label_names_are_apart i j d e outer inner lt small f g same = absurd cc

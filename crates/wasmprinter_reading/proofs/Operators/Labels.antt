@@ -1,45 +1,34 @@
 -- Labels: a label that is printed by its identifier means the block that is meant, and one that is printed by its number too.
-use Rattle.std.proofs.Common.{◌≡◌, ℕ, zero, suc, ◌<◌, ◌-◌, ◌^◌, Bool, true, false, ◌||◌, cond, List, [], ◌∷◌, Option, Some, None, refl, ap, ◌∙◌, subst, map, length, bytes_eq, chars, decimal, arith, option_map, encode_utf8_all}
-use Rattle.std.specs.Prelude.{IsUtf8}
+use Rattle.std.proofs.Common.{◌≡◌, ℕ, zero, suc, ◌<◌, ◌-◌, ◌^◌, Bool, true, false, ◌||◌, cond, List, [], ◌∷◌, ◌++◌, Option, Some, None, refl, sym, ap, ◌∙◌, subst, map, length, bytes_eq, decimal, arith, option_map}
 use Rattle.std.specs.List.{AllByRecursion}
-use Rattle.std.proofs.Math.Utf8.{scalars}
 use Rattle.std.proofs.lemmas.Bool.{or_parts, both_ways, false_from_ne_true, lt-ltb}
-use Rattle.std.proofs.lemmas.Str.{encodes-chars, scalars-chars, is_utf8-from_IsUtf8}
 use Rattle.wasmprinter_spec.specs.Character.{class}
-use Rattle.wasmprinter_spec.specs.Token.{is_name}
 use Rattle.wasmprinter_spec.specs.Forest.{Forest, End, Word, Name, onto}
 use Rattle.wasmprinter_spec.specs.Labels.{Named, Label, Naming, same_name, hides, is_hidden, AreApart, Target, Around, Own, Nothing, behind, target}
 use Rattle.wasmprinter_spec.specs.IndexSpaces.{Identifiers, declares}
 use Rattle.wasmprinter_spec.specs.Text.Operators.{depth, labels, label, last_apart}
-use Rattle.wasmprinter_spec.specs.Piece.{Gap, Identifier, NameNote}
-use Rattle.wasmprinter_spec.specs.Layout.Operators.{given_pieces, mark_pieces, named_pieces, target_pieces, label_pieces, labels_pieces}
+use Rattle.wasmprinter_spec.specs.Layout.Operators.{label_name_pieces, named_pieces, target_pieces, label_pieces, labels_pieces}
 use Rattle.wasmprinter_lexical.proofs.Runs.{is_word}
 use Rattle.wasmprinter_lexical.proofs.Grown.{onto-End}
 use Rattle.wasmprinter_lexical.proofs.Numbers.{natural-decimal, is_word-decimal}
 use Rattle.wasmprinter_lexical.proofs.Printed.{is_remark, is_remark-decimal}
 use Rattle.wasmprinter_lexical.proofs.Pieces.{Free, Bound}
-use Rattle.wasmprinter_lexical.proofs.Writes.{Writes, writing, then, identifier_writes}
+use Rattle.wasmprinter_lexical.proofs.Writes.{Writes, writing, then}
 use Rattle.wasmprinter_reading.specs.Listed.{IsU32}
-use Rattle.wasmprinter_spec.specs.Names.{IsGiven, IsNamed}
-use Rattle.wasmprinter_reading.specs.OperatorLaws.{AreNames}
+pub use Rattle.wasmprinter_reading.specs.LabelLaws.{Opened}
+use Rattle.wasmprinter_reading.specs.LabelLaws.{LabelsMeanTheirBlocks}
+use Rattle.wasmprinter_spec.specs.Names.{IsNamed, IsNamedIfAny}
 use Rattle.wasmprinter_reading.proofs.Bytes.{bytes_same, same_bytes}
+use Rattle.wasmprinter_reading.proofs.Declarations.{id}
+use Rattle.wasmprinter_reading.proofs.Identifiers.{mark_writes, index_writes}
 use Rattle.wasmprinter_reading.proofs.Operators.Arguments.{AreArguments, arguments_onto}
 use Rattle.wasmprinter_reading.proofs.Operators.Numbers.{index_is_no_word}
 
 -- ---- which labels are open
 
 -- what a reader keeps of labels
-abbrev pub id : Label → Option (List ℕ)
-id None = None
-id (Some n) = Some n.content
-
 abbrev pub ids : List Label → Identifiers
 ids xs = map id xs
-
--- labels that are open in a list of operators, each named by the blocks around it
-abbrev pub Opened : Naming → List Label → Type 0
-Opened naming [] = Unit {0}
-Opened naming (x ∷ xs) = ((i : ℕ) × (naming i (length xs) ≡ x)) × (length xs < 2 ^ 64) × Opened naming xs
 
 module _ (naming : Naming) (apart : AreApart naming) where
   -- a label around another is one of a block with fewer blocks around it
@@ -181,50 +170,20 @@ module _ (naming : Naming) (apart : AreApart naming) (inner xs : List Label) (o 
 
 -- ---- their pieces write them
 
-abbrev pub IsLabel : Label → Type 0
-IsLabel None = Unit {0}
-IsLabel (Some n) = IsNamed n
-
-pub is_label-naming : (naming : Naming) → AreNames naming → (i d : ℕ) → IsLabel (naming i d)
-is_label-naming naming names i d = by (naming i d) refl
-  where
-    by : (x : Label) → naming i d ≡ x → IsLabel x
-    by None e = tt
-    by (Some n) e = names i d n e
-
-is_name-utf8 : (s : List ℕ) → IsUtf8 s → 0 < length s → is_name s ≡ true
-is_name-utf8 [] h some = absurd (omega arith)
-is_name-utf8 (b ∷ bs) h some = is_utf8-from_IsUtf8 (b ∷ bs) h
-
-given_writes : (g : Option (List ℕ)) (content : List ℕ) → IsGiven g → Writes Bound (given_pieces g content) Bound End
-given_writes None content h = search writing
-given_writes (Some s) content h = by (bytes_eq s content)
-  where
-    scalar : scalars (chars s) ≡ true
-    scalar = scalars-chars s h
-
-    by : (t : Bool) → Writes Bound (cond t [] (Gap ∷ (NameNote (chars s) ∷ []))) Bound End
-    by true = search writing
-    by false = search (writing, scalar)
-
-pub mark_writes : (n : Named) → IsNamed n → Writes Free (mark_pieces n) Bound (Name n.content End)
-unfolding mark_pieces
-mark_writes n h =
-    let e : encode_utf8_all (chars n.content) ≡ n.content = encodes-chars n.content h.content in
-    let is : is_name (encode_utf8_all (chars n.content)) ≡ true = ap is_name e ∙ is_name-utf8 n.content h.content h.some in
-    subst (λ s. Writes Free (Identifier (chars n.content) ∷ given_pieces n.given n.content) Bound (Name s End)) e
-    (identifier_writes (scalars-chars n.content h.content) is (given_writes n.given n.content h.given))
-
-is_label-target : (l : ℕ) (xs : List Label) (y : Label) (further : List Label) → AllByRecursion IsLabel xs → target l xs ≡ Around y further → IsLabel y
+is_label-target : (l : ℕ) (xs : List Label) (y : Label) (further : List Label) → AllByRecursion IsNamedIfAny xs → target l xs ≡ Around y further → IsNamedIfAny y
 is_label-target zero [] y further h e = absurd cc
 is_label-target (suc l) [] y further h e = absurd cc
-is_label-target zero (x ∷ xs) y further h e = let same : x ≡ y = cc in subst IsLabel same h.0
+is_label-target zero (x ∷ xs) y further h e = let same : x ≡ y = cc in subst IsNamedIfAny same h.0
 is_label-target (suc l) (x ∷ xs) y further h e = by (target l xs) refl e (λ z f. is_label-target l xs z f h.1)
   where
-    by : (t : Target) → target l xs ≡ t → behind x t ≡ Around y further → ((z : Label) (f : List Label) → target l xs ≡ Around z f → IsLabel z) → IsLabel y
-    by (Around z f) same g more = let zy : z ≡ y = cc in subst IsLabel zy (more z f same)
+    by : (t : Target) → target l xs ≡ t → behind x t ≡ Around y further → ((z : Label) (f : List Label) → target l xs ≡ Around z f → IsNamedIfAny z) → IsNamedIfAny y
+    by (Around z f) same g more = let zy : z ≡ y = cc in subst IsNamedIfAny zy (more z f same)
     by Own same g more = absurd cc
     by Nothing same g more = absurd cc
+
+label_name_writes : (g : Option (List ℕ)) (l : ℕ) (n : Named) → l < 2 ^ 64 → IsNamed n → Writes Free (label_name_pieces g l n) Bound (Name n.content End)
+label_name_writes (Some s) l n small h = mark_writes n h
+label_name_writes None l n small h = index_writes (Some n) l h small
 
 target_writes : (inner : List Label) (d l : ℕ) (t : Target) → l < 2 ^ 64 → ((n : Named) (f : List Label) → t ≡ Around (Some n) f → IsNamed n) →
     Writes Free (target_pieces inner d l t) Bound (target_items inner l t)
@@ -233,7 +192,7 @@ target_writes inner d l (Around (Some n) further) small h = by (is_hidden n furt
   where
     by : (t : Bool) → Writes Free (named_pieces l n t) Bound (named_items l n t)
     by true = search writing
-    by false = mark_writes n (h n further refl)
+    by false = label_name_writes n.given l n small (h n further refl)
 target_writes inner d l (Around None further) small h =
     let depth : is_remark (64 ∷ decimal (d - l)) ≡ true = is_remark-decimal (d - l) in
     search writing
@@ -242,14 +201,41 @@ target_writes inner d l Nothing small h =
     let word : is_word (decimal l) ≡ true = is_word-decimal l small in
     search writing
 
-pub label_writes : (inner xs : List Label) (l : ℕ) → AllByRecursion IsLabel xs → IsU32 l → Writes Bound (label_pieces inner xs l) Bound (label_items inner xs l)
+pub label_writes : (inner xs : List Label) (l : ℕ) → AllByRecursion IsNamedIfAny xs → IsU32 l → Writes Bound (label_pieces inner xs l) Bound (label_items inner xs l)
 unfolding label_pieces
 label_writes inner xs l h small =
     let held = target_writes inner (length xs) l (target l xs) (omega arith) (λ n f e. is_label-target l xs (Some n) f h e) in
     search (writing, held)
 
-pub labels_write : (inner xs : List Label) (ls : List ℕ) (l : ℕ) → AllByRecursion IsLabel xs → AllByRecursion IsU32 ls → IsU32 l →
+pub labels_write : (inner xs : List Label) (ls : List ℕ) (l : ℕ) → AllByRecursion IsNamedIfAny xs → AllByRecursion IsU32 ls → IsU32 l →
     Writes Bound (labels_pieces inner xs ls l) Bound (labels_items inner xs ls l)
 unfolding labels_pieces
 labels_write inner xs [] l h hs small = label_writes inner xs l h small
 labels_write inner xs (m ∷ ms) l h hs small = then (label_writes inner xs m h hs.0) (labels_write inner xs ms l h hs.1 small)
+
+-- ---- the law
+
+-- what stands further in hides, or what stands further in still
+hidden-append : (n : Named) (inner further : List Label) → is_hidden n (inner ++ further) ≡ (is_hidden n further || is_hidden n inner)
+hidden-append n [] further = by (is_hidden n further)
+  where
+    by : (b : Bool) → b ≡ (b || false)
+    by true = refl
+    by false = refl
+hidden-append n (x ∷ xs) further = ap (λ b. hides n x || b) (hidden-append n xs further) ∙ by (hides n x) (is_hidden n further)
+  where
+    by : (b c : Bool) → (b || (c || is_hidden n xs)) ≡ (c || (b || is_hidden n xs))
+    by true true = refl
+    by true false = refl
+    by false c = refl
+
+pub labels_mean_their_blocks : LabelsMeanTheirBlocks
+unfolding label_pieces
+labels_mean_their_blocks naming apart inner xs o l n further around = (
+  λ clear.
+      let shown : (is_hidden n further || is_hidden n inner) ≡ false = sym (hidden-append n inner further) ∙ clear in
+      (rw (around, shown) refl, depth-target naming apart l xs n further o around (or_parts (is_hidden n further) (is_hidden n inner) shown).0),
+  λ hidden.
+      let numbered : (is_hidden n further || is_hidden n inner) ≡ true = sym (hidden-append n inner further) ∙ hidden in
+      rw (around, numbered) refl,
+)

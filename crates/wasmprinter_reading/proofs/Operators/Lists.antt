@@ -1,13 +1,12 @@
 -- Lists of operators: what they are written as, that this is their code, and that it reads back.
-use Rattle.std.proofs.Common.{◌≡◌, ℕ, ◌<◌, ◌≤◌, ◌+◌, ◌^◌, Bool, true, false, List, [], ◌∷◌, Option, Some, None, refl, sym, ap, ◌∙◌, subst, map, length, arith}
+use Rattle.std.proofs.Common.{◌≡◌, ℕ, ◌<◌, ◌≤◌, ◌+◌, ◌^◌, Bool, true, false, List, [], ◌∷◌, Some, None, refl, sym, ap, ◌∙◌, subst, map, length, arith}
 use Rattle.std.specs.List.{AllByRecursion}
 use Rattle.wasmprinter_spec.specs.Grammar.{Placed}
 use Rattle.wasmprinter_spec.specs.Forest.{Forest, End, Word, onto}
-use Rattle.wasmprinter_spec.specs.Types.{FuncType}
 use Rattle.wasmprinter_spec.specs.Operator.{Operator}
 use Rattle.wasmprinter_spec.specs.Row.{Row, Role, Ends}
 use Rattle.wasmprinter_spec.specs.Table.{table, rows_of, by_opcode, word_of_row, word_of, role_of_row, role_of, shape_of_row, shape_of}
-use Rattle.wasmprinter_spec.specs.Labels.{Label, Naming, AreApart, labels_after, count_after, outside, inside}
+use Rattle.wasmprinter_spec.specs.Labels.{Label, labels_after, count_after, outside, inside}
 use Rattle.wasmprinter_spec.specs.Stepped.{stops}
 use Rattle.wasmprinter_spec.specs.Nesting.{Nests, Sequence, advance, at_start}
 use Rattle.wasmprinter_spec.specs.NestingSteps.{stops_at_end}
@@ -15,15 +14,16 @@ use Rattle.wasmprinter_spec.specs.Instructions.{roles}
 use Rattle.wasmprinter_spec.specs.Module.{without_places}
 use Rattle.wasmprinter_spec.specs.Indexed.{Counts, AreDeclared, AreDeclaredBy, IsIndexedOperator}
 use Rattle.wasmprinter_spec.specs.Code.{Chunk, chunk, Instruction, Flat, code_of, with_word, code, flattened, unfolded}
+use Rattle.wasmprinter_spec.specs.Names.{IsNamedIfAny, AreNamed, AreApart}
 use Rattle.wasmprinter_spec.specs.IndexSpaces.{Context}
-use Rattle.wasmprinter_spec.specs.Text.Operators.{id_of, immediates, seen, open_behind, operators, are_nested, read_operators}
+use Rattle.wasmprinter_spec.specs.Text.Operators.{id_of, immediates, labels_in_sight, open_behind, operators, are_nested, read_operators}
 use Rattle.wasmprinter_spec.specs.Layout.Operators.{Setting, level, operator_pieces, operators_pieces, expression_pieces}
 use Rattle.wasmprinter_lexical.proofs.Runs.{is_word}
 use Rattle.wasmprinter_lexical.proofs.Writes.{Writes, both_write, word_writes}
 use Rattle.wasmprinter_reading.specs.Listed.{IsListed, AreSignaturesInRange}
-use Rattle.wasmprinter_reading.specs.OperatorLaws.{AreNames, HaveSameTypes, AreOperators}
+use Rattle.wasmprinter_reading.specs.OperatorLaws.{HaveSameTypes, HaveSameNames, AreOperators}
 use Rattle.wasmprinter_reading.proofs.Tabled.{In, refuses, HasRow, row_for, fits}
-use Rattle.wasmprinter_reading.proofs.Operators.Labels.{ids, Opened, IsLabel, is_label-naming}
+use Rattle.wasmprinter_reading.proofs.Operators.Labels.{ids, Opened}
 use Rattle.wasmprinter_reading.proofs.Operators.Arguments.{arguments_front}
 use Rattle.wasmprinter_reading.proofs.Operators.Forms.{behind, ahead, before_writes, no_operators_write, goes_on}
 use Rattle.wasmprinter_reading.proofs.Operators.Immediates.{immediate_items, items_by, arguments_by, immediates_read, immediates_refused, writes_by}
@@ -32,27 +32,27 @@ use Rattle.wasmprinter_reading.proofs.Operators.Open.{outside_ids, outside_opene
 
 -- ---- what operators are written as
 
-abbrev pub arguments_items : (ℕ → Option FuncType) → Label → List Label → Operator → Forest
-arguments_items signature own xs o =
-    items_by signature (inside (role_of o.opcode) xs) (outside (role_of o.opcode) xs) own (shape_of o.opcode) o.immediates
+abbrev pub arguments_items : Setting → Label → List Label → Operator → Forest
+arguments_items s own xs o =
+    items_by s (inside (role_of o.opcode) xs) (outside (role_of o.opcode) xs) own (shape_of o.opcode) o.immediates
 
 -- n blocks were opened before, and these labels are open
-abbrev pub operators_items : (ℕ → Option FuncType) → Naming → ℕ → List Label → List Operator → Forest
-operators_items signature naming n xs [] = End
-operators_items signature naming n xs (o ∷ os) =
-    Word (word_of o.opcode) (onto (arguments_items signature (naming n (length xs)) xs o)
-    (operators_items signature naming (count_after (role_of o.opcode) n) (labels_after (role_of o.opcode) (naming n (length xs)) xs) os))
+abbrev pub operators_items : Setting → ℕ → List Label → List Operator → Forest
+operators_items s n xs [] = End
+operators_items s n xs (o ∷ os) =
+    Word (word_of o.opcode) (onto (arguments_items s (s.names.labels s.function n (length xs)) xs o)
+    (operators_items s (count_after (role_of o.opcode) n) (labels_after (role_of o.opcode) (s.names.labels s.function n (length xs)) xs) os))
 
-abbrev pub expression_items : (ℕ → Option FuncType) → Naming → List Operator → Forest
-expression_items signature naming os = operators_items signature naming 0 [] os
+abbrev pub expression_items : Setting → List Operator → Forest
+expression_items s os = operators_items s 0 [] os
 
 -- ---- this is their code
 
-abbrev pub chunks_of : (ℕ → Option FuncType) → Naming → ℕ → List Label → List Operator → List Chunk
-chunks_of signature naming n xs [] = []
-chunks_of signature naming n xs (o ∷ os) =
-    chunk (rows_of (word_of o.opcode)) (arguments_items signature (naming n (length xs)) xs o)
-    ∷ chunks_of signature naming (count_after (role_of o.opcode) n) (labels_after (role_of o.opcode) (naming n (length xs)) xs) os
+abbrev pub chunks_of : Setting → ℕ → List Label → List Operator → List Chunk
+chunks_of s n xs [] = []
+chunks_of s n xs (o ∷ os) =
+    chunk (rows_of (word_of o.opcode)) (arguments_items s (s.names.labels s.function n (length xs)) xs o)
+    ∷ chunks_of s (count_after (role_of o.opcode) n) (labels_after (role_of o.opcode) (s.names.labels s.function n (length xs)) xs) os
 
 -- an operator's word
 row_word : (o : Operator) (r : HasRow o) → word_of o.opcode ≡ r.row.word
@@ -66,29 +66,29 @@ word_takes r at w e f is =
     let same : rows_of w ≡ rows.first ∷ rows.others = ap rows_of e ∙ rows.is in
     rw same
 
-code-operators : (signature : ℕ → Option FuncType) (naming : Naming) (n : ℕ) (xs : List Label) (os : List Operator) → AllByRecursion IsListed os →
-    code (operators_items signature naming n xs os) ≡ Some (code_of End (map Flat (chunks_of signature naming n xs os)))
-code-operators signature naming n xs [] h = refl
-code-operators signature naming n xs (o ∷ os) h =
+code-operators : (s : Setting) (n : ℕ) (xs : List Label) (os : List Operator) → AllByRecursion IsListed os →
+    code (operators_items s n xs os) ≡ Some (code_of End (map Flat (chunks_of s n xs os)))
+code-operators s n xs [] h = refl
+code-operators s n xs (o ∷ os) h =
     let r : HasRow o = row_for o h.0 in
     let role : Role = role_of o.opcode in
-    let own : Label = naming n (length xs) in
-    let a : Forest = arguments_items signature own xs o in
+    let own : Label = s.names.labels s.function n (length xs) in
+    let a : Forest = arguments_items s own xs o in
     let ys : List Label = labels_after role own xs in
     let m : ℕ = count_after role n in
-    let e : code (onto a (operators_items signature naming m ys os)) ≡ Some (code_of a (map Flat (chunks_of signature naming m ys os))) =
-    arguments_front a (arguments_by signature (inside role xs) (outside role xs) own (shape_of o.opcode) o.immediates h.0.range)
-    (operators_items signature naming m ys os) (map Flat (chunks_of signature naming m ys os)) (code-operators signature naming m ys os h.1) in
+    let e : code (onto a (operators_items s m ys os)) ≡ Some (code_of a (map Flat (chunks_of s m ys os))) =
+    arguments_front a (arguments_by s (inside role xs) (outside role xs) own (shape_of o.opcode) o.immediates h.0.range)
+    (operators_items s m ys os) (map Flat (chunks_of s m ys os)) (code-operators s m ys os h.1) in
     ap (with_word (rows_of (word_of o.opcode)) (word_of o.opcode)) e
-    ∙ word_takes r.row r.in_table (word_of o.opcode) (row_word o r) a (map Flat (chunks_of signature naming m ys os))
+    ∙ word_takes r.row r.in_table (word_of o.opcode) (row_word o r) a (map Flat (chunks_of s m ys os))
 
 flattened-Flat : (cs : List Chunk) → flattened (map Flat cs) ≡ Some cs
 flattened-Flat [] = refl
 flattened-Flat (c ∷ cs) = rw (flattened-Flat cs)
 
-pub unfolded-operators : (signature : ℕ → Option FuncType) (naming : Naming) (n : ℕ) (xs : List Label) (os : List Operator) → AllByRecursion IsListed os →
-    unfolded (operators_items signature naming n xs os) ≡ Some (chunks_of signature naming n xs os)
-unfolded-operators signature naming n xs os h = rw (code-operators signature naming n xs os h, flattened-Flat (chunks_of signature naming n xs os))
+pub unfolded-operators : (s : Setting) (n : ℕ) (xs : List Label) (os : List Operator) → AllByRecursion IsListed os →
+    unfolded (operators_items s n xs os) ≡ Some (chunks_of s n xs os)
+unfolded-operators s n xs os h = rw (code-operators s n xs os h, flattened-Flat (chunks_of s n xs os))
 
 -- ---- they read back
 
@@ -103,79 +103,80 @@ same_roles (o ∷ os) = ap (λ rs. role_of o.value.opcode ∷ rs) (same_roles os
 nested-roles : (os : List (Placed Operator)) → Nests Sequence (roles os) → are_nested (without_places os) ≡ true
 nested-roles os h = ap (λ rs. stops advance at_start rs Ends) (same_roles os) ∙ stops_at_end (roles os) h
 
-module _ (s : Setting) (c : Context) (k : Counts) (same : HaveSameTypes s c k) (naming : Naming) (apart : AreApart naming) where
-  operators-read : (n : ℕ) (xs : List Label) (os : List Operator) → Opened naming xs → length xs + length os ≤ 2 ^ 64 → AllByRecursion IsListed os →
+module _ (s : Setting) (c : Context) (k : Counts) (types : HaveSameTypes s c k) (same : HaveSameNames s c k) (apart : AreApart s.names) where
+  operators-read : (n : ℕ) (xs : List Label) (os : List Operator) → Opened (s.names.labels s.function) xs → length xs + length os ≤ 2 ^ 64 → AllByRecursion IsListed os →
       AllByRecursion (IsIndexedOperator k) os →
-      operators c (ids xs) (chunks_of s.signature naming n xs os) ≡ Some os
+      operators c (ids xs) (chunks_of s n xs os) ≡ Some os
   operators-read n xs [] o small h d = refl
   operators-read n xs (p ∷ ps) o small h d =
       let r : HasRow p = row_for p h.0 in
       let is : Role = role_of p.opcode in
-      let own : Label = naming n (length xs) in
-      let a : Forest = arguments_items s.signature own xs p in
+      let own : Label = s.names.labels s.function n (length xs) in
+      let a : Forest = arguments_items s own xs p in
       let ys : List Label = labels_after is own xs in
       let m : ℕ = count_after is n in
       let fewer : length xs < 2 ^ 64 = omega (arith, small) in
       let more : length ys + length ps ≤ 2 ^ 64 = omega (arith, small, after_length is own xs) in
       let role : is ≡ r.row.role = ap role_of_row r.found in
-      let written : a ≡ immediate_items s.signature (inside is xs) (outside is xs) own r.row.shape p.immediates =
-      ap (λ x. items_by s.signature (inside is xs) (outside is xs) own (shape_of_row x) p.immediates) r.found in
-      let i : immediates c (seen r.row.role (ids xs)) r.row.shape a ≡ Some p.immediates =
-      ap (λ x. immediates c (seen x (ids xs)) r.row.shape a) (sym role)
+      let written : a ≡ immediate_items s (inside is xs) (outside is xs) own r.row.shape p.immediates =
+      ap (λ x. items_by s (inside is xs) (outside is xs) own (shape_of_row x) p.immediates) r.found in
+      let i : immediates c (labels_in_sight r.row.role (ids xs)) r.row.shape a ≡ Some p.immediates =
+      ap (λ x. immediates c (labels_in_sight x (ids xs)) r.row.shape a) (sym role)
       ∙ ap (λ x. immediates c x r.row.shape a) (outside_ids is xs)
       ∙ ap (immediates c (ids (outside is xs)) r.row.shape) written
-      ∙ immediates_read c s.signature same.read k same.counted same.in_range naming apart (inside is xs) (outside is xs) (outside_opened naming is xs o) own
-      r.row.shape p.immediates r.shape h.0.range (declared_by_row k p r.row r.found d.0) in
+      ∙ immediates_read s c k types same apart (inside is xs) (outside is xs) (outside_opened (s.names.labels s.function) is xs o) own
+      r.row.shape p.immediates r.shape r.items h.0.range (declared_by_row k p r.row r.found d.0) in
       let fit : fits is r.row.shape ≡ true = ap (λ x. fits x r.row.shape) role ∙ r.fit in
       let after : open_behind r.row.role (id_of a) (ids xs) ≡ ids ys =
       ap (λ x. open_behind x (id_of a) (ids xs)) (sym role)
       ∙ ap (λ x. open_behind is (id_of x) (ids xs)) written
-      ∙ after_ids c s.signature (inside is xs) (outside is xs) is r.row.shape own xs p.immediates fit r.shape in
-      let refused : (x : Row) → refuses x.shape r.row.shape ≡ true → immediates c (seen x.role (ids xs)) x.shape a ≡ None =
-      λ x no. ap (immediates c (seen x.role (ids xs)) x.shape) written
-      ∙ immediates_refused c (seen x.role (ids xs)) s.signature (inside is xs) (outside is xs) own x.shape r.row.shape p.immediates no r.shape h.0.range in
+      ∙ after_ids s c (inside is xs) (outside is xs) is r.row.shape own xs p.immediates fit r.shape in
+      let refused : (x : Row) → refuses x.shape r.row.shape ≡ true → immediates c (labels_in_sight x.role (ids xs)) x.shape a ≡ None =
+      λ x no. ap (immediates c (labels_in_sight x.role (ids xs)) x.shape) written
+      ∙ immediates_refused s c k types same apart (inside is xs) (outside is xs) (outside_opened (s.names.labels s.function) is xs o) own (labels_in_sight x.role (ids xs)) x.shape
+      r.row.shape p.immediates no r.shape h.0.range (declared_by_row k p r.row r.found d.0) in
       rw (
         row_word p r,
         first_reading-row c (ids xs) a p.immediates r.row r.in_table i refused,
         after,
-        operators-read m ys ps (after_opened naming n is xs fewer o) more h.1 d.1,
+        operators-read m ys ps (after_opened (s.names.labels s.function) n is xs fewer o) more h.1 d.1,
         r.prefix,
         r.number,
       )
 
   -- operators that are well nested read as themselves
   pub expression_reads : (os : List (Placed Operator)) → AreOperators k os →
-      read_operators c (chunks_of s.signature naming 0 [] (without_places os)) ≡ Some (without_places os)
+      read_operators c (chunks_of s 0 [] (without_places os)) ≡ Some (without_places os)
   expression_reads os h = rw (operators-read 0 [] (without_places os) tt (omega (arith, h.count)) h.listed h.indexed, nested-roles os h.nested)
 
 -- ---- their pieces write them
 
-operator_writes : (s : Setting) → AreSignaturesInRange s.signature → (first : Bool) (own : Label) (xs : List Label) (o : Placed Operator) →
-    AllByRecursion IsLabel xs → IsLabel own → IsListed o.value →
-    Writes (ahead s.form first) (operator_pieces s first own xs o) (behind s.form) (Word (word_of o.value.opcode) (arguments_items s.signature own xs o.value))
+operator_writes : (s : Setting) → AreNamed s.names → AreSignaturesInRange s.signature → (first : Bool) (own : Label) (xs : List Label) (o : Placed Operator) →
+    AllByRecursion IsNamedIfAny xs → IsNamedIfAny own → IsListed o.value →
+    Writes (ahead s.form first) (operator_pieces s first own xs o) (behind s.form) (Word (word_of o.value.opcode) (arguments_items s own xs o.value))
 unfolding operator_pieces
-operator_writes s ranged first own xs o h k l =
+operator_writes s named ranged first own xs o h k l =
     let r : HasRow o.value = row_for o.value l in
     let role : Role = role_of o.value.opcode in
     let is : is_word (word_of o.value.opcode) ≡ true = ap is_word (ap word_of_row r.found) ∙ r.is_its_word in
     before_writes s.form first o.place (s.nesting + level role (length xs))
     (word_writes is
-    (writes_by s ranged (inside role xs) (outside role xs) own (outside_labels role xs h) k (shape_of o.value.opcode) o.value.immediates l.range))
+    (writes_by s named ranged (inside role xs) (outside role xs) own (outside_labels role xs h) k (shape_of o.value.opcode) o.value.immediates l.range))
 
-operators_write : (s : Setting) → AreSignaturesInRange s.signature → (naming : Naming) → AreNames naming →
-    (first : Bool) (n : ℕ) (xs : List Label) (os : List (Placed Operator)) → AllByRecursion IsLabel xs → AllByRecursion IsListed (without_places os) →
-    Writes (ahead s.form first) (operators_pieces s naming first n xs os) (behind s.form) (operators_items s.signature naming n xs (without_places os))
+operators_write : (s : Setting) → AreNamed s.names → AreSignaturesInRange s.signature →
+    (first : Bool) (n : ℕ) (xs : List Label) (os : List (Placed Operator)) → AllByRecursion IsNamedIfAny xs → AllByRecursion IsListed (without_places os) →
+    Writes (ahead s.form first) (operators_pieces s first n xs os) (behind s.form) (operators_items s n xs (without_places os))
 unfolding operators_pieces
-operators_write s ranged naming names first n xs [] h l = no_operators_write s.form first
-operators_write s ranged naming names first n xs (o ∷ os) h l =
+operators_write s named ranged first n xs [] h l = no_operators_write s.form first
+operators_write s named ranged first n xs (o ∷ os) h l =
     let role : Role = role_of o.value.opcode in
-    let own : Label = naming n (length xs) in
-    let k : IsLabel own = is_label-naming naming names n (length xs) in
-    both_write (operator_writes s ranged first own xs o h k l.0)
-    (goes_on s.form (operators_write s ranged naming names false (count_after role n) (labels_after role own xs) os (after_labels role own xs k h) l.1))
+    let own : Label = s.names.labels s.function n (length xs) in
+    let k : IsNamedIfAny own = named.labels s.function n (length xs) in
+    both_write (operator_writes s named ranged first own xs o h k l.0)
+    (goes_on s.form (operators_write s named ranged false (count_after role n) (labels_after role own xs) os (after_labels role own xs k h) l.1))
 
-pub expression_writes : (s : Setting) → AreSignaturesInRange s.signature → (naming : Naming) → AreNames naming → (os : List (Placed Operator)) →
+pub expression_writes : (s : Setting) → AreNamed s.names → AreSignaturesInRange s.signature → (os : List (Placed Operator)) →
     AllByRecursion IsListed (without_places os) →
-    Writes (ahead s.form true) (expression_pieces s naming os) (behind s.form) (expression_items s.signature naming (without_places os))
+    Writes (ahead s.form true) (expression_pieces s os) (behind s.form) (expression_items s (without_places os))
 unfolding expression_pieces
-expression_writes s ranged naming names os l = operators_write s ranged naming names true 0 [] os tt l
+expression_writes s named ranged os l = operators_write s named ranged true 0 [] os tt l

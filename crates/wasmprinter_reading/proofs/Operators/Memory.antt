@@ -1,5 +1,5 @@
 -- Memory operands, and lanes: what they are written as, that this reads back, and that their pieces write it.
-use Rattle.std.proofs.Common.{◌≡◌, ℕ, zero, suc, ◌<◌, ◌≤◌, ◌^◌, Bool, true, false, cond, eqb, List, [], ◌∷◌, ◌++◌, Some, refl, sym, ap, ◌∙◌, codes, decimal, arith, option_map, ◌⊎◌, inl, inr}
+use Rattle.std.proofs.Common.{◌≡◌, ℕ, zero, suc, ◌<◌, ◌≤◌, ◌^◌, Bool, true, false, cond, eqb, List, [], ◌∷◌, ◌++◌, Option, Some, None, refl, sym, ap, ◌∙◌, codes, decimal, arith, option_map, ◌⊎◌, inl, inr}
 use Rattle.std.proofs.lemmas.Bool.{cases_lt, eq-eqb, eqb-true, ne_eqb}
 use Rattle.std.proofs.lemmas.Nat.{pow_below}
 use Rattle.std.proofs.lemmas.Fmt.{decimal_is_IsNumeral}
@@ -7,22 +7,28 @@ use Rattle.std.proofs.lemmas.Str.Parse.{digit_at}
 use Rattle.std.specs.Str.Parse.{IsNumeral}
 use Rattle.wasmprinter_spec.specs.Character.{class}
 use Rattle.wasmprinter_spec.specs.Numeral.{exponent_below, exponent_of}
-use Rattle.wasmprinter_spec.specs.Forest.{Forest, End, Word, onto}
+use Rattle.wasmprinter_spec.specs.Forest.{Forest, End, Word, Name, onto}
 use Rattle.wasmprinter_spec.specs.Operator.{MemArg, mem_arg_of, MemoryLane}
-use Rattle.wasmprinter_spec.specs.IndexSpaces.{Context}
+use Rattle.wasmprinter_spec.specs.Row as row
+use Rattle.wasmprinter_spec.specs.Labels.{Named}
+use Rattle.wasmprinter_spec.specs.Names.{AreNamed, AreApart, in_function}
+use Rattle.wasmprinter_spec.specs.Indexed.{Counts, IsIndex}
+use Rattle.wasmprinter_spec.specs.IndexSpaces.{Context, index}
 use Rattle.wasmprinter_spec.specs.Text.Operators.{alignment, with_memory, is_option, mem_arg, but_last, mem_arg_and_lane}
 use Rattle.wasmprinter_spec.specs.Piece as piece
 use Rattle.wasmprinter_spec.specs.Piece.{Gap}
-use Rattle.wasmprinter_spec.specs.Layout.Operators.{offset_pieces, align_pieces, mem_arg_pieces, lane_pieces}
+use Rattle.wasmprinter_spec.specs.Layout.Operators.{Setting, offset_pieces, align_pieces, mem_arg_pieces, lane_pieces}
 use Rattle.wasmprinter_lexical.proofs.Runs.{is_word}
 use Rattle.wasmprinter_lexical.proofs.Numbers.{all_run_digits, is_word-decimal}
 use Rattle.wasmprinter_lexical.proofs.Pieces.{Bound}
 use Rattle.wasmprinter_lexical.proofs.Writes.{Writes, writing, both_write}
 use Rattle.wasmprinter_reading.specs.Listed.{IsByte, IsMemArgInRange}
+use Rattle.wasmprinter_reading.specs.OperatorLaws.{HaveSameNames}
 use Rattle.wasmprinter_reading.proofs.Tabled.{no_rows}
-use Rattle.wasmprinter_reading.proofs.Items.{index-decimal}
+use Rattle.wasmprinter_reading.proofs.Identifiers.{index_items}
 use Rattle.wasmprinter_reading.proofs.Operators.Arguments.{AreArguments, arguments_onto}
 use Rattle.wasmprinter_reading.proofs.Operators.Numbers.{byte_is_no_word, u8-decimal, u64-decimal}
+use Rattle.wasmprinter_reading.proofs.Operators.Spaces.{space_items, item_reads}
 use Rattle.wasmprinter_reading.proofs.Operators.Indices.{default_items, default_arguments, default_writes}
 
 -- ---- what they are written as
@@ -37,14 +43,14 @@ align_items natural e = cond (eqb e natural) End (Word (codes "align=" ++ decima
 abbrev options_items : ℕ → ℕ → ℕ → Forest
 options_items natural offset e = onto (offset_items offset) (align_items natural e)
 
-abbrev pub mem_arg_items : ℕ → MemArg → Forest
-mem_arg_items natural m = onto (default_items m.memory) (options_items natural m.offset m.exponent)
+abbrev pub mem_arg_items : Setting → ℕ → MemArg → Forest
+mem_arg_items s natural m = onto (default_items s row.Memory m.memory) (options_items natural m.offset m.exponent)
 
 abbrev pub lane_items : ℕ → Forest
 lane_items k = Word (decimal k) End
 
-abbrev pub mem_arg_lane_items : ℕ → MemArg → ℕ → Forest
-mem_arg_lane_items natural m k = onto (mem_arg_items natural m) (lane_items k)
+abbrev pub mem_arg_lane_items : Setting → ℕ → MemArg → ℕ → Forest
+mem_arg_lane_items s natural m k = onto (mem_arg_items s natural m) (lane_items k)
 
 -- ---- arguments
 
@@ -62,16 +68,16 @@ align_arguments natural e = by (eqb e natural)
     by true = tt
     by false = (no_rows (codes "align=" ++ decimal (2 ^ e)) refl, tt)
 
-pub mem_arg_arguments : (natural : ℕ) (m : MemArg) → IsMemArgInRange m → AreArguments (mem_arg_items natural m)
-mem_arg_arguments natural m h =
-    arguments_onto (default_items m.memory) (options_items natural m.offset m.exponent) (default_arguments m.memory h.memory)
+pub mem_arg_arguments : (s : Setting) (natural : ℕ) (m : MemArg) → IsMemArgInRange m → AreArguments (mem_arg_items s natural m)
+mem_arg_arguments s natural m h =
+    arguments_onto (default_items s row.Memory m.memory) (options_items natural m.offset m.exponent) (default_arguments s row.Memory m.memory h.memory)
     (arguments_onto (offset_items m.offset) (align_items natural m.exponent) (offset_arguments m.offset) (align_arguments natural m.exponent))
 
 pub lane_arguments : (k : ℕ) → IsByte k → AreArguments (lane_items k)
 lane_arguments k h = (byte_is_no_word k h, tt)
 
-pub mem_arg_lane_arguments : (natural : ℕ) (m : MemArg) (k : ℕ) → IsMemArgInRange m → IsByte k → AreArguments (mem_arg_lane_items natural m k)
-mem_arg_lane_arguments natural m k h l = arguments_onto (mem_arg_items natural m) (lane_items k) (mem_arg_arguments natural m h) (lane_arguments k l)
+pub mem_arg_lane_arguments : (s : Setting) (natural : ℕ) (m : MemArg) (k : ℕ) → IsMemArgInRange m → IsByte k → AreArguments (mem_arg_lane_items s natural m k)
+mem_arg_lane_arguments s natural m k h l = arguments_onto (mem_arg_items s natural m) (lane_items k) (mem_arg_arguments s natural m h) (lane_arguments k l)
 
 -- ---- a power of two
 
@@ -144,37 +150,52 @@ digits_no_option (d ∷ ds) h =
 decimal_no_option : (n : ℕ) → n < 2 ^ 64 → is_option (decimal n) ≡ false
 decimal_no_option n h = digits_no_option (decimal n) (decimal_is_IsNumeral n h).0
 
-pub mem_arg_reads : (c : Context) (natural : ℕ) (m : MemArg) → IsMemArgInRange m → mem_arg c natural (mem_arg_items natural m) ≡ Some m
-mem_arg_reads c natural m h = by (eqb m.memory 0) refl
+-- a memory in front
+memory_first : (c : Context) (natural : ℕ) (o : Option Named) (n : ℕ) (f : Forest) → n < 2 ^ 32 → index c.spaces.memories (index_items o n) ≡ Some n →
+    mem_arg c natural (onto (index_items o n) f) ≡ with_memory natural n f
+memory_first c natural None n f small e = rw (decimal_no_option n (omega (arith, small)), e)
+memory_first c natural (Some m) n f small e = rw e
+
+pub mem_arg_reads : (s : Setting) (c : Context) (k : Counts) → HaveSameNames s c k → AreApart s.names → (natural : ℕ) (m : MemArg) → IsMemArgInRange m → IsIndex k row.Memory m.memory →
+    mem_arg c natural (mem_arg_items s natural m) ≡ Some m
+mem_arg_reads s c k same apart natural m h d = by (eqb m.memory 0) refl
   where
     by : (b : Bool) → eqb m.memory 0 ≡ b →
-        mem_arg c natural (onto (cond b End (Word (decimal m.memory) End)) (options_items natural m.offset m.exponent)) ≡ Some m
+        mem_arg c natural (onto (cond b End (space_items s row.Memory m.memory)) (options_items natural m.offset m.exponent)) ≡ Some m
     by true first =
         without_memory c natural m.offset m.exponent
         ∙ with_memory-options natural 0 m.offset m.exponent h.offset h.exponent
-        ∙ ap (λ k. Some (mem_arg_of m.exponent k m.offset)) (sym (eqb-true m.memory 0 first))
+        ∙ ap (λ j. Some (mem_arg_of m.exponent j m.offset)) (sym (eqb-true m.memory 0 first))
     by false other =
-        rw (decimal_no_option m.memory (omega (arith, h.memory)), index-decimal c.spaces.memories m.memory h.memory)
-        (with_memory-options natural m.memory m.offset m.exponent h.offset h.exponent)
+        memory_first c natural (in_function s.names s.function row.Memory m.memory) m.memory (options_items natural m.offset m.exponent) h.memory
+        (item_reads s c k same apart row.Memory m.memory refl h.memory d)
+        ∙ with_memory-options natural m.memory m.offset m.exponent h.offset h.exponent
 
 -- ---- a lane behind a memory operand
 
+-- words and identifiers
 abbrev AreWords : Forest → Type 0
 AreWords End = Unit {0}
 AreWords (Word w f) = AreWords f
+AreWords (Name n f) = AreWords f
 AreWords _ = ⊥
 
 words_onto : (f g : Forest) → AreWords f → AreWords g → AreWords (onto f g)
 words_onto End g h k = k
 words_onto (Word w f) g h k = words_onto f g h k
+words_onto (Name n f) g h k = words_onto f g h k
 words_onto _ g h k = absurd h
 
-default_words : (n : ℕ) → AreWords (default_items n)
-default_words n = by (eqb n 0)
+item_words : (o : Option Named) (n : ℕ) → AreWords (index_items o n)
+item_words None n = tt
+item_words (Some m) n = tt
+
+default_words : (s : Setting) (n : ℕ) → AreWords (default_items s row.Memory n)
+default_words s n = by (eqb n 0)
   where
-    by : (b : Bool) → AreWords (cond b End (Word (decimal n) End))
+    by : (b : Bool) → AreWords (cond b End (space_items s row.Memory n))
     by true = tt
-    by false = tt
+    by false = item_words (in_function s.names s.function row.Memory n) n
 
 options_words : (natural offset e : ℕ) → AreWords (options_items natural offset e)
 options_words natural offset e = by (eqb offset 0) (eqb e natural)
@@ -190,14 +211,16 @@ but_last-words : (f : Forest) (w : List ℕ) → AreWords f → but_last (onto f
 but_last-words End w h = refl
 but_last-words (Word v End) w h = refl
 but_last-words (Word v (Word u f)) w h = rw (but_last-words (Word u f) w h)
+but_last-words (Word v (Name n f)) w h = rw (but_last-words (Name n f) w h)
+but_last-words (Name n f) w h = rw (but_last-words f w h)
 but_last-words _ w h = absurd h
 
-pub mem_arg_lane_reads : (c : Context) (natural : ℕ) (m : MemArg) (k : ℕ) → IsMemArgInRange m → IsByte k →
-    mem_arg_and_lane c natural (mem_arg_lane_items natural m k) ≡ Some (MemoryLane m k)
-mem_arg_lane_reads c natural m k h l =
-    let words : AreWords (mem_arg_items natural m) =
-    words_onto (default_items m.memory) (options_items natural m.offset m.exponent) (default_words m.memory) (options_words natural m.offset m.exponent) in
-    rw (but_last-words (mem_arg_items natural m) (decimal k) words, mem_arg_reads c natural m h, u8-decimal k l)
+pub mem_arg_lane_reads : (s : Setting) (c : Context) (k : Counts) → HaveSameNames s c k → AreApart s.names → (natural : ℕ) (m : MemArg) (l : ℕ) → IsMemArgInRange m →
+    IsIndex k row.Memory m.memory → IsByte l → mem_arg_and_lane c natural (mem_arg_lane_items s natural m l) ≡ Some (MemoryLane m l)
+mem_arg_lane_reads s c k same apart natural m l h d small =
+    let words : AreWords (mem_arg_items s natural m) =
+    words_onto (default_items s row.Memory m.memory) (options_items natural m.offset m.exponent) (default_words s m.memory) (options_words natural m.offset m.exponent) in
+    rw (but_last-words (mem_arg_items s natural m) (decimal l) words, mem_arg_reads s c k same apart natural m h d, u8-decimal l small)
 
 -- ---- their pieces write them
 
@@ -228,10 +251,10 @@ align_writes natural e h = by (eqb e natural) (is_word-align (2 ^ e) (power_belo
     by true word = search writing
     by false word = search writing
 
-pub mem_arg_writes : (natural : ℕ) (m : MemArg) → IsMemArgInRange m → Writes Bound (mem_arg_pieces natural m) Bound (mem_arg_items natural m)
+pub mem_arg_writes : (s : Setting) → AreNamed s.names → (natural : ℕ) (m : MemArg) → IsMemArgInRange m → Writes Bound (mem_arg_pieces s natural m) Bound (mem_arg_items s natural m)
 unfolding mem_arg_pieces
-mem_arg_writes natural m h =
-    both_write (default_writes m.memory h.memory) (both_write (offset_writes m.offset h.offset) (align_writes natural m.exponent h.exponent))
+mem_arg_writes s named natural m h =
+    both_write (default_writes s named row.Memory m.memory h.memory) (both_write (offset_writes m.offset h.offset) (align_writes natural m.exponent h.exponent))
 
 pub lane_writes : (k : ℕ) → IsByte k → Writes Bound (lane_pieces k) Bound (lane_items k)
 unfolding lane_pieces
@@ -239,6 +262,6 @@ lane_writes k h =
     let word : is_word (decimal k) ≡ true = is_word-decimal k (omega arith) in
     search writing
 
-pub mem_arg_lane_writes : (natural : ℕ) (m : MemArg) (k : ℕ) → IsMemArgInRange m → IsByte k →
-    Writes Bound (mem_arg_pieces natural m ++ lane_pieces k) Bound (mem_arg_lane_items natural m k)
-mem_arg_lane_writes natural m k h l = both_write (mem_arg_writes natural m h) (lane_writes k l)
+pub mem_arg_lane_writes : (s : Setting) → AreNamed s.names → (natural : ℕ) (m : MemArg) (k : ℕ) → IsMemArgInRange m → IsByte k →
+    Writes Bound (mem_arg_pieces s natural m ++ lane_pieces k) Bound (mem_arg_lane_items s natural m k)
+mem_arg_lane_writes s named natural m k h l = both_write (mem_arg_writes s named natural m h) (lane_writes k l)

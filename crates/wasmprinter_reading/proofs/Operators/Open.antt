@@ -1,20 +1,21 @@
 -- What is open behind an operator: the labels of the layout and those of the reader go together.
-use Rattle.std.proofs.Common.{◌≡◌, ℕ, suc, ◌<◌, ◌≤◌, ◌^◌, true, List, [], ◌∷◌, length, Option, refl, ap, arith}
+use Rattle.std.proofs.Common.{◌≡◌, ℕ, suc, ◌<◌, ◌≤◌, ◌^◌, true, List, [], ◌∷◌, length, refl, ap, arith}
 use Rattle.std.specs.List.{AllByRecursion}
-use Rattle.wasmprinter_spec.specs.Types.{FuncType}
 use Rattle.wasmprinter_spec.specs.Operator.{Immediates}
 use Rattle.wasmprinter_spec.specs.Row.{Role, Opens, OpensIf, OpensTry, Delegates, Ends, Shape}
 use Rattle.wasmprinter_spec.specs.Labels.{Label, Naming, labels_after, outside}
+use Rattle.wasmprinter_spec.specs.Names.{IsNamedIfAny}
 use Rattle.wasmprinter_spec.specs.IndexSpaces.{Context}
-use Rattle.wasmprinter_spec.specs.Text.Operators.{id_of, seen, open_behind}
+use Rattle.wasmprinter_spec.specs.Layout.Operators.{Setting}
+use Rattle.wasmprinter_spec.specs.Text.Operators.{id_of, labels_in_sight, open_behind}
 use Rattle.wasmprinter_reading.specs.Listed.{has_shape}
 use Rattle.wasmprinter_reading.proofs.Tabled.{fits}
-use Rattle.wasmprinter_reading.proofs.Operators.Labels.{ids, Opened, IsLabel}
+use Rattle.wasmprinter_reading.proofs.Operators.Labels.{ids, Opened}
 use Rattle.wasmprinter_reading.proofs.Operators.Immediates.{immediate_items, id_of-opening}
 
 -- ---- the labels that immediates may mean
 
-pub outside_ids : (r : Role) (xs : List Label) → seen r (ids xs) ≡ ids (outside r xs)
+pub outside_ids : (r : Role) (xs : List Label) → labels_in_sight r (ids xs) ≡ ids (outside r xs)
 outside_ids Delegates [] = refl
 outside_ids Delegates (x ∷ xs) = refl
 outside_ids _ xs = refl
@@ -24,7 +25,7 @@ outside_opened naming Delegates [] o = o
 outside_opened naming Delegates (x ∷ xs) o = o.2
 outside_opened naming _ xs o = o
 
-pub outside_labels : (r : Role) (xs : List Label) → AllByRecursion IsLabel xs → AllByRecursion IsLabel (outside r xs)
+pub outside_labels : (r : Role) (xs : List Label) → AllByRecursion IsNamedIfAny xs → AllByRecursion IsNamedIfAny (outside r xs)
 outside_labels Delegates [] h = h
 outside_labels Delegates (x ∷ xs) h = h.1
 outside_labels _ xs h = h
@@ -42,7 +43,7 @@ after_opened naming n Ends [] small o = o
 after_opened naming n Ends (x ∷ xs) small o = o.2
 after_opened naming n _ xs small o = o
 
-pub after_labels : (r : Role) (own : Label) (xs : List Label) → IsLabel own → AllByRecursion IsLabel xs → AllByRecursion IsLabel (labels_after r own xs)
+pub after_labels : (r : Role) (own : Label) (xs : List Label) → IsNamedIfAny own → AllByRecursion IsNamedIfAny xs → AllByRecursion IsNamedIfAny (labels_after r own xs)
 after_labels Opens own xs k h = (k, h)
 after_labels OpensIf own xs k h = (k, h)
 after_labels OpensTry own xs k h = (k, h)
@@ -63,14 +64,14 @@ after_length Ends own [] = omega arith
 after_length Ends own (x ∷ xs) = omega arith
 after_length _ own xs = omega arith
 
-pub after_ids : (c : Context) (signature : ℕ → Option FuncType) (inner ys : List Label) (r : Role) (s : Shape) (own : Label) (xs : List Label) (i : Immediates) →
-    fits r s ≡ true → has_shape s i ≡ true →
-    open_behind r (id_of (immediate_items signature inner ys own s i)) (ids xs) ≡ ids (labels_after r own xs)
-after_ids c signature inner ys Opens s own xs i f k = ap (λ t. t ∷ ids xs) (id_of-opening c signature inner ys own s i f k)
-after_ids c signature inner ys OpensIf s own xs i f k = ap (λ t. t ∷ ids xs) (id_of-opening c signature inner ys own s i f k)
-after_ids c signature inner ys OpensTry s own xs i f k = ap (λ t. t ∷ ids xs) (id_of-opening c signature inner ys own s i f k)
-after_ids c signature inner ys Delegates s own [] i f k = refl
-after_ids c signature inner ys Delegates s own (x ∷ xs) i f k = refl
-after_ids c signature inner ys Ends s own [] i f k = refl
-after_ids c signature inner ys Ends s own (x ∷ xs) i f k = refl
-after_ids c signature inner ys _ s own xs i f k = refl
+pub after_ids : (s : Setting) (c : Context) (inner ys : List Label) (r : Role) (t : Shape) (own : Label) (xs : List Label) (i : Immediates) →
+    fits r t ≡ true → has_shape t i ≡ true →
+    open_behind r (id_of (immediate_items s inner ys own t i)) (ids xs) ≡ ids (labels_after r own xs)
+after_ids s c inner ys Opens t own xs i f k = ap (λ x. x ∷ ids xs) (id_of-opening s c inner ys own t i f k)
+after_ids s c inner ys OpensIf t own xs i f k = ap (λ x. x ∷ ids xs) (id_of-opening s c inner ys own t i f k)
+after_ids s c inner ys OpensTry t own xs i f k = ap (λ x. x ∷ ids xs) (id_of-opening s c inner ys own t i f k)
+after_ids s c inner ys Delegates t own [] i f k = refl
+after_ids s c inner ys Delegates t own (x ∷ xs) i f k = refl
+after_ids s c inner ys Ends t own [] i f k = refl
+after_ids s c inner ys Ends t own (x ∷ xs) i f k = refl
+after_ids s c inner ys _ t own xs i f k = refl

@@ -6,7 +6,7 @@ use Rattle.wasmprinter_spec.specs.Operator.{Immediates}
 use Rattle.wasmprinter_spec.specs.Row.{Row}
 use Rattle.wasmprinter_spec.specs.Table.{table, has_word, rows_of}
 use Rattle.wasmprinter_spec.specs.IndexSpaces.{Identifiers, Context}
-use Rattle.wasmprinter_spec.specs.Text.Operators.{immediates, seen, first_reading}
+use Rattle.wasmprinter_spec.specs.Text.Operators.{immediates, labels_in_sight, first_reading}
 use Rattle.wasmprinter_reading.proofs.Bytes.{same_bytes, bytes_same}
 use Rattle.wasmprinter_reading.proofs.Tabled.{In, here, there, refuses, keyed, are_told_apart, told_apart_later, refuses_later, table_tells_apart}
 
@@ -39,15 +39,15 @@ pub rows_of-row : (r : Row) → In r table → IsSome (rows_of r.word)
 rows_of-row r i = some_of_word table r i
 
 module _ (c : Context) (is : Identifiers) (f : Forest) (i : Immediates) where
-  first_reads : (r : Row) (rs : List Row) → immediates c (seen r.role is) r.shape f ≡ Some i → first_reading c is (r ∷ rs) f ≡ Some (r, i)
+  first_reads : (r : Row) (rs : List Row) → immediates c (labels_in_sight r.role is) r.shape f ≡ Some i → first_reading c is (r ∷ rs) f ≡ Some (r, i)
   first_reads r rs e = rw e
 
   -- a row that reads nothing is passed over
-  passed_over : (s : Row) (rs : List Row) → immediates c (seen s.role is) s.shape f ≡ None → first_reading c is (s ∷ rs) f ≡ first_reading c is rs f
+  passed_over : (s : Row) (rs : List Row) → immediates c (labels_in_sight s.role is) s.shape f ≡ None → first_reading c is (s ∷ rs) f ≡ first_reading c is rs f
   passed_over s rs e = rw e
 
-  first_of_word : (rs : List Row) (r : Row) → are_told_apart (map keyed rs) ≡ true → In r rs → immediates c (seen r.role is) r.shape f ≡ Some i →
-      ((s : Row) → refuses s.shape r.shape ≡ true → immediates c (seen s.role is) s.shape f ≡ None) →
+  first_of_word : (rs : List Row) (r : Row) → are_told_apart (map keyed rs) ≡ true → In r rs → immediates c (labels_in_sight r.role is) r.shape f ≡ Some i →
+      ((s : Row) → refuses s.shape r.shape ≡ true → immediates c (labels_in_sight s.role is) s.shape f ≡ None) →
       first_reading c is (filter (has_word r.word) rs) f ≡ Some (r, i)
   first_of_word [] r t at e refused = elim at [ ]
   first_of_word (s ∷ rs) r t here e refused =
@@ -60,6 +60,6 @@ module _ (c : Context) (is : Identifiers) (f : Forest) (i : Immediates) where
       by false other more = more
 
   -- the row that was meant reads what is written
-  pub first_reading-row : (r : Row) → In r table → immediates c (seen r.role is) r.shape f ≡ Some i →
-      ((s : Row) → refuses s.shape r.shape ≡ true → immediates c (seen s.role is) s.shape f ≡ None) → first_reading c is (rows_of r.word) f ≡ Some (r, i)
+  pub first_reading-row : (r : Row) → In r table → immediates c (labels_in_sight r.role is) r.shape f ≡ Some i →
+      ((s : Row) → refuses s.shape r.shape ≡ true → immediates c (labels_in_sight s.role is) s.shape f ≡ None) → first_reading c is (rows_of r.word) f ≡ Some (r, i)
   first_reading-row r at e refused = first_of_word table r table_tells_apart at e refused

@@ -1,20 +1,28 @@
--- The items of types read back, whatever identifiers are declared.
-use Rattle.std.proofs.Common.{◌≡◌, ◌⊎◌, inl, inr, ℕ, ◌<◌, ◌^◌, true, false, Bool, List, [], ◌∷◌, Option, Some, None, refl, sym, ap, ◌∙◌, codes, bytes_eq, append-nil, map, option_map}
+-- The items of types read back, where indices do.
+use Rattle.std.proofs.Common.{◌≡◌, ◌⊎◌, inl, inr, ℕ, ◌<◌, ◌+◌, true, false, Bool, List, [], ◌∷◌, ◌++◌, Option, Some, None, refl, ap, ◌∙◌, codes, bytes_eq, append-nil, map, option_map, length, arith}
 use Rattle.std.specs.List.{AllByRecursion}
 use Rattle.std.proofs.lemmas.Bool.{and_from, eq-eqb}
 use Rattle.wasmprinter_spec.specs.Numeral.{natural, numeral}
 use Rattle.wasmprinter_spec.specs.Forest.{Forest, End, Word, Group, onto}
+use Rattle.wasmprinter_spec.specs.Row.{Types}
 use Rattle.wasmprinter_spec.specs.Types.{HeapType, Index, ref_type, ValType, Ref, StorageType, Val, I8, I16, FieldType, field_type, FuncType, CompositeType, FuncComposite, ArrayComposite, StructComposite, SubType, sub_type}
-use Rattle.wasmprinter_spec.specs.IndexSpaces.{Identifiers}
-use Rattle.wasmprinter_spec.specs.Text.Items.{identified, groups, declaration, declarations, ids_of}
-use Rattle.wasmprinter_spec.specs.Text.Types.{heap_of_word, ref_of_word, number_of_word, packed_of_word, val_named, storage_named, field_named, heap_type, ref_named, ref_parts, ref_group, val_group, val_types, storage_group, storage_type, field_group, field, fields, variables, Signature, signature, composite, supertypes, subtype, read_type, read_group, group_members}
+use Rattle.wasmprinter_spec.specs.Labels.{Named}
+use Rattle.wasmprinter_spec.specs.Names.{Names, AreDistinct, identifiers}
+use Rattle.wasmprinter_spec.specs.Layout.Variables.{Variables, Alone, Together, with_variable, grouped}
+use Rattle.wasmprinter_spec.specs.Layout.Types.{parameters_of}
+use Rattle.wasmprinter_spec.specs.IndexSpaces.{Identifiers, index}
+use Rattle.wasmprinter_spec.specs.Indexed.{IsDeclaredHeap, IsDeclaredVal, IsDeclaredStorage, IsDeclaredField, IsDeclaredFunc, IsDeclaredComposite, IsDeclaredSub}
+use Rattle.wasmprinter_spec.specs.Text.Items.{identified, groups, Declaration, declaration, declarations}
+use Rattle.wasmprinter_spec.specs.Text.Types.{heap_of_word, ref_of_word, number_of_word, packed_of_word, val_named, storage_named, field_named, heap_type, ref_named, ref_parts, ref_group, val_group, val_types, storage_group, storage_type, field_group, field, fields, variables, Signature, Declared, with_fields, signature, composite, supertypes, subtype, read_type, read_group, group_members}
 use Rattle.wasmprinter_spec.specs.Text.TypeUses.{heap_number, same_heap, same_flag, same_type, same_types, same_func_type, agrees, parameters}
 use Rattle.wasmprinter_lexical.proofs.Grown.{onto-End, onto_assoc}
-use Rattle.wasmprinter_reading.proofs.Items.{ReadsItem, one_item-reads, all_items-reads, unnamed, declarations-items, types_of-unnamed, unnamed_space, index-decimal, no_groups}
+use Rattle.wasmprinter_reading.proofs.Items.{ReadsItem, one_item-reads, all_items-reads, unnamed, declarations-items, no_groups}
+use Rattle.wasmprinter_reading.proofs.Declarations.{id, declared_from, types_of-declared, ids_of-declared, declared_space}
 use Rattle.wasmprinter_reading.proofs.Bytes.{same_bytes}
-use Rattle.wasmprinter_reading.proofs.Types.Ranged.{IsRangedHeap, IsRangedVal, IsRangedStorage, IsRangedField, IsRangedFunc, IsRangedComposite, IsRangedSub}
-use Rattle.wasmprinter_reading.proofs.Types.Trees.{heap_items, ref_items_by, val_items, types_items, group_items, signature_items, storage_items, field_items_by, field_items, struct_items, composite_items, supertype_items, sub_group_items, sub_items_by, type_items, type_field}
-use Rattle.wasmprinter_reading.proofs.Numbered.{rows}
+use Rattle.wasmprinter_reading.proofs.Identifiers.{index_items, id_items, Reads, declaration-items}
+use Rattle.wasmprinter_reading.proofs.Types.Ranged.{IsFewComposite, IsFewSub}
+use Rattle.wasmprinter_reading.proofs.Types.Trees.{heap_items, ref_items_by, val_items, types_items, group_items, groups_items, HaveTypes, grouped_types, signature_items, storage_items, field_items_by, field_items, struct_items, composite_items, supertype_items, sub_group_items, sub_items_by, sub_items, type_items, members_items}
+use Rattle.wasmprinter_reading.proofs.Numbered.{rows, map_numbered}
 
 -- ---- value types
 
@@ -31,29 +39,118 @@ pub record IsRefGroup (ids : Identifiers) (f : Forest) (t : ValType) : Type 0 wh
   pub is : f ≡ Group (Word (codes "ref") held) End
   pub reads : option_map Ref (ref_parts ids held) ≡ Some t
 
-module _ (ids : Identifiers) where
-  pub heap_type-items : (h : HeapType) → IsRangedHeap h → heap_type ids (heap_items h) ≡ Some h
+-- an index where a heap type is wanted, and behind the word `null`
+index_heap : (ids : Identifiers) (o : Option Named) (n : ℕ) → index ids (index_items o n) ≡ Some n → heap_type ids (index_items o n) ≡ Some (Index n)
+index_heap ids o n e = rw e
+
+null_index : (ids : Identifiers) (o : Option Named) (n : ℕ) → index ids (index_items o n) ≡ Some n →
+    ref_parts ids (Word (codes "null") (index_items o n)) ≡ Some (ref_type true (Index n))
+unfolding natural numeral heap_of_word
+null_index ids None n e = rw (index_heap ids None n e)
+null_index ids (Some m) n e = rw (index_heap ids (Some m) n e)
+
+-- an index before other supertypes
+first_supertype : (ids : Identifiers) (o : Option Named) (n : ℕ) (f : Forest) (x : List ℕ × Declared CompositeType) → index ids (index_items o n) ≡ Some n →
+    supertypes ids f ≡ Some x → supertypes ids (onto (index_items o n) f) ≡ Some (n ∷ x.0, x.1)
+first_supertype ids None n f x e g = rw (e, g)
+first_supertype ids (Some m) n f x e g = rw (e, g)
+
+-- ---- no identifier stands before a type
+
+pub identified-ref : (names : Names) (null : Bool) (h : HeapType) (f : Forest) → identified (onto (ref_items_by names null h) f) ≡ (None, onto (ref_items_by names null h) f)
+identified-ref names true (Index n) f = refl
+identified-ref names true _ f = refl
+identified-ref names false h f = refl
+
+pub identified-val : (names : Names) (t : ValType) (f : Forest) → identified (onto (val_items names t) f) ≡ (None, onto (val_items names t) f)
+identified-val names (Ref r) f = identified-ref names r.nullable r.heap f
+identified-val names _ f = refl
+
+-- ---- groups of types
+
+-- what a group of variables declares
+abbrev pub held_by : Variables → List (Declaration ValType)
+held_by (Alone n t) = declaration (Some n.content) t ∷ []
+held_by (Together ts) = unnamed ts
+
+abbrev pub held_by_all : List Variables → List (Declaration ValType)
+held_by_all [] = []
+held_by_all (g ∷ gs) = held_by g ++ held_by_all gs
+
+held-with_variable : (o : Option Named) (t : ValType) (gs : List Variables) → held_by_all (with_variable o t gs) ≡ declaration (id o) t ∷ held_by_all gs
+held-with_variable (Some n) t gs = refl
+held-with_variable None t [] = refl
+held-with_variable None t (Together ts ∷ gs) = refl
+held-with_variable None t (Alone n u ∷ gs) = refl
+
+-- groups declare what stands in them
+pub held-grouped : (named : ℕ → Option Named) (k : ℕ) (ts : List ValType) → held_by_all (grouped named k ts) ≡ declared_from named k ts
+held-grouped named k [] = refl
+held-grouped named k (t ∷ ts) =
+    held-with_variable (named k) t (grouped named (k + 1) ts) ∙ ap (λ ds. declaration (id (named k)) t ∷ ds) (held-grouped named (k + 1) ts)
+
+-- a group of another word is left
+pub groups_leave : {A : Type 0} (names : Names) (read : Forest → Option (List A)) (w v : List ℕ) (ts : List ValType) (f : Forest) → bytes_eq v w ≡ false →
+    groups read w f ≡ Some ([], f) → groups read w (onto (group_items names v ts) f) ≡ Some ([], onto (group_items names v ts) f)
+unfolding groups
+groups_leave names read w v [] f other h = h
+groups_leave names read w v (t ∷ ts) f other h = rw other
+
+pub variables_leave : {A : Type 0} (names : Names) (read : Forest → Option (List A)) (w v : List ℕ) (gs : List Variables) (f : Forest) → bytes_eq v w ≡ false →
+    groups read w f ≡ Some ([], f) → groups read w (onto (groups_items names v gs) f) ≡ Some ([], onto (groups_items names v gs) f)
+unfolding groups
+variables_leave names read w v [] f other h = h
+variables_leave names read w v (Alone n t ∷ gs) f other h = rw other
+variables_leave names read w v (Together ts ∷ gs) f other h = rw other
+
+-- no parameter or result stands in front
+pub record IsBehindSignature (ids : Identifiers) (f : Forest) : Type 0 where
+  pub params : groups (variables ids) (codes "param") f ≡ Some ([], f)
+  pub results : groups (val_types ids) (codes "result") f ≡ Some ([], f)
+
+pub end_behind_signature : (ids : Identifiers) → IsBehindSignature ids End
+end_behind_signature ids = record { params = no_groups (variables ids) (codes "param"); results = no_groups (val_types ids) (codes "result") }
+
+-- the signature of a type, as it is printed with these identifiers of parameters
+abbrev pub printed_signature : (ℕ → Option Named) → FuncType → Signature
+printed_signature named t = record { params = declared_from named 0 t.params; results = t.results }
+
+-- the identifiers of the fields of a type with this index
+abbrev pub composite_fields : Names → ℕ → CompositeType → Identifiers
+composite_fields names i (StructComposite fs) = identifiers (names.fields i) (length fs)
+composite_fields names i _ = []
+
+abbrev pub declared_composite : Names → ℕ → CompositeType → Declared CompositeType
+declared_composite names i c = with_fields (composite_fields names i c) c
+
+-- what the declaration of a type says
+abbrev pub declared_type : Names → ℕ → SubType → Declared SubType
+declared_type names i t = with_fields (composite_fields names i t.composite) t
+
+-- Indices of types below the bound read as themselves.
+module _ (names : Names) (ids : Identifiers) (bound : ℕ) (reads : Reads ids (names.items Types) bound) where
+  pub heap_type-items : (h : HeapType) → IsDeclaredHeap bound h → heap_type ids (heap_items names h) ≡ Some h
   unfolding natural numeral heap_of_word
-  heap_type-items (Index n) r = rw (index-decimal ids n r)
+  heap_type-items (Index n) r = index_heap ids (names.items Types n) n (reads n r)
   heap_type-items _ r = refl
 
-  pub ref_item : (null : Bool) (h : HeapType) → IsRangedHeap h → ReadsItem ref_named (ref_group ids) (ref_items_by null h) (ref_type null h)
+  pub ref_item : (null : Bool) (h : HeapType) → IsDeclaredHeap bound h → ReadsItem ref_named (ref_group ids) (ref_items_by names null h) (ref_type null h)
   unfolding ref_of_word
-  ref_item true (Index n) r = inr (record { held = Word (codes "ref") (Word (codes "null") (heap_items (Index n))); is = refl; reads = rw (heap_type-items (Index n) r) })
+  ref_item true (Index n) r = inr (record { held = Word (codes "ref") (Word (codes "null") (heap_items names (Index n))); is = refl; reads = null_index ids (names.items Types n) n (reads n r) })
   ref_item true _ r = inl (record { name = _; is = refl; reads = refl })
-  ref_item false h r = inr (record { held = Word (codes "ref") (heap_items h); is = refl; reads = rw (heap_type-items h r) })
+  ref_item false h r = inr (record { held = Word (codes "ref") (heap_items names h); is = refl; reads = rw (heap_type-items h r) })
 
   -- A value type: a word that no packed type has, or a group of the keyword `ref`.
   abbrev pub IsValItem : Forest → ValType → Type 0
   IsValItem f t = IsValWord f t ⊎ IsRefGroup ids f t
 
-  ref_is_item : (null : Bool) (h : HeapType) → IsRangedHeap h → IsValItem (ref_items_by null h) (Ref (ref_type null h))
+  ref_is_item : (null : Bool) (h : HeapType) → IsDeclaredHeap bound h → IsValItem (ref_items_by names null h) (Ref (ref_type null h))
   unfolding ref_of_word number_of_word packed_of_word
-  ref_is_item true (Index n) r = inr (record { held = _; is = refl; reads = rw (heap_type-items (Index n) r) })
+  ref_is_item true (Index n) r = inr (record { held = _; is = refl; reads = ap (option_map Ref) (null_index ids (names.items Types n) n (reads n r)) })
   ref_is_item true _ r = inl (record { name = _; is = refl; reads = refl; unpacked = refl })
   ref_is_item false h r = inr (record { held = _; is = refl; reads = rw (heap_type-items h r) })
 
-  pub val_is_item : (t : ValType) → IsRangedVal t → IsValItem (val_items t) t
+  pub val_is_item : (t : ValType) → IsDeclaredVal bound t → IsValItem (val_items names t) t
   unfolding number_of_word packed_of_word
   val_is_item (Ref t) r = ref_is_item t.nullable t.heap r
   val_is_item _ r = inl (record { name = _; is = refl; reads = refl; unpacked = refl })
@@ -70,162 +167,153 @@ module _ (ids : Identifiers) where
   as_field f t (inl w) = inl (record { name = w.name; is = w.is; reads = rw (w.unpacked, w.reads) })
   as_field f t (inr g) = inr (record { held = Word (codes "ref") g.held; is = g.is; reads = rw g.reads })
 
-  pub val_item : (t : ValType) → IsRangedVal t → ReadsItem val_named (val_group ids) (val_items t) t
-  val_item t r = as_val (val_items t) t (val_is_item t r)
+  pub val_item : (t : ValType) → IsDeclaredVal bound t → ReadsItem val_named (val_group ids) (val_items names t) t
+  val_item t r = as_val (val_items names t) t (val_is_item t r)
 
-  pub val_types-items : (ts : List ValType) → AllByRecursion IsRangedVal ts → val_types ids (types_items ts) ≡ Some ts
+  pub val_types-items : (ts : List ValType) → AllByRecursion (IsDeclaredVal bound) ts → val_types ids (types_items names ts) ≡ Some ts
   val_types-items [] r = refl
-  val_types-items (t ∷ ts) r = all_items-reads val_named (val_group ids) (val_items t) t (types_items ts) ts (val_item t r.0) (val_types-items ts r.1)
-
-  pub variables-items : (ts : List ValType) → AllByRecursion IsRangedVal ts → variables ids (types_items ts) ≡ Some (unnamed ts)
-  variables-items [] r = refl
-  variables-items (t ∷ ts) r =
-      declarations-items (val_types ids) val_named (val_group ids) (val_items t) t (types_items ts) (t ∷ ts) (val_item t r.0) (val_types-items (t ∷ ts) r)
-
--- ---- no identifier stands before a type
-
-pub identified-ref : (null : Bool) (h : HeapType) (f : Forest) → identified (onto (ref_items_by null h) f) ≡ (None, onto (ref_items_by null h) f)
-identified-ref true (Index n) f = refl
-identified-ref true _ f = refl
-identified-ref false h f = refl
-
-pub identified-val : (t : ValType) (f : Forest) → identified (onto (val_items t) f) ≡ (None, onto (val_items t) f)
-identified-val (Ref r) f = identified-ref r.nullable r.heap f
-identified-val _ f = refl
-
--- ---- groups of types: parameters, results and locals
-
--- what a group holds that holds types, read so
-pub record ReadsTypes {A : Type 0} (read : Forest → Option (List A)) (held : List ValType → List A) : Type 0 where
-  pub none : held [] ≡ []
-  pub some : (ts : List ValType) → AllByRecursion IsRangedVal ts → read (types_items ts) ≡ Some (held ts)
-
-pub reads_variables : (ids : Identifiers) → ReadsTypes (variables ids) unnamed
-reads_variables ids = record { none = refl; some = variables-items ids }
-
-pub reads_types : (ids : Identifiers) → ReadsTypes (val_types ids) (λ ts. ts)
-reads_types ids = record { none = refl; some = val_types-items ids }
-
--- a group of this word is taken, where no other stands behind it
-pub groups_take : {A : Type 0} {read : Forest → Option (List A)} {held : List ValType → List A} → ReadsTypes read held → (w : List ℕ) (ts : List ValType) (f : Forest) →
-    AllByRecursion IsRangedVal ts → groups read w f ≡ Some ([], f) → groups read w (onto (group_items w ts) f) ≡ Some (held ts, f)
-unfolding groups
-groups_take r w [] f k h = h ∙ ap (λ xs. Some (xs, f)) (sym r.none)
-groups_take {held = held} r w (t ∷ ts) f k h = rw (same_bytes w, r.some (t ∷ ts) k, h, append-nil (held (t ∷ ts)))
-
--- a group of another word is left
-pub groups_leave : {A : Type 0} (read : Forest → Option (List A)) (w v : List ℕ) (ts : List ValType) (f : Forest) → bytes_eq v w ≡ false →
-    groups read w f ≡ Some ([], f) → groups read w (onto (group_items v ts) f) ≡ Some ([], onto (group_items v ts) f)
-unfolding groups
-groups_leave read w v [] f other h = h
-groups_leave read w v (t ∷ ts) f other h = rw other
-
--- no parameter or result stands in front
-pub record IsBehindSignature (ids : Identifiers) (f : Forest) : Type 0 where
-  pub params : groups (variables ids) (codes "param") f ≡ Some ([], f)
-  pub results : groups (val_types ids) (codes "result") f ≡ Some ([], f)
-
-pub end_behind_signature : (ids : Identifiers) → IsBehindSignature ids End
-end_behind_signature ids = record { params = no_groups (variables ids) (codes "param"); results = no_groups (val_types ids) (codes "result") }
-
--- the signature of a type, as it is printed
-abbrev pub printed_signature : FuncType → Signature
-printed_signature t = record { params = unnamed t.params; results = t.results }
-
-module _ (ids : Identifiers) where
-  -- a signature before items that are neither parameters nor results
-  pub signature-items : (t : FuncType) (f : Forest) → IsRangedFunc t → IsBehindSignature ids f →
-      signature ids (onto (signature_items t) f) ≡ Some (printed_signature t, f)
-  signature-items t f h b =
-      let left : groups (variables ids) (codes "param") (onto (group_items (codes "result") t.results) f) ≡ Some ([], onto (group_items (codes "result") t.results) f) =
-      groups_leave (variables ids) (codes "param") (codes "result") t.results f refl b.params in
-      let params : groups (variables ids) (codes "param") (onto (group_items (codes "param") t.params) (onto (group_items (codes "result") t.results) f)) ≡ Some (unnamed t.params, onto (group_items (codes "result") t.results) f) =
-      groups_take (reads_variables ids) (codes "param") t.params _ h.params left in
-      let results : groups (val_types ids) (codes "result") (onto (group_items (codes "result") t.results) f) ≡ Some (t.results, f) = groups_take (reads_types ids) (codes "result") t.results f h.results b.results in
-      rw (onto_assoc (group_items (codes "param") t.params) (group_items (codes "result") t.results) f, params, results)
-
-  signature-alone : (t : FuncType) → IsRangedFunc t → signature ids (signature_items t) ≡ Some (printed_signature t, End)
-  signature-alone t h =
-      rw onto-End at (signature-items t End h (end_behind_signature ids))
+  val_types-items (t ∷ ts) r = all_items-reads val_named (val_group ids) (val_items names t) t (types_items names ts) ts (val_item t r.0) (val_types-items ts r.1)
 
   -- one value type alone
-  pub val_types-one : (t : ValType) → IsRangedVal t → val_types ids (val_items t) ≡ Some (t ∷ [])
-  val_types-one t r = rw onto-End at (val_types-items ids (t ∷ []) (r, tt))
+  pub val_types-one : (t : ValType) → IsDeclaredVal bound t → val_types ids (val_items names t) ≡ Some (t ∷ [])
+  val_types-one t r = rw onto-End at (val_types-items (t ∷ []) (r, tt))
+
+  -- ---- groups of parameters, results and locals
+
+  unnamed-items : (ts : List ValType) → AllByRecursion (IsDeclaredVal bound) ts → variables ids (types_items names ts) ≡ Some (unnamed ts)
+  unnamed-items [] r = refl
+  unnamed-items (t ∷ ts) r =
+      declarations-items (val_types ids) val_named (val_group ids) (val_items names t) t (types_items names ts) (t ∷ ts) (val_item t r.0) (val_types-items (t ∷ ts) r)
+
+  -- groups of this word are taken, where no other stands behind them
+  pub results_take : (w : List ℕ) (ts : List ValType) (f : Forest) → AllByRecursion (IsDeclaredVal bound) ts → groups (val_types ids) w f ≡ Some ([], f) →
+      groups (val_types ids) w (onto (group_items names w ts) f) ≡ Some (ts, f)
+  unfolding groups
+  results_take w [] f r h = h
+  results_take w (t ∷ ts) f r h = rw (same_bytes w, val_types-items (t ∷ ts) r, h, append-nil (t ∷ ts))
+
+  groups_take : (w : List ℕ) (gs : List Variables) (f : Forest) → AllByRecursion (HaveTypes (IsDeclaredVal bound)) gs → groups (variables ids) w f ≡ Some ([], f) →
+      groups (variables ids) w (onto (groups_items names w gs) f) ≡ Some (held_by_all gs, f)
+  unfolding groups
+  groups_take w [] f r h = h
+  groups_take w (Alone n t ∷ gs) f r h = rw (same_bytes w, val_types-one t r.0, groups_take w gs f r.1 h)
+  groups_take w (Together ts ∷ gs) f r h = rw (same_bytes w, unnamed-items ts r.0, groups_take w gs f r.1 h)
+
+  -- variables k, k + 1 ..
+  pub variables_take : (named : ℕ → Option Named) (k : ℕ) (w : List ℕ) (ts : List ValType) (f : Forest) → AllByRecursion (IsDeclaredVal bound) ts →
+      groups (variables ids) w f ≡ Some ([], f) → groups (variables ids) w (onto (groups_items names w (grouped named k ts)) f) ≡ Some (declared_from named k ts, f)
+  variables_take named k w ts f r h =
+      groups_take w (grouped named k ts) f (grouped_types (IsDeclaredVal bound) named k ts r) h ∙ ap (λ ds. Some (ds, f)) (held-grouped named k ts)
+
+  -- ---- signatures
+
+  -- a signature before items that are neither parameters nor results
+  pub signature-items : (function : Option ℕ) (t : FuncType) (f : Forest) → IsDeclaredFunc bound t → IsBehindSignature ids f →
+      signature ids (onto (signature_items names function t) f) ≡ Some (printed_signature (parameters_of names function) t, f)
+  signature-items function t f h b =
+      let left : groups (variables ids) (codes "param") (onto (group_items names (codes "result") t.results) f) ≡ Some ([], onto (group_items names (codes "result") t.results) f) =
+      groups_leave names (variables ids) (codes "param") (codes "result") t.results f refl b.params in
+      let params = variables_take (parameters_of names function) 0 (codes "param") t.params (onto (group_items names (codes "result") t.results) f) h.params left in
+      let results = results_take (codes "result") t.results f h.results b.results in
+      rw (onto_assoc (groups_items names (codes "param") (grouped (parameters_of names function) 0 t.params)) (group_items names (codes "result") t.results) f, params, results)
+
+  signature-alone : (t : FuncType) → IsDeclaredFunc bound t → signature ids (signature_items names None t) ≡ Some (printed_signature (λ i. None) t, End)
+  signature-alone t h =
+      rw onto-End at (signature-items None t End h (end_behind_signature ids))
 
   -- ---- composite types
 
-  storage_item : (s : StorageType) → IsRangedStorage s → ReadsItem storage_named (storage_group ids) (storage_items s) s
+  storage_item : (s : StorageType) → IsDeclaredStorage bound s → ReadsItem storage_named (storage_group ids) (storage_items names s) s
   unfolding packed_of_word
-  storage_item (Val t) r = as_storage ids (val_items t) t (val_is_item ids t r)
+  storage_item (Val t) r = as_storage (val_items names t) t (val_is_item t r)
   storage_item I8 r = inl (record { name = _; is = refl; reads = refl })
   storage_item I16 r = inl (record { name = _; is = refl; reads = refl })
 
-  field_item_by : (mut : Bool) (s : StorageType) → IsRangedStorage s → ReadsItem field_named (field_group ids) (field_items_by mut s) (field_type mut s)
+  field_item_by : (mut : Bool) (s : StorageType) → IsDeclaredStorage bound s → ReadsItem field_named (field_group ids) (field_items_by names mut s) (field_type mut s)
   unfolding packed_of_word
   field_item_by true s r =
-      let held : storage_type ids (storage_items s) ≡ Some s = one_item-reads storage_named (storage_group ids) (storage_items s) s (storage_item s r) in
+      let held : storage_type ids (storage_items names s) ≡ Some s = one_item-reads storage_named (storage_group ids) (storage_items names s) s (storage_item s r) in
       inr (record { held = _; is = refl; reads = rw held })
-  field_item_by false (Val t) r = as_field ids (val_items t) t (val_is_item ids t r)
+  field_item_by false (Val t) r = as_field (val_items names t) t (val_is_item t r)
   field_item_by false I8 r = inl (record { name = _; is = refl; reads = refl })
   field_item_by false I16 r = inl (record { name = _; is = refl; reads = refl })
 
-  field_item : (f : FieldType) → IsRangedField f → ReadsItem field_named (field_group ids) (field_items f) f
+  field_item : (f : FieldType) → IsDeclaredField bound f → ReadsItem field_named (field_group ids) (field_items names f) f
   field_item f r = field_item_by f.mutable f.storage r
 
-  fields-one : (f : FieldType) → IsRangedField f → declarations (fields ids) (field_items f) ≡ Some (declaration None f ∷ [])
+  fields-one : (f : FieldType) → IsDeclaredField bound f → fields ids (field_items names f) ≡ Some (f ∷ [])
   fields-one f r =
-      let i = field_item f r in
-      let e : fields ids (onto (field_items f) End) ≡ Some (f ∷ []) = all_items-reads field_named (field_group ids) (field_items f) f End [] i refl in
-      rw onto-End at (declarations-items (fields ids) field_named (field_group ids) (field_items f) f End (f ∷ []) i e)
+      rw onto-End at (all_items-reads field_named (field_group ids) (field_items names f) f End [] (field_item f r) refl)
 
-  struct-items : (fs : List FieldType) → AllByRecursion IsRangedField fs → groups (declarations (fields ids)) (codes "field") (struct_items fs) ≡ Some (unnamed fs, End)
+  -- a field with its identifier
+  declaration-one : (o : Option Named) (f : FieldType) → IsDeclaredField bound f →
+      declarations (fields ids) (onto (id_items o) (field_items names f)) ≡ Some (declaration (id o) f ∷ [])
+  declaration-one (Some n) f r = rw (fields-one f r)
+  declaration-one None f r =
+      let e : fields ids (onto (field_items names f) End) ≡ Some (f ∷ []) = rw (onto-End, fields-one f r) in
+      rw onto-End at (declarations-items (fields ids) field_named (field_group ids) (field_items names f) f End (f ∷ []) (field_item f r) e)
+
+  struct-items : (named : ℕ → Option Named) (k : ℕ) (fs : List FieldType) → AllByRecursion (IsDeclaredField bound) fs →
+      groups (declarations (fields ids)) (codes "field") (struct_items names named k fs) ≡ Some (declared_from named k fs, End)
   unfolding groups
-  struct-items [] r = refl
-  struct-items (f ∷ fs) r = rw (fields-one f r.0, struct-items fs r.1)
+  struct-items named k [] r = refl
+  struct-items named k (f ∷ fs) r = rw (declaration-one (named k) f r.0, struct-items named (k + 1) fs r.1)
 
-  composite-items : (c : CompositeType) → IsRangedComposite c → composite ids (composite_items c) ≡ Some c
-  composite-items (FuncComposite t) r = rw (signature-alone t r, types_of-unnamed t.params)
-  composite-items (ArrayComposite f) r =
-      let e : field ids (field_items f) ≡ Some f = one_item-reads field_named (field_group ids) (field_items f) f (field_item f r) in
-      rw e
-  composite-items (StructComposite fs) r = rw (struct-items fs r, unnamed_space fs, types_of-unnamed fs)
+  -- the fields of each structure type have identifiers of their own
+  module _ (apart : (i : ℕ) → AreDistinct (names.fields i)) where
+    composite-items : (i : ℕ) (c : CompositeType) → IsDeclaredComposite bound c → IsFewComposite c → composite ids (composite_items names i c) ≡ Some (declared_composite names i c)
+    composite-items i (FuncComposite t) r few = rw (signature-alone t r, types_of-declared (λ i. None) 0 t.params)
+    composite-items i (ArrayComposite f) r few =
+        let e : field ids (field_items names f) ≡ Some f = one_item-reads field_named (field_group ids) (field_items names f) f (field_item f r) in
+        rw e
+    composite-items i (StructComposite fs) r few =
+        rw (struct-items (names.fields i) 0 fs r, declared_space (names.fields i) (apart i) fs (omega (arith, few)), types_of-declared (names.fields i) 0 fs)
 
-  -- ---- subtypes
+    -- ---- subtypes
 
-  supertypes-items : (is : List ℕ) (c : CompositeType) → AllByRecursion (λ i. i < 2 ^ 32) is → IsRangedComposite c →
-      supertypes ids (onto (supertype_items is) (Group (composite_items c) End)) ≡ Some (is, c)
-  supertypes-items [] c h r = rw (composite-items c r)
-  supertypes-items (i ∷ is) c h r = rw (index-decimal ids i h.0, supertypes-items is c h.1 r)
+    supertypes-items : (i : ℕ) (is : List ℕ) (c : CompositeType) → AllByRecursion (λ i. i < bound) is → IsDeclaredComposite bound c → IsFewComposite c →
+        supertypes ids (onto (supertype_items names is) (Group (composite_items names i c) End)) ≡ Some (is, declared_composite names i c)
+    supertypes-items i [] c h r few = rw (composite-items i c r few)
+    supertypes-items i (j ∷ is) c h r few =
+        rw (onto_assoc (index_items (names.items Types j) j) (supertype_items names is) (Group (composite_items names i c) End))
+        (first_supertype ids (names.items Types j) j _ (is, declared_composite names i c) (reads j h.0) (supertypes-items i is c h.1 r few))
 
-  sub_group-items : (final : Bool) (is : List ℕ) (c : CompositeType) → AllByRecursion (λ i. i < 2 ^ 32) is → IsRangedComposite c →
-      subtype ids (sub_group_items final is c) ≡ Some (sub_type final is c)
-  unfolding natural numeral
-  sub_group-items true is c h r = rw (supertypes-items is c h r)
-  sub_group-items false is c h r = rw (supertypes-items is c h r)
+    sub_group-items : (i : ℕ) (final : Bool) (is : List ℕ) (c : CompositeType) → AllByRecursion (λ i. i < bound) is → IsDeclaredComposite bound c → IsFewComposite c →
+        subtype ids (sub_group_items names i final is c) ≡ Some (declared_type names i (sub_type final is c))
+    unfolding natural numeral
+    sub_group-items i true is c h r few = rw (supertypes-items i is c h r few)
+    sub_group-items i false is c h r few = rw (supertypes-items i is c h r few)
 
-  alone-items : (c : CompositeType) → IsRangedComposite c → subtype ids (composite_items c) ≡ Some (sub_type true [] c)
-  alone-items (FuncComposite t) r = rw (composite-items (FuncComposite t) r)
-  alone-items (ArrayComposite f) r = rw (composite-items (ArrayComposite f) r)
-  alone-items (StructComposite fs) r = rw (composite-items (StructComposite fs) r)
+    alone-items : (i : ℕ) (c : CompositeType) → IsDeclaredComposite bound c → IsFewComposite c → subtype ids (composite_items names i c) ≡ Some (declared_type names i (sub_type true [] c))
+    alone-items i (FuncComposite t) r few = rw (composite-items i (FuncComposite t) r few)
+    alone-items i (ArrayComposite f) r few = rw (composite-items i (ArrayComposite f) r few)
+    alone-items i (StructComposite fs) r few = rw (composite-items i (StructComposite fs) r few)
 
-  sub_by-items : (final : Bool) (is : List ℕ) (c : CompositeType) → AllByRecursion (λ i. i < 2 ^ 32) is → IsRangedComposite c →
-      subtype ids (sub_items_by final is c) ≡ Some (sub_type final is c)
-  sub_by-items true [] c h r = alone-items c r
-  sub_by-items true (i ∷ is) c h r = sub_group-items true (i ∷ is) c h r
-  sub_by-items false is c h r = sub_group-items false is c h r
+    sub_by-items : (i : ℕ) (final : Bool) (is : List ℕ) (c : CompositeType) → AllByRecursion (λ i. i < bound) is → IsDeclaredComposite bound c → IsFewComposite c →
+        subtype ids (sub_items_by names i final is c) ≡ Some (declared_type names i (sub_type final is c))
+    sub_by-items i true [] c h r few = alone-items i c r few
+    sub_by-items i true (j ∷ is) c h r few = sub_group-items i true (j ∷ is) c h r few
+    sub_by-items i false is c h r few = sub_group-items i false is c h r few
 
-  pub read_type-items : (t : SubType) → IsRangedSub t → read_type ids (type_items t) ≡ Some t
-  read_type-items t r = sub_by-items t.final t.supertypes t.composite r.supertypes r.composite
+    pub read_type-items : (i : ℕ) (t : SubType) → IsDeclaredSub bound t → IsFewSub t → read_type ids (type_items names i t) ≡ Some (declared_type names i t)
+    read_type-items i t r few =
+        rw (declaration-items (names.items Types i) (Group (sub_items names i t) End) refl) (sub_by-items i t.final t.supertypes t.composite r.supertypes r.composite few)
 
-  pub read_group-items : (ts : List SubType) → AllByRecursion IsRangedSub ts → read_group ids (map type_items ts) ≡ Some ts
-  read_group-items [] r = refl
-  read_group-items (t ∷ ts) r = rw (read_type-items t r.0, read_group-items ts r.1)
+    pub read_group-items : (i : ℕ) (ts : List SubType) → AllByRecursion (IsDeclaredSub bound) ts → AllByRecursion IsFewSub ts →
+        read_group ids (map_numbered (type_items names) i ts) ≡ Some (map_numbered (declared_type names) i ts)
+    read_group-items i [] r few = refl
+    read_group-items i (t ∷ ts) r few = rw (read_type-items i t r.0 few.0, read_group-items (i + 1) ts r.1 few.1)
 
 -- the types of a written group are its members
-pub group_members-items : (ts : List SubType) → group_members (rows (map type_field ts)) ≡ Some (map type_items ts)
+pub group_members-items : (names : Names) (i : ℕ) (ts : List SubType) → group_members (members_items names i ts) ≡ Some (map_numbered (type_items names) i ts)
 unfolding rows
-group_members-items [] = refl
-group_members-items (t ∷ ts) = rw (group_members-items ts)
+group_members-items names i [] = refl
+group_members-items names i (t ∷ ts) = rw (group_members-items names (i + 1) ts)
+
+-- a declaration says the type
+pub types-declared : (names : Names) (i : ℕ) (ts : List SubType) → map (λ d. d.type) (map_numbered (declared_type names) i ts) ≡ ts
+types-declared names i [] = refl
+types-declared names i (t ∷ ts) = ap (λ us. t ∷ us) (types-declared names (i + 1) ts)
 
 -- ---- equal signatures
 
@@ -248,8 +336,8 @@ same_func_type_refl : (t : FuncType) → same_func_type t t ≡ true
 same_func_type_refl t = and_from (same_types t.params t.params) (same_types t.results t.results) (same_types_refl t.params) (same_types_refl t.results)
 
 -- the signature that stands beside the index of a type is the type's
-pub own_parameters : (t : FuncType) → parameters (printed_signature t) (Some t) ≡ Some (ids_of (unnamed t.params))
-own_parameters t = rw (types_of-unnamed t.params, same_func_type_refl t)
+pub own_parameters : (named : ℕ → Option Named) (t : FuncType) → parameters (printed_signature named t) (Some t) ≡ Some (identifiers named (length t.params))
+own_parameters named t = rw (types_of-declared named 0 t.params, same_func_type_refl t, ids_of-declared named 0 t.params)
 
-pub printed_agrees : (t : FuncType) → agrees (printed_signature t) t ≡ true
-printed_agrees t = rw (types_of-unnamed t.params, same_func_type_refl t)
+pub printed_agrees : (named : ℕ → Option Named) (t : FuncType) → agrees (printed_signature named t) t ≡ true
+printed_agrees named t = rw (types_of-declared named 0 t.params, same_func_type_refl t)

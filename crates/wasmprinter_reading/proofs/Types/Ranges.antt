@@ -1,5 +1,5 @@
 -- Types that bytes spell keep to their ranges.
-use Rattle.std.proofs.Common.{◌≡◌, ℕ, zero, suc, ℤ, pos, negsuc, ◌<◌, ◌^◌, Bool, true, false, List, [], ◌∷◌, ◌++◌, Some, arith, is_some, ◌==◌}
+use Rattle.std.proofs.Common.{◌≡◌, ℕ, zero, suc, ℤ, pos, negsuc, ◌<◌, ◌^◌, Bool, true, false, List, [], ◌∷◌, ◌++◌, length, Some, arith, is_some, ◌==◌}
 use Rattle.std.specs.List.{AllByRecursion}
 use Rattle.std.proofs.lemmas.Int.{ints}
 use Rattle.wasmprinter_spec.specs.Grammar.{some_is, byte, Placed}
@@ -12,7 +12,7 @@ use Rattle.wasmprinter_reading.specs.Listed.{IsSigned, IsU32, IsSignatureInRange
 use Rattle.wasmprinter_reading.proofs.AllSpelled.{AllSpelled, AllSpelled-any, AllSpelled-seq, AllSpelled-try_map, AllSpelled-map_value, AllSpelled-fail, AllSpelled-choose, AllSpelled-given, AllSpelled-announced, AllSpelled-peeked}
 use Rattle.wasmprinter_reading.proofs.LebRange.{AllSpelled-signed}
 use Rattle.wasmprinter_reading.proofs.Vectors.{AllSpelled-u32, AllSpelled-vec}
-use Rattle.wasmprinter_reading.proofs.Types.Ranged.{IsRangedHeap, IsRangedVal, IsRangedStorage, IsRangedField, IsRangedFunc, IsRangedComposite, IsRangedSub, IsRangedGroup}
+use Rattle.wasmprinter_reading.proofs.Types.Ranged.{IsRangedHeap, IsRangedVal, IsRangedStorage, IsRangedField, IsRangedFunc, IsRangedComposite, IsRangedSub, IsFewComposite, IsFewSub, IsRangedGroup}
 
 -- ---- value types
 
@@ -69,35 +69,41 @@ AllSpelled-storage_type =
 AllSpelled-field : AllSpelled field IsRangedField
 AllSpelled-field = AllSpelled-map_value (AllSpelled-seq AllSpelled-storage_type (λ _. AllSpelled-any mutability)) (λ x h. h.0)
 
-AllSpelled-signature : AllSpelled signature IsRangedFunc
+AllSpelled-signature : AllSpelled signature (λ t. IsRangedFunc t × (length t.params < 2 ^ 32))
 AllSpelled-signature =
     AllSpelled-map_value (AllSpelled-seq (AllSpelled-vec AllSpelled-val_type) (λ _. AllSpelled-vec AllSpelled-val_type))
-    (λ x h. record { params = h.0.each; results = h.1.each })
+    (λ x h. (record { params = h.0.each; results = h.1.each }, h.0.count))
 
-AllSpelled-composite_behind : (b : ℕ) → AllSpelled (composite_behind b) IsRangedComposite
+AllSpelled-composite_behind : (b : ℕ) → AllSpelled (composite_behind b) (λ c. IsRangedComposite c × IsFewComposite c)
 AllSpelled-composite_behind b =
-    AllSpelled-choose (b == 0x5e) (AllSpelled-map_value AllSpelled-field (λ f h. h))
-    (AllSpelled-choose (b == 0x5f) (AllSpelled-map_value (AllSpelled-vec AllSpelled-field) (λ fs h. h.each))
+    AllSpelled-choose (b == 0x5e) (AllSpelled-map_value AllSpelled-field (λ f h. (h, tt)))
+    (AllSpelled-choose (b == 0x5f) (AllSpelled-map_value (AllSpelled-vec AllSpelled-field) (λ fs h. (h.each, h.count)))
     (AllSpelled-choose (b == 0x60) (AllSpelled-map_value AllSpelled-signature (λ t h. h)) AllSpelled-fail))
 
 -- ---- subtypes and groups
 
-AllSpelled-sub_type_parts : (final : Bool) → AllSpelled (sub_type_parts final) IsRangedSub
+AllSpelled-sub_type_parts : (final : Bool) → AllSpelled (sub_type_parts final) (λ t. IsRangedSub t × IsFewSub t)
 AllSpelled-sub_type_parts final =
     AllSpelled-map_value (AllSpelled-seq (AllSpelled-vec AllSpelled-u32) (λ _. AllSpelled-announced AllSpelled-composite_behind))
-    (λ x h. record { supertypes = h.0.each; composite = h.1 })
+    (λ x h. (record { supertypes = h.0.each; composite = h.1.0 }, h.1.1))
 
-AllSpelled-sub_type_behind : (b : ℕ) → AllSpelled (sub_type_behind b) IsRangedSub
+AllSpelled-sub_type_behind : (b : ℕ) → AllSpelled (sub_type_behind b) (λ t. IsRangedSub t × IsFewSub t)
 AllSpelled-sub_type_behind b =
     AllSpelled-choose (b == 0x50) (AllSpelled-sub_type_parts false)
     (AllSpelled-choose (b == 0x4f) (AllSpelled-sub_type_parts true)
-    (AllSpelled-map_value (AllSpelled-composite_behind b) (λ c h. record { supertypes = tt; composite = h })))
+    (AllSpelled-map_value (AllSpelled-composite_behind b) (λ c h. (record { supertypes = tt; composite = h.0 }, h.1))))
+
+-- the facts of each, one by one
+each_ranged : (ts : List SubType) → AllByRecursion (λ t. IsRangedSub t × IsFewSub t) ts → AllByRecursion IsRangedSub ts × AllByRecursion IsFewSub ts
+each_ranged [] h = (tt, tt)
+each_ranged (t ∷ ts) h = let rest = each_ranged ts h.1 in ((h.0.0, rest.0), (h.0.1, rest.1))
 
 pub AllSpelled-group : AllSpelled group IsRangedGroup
 AllSpelled-group =
     AllSpelled-announced (λ b. AllSpelled-choose (b == 0x4e)
-    (AllSpelled-map_value (AllSpelled-vec (AllSpelled-announced AllSpelled-sub_type_behind)) (λ ts h. record { count = h.count; each = h.each; single = tt }))
-    (AllSpelled-map_value (AllSpelled-sub_type_behind b) (λ t h. record { count = omega arith; each = (h, tt); single = tt })))
+    (AllSpelled-map_value (AllSpelled-vec (AllSpelled-announced AllSpelled-sub_type_behind))
+    (λ ts h. let both = each_ranged ts h.each in record { count = h.count; each = both.0; few = both.1; single = tt }))
+    (AllSpelled-map_value (AllSpelled-sub_type_behind b) (λ t h. record { count = omega arith; each = (h.0, tt); few = (h.1, tt); single = tt })))
 
 -- ---- the types of all groups
 

@@ -1,5 +1,5 @@
 -- The element section (section 5.5 of the standard, "Element Section"): a list of element segments.
-use Rattle.std.specs.Prelude.{ℕ, List, [], ◌∷◌, Bool, true, false, ◌==◌, Option}
+use Rattle.std.specs.Prelude.{ℕ, List, Bool, true, false, ◌==◌}
 use Rattle.wasmprinter_spec.specs.Grammar.{Grammar, Remainder, seq, map_value, succeed, fail, choose, Placed, placed}
 use Rattle.wasmprinter_spec.specs.FirstByte.{only}
 use Rattle.wasmprinter_spec.specs.Sized.{alone}

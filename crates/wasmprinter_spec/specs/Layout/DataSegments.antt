@@ -1,25 +1,27 @@
 -- The layout of data segments (section 6.6 of the standard, "Data Segments"). In a skeleton three points stand for the bytes.
 use Rattle.std.specs.Prelude.{ℕ, List, [], ◌∷◌, ◌++◌, codes, Bool, true, false, Some, ◌==◌, cond}
 use Rattle.wasmprinter_spec.specs.Grammar.{Placed}
-use Rattle.wasmprinter_spec.specs.Types.{SubType}
+use Rattle.wasmprinter_spec.specs.Row as row
 use Rattle.wasmprinter_spec.specs.Operator.{Operator}
 use Rattle.wasmprinter_spec.specs.Placed.{DataMode, PassiveData, ActiveData, Data}
-use Rattle.wasmprinter_spec.specs.Piece.{Piece, Break, Gap, Word, Number, Mark, QuotedBytes}
+use Rattle.wasmprinter_spec.specs.Piece.{Piece, Break, Gap, Word, QuotedBytes}
 use Rattle.wasmprinter_spec.specs.Layout.Groups.{line_group_gap}
+use Rattle.wasmprinter_spec.specs.Layout.Declarations.{Scope, item_declaration, item_index}
 use Rattle.wasmprinter_spec.specs.Layout.Expressions.{constant_group}
 
 -- memory 0 is left out
-abbrev pub named_memory : ℕ → List Piece
-named_memory n = cond (n == 0) [] (line_group_gap (codes "memory") (Number n ∷ []) ++ (Gap ∷ []))
+abbrev pub named_memory : Scope → ℕ → List Piece
+named_memory s n = cond (n == 0) [] (line_group_gap (codes "memory") (item_index s row.Memory n) ++ (Gap ∷ []))
 
-unfoldable pub data_mode_pieces : List SubType → DataMode (Placed Operator) → List Piece
-data_mode_pieces ts PassiveData = []
-data_mode_pieces ts (ActiveData memory offset) = named_memory memory ++ (constant_group ts (codes "offset") offset ++ (Gap ∷ []))
+unfoldable pub data_mode_pieces : Scope → DataMode (Placed Operator) → List Piece
+data_mode_pieces s PassiveData = []
+data_mode_pieces s (ActiveData memory offset) = named_memory s memory ++ (constant_group s (codes "offset") offset ++ (Gap ∷ []))
 
 abbrev pub shown_bytes : Bool → List ℕ → List Piece
 shown_bytes true bs = Word (codes "...") ∷ []
 shown_bytes false bs = QuotedBytes bs ∷ []
 
-unfoldable pub data_pieces : Bool → List SubType → ℕ → Placed (Data (Placed Operator)) → List Piece
-data_pieces skeleton ts i d =
-    Break (Some d.place) 1 ∷ line_group_gap (codes "data") (Mark i ∷ (Gap ∷ (data_mode_pieces ts d.value.mode ++ shown_bytes skeleton d.value.bytes)))
+unfoldable pub data_pieces : Bool → Scope → ℕ → Placed (Data (Placed Operator)) → List Piece
+data_pieces skeleton s i d =
+    Break (Some d.place) 1
+    ∷ line_group_gap (codes "data") (item_declaration s row.Data i ++ (Gap ∷ (data_mode_pieces s d.value.mode ++ shown_bytes skeleton d.value.bytes)))

@@ -1,10 +1,12 @@
--- The layout of exports (section 6.6 of the standard, "Exports"). The index of a tag has no style.
+-- The layout of exports (section 6.6 of the standard, "Exports"). A tag goes by its number, which has no style.
 use Rattle.std.specs.Prelude.{ℕ, List, [], ◌∷◌, codes, chars, decimal, Some}
 use Rattle.wasmprinter_spec.specs.Grammar.{Placed}
 use Rattle.wasmprinter_spec.specs.Types.{ExternKind, FuncKind, TableKind, MemoryKind, GlobalKind, TagKind}
+use Rattle.wasmprinter_spec.specs.Indexed.{space_of}
 use Rattle.wasmprinter_spec.specs.Placed.{Export}
-use Rattle.wasmprinter_spec.specs.Piece.{Piece, Break, Gap, Word, Number, Quoted}
+use Rattle.wasmprinter_spec.specs.Piece.{Piece, Break, Gap, Word, Quoted}
 use Rattle.wasmprinter_spec.specs.Layout.Groups.{line_group_gap}
+use Rattle.wasmprinter_spec.specs.Layout.Declarations.{Scope, item_index}
 
 unfoldable pub kind_word : ExternKind → List ℕ
 kind_word FuncKind = codes "func"
@@ -13,11 +15,11 @@ kind_word MemoryKind = codes "memory"
 kind_word GlobalKind = codes "global"
 kind_word TagKind = codes "tag"
 
-unfoldable pub extern_index_pieces : ExternKind → ℕ → List Piece
-extern_index_pieces TagKind n = Word (decimal n) ∷ []
-extern_index_pieces kind n = Number n ∷ []
+unfoldable pub extern_index_pieces : Scope → ExternKind → ℕ → List Piece
+extern_index_pieces s TagKind n = Word (decimal n) ∷ []
+extern_index_pieces s kind n = item_index s (space_of kind) n
 
-unfoldable pub export_pieces : Placed Export → List Piece
-export_pieces e =
+unfoldable pub export_pieces : Scope → Placed Export → List Piece
+export_pieces s e =
     Break (Some e.place) 1
-    ∷ line_group_gap (codes "export") (Quoted (chars e.value.name) ∷ (Gap ∷ line_group_gap (kind_word e.value.kind) (extern_index_pieces e.value.kind e.value.index)))
+    ∷ line_group_gap (codes "export") (Quoted (chars e.value.name) ∷ (Gap ∷ line_group_gap (kind_word e.value.kind) (extern_index_pieces s e.value.kind e.value.index)))

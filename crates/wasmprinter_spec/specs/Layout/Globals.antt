@@ -1,21 +1,26 @@
 -- The layout of globals (sections 6.4 and 6.6 of the standard, "Global Types" and "Globals").
 use Rattle.std.specs.Prelude.{ℕ, List, [], ◌∷◌, ◌++◌, codes, Bool, true, false, Some}
 use Rattle.wasmprinter_spec.specs.Grammar.{Placed}
-use Rattle.wasmprinter_spec.specs.Types.{SubType, ValType, GlobalType}
+use Rattle.wasmprinter_spec.specs.Types.{ValType, GlobalType}
+use Rattle.wasmprinter_spec.specs.Row as row
+use Rattle.wasmprinter_spec.specs.Names.{Names}
 use Rattle.wasmprinter_spec.specs.Operator.{Operator}
 use Rattle.wasmprinter_spec.specs.Placed.{Global}
-use Rattle.wasmprinter_spec.specs.Piece.{Piece, Break, Gap, OpenTypeGap, Shut, Mark}
+use Rattle.wasmprinter_spec.specs.Piece.{Piece, Break, Gap, OpenTypeGap, Shut}
 use Rattle.wasmprinter_spec.specs.Layout.Groups.{line_group_gap}
-use Rattle.wasmprinter_spec.specs.Layout.Types.{val_pieces}
+use Rattle.wasmprinter_spec.specs.Layout.ValTypes.{val_pieces}
+use Rattle.wasmprinter_spec.specs.Layout.Declarations.{Scope, item_declaration}
 use Rattle.wasmprinter_spec.specs.Layout.Expressions.{constant_pieces}
 
-abbrev pub mutable_pieces : Bool → ValType → List Piece
-mutable_pieces true t = OpenTypeGap (codes "mut") ∷ (val_pieces t ++ (Shut ∷ []))
-mutable_pieces false t = val_pieces t
+abbrev pub mutable_pieces : Names → Bool → ValType → List Piece
+mutable_pieces names true t = OpenTypeGap (codes "mut") ∷ (val_pieces names t ++ (Shut ∷ []))
+mutable_pieces names false t = val_pieces names t
 
-unfoldable pub global_type_pieces : GlobalType → List Piece
-global_type_pieces t = mutable_pieces t.mutable t.type
+unfoldable pub global_type_pieces : Names → GlobalType → List Piece
+global_type_pieces names t = mutable_pieces names t.mutable t.type
 
-unfoldable pub global_pieces : List SubType → ℕ → Placed (Global (Placed Operator)) → List Piece
-global_pieces ts i g =
-    Break (Some g.place) 1 ∷ line_group_gap (codes "global") (Mark i ∷ (Gap ∷ (global_type_pieces g.value.type ++ (Gap ∷ constant_pieces ts g.value.init))))
+unfoldable pub global_pieces : Scope → ℕ → Placed (Global (Placed Operator)) → List Piece
+global_pieces s i g =
+    Break (Some g.place) 1
+    ∷ line_group_gap (codes "global")
+    (item_declaration s row.Global i ++ (Gap ∷ (global_type_pieces s.names g.value.type ++ (Gap ∷ constant_pieces s g.value.init))))

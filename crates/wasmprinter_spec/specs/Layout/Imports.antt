@@ -1,10 +1,12 @@
 -- The layout of imports (section 6.6 of the standard, "Imports"). Each has its number in its own index space.
-use Rattle.std.specs.Prelude.{ℕ, ◌+◌, List, [], ◌∷◌, ◌++◌, codes, chars, Some}
+use Rattle.std.specs.Prelude.{ℕ, ◌+◌, List, [], ◌∷◌, ◌++◌, codes, chars, Some, None}
 use Rattle.wasmprinter_spec.specs.Grammar.{Placed}
-use Rattle.wasmprinter_spec.specs.Types.{SubType, signature_at, ExternType, FuncExtern, TableExtern, MemoryExtern, GlobalExtern, TagExtern}
+use Rattle.wasmprinter_spec.specs.Types.{ExternType, FuncExtern, TableExtern, MemoryExtern, GlobalExtern, TagExtern}
+use Rattle.wasmprinter_spec.specs.Row.{Func, Table, Memory, Global, Tag}
 use Rattle.wasmprinter_spec.specs.Placed.{Import}
-use Rattle.wasmprinter_spec.specs.Piece.{Piece, Break, Gap, Quoted, Mark}
+use Rattle.wasmprinter_spec.specs.Piece.{Piece, Break, Gap, Quoted}
 use Rattle.wasmprinter_spec.specs.Layout.Groups.{line_group_gap}
+use Rattle.wasmprinter_spec.specs.Layout.Declarations.{Scope, item_declaration}
 use Rattle.wasmprinter_spec.specs.Layout.Functions.{header_pieces}
 use Rattle.wasmprinter_spec.specs.Layout.Tables.{table_type_pieces}
 use Rattle.wasmprinter_spec.specs.Layout.Memories.{memory_type_pieces}
@@ -35,18 +37,19 @@ numbers_behind (MemoryExtern t) n = record n { memories = n.memories + 1 }
 numbers_behind (GlobalExtern t) n = record n { globals = n.globals + 1 }
 numbers_behind (TagExtern i) n = record n { tags = n.tags + 1 }
 
-unfoldable pub extern_pieces : List SubType → ℕ → ExternType → List Piece
-extern_pieces ts n (FuncExtern i) = line_group_gap (codes "func") (header_pieces n i (signature_at ts i))
-extern_pieces ts n (TableExtern t) = line_group_gap (codes "table") (Mark n ∷ (Gap ∷ table_type_pieces t))
-extern_pieces ts n (MemoryExtern t) = line_group_gap (codes "memory") (Mark n ∷ (Gap ∷ memory_type_pieces t))
-extern_pieces ts n (GlobalExtern t) = line_group_gap (codes "global") (Mark n ∷ (Gap ∷ global_type_pieces t))
-extern_pieces ts n (TagExtern i) = line_group_gap (codes "tag") (header_pieces n i (signature_at ts i))
+-- Parameters of functions have identifiers, those of tags have none.
+unfoldable pub extern_pieces : Scope → ℕ → ExternType → List Piece
+extern_pieces s n (FuncExtern i) = line_group_gap (codes "func") (header_pieces s Func (Some n) n i)
+extern_pieces s n (TableExtern t) = line_group_gap (codes "table") (item_declaration s Table n ++ (Gap ∷ table_type_pieces s.names t))
+extern_pieces s n (MemoryExtern t) = line_group_gap (codes "memory") (item_declaration s Memory n ++ (Gap ∷ memory_type_pieces t))
+extern_pieces s n (GlobalExtern t) = line_group_gap (codes "global") (item_declaration s Global n ++ (Gap ∷ global_type_pieces s.names t))
+extern_pieces s n (TagExtern i) = line_group_gap (codes "tag") (header_pieces s Tag None n i)
 
-unfoldable pub import_pieces : List SubType → ℕ → Placed Import → List Piece
-import_pieces ts n i =
+unfoldable pub import_pieces : Scope → ℕ → Placed Import → List Piece
+import_pieces s n i =
     Break (Some i.place) 1
-    ∷ line_group_gap (codes "import") (Quoted (chars i.value.source) ∷ (Gap ∷ (Quoted (chars i.value.name) ∷ (Gap ∷ extern_pieces ts n i.value.type))))
+    ∷ line_group_gap (codes "import") (Quoted (chars i.value.source) ∷ (Gap ∷ (Quoted (chars i.value.name) ∷ (Gap ∷ extern_pieces s n i.value.type))))
 
-unfoldable pub imports_pieces : List SubType → Numbers → List (Placed Import) → List Piece
-imports_pieces ts n [] = []
-imports_pieces ts n (i ∷ is) = import_pieces ts (number_of i.value.type n) i ++ imports_pieces ts (numbers_behind i.value.type n) is
+unfoldable pub imports_pieces : Scope → Numbers → List (Placed Import) → List Piece
+imports_pieces s n [] = []
+imports_pieces s n (i ∷ is) = import_pieces s (number_of i.value.type n) i ++ imports_pieces s (numbers_behind i.value.type n) is

@@ -3,9 +3,11 @@ use Rattle.std.specs.Prelude.{ℕ, ◌^◌, List, [], ◌∷◌, ◌++◌, codes
 use Rattle.std.specs.Fmt.{digits}
 use Rattle.wasmprinter_spec.specs.Grammar.{Placed}
 use Rattle.wasmprinter_spec.specs.Types.{MemoryType}
-use Rattle.wasmprinter_spec.specs.Piece.{Piece, Break, Gap, Word, GapTypeWord, Mark}
+use Rattle.wasmprinter_spec.specs.Row.{Memory}
+use Rattle.wasmprinter_spec.specs.Piece.{Piece, Break, Gap, Word, GapTypeWord}
 use Rattle.wasmprinter_spec.specs.Layout.Groups.{line_group_gap}
 use Rattle.wasmprinter_spec.specs.Layout.Limits.{wide_pieces, limits_pieces}
+use Rattle.wasmprinter_spec.specs.Layout.Declarations.{Scope, item_declaration}
 
 abbrev pub shared_pieces : Bool → List Piece
 shared_pieces true = GapTypeWord (codes "shared") ∷ []
@@ -19,5 +21,5 @@ page_pieces (Some e) = Gap ∷ line_group_gap (codes "pagesize") (Word (codes "0
 unfoldable pub memory_type_pieces : MemoryType → List Piece
 memory_type_pieces m = wide_pieces m.wide ++ (limits_pieces m.limits ++ (shared_pieces m.shared ++ page_pieces m.page))
 
-unfoldable pub memory_pieces : ℕ → Placed MemoryType → List Piece
-memory_pieces i m = Break (Some m.place) 1 ∷ line_group_gap (codes "memory") (Mark i ∷ (Gap ∷ memory_type_pieces m.value))
+unfoldable pub memory_pieces : Scope → ℕ → Placed MemoryType → List Piece
+memory_pieces s i m = Break (Some m.place) 1 ∷ line_group_gap (codes "memory") (item_declaration s Memory i ++ (Gap ∷ memory_type_pieces m.value))

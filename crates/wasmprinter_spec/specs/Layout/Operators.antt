@@ -1,43 +1,52 @@
--- Operators, as they are printed: over lines, as in a body, or in one line, as in a field. Labels go by their identifiers where these mean
--- the block that is meant, else by their numbers with a comment that names the block.
-use Rattle.std.specs.Prelude.{ℕ, suc, ◌+◌, ◌-◌, ◌/◌, ◌%◌, ◌^◌, ◌==◌, ◌&&◌, reverse, List, [], ◌∷◌, ◌++◌, Bool, true, false, ◌||◌, cond, codes, chars, decimal, bytes_eq, length, Option, Some, None}
+-- Operators, as they are printed: over lines, as in a body, or in one line, as in a field. Indices go by identifiers where there are any. Labels go
+-- by theirs where these mean the block that is meant, else by their numbers, and without an identifier with a comment that names the block.
+use Rattle.std.specs.Prelude.{ℕ, suc, ◌+◌, ◌-◌, ◌/◌, ◌%◌, ◌^◌, ◌==◌, ◌&&◌, reverse, List, [], ◌∷◌, ◌++◌, Bool, true, false, ◌||◌, cond, codes, decimal, length, Option, Some, None}
 use Rattle.std.specs.Fmt.{digit_glyph}
 use Rattle.wasmprinter_spec.specs.Grammar.{Placed}
 use Rattle.wasmprinter_spec.specs.Types.{FuncType, ref_type, ValType}
-use Rattle.wasmprinter_spec.specs.Operator.{BlockType, Empty, Value, OfType, Catch, One, OneRef, All, AllRef, MemArg, Immediates, NoImmediates, Block, TryTable, Index, Indices, BranchTable, Types, Heap, Cast, Memory, MemoryLane, Lane, I32, I64, F32, F64, Bytes, Operator}
+use Rattle.wasmprinter_spec.specs.Operator.{BlockType, Empty, Value, OfType, Catch, One, OneRef, All, AllRef, MemArg, Immediates, Block, TryTable, Index, Indices, BranchTable, Types, Heap, Cast, Memory, MemoryLane, Lane, I32, I64, F32, F64, Bytes, Operator}
 use Rattle.wasmprinter_spec.specs.Float.{single, double}
+use Rattle.wasmprinter_spec.specs.Row as row
 use Rattle.wasmprinter_spec.specs.Row.{Space, Label, Shape, NoneShape, FenceShape, BlockShape, TryTableShape, IndexShape, DefaultIndexShape, PairShape, FieldShape, CountShape, CallShape, SegmentShape, CopyShape, BranchTableShape, SelectShape, HeapShape, RefShape, CastShape, MemoryShape, MemoryLaneShape, LaneShape, I32Shape, I64Shape, F32Shape, F64Shape, VectorShape, LanesShape, Role, Turns, Catches, CatchesAll, Delegates, Ends}
 use Rattle.wasmprinter_spec.specs.Table.{word_of, role_of, shape_of}
 use Rattle.wasmprinter_spec.specs.Labels as labels
-use Rattle.wasmprinter_spec.specs.Labels.{Named, Naming, is_hidden, Target, Around, Own, Nothing, target, labels_after, count_after, outside, inside}
-use Rattle.wasmprinter_spec.specs.Piece.{Piece, Break, Gap, Word, GapTypeWord, Number, Constant, GapLiterals, Float, Identifier, NameNote, Remark, Ending}
+use Rattle.wasmprinter_spec.specs.Names.{Names, in_function}
+use Rattle.wasmprinter_spec.specs.Labels.{Named, is_hidden, Target, Around, Own, Nothing, target, labels_after, count_after, outside, inside}
+use Rattle.wasmprinter_spec.specs.Piece.{Piece, Break, Gap, Word, GapTypeWord, Number, Constant, GapLiterals, Float, Remark, Ending}
 use Rattle.wasmprinter_spec.specs.Layout.Groups.{line_group, line_group_gap}
-use Rattle.wasmprinter_spec.specs.Layout.Types.{heap_pieces, ref_pieces, val_pieces, type_list, signature_if_any}
+use Rattle.wasmprinter_spec.specs.Layout.Identifiers.{mark_pieces, leading_mark_pieces, index_pieces}
+use Rattle.wasmprinter_spec.specs.Layout.ValTypes.{type_index_pieces, heap_pieces, ref_pieces, val_pieces, type_list}
+use Rattle.wasmprinter_spec.specs.Layout.Types.{type_use_pieces}
 
 -- how operators stand: each on a line of its own, nested so deep, or all in one line
 pub data Form : Type 0 where
   OverLines : Form
   InLine : Form
 
--- what every operator of a list is laid out by: the form, the signature of each type that is a function type, and how deep the list is nested
+-- what every operator of a list is laid out by: the form, the signature of each type that is a function type, how deep the list is nested, and the
+-- module's identifiers with the function whose locals and labels are meant
 pub record Setting : Type 0 where
   pub form : Form
   pub signature : ℕ → Option FuncType
   pub nesting : ℕ
+  pub names : Names
+  pub function : ℕ
+
+-- an index, by its identifier if it has one
+abbrev pub named_index : Setting → Space → ℕ → List Piece
+named_index s space n = index_pieces (in_function s.names s.function space n) n
 
 -- ---- labels
 
--- the given name, where it is not the identifier
-abbrev pub given_pieces : Option (List ℕ) → List ℕ → List Piece
-given_pieces None content = []
-given_pieces (Some s) content = cond (bytes_eq s content) [] (Gap ∷ (NameNote (chars s) ∷ []))
+-- a label's identifier, by the name that it was given or without one
+abbrev pub label_name_pieces : Option (List ℕ) → ℕ → Named → List Piece
+label_name_pieces (Some s) l n = mark_pieces n
+label_name_pieces None l n = index_pieces (Some n) l
 
-unfoldable pub mark_pieces : Named → List Piece
-mark_pieces n = Identifier (chars n.content) ∷ given_pieces n.given n.content
-
+-- the identifier, unless it is hidden
 abbrev pub named_pieces : ℕ → Named → Bool → List Piece
 named_pieces l n true = Number l ∷ []
-named_pieces l n false = mark_pieces n
+named_pieces l n false = label_name_pieces n.given l n
 
 -- with so many blocks around it
 abbrev pub target_pieces : List labels.Label → ℕ → ℕ → Target → List Piece
@@ -55,49 +64,50 @@ labels_pieces inner xs (m ∷ ms) l = label_pieces inner xs m ++ labels_pieces i
 
 -- ---- blocks
 
-unfoldable pub id_pieces : labels.Label → List Piece
-id_pieces None = []
-id_pieces (Some n) = Gap ∷ mark_pieces n
-
 -- the comment of a label without an identifier; blocks are counted from 1
 unfoldable pub ending_pieces : Form → labels.Label → ℕ → List Piece
 ending_pieces form (Some n) d = []
 ending_pieces OverLines None d = Gap ∷ (Ending (codes "label = @" ++ decimal d) ∷ [])
 ending_pieces InLine None d = Gap ∷ (Remark true (codes " label = @" ++ (decimal d ++ codes " ")) ∷ [])
 
-unfoldable pub block_pieces : (ℕ → Option FuncType) → BlockType → List Piece
-block_pieces signature Empty = []
-block_pieces signature (Value t) = Gap ∷ line_group_gap (codes "result") (val_pieces t)
-block_pieces signature (OfType n) = Gap ∷ (line_group_gap (codes "type") (Number n ∷ []) ++ signature_if_any (signature n))
+unfoldable pub block_pieces : Setting → BlockType → List Piece
+block_pieces s Empty = []
+block_pieces s (Value t) = Gap ∷ line_group_gap (codes "result") (val_pieces s.names t)
+block_pieces s (OfType n) = Gap ∷ type_use_pieces s.names None n (s.signature n)
 
-unfoldable pub catch_pieces : List labels.Label → List labels.Label → Catch → List Piece
-catch_pieces inner xs (One t l) = line_group (codes "catch") (Gap ∷ (Number t ∷ label_pieces inner xs l))
-catch_pieces inner xs (OneRef t l) = line_group (codes "catch_ref") (Gap ∷ (Number t ∷ label_pieces inner xs l))
-catch_pieces inner xs (All l) = line_group (codes "catch_all") (label_pieces inner xs l)
-catch_pieces inner xs (AllRef l) = line_group (codes "catch_all_ref") (label_pieces inner xs l)
+unfoldable pub catch_pieces : Setting → List labels.Label → List labels.Label → Catch → List Piece
+catch_pieces s inner xs (One t l) = line_group (codes "catch") (Gap ∷ (named_index s row.Tag t ++ label_pieces inner xs l))
+catch_pieces s inner xs (OneRef t l) = line_group (codes "catch_ref") (Gap ∷ (named_index s row.Tag t ++ label_pieces inner xs l))
+catch_pieces s inner xs (All l) = line_group (codes "catch_all") (label_pieces inner xs l)
+catch_pieces s inner xs (AllRef l) = line_group (codes "catch_all_ref") (label_pieces inner xs l)
 
-unfoldable pub catches_pieces : List labels.Label → List labels.Label → List Catch → List Piece
-catches_pieces inner xs [] = []
-catches_pieces inner xs (c ∷ cs) = Gap ∷ (catch_pieces inner xs c ++ catches_pieces inner xs cs)
+unfoldable pub catches_pieces : Setting → List labels.Label → List labels.Label → List Catch → List Piece
+catches_pieces s inner xs [] = []
+catches_pieces s inner xs (c ∷ cs) = Gap ∷ (catch_pieces s inner xs c ++ catches_pieces s inner xs cs)
 
 -- ---- operators
 
 -- an index: a label, or one of another space
-unfoldable pub index_pieces : List labels.Label → List labels.Label → Space → ℕ → List Piece
-index_pieces inner xs Label n = label_pieces inner xs n
-index_pieces inner xs space n = Gap ∷ (Number n ∷ [])
+unfoldable pub operand_pieces : Setting → List labels.Label → List labels.Label → Space → ℕ → List Piece
+operand_pieces s inner xs Label n = label_pieces inner xs n
+operand_pieces s inner xs space n = Gap ∷ named_index s space n
 
 -- an index that is left out where it is 0
-unfoldable pub default_index_pieces : ℕ → List Piece
-default_index_pieces n = cond (n == 0) [] (Gap ∷ (Number n ∷ []))
+unfoldable pub default_index_pieces : Setting → Space → ℕ → List Piece
+default_index_pieces s space n = cond (n == 0) [] (Gap ∷ named_index s space n)
 
-unfoldable pub two_index_pieces : ℕ → ℕ → List Piece
-two_index_pieces m n = Gap ∷ (Number m ∷ (Gap ∷ (Number n ∷ [])))
+-- an index of each of two spaces
+unfoldable pub two_index_pieces : Setting → Space → Space → ℕ → ℕ → List Piece
+two_index_pieces s first second m n = Gap ∷ (named_index s first m ++ (Gap ∷ named_index s second n))
+
+-- a structure type, and one of its fields
+unfoldable pub type_and_field_pieces : Setting → ℕ → ℕ → List Piece
+type_and_field_pieces s t n = Gap ∷ (named_index s row.Types t ++ (Gap ∷ index_pieces (s.names.fields t n) n))
 
 -- the types that `select` names: one stands otherwise than several
-unfoldable pub select_pieces : List ValType → List Piece
-select_pieces (t ∷ []) = Gap ∷ line_group_gap (codes "result") (val_pieces t)
-select_pieces ts = Gap ∷ line_group (codes "result") (type_list ts)
+unfoldable pub select_pieces : Names → List ValType → List Piece
+select_pieces names (t ∷ []) = Gap ∷ line_group_gap (codes "result") (val_pieces names t)
+select_pieces names ts = Gap ∷ line_group (codes "result") (type_list names ts)
 
 -- ---- memory operands
 
@@ -108,8 +118,8 @@ offset_pieces n = cond (n == 0) [] (Gap ∷ (Word (codes "offset=" ++ decimal n)
 unfoldable pub align_pieces : ℕ → ℕ → List Piece
 align_pieces natural exponent = cond (exponent == natural) [] (Gap ∷ (Word (codes "align=" ++ decimal (2 ^ exponent)) ∷ []))
 
-unfoldable pub mem_arg_pieces : ℕ → MemArg → List Piece
-mem_arg_pieces natural m = default_index_pieces m.memory ++ (offset_pieces m.offset ++ align_pieces natural m.exponent)
+unfoldable pub mem_arg_pieces : Setting → ℕ → MemArg → List Piece
+mem_arg_pieces s natural m = default_index_pieces s row.Memory m.memory ++ (offset_pieces m.offset ++ align_pieces natural m.exponent)
 
 -- ---- vectors
 
@@ -143,24 +153,24 @@ vector_pieces bs = GapTypeWord (codes "i32x4") ∷ (GapLiterals (hex_words bs) �
 -- A line for each shape, with the immediates that fit it.
 unfoldable pub immediate_pieces : Setting → List labels.Label → List labels.Label → labels.Label → Shape → Immediates → List Piece
 immediate_pieces s inner xs own BlockShape (Block t) =
-    id_pieces own ++ (block_pieces s.signature t ++ ending_pieces s.form own (suc (length xs)))
+    leading_mark_pieces own ++ (block_pieces s t ++ ending_pieces s.form own (suc (length xs)))
 immediate_pieces s inner xs own TryTableShape (TryTable t cs) =
-    id_pieces own ++ (block_pieces s.signature t ++ (catches_pieces inner xs cs ++ ending_pieces s.form own (suc (length xs))))
-immediate_pieces s inner xs own (IndexShape space) (Index n) = index_pieces inner xs space n
-immediate_pieces s inner xs own (DefaultIndexShape space) (Index n) = default_index_pieces n
-immediate_pieces s inner xs own (PairShape first second) (Indices m n) = two_index_pieces m n
-immediate_pieces s inner xs own FieldShape (Indices t n) = two_index_pieces t n
-immediate_pieces s inner xs own CountShape (Indices t n) = Gap ∷ (Number t ∷ lane_pieces n)
-immediate_pieces s inner xs own CallShape (Indices t n) = default_index_pieces n ++ (Gap ∷ line_group_gap (codes "type") (Number t ∷ []))
-immediate_pieces s inner xs own (SegmentShape segments space) (Indices m n) = default_index_pieces n ++ (Gap ∷ (Number m ∷ []))
-immediate_pieces s inner xs own (CopyShape space) (Indices m n) = cond ((m == 0) && (n == 0)) [] (two_index_pieces m n)
+    leading_mark_pieces own ++ (block_pieces s t ++ (catches_pieces s inner xs cs ++ ending_pieces s.form own (suc (length xs))))
+immediate_pieces s inner xs own (IndexShape space) (Index n) = operand_pieces s inner xs space n
+immediate_pieces s inner xs own (DefaultIndexShape space) (Index n) = default_index_pieces s space n
+immediate_pieces s inner xs own (PairShape first second) (Indices m n) = two_index_pieces s first second m n
+immediate_pieces s inner xs own FieldShape (Indices t n) = type_and_field_pieces s t n
+immediate_pieces s inner xs own CountShape (Indices t n) = Gap ∷ (named_index s row.Types t ++ lane_pieces n)
+immediate_pieces s inner xs own CallShape (Indices t n) = default_index_pieces s row.Table n ++ (Gap ∷ line_group_gap (codes "type") (type_index_pieces s.names t))
+immediate_pieces s inner xs own (SegmentShape segments space) (Indices m n) = default_index_pieces s space n ++ (Gap ∷ named_index s segments m)
+immediate_pieces s inner xs own (CopyShape space) (Indices m n) = cond ((m == 0) && (n == 0)) [] (two_index_pieces s space space m n)
 immediate_pieces s inner xs own BranchTableShape (BranchTable ls l) = labels_pieces inner xs ls l
-immediate_pieces s inner xs own SelectShape (Types ts) = select_pieces ts
-immediate_pieces s inner xs own HeapShape (Heap h) = Gap ∷ heap_pieces h
-immediate_pieces s inner xs own (RefShape null) (Heap h) = Gap ∷ ref_pieces (ref_type null h)
-immediate_pieces s inner xs own CastShape (Cast l r t) = label_pieces inner xs l ++ (Gap ∷ (ref_pieces r ++ (Gap ∷ ref_pieces t)))
-immediate_pieces s inner xs own (MemoryShape natural) (Memory m) = mem_arg_pieces natural m
-immediate_pieces s inner xs own (MemoryLaneShape natural) (MemoryLane m k) = mem_arg_pieces natural m ++ lane_pieces k
+immediate_pieces s inner xs own SelectShape (Types ts) = select_pieces s.names ts
+immediate_pieces s inner xs own HeapShape (Heap h) = Gap ∷ heap_pieces s.names h
+immediate_pieces s inner xs own (RefShape null) (Heap h) = Gap ∷ ref_pieces s.names (ref_type null h)
+immediate_pieces s inner xs own CastShape (Cast l r t) = label_pieces inner xs l ++ (Gap ∷ (ref_pieces s.names r ++ (Gap ∷ ref_pieces s.names t)))
+immediate_pieces s inner xs own (MemoryShape natural) (Memory m) = mem_arg_pieces s natural m
+immediate_pieces s inner xs own (MemoryLaneShape natural) (MemoryLane m k) = mem_arg_pieces s natural m ++ lane_pieces k
 immediate_pieces s inner xs own LaneShape (Lane k) = lane_pieces k
 immediate_pieces s inner xs own I32Shape (I32 z) = Constant z ∷ []
 immediate_pieces s inner xs own I64Shape (I64 z) = Constant z ∷ []
@@ -198,13 +208,13 @@ operator_pieces s first own xs o =
     ∷ pieces_by s (inside role xs) (outside role xs) own (shape_of o.value.opcode) o.value.immediates)
 
 -- n blocks were opened before, and these labels are open
-unfoldable pub operators_pieces : Setting → Naming → Bool → ℕ → List labels.Label → List (Placed Operator) → List Piece
-operators_pieces s naming first n xs [] = []
-operators_pieces s naming first n xs (o ∷ os) =
+unfoldable pub operators_pieces : Setting → Bool → ℕ → List labels.Label → List (Placed Operator) → List Piece
+operators_pieces s first n xs [] = []
+operators_pieces s first n xs (o ∷ os) =
     let role : Role = role_of o.value.opcode in
-    operator_pieces s first (naming n (length xs)) xs o
-    ++ operators_pieces s naming false (count_after role n) (labels_after role (naming n (length xs)) xs) os
+    let own : labels.Label = s.names.labels s.function n (length xs) in
+    operator_pieces s first own xs o ++ operators_pieces s false (count_after role n) (labels_after role own xs) os
 
 -- a list of operators, with no label open
-unfoldable pub expression_pieces : Setting → Naming → List (Placed Operator) → List Piece
-expression_pieces s naming os = operators_pieces s naming true 0 [] os
+unfoldable pub expression_pieces : Setting → List (Placed Operator) → List Piece
+expression_pieces s os = operators_pieces s true 0 [] os

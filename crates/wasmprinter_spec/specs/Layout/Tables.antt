@@ -1,22 +1,26 @@
 -- The layout of tables (sections 6.4 and 6.6 of the standard, "Table Types" and "Tables").
 use Rattle.std.specs.Prelude.{ℕ, List, [], ◌∷◌, ◌++◌, codes, Option, Some, None}
 use Rattle.wasmprinter_spec.specs.Grammar.{Placed}
-use Rattle.wasmprinter_spec.specs.Types.{SubType, TableType}
+use Rattle.wasmprinter_spec.specs.Types.{TableType}
+use Rattle.wasmprinter_spec.specs.Row as row
+use Rattle.wasmprinter_spec.specs.Names.{Names}
 use Rattle.wasmprinter_spec.specs.Operator.{Operator}
 use Rattle.wasmprinter_spec.specs.Placed.{Table}
-use Rattle.wasmprinter_spec.specs.Piece.{Piece, Break, Gap, Mark}
+use Rattle.wasmprinter_spec.specs.Piece.{Piece, Break, Gap}
 use Rattle.wasmprinter_spec.specs.Layout.Groups.{line_group_gap}
 use Rattle.wasmprinter_spec.specs.Layout.Limits.{wide_pieces, limits_pieces}
-use Rattle.wasmprinter_spec.specs.Layout.Types.{ref_pieces}
+use Rattle.wasmprinter_spec.specs.Layout.ValTypes.{ref_pieces}
+use Rattle.wasmprinter_spec.specs.Layout.Declarations.{Scope, item_declaration}
 use Rattle.wasmprinter_spec.specs.Layout.Expressions.{constant_pieces}
 
-unfoldable pub table_type_pieces : TableType → List Piece
-table_type_pieces t = wide_pieces t.wide ++ (limits_pieces t.limits ++ (Gap ∷ ref_pieces t.element))
+unfoldable pub table_type_pieces : Names → TableType → List Piece
+table_type_pieces names t = wide_pieces t.wide ++ (limits_pieces t.limits ++ (Gap ∷ ref_pieces names t.element))
 
-unfoldable pub init_pieces : List SubType → Option (List (Placed Operator)) → List Piece
-init_pieces ts None = []
-init_pieces ts (Some os) = Gap ∷ constant_pieces ts os
+unfoldable pub init_pieces : Scope → Option (List (Placed Operator)) → List Piece
+init_pieces s None = []
+init_pieces s (Some os) = Gap ∷ constant_pieces s os
 
-unfoldable pub table_pieces : List SubType → ℕ → Placed (Table (Placed Operator)) → List Piece
-table_pieces ts i t =
-    Break (Some t.place) 1 ∷ line_group_gap (codes "table") (Mark i ∷ (Gap ∷ (table_type_pieces t.value.type ++ init_pieces ts t.value.init)))
+unfoldable pub table_pieces : Scope → ℕ → Placed (Table (Placed Operator)) → List Piece
+table_pieces s i t =
+    Break (Some t.place) 1
+    ∷ line_group_gap (codes "table") (item_declaration s row.Table i ++ (Gap ∷ (table_type_pieces s.names t.value.type ++ init_pieces s t.value.init)))

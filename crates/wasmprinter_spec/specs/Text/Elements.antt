@@ -1,13 +1,12 @@
 -- Element segments in the text format (section 6.6 of the standard, "Element Segments"). Of the abbreviations an offset or an item that is one
 -- instruction is read, and an active segment without its table, which is then table 0.
-use Rattle.std.specs.Prelude.{ℕ, List, [], ◌∷◌, Bool, true, false, ◌||◌, codes, bytes_eq, is_some, Option, Some, None, option_map, if◌then◌else◌}
+use Rattle.std.specs.Prelude.{ℕ, List, [], ◌∷◌, codes, bytes_eq, Option, Some, None, option_map, if◌then◌else◌}
 use Rattle.wasmprinter_spec.specs.Grammar.{◌>>=◌}
 use Rattle.wasmprinter_spec.specs.Forest.{Forest, End, Word, Name, Group}
-use Rattle.wasmprinter_spec.specs.Types.{RefType}
 use Rattle.wasmprinter_spec.specs.Operator.{Operator}
 use Rattle.wasmprinter_spec.specs.Placed.{Mode, Passive, Declared, Active, Items, Functions, Expressions, Element, element_of}
-use Rattle.wasmprinter_spec.specs.IndexSpaces.{leading_index, index, Context}
-use Rattle.wasmprinter_spec.specs.Text.Items.{identified, leading_item, or_else}
+use Rattle.wasmprinter_spec.specs.IndexSpaces.{index, Context}
+use Rattle.wasmprinter_spec.specs.Text.Items.{identified, leading_item}
 use Rattle.wasmprinter_spec.specs.Text.Types.{ref_named, ref_group}
 use Rattle.wasmprinter_spec.specs.Text.Expressions.{expression_group}
 

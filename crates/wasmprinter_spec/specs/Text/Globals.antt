@@ -3,11 +3,11 @@
 use Rattle.std.specs.Prelude.{ℕ, true, false, List, codes, bytes_eq, Option, Some, None, option_map, if◌then◌else◌}
 use Rattle.wasmprinter_spec.specs.Grammar.{◌>>=◌}
 use Rattle.wasmprinter_spec.specs.Forest.{Forest, Word}
-use Rattle.wasmprinter_spec.specs.Types.{ValType, GlobalType, global_type_of}
+use Rattle.wasmprinter_spec.specs.Types.{GlobalType, global_type_of}
 use Rattle.wasmprinter_spec.specs.Operator.{Operator}
 use Rattle.wasmprinter_spec.specs.Placed.{Global, global_of}
 use Rattle.wasmprinter_spec.specs.IndexSpaces.{Context}
-use Rattle.wasmprinter_spec.specs.Text.Items.{identified, leading_item, ended}
+use Rattle.wasmprinter_spec.specs.Text.Items.{identified, leading_item}
 use Rattle.wasmprinter_spec.specs.Text.Types.{val_named, val_group, val_type}
 use Rattle.wasmprinter_spec.specs.Text.Expressions.{expression}
 

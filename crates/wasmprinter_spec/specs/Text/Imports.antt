@@ -1,12 +1,12 @@
 -- Imports in the text format (section 6.6 of the standard, "Imports").
-use Rattle.std.specs.Prelude.{ℕ, List, ◌&&◌, codes, bytes_eq, Option, Some, None, option_map, if◌then◌else◌}
+use Rattle.std.specs.Prelude.{ℕ, List, ◌&&◌, Option, Some, None, option_map, if◌then◌else◌}
 use Rattle.std.specs.Str.{is_utf8}
 use Rattle.wasmprinter_spec.specs.Grammar.{◌>>=◌}
 use Rattle.wasmprinter_spec.specs.Forest.{Forest, End, Word, String, Group}
 use Rattle.wasmprinter_spec.specs.Types.{ExternKind, FuncKind, TableKind, MemoryKind, GlobalKind, TagKind, ExternType, FuncExtern, TableExtern, MemoryExtern, GlobalExtern, TagExtern}
 use Rattle.wasmprinter_spec.specs.Placed.{Import, import_of}
-use Rattle.wasmprinter_spec.specs.IndexSpaces.{Identifiers, Context}
-use Rattle.wasmprinter_spec.specs.Text.Items.{identified, ended}
+use Rattle.wasmprinter_spec.specs.IndexSpaces.{Context}
+use Rattle.wasmprinter_spec.specs.Text.Items.{identified, value_at_end}
 use Rattle.wasmprinter_spec.specs.Text.TypeIndices.{type_index}
 use Rattle.wasmprinter_spec.specs.Text.Memories.{memory_type}
 use Rattle.wasmprinter_spec.specs.Text.Tables.{table_type}
@@ -30,9 +30,9 @@ import_field _ = None
 -- what is imported, without its identifier
 abbrev pub extern_type : Context → ExternKind → Forest → Option ExternType
 extern_type c FuncKind f = option_map FuncExtern (type_index c f)
-extern_type c TableKind f = option_map TableExtern (table_type c f >>= ended)
+extern_type c TableKind f = option_map TableExtern (table_type c f >>= value_at_end)
 extern_type c MemoryKind f = option_map MemoryExtern (memory_type f)
-extern_type c GlobalKind f = option_map GlobalExtern (global_type c f >>= ended)
+extern_type c GlobalKind f = option_map GlobalExtern (global_type c f >>= value_at_end)
 extern_type c TagKind f = option_map TagExtern (type_index c f)
 
 abbrev pub read_import : Context → ImportField → Option Import

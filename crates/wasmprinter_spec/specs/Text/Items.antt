@@ -48,9 +48,9 @@ identified (Name s f) = (Some s, f)
 identified f = (None, f)
 
 -- what was read, if nothing stands behind it
-abbrev pub ended : {A : Type 0} → A × Forest → Option A
-ended (x, End) = Some x
-ended (x, _) = None
+abbrev pub value_at_end : {A : Type 0} → A × Forest → Option A
+value_at_end (x, End) = Some x
+value_at_end (x, _) = None
 
 -- ---- groups of parameters, results, locals and fields
 

@@ -14,7 +14,7 @@ use Rattle.wasmprinter_spec.specs.Stepped.{stops}
 use Rattle.wasmprinter_spec.specs.Nesting.{advance, at_start}
 use Rattle.wasmprinter_spec.specs.IndexSpaces.{Identifiers, declares, space_in, index as index_in, leading_index, Context}
 use Rattle.wasmprinter_spec.specs.Code.{Chunk}
-use Rattle.wasmprinter_spec.specs.Text.Items.{or_else, lookup, one_word, all_items, the_only, identified, ended, groups, ids_of}
+use Rattle.wasmprinter_spec.specs.Text.Items.{or_else, lookup, one_word, all_items, the_only, identified, value_at_end, groups, ids_of}
 use Rattle.wasmprinter_spec.specs.Text.Types.{Signature, signature, heap_type, reference_type, ref_named, ref_group, val_types}
 use Rattle.wasmprinter_spec.specs.Text.TypeUses.{agrees, same_flag}
 
@@ -133,9 +133,13 @@ pair x = Indices x.0 x.1
 abbrev pub turned_pair : ℕ × ℕ → Immediates
 turned_pair x = Indices x.1 x.0
 
--- a type and a field of it (by its number; a field's identifier is not read)
+-- a structure type and a field of it
 abbrev pub type_and_field : Context → Forest → Option Immediates
-type_and_field c f = leading_index c.spaces.types f >>= λ t. one_word u32 t.1 >>= λ n. Some (Indices t.0 n)
+type_and_field c f = leading_index c.spaces.types f >>= λ t. index_in (c.fields t.0) t.1 >>= λ n. Some (Indices t.0 n)
+
+-- a type and a number
+abbrev pub type_and_count : Context → Forest → Option Immediates
+type_and_count c f = leading_index c.spaces.types f >>= λ t. one_word u32 t.1 >>= λ n. Some (Indices t.0 n)
 
 -- two indices, both 0 where none stands
 abbrev pub copied : Context → Space → Forest → Option (ℕ × ℕ)
@@ -160,7 +164,7 @@ call_parts c f = leading_index c.spaces.tables f >>= λ t. block_type c t.1 >>= 
 -- groups of results, at least one
 abbrev pub select_types : Context → Forest → Option Immediates
 select_types c End = None
-select_types c f = groups (val_types c.spaces.types) (codes "result") f >>= ended >>= λ ts. Some (Types ts)
+select_types c f = groups (val_types c.spaces.types) (codes "result") f >>= value_at_end >>= λ ts. Some (Types ts)
 
 -- a reference type that may be null or not
 abbrev pub heap_with : Bool → RefType → Option Immediates
@@ -275,7 +279,7 @@ immediates c ids (IndexShape space) f = option_map Index (index c ids space f)
 immediates c ids (DefaultIndexShape space) f = option_map Index (default_index c space f)
 immediates c ids (PairShape first second) f = option_map pair (two_indices c first second f)
 immediates c ids FieldShape f = type_and_field c f
-immediates c ids CountShape f = type_and_field c f
+immediates c ids CountShape f = type_and_count c f
 immediates c ids CallShape f = call_parts c f
 immediates c ids (SegmentShape segments space) f = with_segment c segments space f
 immediates c ids (CopyShape space) f = option_map pair (copied c space f)
@@ -295,9 +299,9 @@ immediates c ids VectorShape f = vector f
 immediates c ids LanesShape f = lanes f
 
 -- the labels that an operator's immediates see: `delegate` those outside its block; a block that is opened doesn't see its own
-abbrev pub seen : Role → Identifiers → Identifiers
-seen Delegates (i ∷ is) = is
-seen _ is = is
+abbrev pub labels_in_sight : Role → Identifiers → Identifiers
+labels_in_sight Delegates (i ∷ is) = is
+labels_in_sight _ is = is
 
 -- the labels that are open behind an operator
 abbrev pub open_behind : Role → Option (List ℕ) → Identifiers → Identifiers
@@ -311,7 +315,7 @@ open_behind _ i is = is
 -- the first of these rows that reads the arguments, and what it reads
 abbrev pub first_reading : Context → Identifiers → List Row → Forest → Option (Row × Immediates)
 first_reading c ids [] f = None
-first_reading c ids (r ∷ rs) f = or_else (option_map (λ i. (r, i)) (immediates c (seen r.role ids) r.shape f)) (first_reading c ids rs f)
+first_reading c ids (r ∷ rs) f = or_else (option_map (λ i. (r, i)) (immediates c (labels_in_sight r.role ids) r.shape f)) (first_reading c ids rs f)
 
 abbrev pub operator_of : Row × Immediates → Operator
 operator_of x = record { opcode = opcode x.0.prefix x.0.number; immediates = x.1 }

@@ -1,9 +1,9 @@
 -- Tables in the text format (section 6.4 of the standard, "Table Types"; section 6.6, "Tables"). A table with its elements or with its export
 -- inside is an abbreviation that is not read.
-use Rattle.std.specs.Prelude.{ℕ, Bool, List, Option, Some, None, option_map}
+use Rattle.std.specs.Prelude.{Bool, List, Option, Some, None, option_map}
 use Rattle.wasmprinter_spec.specs.Grammar.{◌>>=◌}
-use Rattle.wasmprinter_spec.specs.Forest.{Forest, End, Word, Group}
-use Rattle.wasmprinter_spec.specs.Types.{RefType, TableType, table_type_of}
+use Rattle.wasmprinter_spec.specs.Forest.{Forest, End}
+use Rattle.wasmprinter_spec.specs.Types.{TableType, table_type_of}
 use Rattle.wasmprinter_spec.specs.Operator.{Operator}
 use Rattle.wasmprinter_spec.specs.Placed.{Table, table_of}
 use Rattle.wasmprinter_spec.specs.IndexSpaces.{Context}

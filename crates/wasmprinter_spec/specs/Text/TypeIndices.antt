@@ -3,7 +3,7 @@ use Rattle.std.specs.Prelude.{ℕ, codes, bytes_eq, Option, Some, None, if◌the
 use Rattle.wasmprinter_spec.specs.Grammar.{◌>>=◌}
 use Rattle.wasmprinter_spec.specs.Forest.{Forest, Word, Group}
 use Rattle.wasmprinter_spec.specs.IndexSpaces.{index_space, index, Context}
-use Rattle.wasmprinter_spec.specs.Text.Items.{ended}
+use Rattle.wasmprinter_spec.specs.Text.Items.{value_at_end}
 use Rattle.wasmprinter_spec.specs.Text.Types.{Signature, signature}
 use Rattle.wasmprinter_spec.specs.Text.TypeUses.{parameters}
 
@@ -15,5 +15,5 @@ module _ (c : Context) where
   -- the index of a type, and perhaps its signature
   abbrev pub type_index : Forest → Option ℕ
   type_index (Group (Word w t) f) =
-      if bytes_eq w (codes "type") then index c.spaces.types t >>= (λ i. signature c.spaces.types f >>= ended >>= index_with i) else None
+      if bytes_eq w (codes "type") then index c.spaces.types t >>= (λ i. signature c.spaces.types f >>= value_at_end >>= index_with i) else None
   type_index _ = None

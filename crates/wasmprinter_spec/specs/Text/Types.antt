@@ -1,10 +1,10 @@
 -- Types in the text format (section 6.4 of the standard). `ids` are the identifiers of the module's types.
-use Rattle.std.specs.Prelude.{ℕ, List, [], ◌∷◌, Bool, true, false, codes, bytes_eq, Option, Some, None, if◌then◌else◌, option_map}
+use Rattle.std.specs.Prelude.{ℕ, List, [], ◌∷◌, Bool, true, false, codes, bytes_eq, Option, Some, None, if◌then◌else◌, option_map, map, slice_get}
 use Rattle.wasmprinter_spec.specs.Grammar.{◌>>=◌}
 use Rattle.wasmprinter_spec.specs.Forest.{Forest, End, Word, Name, Group}
-use Rattle.wasmprinter_spec.specs.Types.{HeapType, Exn, Array, Struct, I31, Eq, Any, Extern, Func, NoAny, NoExtern, NoFunc, NoExn, Index, RefType, ref_type, ValType, I32, I64, F32, F64, V128, Ref, StorageType, Val, I8, I16, FieldType, field_type, FuncType, CompositeType, FuncComposite, ArrayComposite, StructComposite, SubType, sub_type, final_type}
+use Rattle.wasmprinter_spec.specs.Types.{HeapType, Exn, Array, Struct, I31, Eq, Any, Extern, Func, NoAny, NoExtern, NoFunc, NoExn, Index, RefType, ref_type, ValType, I32, I64, F32, F64, V128, Ref, StorageType, Val, I8, I16, FieldType, field_type, FuncType, CompositeType, FuncComposite, ArrayComposite, StructComposite, SubType, sub_type, final_type, concat}
 use Rattle.wasmprinter_spec.specs.IndexSpaces.{Identifiers, index_space, index}
-use Rattle.wasmprinter_spec.specs.Text.Items.{or_else, lookup, each, one_word, one_item, all_items, identified, ended, groups, Declaration, declarations, ids_of, types_of}
+use Rattle.wasmprinter_spec.specs.Text.Items.{or_else, lookup, each, one_word, one_item, all_items, identified, value_at_end, groups, Declaration, declarations, ids_of, types_of}
 
 -- ---- value types
 
@@ -100,9 +100,17 @@ pub record Signature : Type 0 where
 abbrev pub type_of : Signature → FuncType
 type_of s = record { params = types_of s.params; results = s.results }
 
+-- What declares a type: the type, and the identifiers of its fields if it is a structure.
+pub record Declared (A : Type 0) : Type 0 where
+  pub type : A
+  pub fields : Identifiers
+
+abbrev pub with_fields : {A : Type 0} → Identifiers → A → Declared A
+with_fields ids t = record { type = t; fields = ids }
+
 -- The identifiers of a structure's fields are one space.
-abbrev pub struct_of : List (Declaration FieldType) → Option CompositeType
-struct_of ds = index_space (ids_of ds) >>= λ _. Some (StructComposite (types_of ds))
+abbrev pub struct_of : List (Declaration FieldType) → Option (Declared CompositeType)
+struct_of ds = option_map (λ ids. with_fields ids (StructComposite (types_of ds))) (index_space (ids_of ds))
 
 module _ (ids : Identifiers) where
   abbrev pub signature : Forest → Option (Signature × Forest)
@@ -111,47 +119,47 @@ module _ (ids : Identifiers) where
     results ← groups (val_types ids) (codes "result") params.1
     Some (record { params = params.0; results = results.0 }, results.1)
 
-  abbrev pub composite : Forest → Option CompositeType
+  abbrev pub composite : Forest → Option (Declared CompositeType)
   composite (Word w f) =
-      if bytes_eq w (codes "func") then signature f >>= ended >>= (λ s. Some (FuncComposite (type_of s))) else
-      (if bytes_eq w (codes "array") then option_map ArrayComposite (field ids f) else
-      (if bytes_eq w (codes "struct") then groups (declarations (fields ids)) (codes "field") f >>= ended >>= struct_of else None))
+      if bytes_eq w (codes "func") then signature f >>= value_at_end >>= (λ s. Some (with_fields [] (FuncComposite (type_of s)))) else
+      (if bytes_eq w (codes "array") then option_map (λ t. with_fields [] (ArrayComposite t)) (field ids f) else
+      (if bytes_eq w (codes "struct") then groups (declarations (fields ids)) (codes "field") f >>= value_at_end >>= struct_of else None))
   composite _ = None
 
   -- ---- subtypes
 
   -- supertypes, and then a composite type
-  abbrev pub supertypes : Forest → Option (List ℕ × CompositeType)
+  abbrev pub supertypes : Forest → Option (List ℕ × Declared CompositeType)
   supertypes (Group g End) = composite g >>= λ c. Some ([], c)
   supertypes (Word w f) = index ids (Word w End) >>= λ i. supertypes f >>= λ x. Some (i ∷ x.0, x.1)
   supertypes (Name s f) = index ids (Name s End) >>= λ i. supertypes f >>= λ x. Some (i ∷ x.0, x.1)
   supertypes _ = None
 
-  abbrev pub final_supertypes : Forest → Option (List ℕ × CompositeType)
+  abbrev pub final_supertypes : Forest → Option (List ℕ × Declared CompositeType)
   final_supertypes (Word w f) = if bytes_eq w (codes "final") then supertypes f else None
   final_supertypes _ = None
 
-  abbrev pub sub_from : Bool → List ℕ × CompositeType → SubType
-  sub_from final x = sub_type final x.0 x.1
+  abbrev pub sub_from : Bool → List ℕ × Declared CompositeType → Declared SubType
+  sub_from final x = with_fields x.1.fields (sub_type final x.0 x.1.type)
 
   -- what stands behind `sub`: supertypes and a composite type, or `final` and these
-  abbrev pub sub_parts : Forest → Option SubType
+  abbrev pub sub_parts : Forest → Option (Declared SubType)
   sub_parts f = or_else (option_map (sub_from false) (supertypes f)) (option_map (sub_from true) (final_supertypes f))
 
   -- a composite type by itself is final and has no supertype
-  abbrev pub subtype : Forest → Option SubType
-  subtype (Word w f) = if bytes_eq w (codes "sub") then sub_parts f else option_map final_type (composite (Word w f))
+  abbrev pub subtype : Forest → Option (Declared SubType)
+  subtype (Word w f) = if bytes_eq w (codes "sub") then sub_parts f else option_map (λ c. with_fields c.fields (final_type c.type)) (composite (Word w f))
   subtype _ = None
 
-  abbrev pub one_group : Forest → Option SubType
+  abbrev pub one_group : Forest → Option (Declared SubType)
   one_group (Group g End) = subtype g
   one_group _ = None
 
   -- a type with its identifier
-  abbrev pub read_type : Forest → Option SubType
+  abbrev pub read_type : Forest → Option (Declared SubType)
   read_type f = one_group (identified f).1
 
-  abbrev pub read_group : List Forest → Option (List SubType)
+  abbrev pub read_group : List Forest → Option (List (Declared SubType))
   read_group fs = each read_type fs
 
 -- what the fields `type` of a group `rec` hold
@@ -159,3 +167,15 @@ abbrev pub group_members : Forest → Option (List Forest)
 group_members End = Some []
 group_members (Group (Word w f) g) = if bytes_eq w (codes "type") then option_map (λ fs. f ∷ fs) (group_members g) else None
 group_members _ = None
+
+-- the types of groups
+abbrev pub group_types : List (List (Declared SubType)) → List (List SubType)
+group_types gs = map (λ g. map (λ d. d.type) g) gs
+
+abbrev pub declared_fields : Option (Declared SubType) → Identifiers
+declared_fields None = []
+declared_fields (Some d) = d.fields
+
+-- the identifiers of the fields of the type with an index
+abbrev pub field_space : List (List (Declared SubType)) → ℕ → Identifiers
+field_space gs i = declared_fields (slice_get (concat gs) i)

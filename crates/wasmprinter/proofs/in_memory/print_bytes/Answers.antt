@@ -1,18 +1,8 @@
-use Rattle.std.proofs.Common.{string_bytes, sym, subst}
-use Rattle.wasmprinter.specs.Outcome.{HasTextCause, IsTrueOfText}
-use Rattle.wasmprinter.proofs.Outcomes.{growth_cause, growth_true}
-use Rattle.wasmprinter.proofs.Texts.{grows_by, printed_text}
+-- The options are the defaults.
+use Rattle.std.proofs.Common.{string_bytes}
+use Rattle.std.specs.Prelude.{Result, Ok, Err, IfOk}
+use Rattle.wasmprinter.proofs.Texts.{default_if_ok}
 use Rattle.wasmprinter.proofs.in_memory.print_bytes.Goals as goal
 
-pub returns-in-Ok-clause-printed : goal.returns-in-Ok-clause-printed
-returns-in-Ok-clause-printed c =
-    printed_text _ (λ p. string_bytes p.0) (λ s call t h. grows_by _ string_bytes (λ _ _ _ e. e) s.0 call t.0 h) c.args.wasm.now _ c.print.new.printer c.new.ensures.bytes
-    (rw c.new-2.ensures at c.in-Ok.ensures.printed)
-
-pub returns-in-Err-clause-caused : goal.returns-in-Err-clause-caused
-returns-in-Err-clause-caused c =
-    subst (HasTextCause c.args.wasm.now) (sym c.without_printer.ensures) (growth_cause _ c.args.wasm.now _ c.print.new.printer c.in-Err.error c.in-Err.ensures.caused)
-
-pub returns-in-Err-clause-refused : goal.returns-in-Err-clause-refused
-returns-in-Err-clause-refused c =
-    subst (IsTrueOfText c.args.wasm.now) (sym c.without_printer.ensures) (growth_true c.args.wasm.now c.in-Err.error c.in-Err.ensures.refused)
+pub returns-clause-printed : goal.returns-clause-printed
+returns-clause-printed c = default_if_ok string_bytes c.args.wasm.now c.print_to_string.result (rw c.new.ensures at c.print_to_string.ensures.printed)

@@ -4,7 +4,7 @@ use Rattle.wasmprinter_spec.specs.Grammar.{placed}
 use Rattle.wasmprinter_spec.specs.Binary.Exports.{export}
 use Rattle.wasmprinter_spec.specs.Sections.{FunctionSection, ExportSection, holds}
 use Rattle.wasmprinter_entries.specs.Refusals.{HoldsItems}
-use Rattle.wasmprinter_entries.proofs.Wholes.{list_fault}
+use Rattle.wasmprinter_entries.proofs.SectionLists.{list_fault}
 use Rattle.wasmprinter_entries.proofs.exports.read_exports.Goals as goal
 
 pub returns-in_err-exports : goal.returns-in_err-exports

@@ -1,5 +1,5 @@
 use Rattle.std.proofs.lemmas.Result.{err_from_is_err_and}
-use Rattle.wasmprinter_entries.proofs.Wholes.{functions_fault}
+use Rattle.wasmprinter_entries.proofs.SectionLists.{functions_fault}
 use Rattle.wasmprinter_entries.proofs.functions.read_functions.Goals as goal
 
 pub returns-in_err-indices : goal.returns-in_err-indices

@@ -4,7 +4,7 @@ use Rattle.wasmprinter_spec.specs.Grammar.{placed}
 use Rattle.wasmprinter_spec.specs.Binary.Imports.{import}
 use Rattle.wasmprinter_spec.specs.Sections.{FunctionSection, ImportSection, holds}
 use Rattle.wasmprinter_entries.specs.Refusals.{HoldsItems}
-use Rattle.wasmprinter_entries.proofs.Wholes.{list_fault}
+use Rattle.wasmprinter_entries.proofs.SectionLists.{list_fault}
 use Rattle.wasmprinter_entries.proofs.imports.read_imports.Goals as goal
 
 pub returns-in_err-imports : goal.returns-in_err-imports

@@ -4,7 +4,7 @@ use Rattle.wasmprinter_spec.specs.Grammar.{placed}
 use Rattle.wasmprinter_spec.specs.Binary.Memories.{memory_type}
 use Rattle.wasmprinter_spec.specs.Sections.{FunctionSection, MemorySection, holds}
 use Rattle.wasmprinter_entries.specs.Refusals.{HoldsItems}
-use Rattle.wasmprinter_entries.proofs.Wholes.{list_fault}
+use Rattle.wasmprinter_entries.proofs.SectionLists.{list_fault}
 use Rattle.wasmprinter_entries.proofs.memories.read_memories.Goals as goal
 
 pub returns-in_err-memories : goal.returns-in_err-memories

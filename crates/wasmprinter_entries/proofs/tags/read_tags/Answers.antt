@@ -4,7 +4,7 @@ use Rattle.wasmprinter_spec.specs.Grammar.{placed}
 use Rattle.wasmprinter_spec.specs.Binary.Tags.{tag}
 use Rattle.wasmprinter_spec.specs.Sections.{FunctionSection, TagSection, holds}
 use Rattle.wasmprinter_entries.specs.Refusals.{HoldsItems}
-use Rattle.wasmprinter_entries.proofs.Wholes.{list_fault}
+use Rattle.wasmprinter_entries.proofs.SectionLists.{list_fault}
 use Rattle.wasmprinter_entries.proofs.tags.read_tags.Goals as goal
 
 pub returns-in_err-tags : goal.returns-in_err-tags

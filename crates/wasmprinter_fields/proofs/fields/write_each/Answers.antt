@@ -1,20 +1,32 @@
-use Rattle.std.specs.Prelude.{◌+◌}
+use Rattle.std.proofs.Common.{◌+◌, ◌∙◌}
 use Rattle.wasmprinter_print.specs.PrintsLaws.{lacks_none, next_written, next_fails}
-use Rattle.wasmprinter_fields.specs.Parts.{types_of, field_line}
+use Rattle.wasmprinter_fields.specs.Parts.{field_line}
+use Rattle.wasmprinter_fields.specs.Scopes.{scope_view}
 use Rattle.wasmprinter_fields.proofs.Numbering.{numbered-next, numbered-none}
 use Rattle.wasmprinter_fields.proofs.fields.write_each.Goals as goal
 
 pub returns-in_err-write_field : goal.returns-in_err-write_field
 returns-in_err-write_field g c =
-    let step = numbered-next (field_line g.F.Field.keyword g.F.Field.line_place (g.F.Field.parts c.args.options.now (types_of c.args.module.now))) c.args.first c.loop-index.index c.args.fields.now c.index-fields-index.result c.loop-index-test.true c.index-fields-index.is in
-    next_fails g.P.Print.meaning _ _ c.from_residual.result (rw step at c.loop-index.invariant) c.in_err-write_field.ensures c.from_residual.ensures.1
+    let step = numbered-next (field_line g.F.Field.keyword g.F.Field.line_place (g.F.Field.parts c.args.options.now (scope_view c.args.scope.now))) c.args.first c.loop-index.index c.args.fields.now c.index-fields-index.result c.loop-index-test.true c.index-fields-index.is in
+    let made = rw c.loop-index.invariant.scope at c.in_err-write_field.ensures.pieces in
+    record {
+      pieces = next_fails g.P.Print.meaning _ _ c.from_residual.result (rw step at c.loop-index.invariant.lacks) made c.from_residual.ensures.1;
+      scope = c.in_err-write_field.ensures.scope ∙ c.loop-index.invariant.scope;
+    }
 
 pub loop-index-preserved : goal.loop-index-preserved
 loop-index-preserved g c =
-    let step = numbered-next (field_line g.F.Field.keyword g.F.Field.line_place (g.F.Field.parts c.args.options.now (types_of c.args.module.now))) c.args.first c.loop-index.index c.args.fields.now c.index-fields-index.result c.loop-index-test.true c.index-fields-index.is in
-    next_written g.P.Print.meaning _ _ (rw step at c.loop-index.invariant) c.in_ok-write_field.ensures
+    let step = numbered-next (field_line g.F.Field.keyword g.F.Field.line_place (g.F.Field.parts c.args.options.now (scope_view c.args.scope.now))) c.args.first c.loop-index.index c.args.fields.now c.index-fields-index.result c.loop-index-test.true c.index-fields-index.is in
+    let made = rw c.loop-index.invariant.scope at c.in_ok-write_field.ensures.pieces in
+    record {
+      lacks = next_written g.P.Print.meaning _ _ (rw step at c.loop-index.invariant.lacks) made;
+      scope = c.in_ok-write_field.ensures.scope ∙ c.loop-index.invariant.scope;
+    }
 
 pub returns : goal.returns
 returns g c =
-    let none = numbered-none (field_line g.F.Field.keyword g.F.Field.line_place (g.F.Field.parts c.args.options.now (types_of c.args.module.now))) (c.args.first + c.loop-index.index) c.loop-index.index c.args.fields.now c.loop-index-test.false in
-    lacks_none g.P.Print.meaning _ (rw none at c.loop-index.invariant)
+    let none = numbered-none (field_line g.F.Field.keyword g.F.Field.line_place (g.F.Field.parts c.args.options.now (scope_view c.args.scope.now))) (c.args.first + c.loop-index.index) c.loop-index.index c.args.fields.now c.loop-index-test.false in
+    record {
+      pieces = lacks_none g.P.Print.meaning _ (rw none at c.loop-index.invariant.lacks);
+      scope = c.loop-index.invariant.scope;
+    }

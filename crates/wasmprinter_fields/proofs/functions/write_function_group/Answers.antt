@@ -1,16 +1,23 @@
-use Rattle.std.proofs.Common.{◌≡◌, true, false, rules}
-use Rattle.wasmprinter_fields.specs.Parts.{types_of}
+use Rattle.std.proofs.Common.{◌≡◌, true, false, rules, refl}
+use Rattle.wasmprinter_fields.specs.Parts.{within}
+use Rattle.wasmprinter_fields.specs.Scopes.{scope_view}
 use Rattle.wasmprinter_fields.proofs.Outlines.{skeleton-group, whole-group}
 use Rattle.wasmprinter_fields.proofs.functions.write_function_group.Goals as goal
 
 pub returns-then-options : goal.returns-then-options
 returns-then-options g c =
     let skeleton : c.args.options.now.skeleton ≡ true = search rules in
-    rw (skeleton-group _ c.args.options.now.offsets (types_of c.args.module.now) c.args.number c.args.function.now skeleton)
-    (c.write_outline_group.ensures c.args.options.now)
+    record {
+      pieces = rw (skeleton-group _ c.args.options.now.offsets (within (scope_view c.args.scope.now) c.args.number) c.args.function.now skeleton)
+          (c.write_outline_group.ensures c.args.options.now);
+      scope = refl;
+    }
 
 pub returns-else-options : goal.returns-else-options
 returns-else-options g c =
     let whole : c.args.options.now.skeleton ≡ false = search rules in
-    rw (whole-group _ c.args.options.now.offsets (types_of c.args.module.now) c.args.number c.args.function.now whole)
-    c.write_definition_group.ensures
+    record {
+      pieces = rw (whole-group _ c.args.options.now.offsets (within (scope_view c.args.scope.now) c.args.number) c.args.function.now whole)
+          c.write_definition_group.ensures.pieces;
+      scope = c.write_definition_group.ensures.scope;
+    }

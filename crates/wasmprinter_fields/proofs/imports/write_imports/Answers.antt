@@ -1,9 +1,9 @@
-use Rattle.std.specs.Prelude.{◌≡◌, refl, [], length}
-use Rattle.std.proofs.Common.{arith, ap}
+use Rattle.std.specs.Prelude.{◌≡◌, refl, []}
+use Rattle.std.proofs.Common.{arith, ap, ◌∙◌}
 use Rattle.wasmprinter_spec.specs.Layout.Imports.{number_of, numbers_behind}
 use Rattle.wasmprinter_print.specs.PrintsLaws.{no_piece, lacks_none, next_written, next_fails}
 use Rattle.wasmprinter_entries.specs.Externs.{extern_view}
-use Rattle.wasmprinter_fields.specs.Parts.{types_of}
+use Rattle.wasmprinter_fields.specs.Scopes.{scope_view}
 use Rattle.wasmprinter_fields.proofs.ImportLines.{imports-none, imports-next, total, total-behind, number-total}
 use Rattle.wasmprinter_fields.proofs.imports.write_imports.Goals as goal
 
@@ -11,33 +11,42 @@ pub loop-import-init : goal.loop-import-init
 loop-import-init g c =
     rw c.none-numbers.ensures (record {
       lacks = record { front = []; written = no_piece g.P.Print.meaning c.args.options.now c.args.p.now; joined = refl };
+      scope = refl;
       count = refl;
     })
 
 pub returns-in_err-write_field : goal.returns-in_err-write_field
 returns-in_err-write_field g c =
     let item = c.import-item.result in
-    let step = imports-next (types_of c.args.module.now) c.loop-import.numbers c.loop-import.import-index c.imports-import-items.result.now item item c.loop-import-test.true c.import-item.is in
+    let step = imports-next (scope_view c.args.scope.now) c.loop-import.numbers c.loop-import.import-index c.args.imports.now item item c.loop-import-test.true c.import-item.is in
     let number : c.of.result ≡ number_of item.value.type c.loop-import.numbers = rw c.ty.ensures.is at c.of.ensures in
-    rw (← c.imports-import-items.ensures.all)
-    (next_fails g.P.Print.meaning _ _ c.from_residual.result (rw step at c.loop-import.invariant.lacks) (rw number at c.in_err-write_field.ensures) c.from_residual.ensures.1)
+    let made = rw (number, c.loop-import.invariant.scope) at c.in_err-write_field.ensures.pieces in
+    record {
+      pieces = next_fails g.P.Print.meaning _ _ c.from_residual.result (rw step at c.loop-import.invariant.lacks) made c.from_residual.ensures.1;
+      scope = c.in_err-write_field.ensures.scope ∙ c.loop-import.invariant.scope;
+    }
 
 pub count-requires : goal.count-requires
 count-requires g c =
-    omega (arith, number-total (extern_view c.ty-in-loop-import.result) c.loop-import.numbers, c.loop-import.invariant.count, c.loop-import-test.true, ap (λ is. length is) c.imports-import-items.ensures.all, c.imports-import-items.ensures.few)
+    omega (arith, number-total (extern_view c.ty-in-loop-import.result) c.loop-import.numbers, c.loop-import.invariant.count, c.loop-import-test.true, c.requires)
 
 pub loop-import-preserved : goal.loop-import-preserved
 loop-import-preserved g c =
     let item = c.import-item.result in
-    let step = imports-next (types_of c.args.module.now) c.loop-import.numbers c.loop-import.import-index c.imports-import-items.result.now item item c.loop-import-test.true c.import-item.is in
+    let step = imports-next (scope_view c.args.scope.now) c.loop-import.numbers c.loop-import.import-index c.args.imports.now item item c.loop-import-test.true c.import-item.is in
     let number : c.of.result ≡ number_of item.value.type c.loop-import.numbers = rw c.ty.ensures.is at c.of.ensures in
     let behind : c.count.new.self ≡ numbers_behind item.value.type c.loop-import.numbers = rw c.ty-in-loop-import.ensures.is at c.count.ensures in
+    let made = rw (number, c.loop-import.invariant.scope) at c.in_ok-write_field.ensures.pieces in
     record {
-      lacks = rw behind (next_written g.P.Print.meaning _ _ (rw step at c.loop-import.invariant.lacks) (rw number at c.in_ok-write_field.ensures));
+      lacks = rw behind (next_written g.P.Print.meaning _ _ (rw step at c.loop-import.invariant.lacks) made);
+      scope = c.in_ok-write_field.ensures.scope ∙ c.loop-import.invariant.scope;
       count = omega (arith, ap total behind, total-behind item.value.type c.loop-import.numbers, c.loop-import.invariant.count);
     }
 
 pub returns : goal.returns
 returns g c =
-    let none = imports-none (types_of c.args.module.now) c.loop-import.numbers c.loop-import.import-index c.imports-import-items.result.now c.loop-import-test.false in
-    rw (← c.imports-import-items.ensures.all) (lacks_none g.P.Print.meaning _ (rw none at c.loop-import.invariant.lacks))
+    let none = imports-none (scope_view c.args.scope.now) c.loop-import.numbers c.loop-import.import-index c.args.imports.now c.loop-import-test.false in
+    record {
+      pieces = lacks_none g.P.Print.meaning _ (rw none at c.loop-import.invariant.lacks);
+      scope = c.loop-import.invariant.scope;
+    }

@@ -1,11 +1,11 @@
 use Rattle.std.proofs.Common.{refl}
-use Rattle.wasmprinter_fields.proofs.Breaking.{fields-break}
+use Rattle.wasmprinter_fields.proofs.Breaking.{module-break}
 use Rattle.wasmprinter_fields.proofs.modules.has_fields.Goals as goal
 
 pub returns : goal.returns
-returns c o =
+returns c o names =
     rw (
-      fields-break o c.args.module.now,
+      module-break o names c.args.module.now,
       c.is_empty.ensures,
       c.types.ensures.all,
       c.is_empty-2.ensures,

@@ -3,16 +3,16 @@ use Rattle.wasmprinter_flat.proofs.blocks.write_catch.Goals as goal
 
 pub returns-in-One : goal.returns-in-One
 unfolding catch_pieces
-returns-in-One g c o inner = rw c.in-One.is (c.write_tagged.ensures o inner)
+returns-in-One g c o = rw c.in-One.is (c.write_tagged.ensures o)
 
 pub returns-in-OneRef : goal.returns-in-OneRef
 unfolding catch_pieces
-returns-in-OneRef g c o inner = rw c.in-OneRef.is (c.write_tagged-in-OneRef.ensures o inner)
+returns-in-OneRef g c o = rw c.in-OneRef.is (c.write_tagged-in-OneRef.ensures o)
 
 pub returns-in-All : goal.returns-in-All
 unfolding catch_pieces
-returns-in-All g c o inner = rw c.in-All.is (c.write_untagged.ensures o inner)
+returns-in-All g c o = rw c.in-All.is (c.write_untagged.ensures o)
 
 pub returns-in-AllRef : goal.returns-in-AllRef
 unfolding catch_pieces
-returns-in-AllRef g c o inner = rw c.in-AllRef.is (c.write_untagged-in-AllRef.ensures o inner)
+returns-in-AllRef g c o = rw c.in-AllRef.is (c.write_untagged-in-AllRef.ensures o)

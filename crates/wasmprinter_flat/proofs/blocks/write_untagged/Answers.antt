@@ -4,12 +4,12 @@ use Rattle.wasmprinter_flat.proofs.blocks.write_untagged.Goals as goal
 
 pub returns-in_err-write_label : goal.returns-in_err-write_label
 unfolding line_group
-returns-in_err-write_label g c o inner =
+returns-in_err-write_label g c o =
     both_pieces g.P.Print.meaning (c.in_ok-open.ensures o)
-    (pieces_end g.P.Print.meaning c.from_residual-in_err-write_label.result _ c.from_residual-in_err-write_label.ensures.1 (c.in_err-write_label.ensures o inner))
+    (pieces_end g.P.Print.meaning c.from_residual-in_err-write_label.result _ c.from_residual-in_err-write_label.ensures.1 (c.in_err-write_label.ensures o))
 
 pub returns : goal.returns
 unfolding line_group
-returns g c o inner =
+returns g c o =
     both_pieces g.P.Print.meaning (c.in_ok-open.ensures o)
-    (both_pieces g.P.Print.meaning (c.in_ok-write_label.ensures o inner) (c.shut.ensures o))
+    (both_pieces g.P.Print.meaning (c.in_ok-write_label.ensures o) (c.shut.ensures o))

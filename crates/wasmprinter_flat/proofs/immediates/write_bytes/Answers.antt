@@ -3,8 +3,8 @@ use Rattle.wasmprinter_flat.proofs.immediates.write_bytes.Goals as goal
 
 pub returns-in-Vector : goal.returns-in-Vector
 unfolding immediate_pieces
-returns-in-Vector g c o s inner depth = rw c.in-Vector.is (c.write_vector.ensures o)
+returns-in-Vector g c o s inner xs own = rw c.in-Vector.is (c.write_vector.ensures o)
 
 pub returns-in-Lanes : goal.returns-in-Lanes
 unfolding immediate_pieces
-returns-in-Lanes g c o s inner depth = rw c.in-Lanes.is (c.write_lanes.ensures o)
+returns-in-Lanes g c o s inner xs own = rw c.in-Lanes.is (c.write_lanes.ensures o)

@@ -3,8 +3,8 @@ use Rattle.wasmprinter_flat.proofs.immediates.write_heap_by.Goals as goal
 
 pub returns-in-Heap : goal.returns-in-Heap
 unfolding immediate_pieces
-returns-in-Heap g c o s inner depth = rw c.in-Heap.is (c.write_heap.ensures o)
+returns-in-Heap g c o = rw (c.in-Heap.is, ← c.identifiers-identifiers.ensures) (c.write_heap.ensures o)
 
 pub returns-in-Ref : goal.returns-in-Ref
 unfolding immediate_pieces
-returns-in-Ref g c o s inner depth = rw c.in-Ref.is (c.write_ref.ensures o)
+returns-in-Ref g c o = rw (c.in-Ref.is, ← c.identifiers-identifiers.ensures) (c.write_ref.ensures o)

@@ -3,8 +3,8 @@ use Rattle.wasmprinter_flat.proofs.immediates.write_index.Goals as goal
 
 pub returns-in-Index : goal.returns-in-Index
 unfolding immediate_pieces
-returns-in-Index g c o s inner = rw c.in-Index.is (c.write_index_of.ensures o inner)
+returns-in-Index g c o = rw c.in-Index.is (c.write_index_of.ensures o)
 
 pub returns-in-DefaultIndex : goal.returns-in-DefaultIndex
 unfolding immediate_pieces
-returns-in-DefaultIndex g c o s inner = rw c.in-DefaultIndex.is (c.write_default_index.ensures o)
+returns-in-DefaultIndex g c o = rw c.in-DefaultIndex.is (c.write_default_index.ensures o)

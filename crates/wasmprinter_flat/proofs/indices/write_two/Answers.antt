@@ -2,11 +2,11 @@ use Rattle.wasmprinter_print.specs.PrintsLaws.{both_pieces, pieces_end}
 use Rattle.wasmprinter_spec.specs.Layout.Operators.{two_index_pieces}
 use Rattle.wasmprinter_flat.proofs.indices.write_two.Goals as goal
 
-pub returns-in_err-gap_index : goal.returns-in_err-gap_index
+pub returns-in_err-write_operand : goal.returns-in_err-write_operand
 unfolding two_index_pieces
-returns-in_err-gap_index g c o =
-    pieces_end g.P.Print.meaning c.from_residual.result _ c.from_residual.ensures.1 (c.in_err-gap_index.ensures o)
+returns-in_err-write_operand g c o =
+    pieces_end g.P.Print.meaning c.from_residual.result _ c.from_residual.ensures.1 (c.in_err-write_operand.ensures o)
 
 pub returns : goal.returns
 unfolding two_index_pieces
-returns g c o = both_pieces g.P.Print.meaning (c.in_ok-gap_index.ensures o) (c.gap_index-2.ensures o)
+returns g c o = both_pieces g.P.Print.meaning (c.in_ok-write_operand.ensures o) (c.write_operand-2.ensures o)

@@ -1,15 +1,23 @@
-use Rattle.std.proofs.Common.{arith}
-use Rattle.wasmprinter_flat.proofs.LabelTexts.{label-around, label-own, label-nothing}
+use Rattle.wasmprinter_flat.specs.Contexts.{around, within}
+use Rattle.wasmprinter_flat.proofs.LabelTexts.{label-out}
 use Rattle.wasmprinter_flat.proofs.labels.write_label.Goals as goal
 
-pub returns-then-blocks-depth : goal.returns-then-blocks-depth
-returns-then-blocks-depth g c o inner =
-    rw (← c.from-blocks.ensures, label-around inner c.args.depth c.from-blocks.result (omega arith)) (c.write_around.ensures o)
+pub returns-in-ByName : goal.returns-in-ByName
+returns-in-ByName g c o =
+    let x = c.args.context.now in
+    rw (label-out (within x) (around x) c.args.label, ← c.find.ensures, c.in-ByName.is) (c.write_by_name.ensures o)
 
-pub returns-then-blocks-depth-2 : goal.returns-then-blocks-depth-2
-returns-then-blocks-depth-2 g c o inner =
-    rw (label-own inner c.args.depth c.args.label (omega arith)) (c.gap_index.ensures o)
+pub returns-in-ByNumber : goal.returns-in-ByNumber
+returns-in-ByNumber g c o =
+    let x = c.args.context.now in
+    rw (label-out (within x) (around x) c.args.label, ← c.find.ensures, c.in-ByNumber.is) (c.gap_index.ensures o)
 
-pub returns-else-blocks-depth-2 : goal.returns-else-blocks-depth-2
-returns-else-blocks-depth-2 g c o inner =
-    rw (← c.from-blocks.ensures, label-nothing inner c.args.depth c.from-blocks.result (omega arith)) (c.write_invalid.ensures o)
+pub returns-in-ToBlock : goal.returns-in-ToBlock
+returns-in-ToBlock g c o =
+    let x = c.args.context.now in
+    rw (label-out (within x) (around x) c.args.label, ← c.find.ensures, c.in-ToBlock.is) (rw c.from.ensures at (c.write_around.ensures o))
+
+pub returns-in-ToNothing : goal.returns-in-ToNothing
+returns-in-ToNothing g c o =
+    let x = c.args.context.now in
+    rw (label-out (within x) (around x) c.args.label, ← c.find.ensures, c.in-ToNothing.is) (rw c.from-in-ToNothing.ensures at (c.write_invalid.ensures o))

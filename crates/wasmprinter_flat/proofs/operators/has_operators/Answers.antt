@@ -3,5 +3,6 @@ use Rattle.wasmprinter_flat.proofs.Walking.{operators-break}
 use Rattle.wasmprinter_flat.proofs.operators.has_operators.Goals as goal
 
 pub returns : goal.returns
-returns c signature nesting =
-    rw (← c.operators.ensures.all) (c.is_some.ensures ∙ sym (operators-break signature nesting c.operators.result c.next.new.self c.next.result c.next.ensures.steps))
+returns c signature nesting names function =
+    rw (← c.operators.ensures.all)
+    (c.is_some.ensures ∙ sym (operators-break signature nesting names function c.operators.result c.next.new.self c.next.result c.next.ensures.steps))

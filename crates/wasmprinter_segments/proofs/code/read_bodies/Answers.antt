@@ -3,7 +3,7 @@ use Rattle.std.proofs.lemmas.Result.{err_from_is_err_and}
 use Rattle.wasmprinter_spec.specs.Repeated.{items_at}
 use Rattle.wasmprinter_spec.specs.Binary.Code.{code_entry}
 use Rattle.wasmprinter_bytes.proofs.Fronts.{front_more}
-use Rattle.wasmprinter_entries.proofs.Later.{later_none, later_more}
+use Rattle.wasmprinter_entries.proofs.LaterPlaces.{later_none, later_more}
 use Rattle.wasmprinter_segments.proofs.Listing.{few-push, bodies_fault, front_start}
 use Rattle.wasmprinter_segments.proofs.code.read_bodies.Goals as goal
 

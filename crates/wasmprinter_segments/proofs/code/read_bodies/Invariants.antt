@@ -5,7 +5,7 @@ use Rattle.wasmprinter_spec.specs.Binary.Code.{code_entry}
 use Rattle.wasmprinter_bytes.specs.Reads.{end_of}
 use Rattle.wasmprinter_bytes.proofs.Fronts.{with_front}
 use Rattle.wasmprinter_entries.specs.Contents.{HasFew}
-use Rattle.wasmprinter_entries.proofs.Later.{Later}
+use Rattle.wasmprinter_entries.proofs.LaterPlaces.{IsLater}
 use Rattle.wasmprinter_segments.proofs.code.read_bodies.Given as goal
 
 abbrev pub invariant-loop : goal.invariant-loop
@@ -13,5 +13,5 @@ invariant-loop l = record {
   rest : with_front l.bodies.items (items_at code_entry.parse (l.count - l.counter) l.cursor) ≡ items_at code_entry.parse l.count l.initial.cursor;
   end : end_of l.cursor ≡ end_of l.initial.cursor;
   few : AllByRecursion HasFew l.bodies.items;
-  later : Later l.initial.cursor l.cursor;
+  later : IsLater l.initial.cursor l.cursor;
 }

@@ -4,7 +4,7 @@ use Rattle.wasmprinter_spec.specs.Grammar.{placed}
 use Rattle.wasmprinter_spec.specs.Binary.Elements.{element}
 use Rattle.wasmprinter_spec.specs.Sections.{FunctionSection, ElementSection, holds}
 use Rattle.wasmprinter_entries.specs.Refusals.{HoldsItems}
-use Rattle.wasmprinter_entries.proofs.Wholes.{grown_fault}
+use Rattle.wasmprinter_entries.proofs.SectionLists.{grown_fault}
 use Rattle.wasmprinter_segments.proofs.elements.read_elements.Goals as goal
 
 pub returns-in_err-elements : goal.returns-in_err-elements

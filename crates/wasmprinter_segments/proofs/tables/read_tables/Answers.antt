@@ -4,7 +4,7 @@ use Rattle.wasmprinter_spec.specs.Grammar.{placed}
 use Rattle.wasmprinter_spec.specs.Binary.Tables.{table}
 use Rattle.wasmprinter_spec.specs.Sections.{FunctionSection, TableSection, holds}
 use Rattle.wasmprinter_entries.specs.Refusals.{HoldsItems, PlacedTable, FirstIsEmpty}
-use Rattle.wasmprinter_entries.proofs.Wholes.{grown_fault}
+use Rattle.wasmprinter_entries.proofs.SectionLists.{grown_fault}
 use Rattle.wasmprinter_segments.proofs.Emptied.{section_empty}
 use Rattle.wasmprinter_segments.proofs.tables.read_tables.Goals as goal
 

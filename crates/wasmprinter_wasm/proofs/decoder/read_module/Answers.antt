@@ -4,7 +4,7 @@ use Rattle.std.proofs.lemmas.Result.{err_from_is_err_and}
 use Rattle.wasmprinter_spec.specs.Grammar.{Placed}
 use Rattle.wasmprinter_spec.specs.Types.{MemoryType}
 use Rattle.wasmprinter_spec.specs.Operator.{Operator}
-use Rattle.wasmprinter_spec.specs.Placed.{TypeGroup, Import, Global, Export, ElementEntry, Body, Data}
+use Rattle.wasmprinter_spec.specs.Placed.{TypeGroup, Import, Global, Export, ElementEntry, Body, Data, Custom}
 use Rattle.wasmprinter_spec.specs.Binary.{AreBytes, preamble, preamble_bytes}
 use Rattle.wasmprinter_bytes.specs.Reads.{end_of}
 use Rattle.wasmprinter_wasm.specs.Gathering.{Gathered, IsWhole, HoldsSections}
@@ -17,8 +17,8 @@ are_bytes bytes h = recursion_from_All (λ b. b < 256) bytes (All-from_get_or (�
 
 abbrev gathered_of : ℕ → List (Placed TypeGroup) → List (Placed Import) → List ℕ → List PlacedTable → List (Placed MemoryType) → List (Placed ℕ) →
     List (Placed (Global (Placed Operator))) → List (Placed Export) → Option (Placed ℕ) → List (Placed ElementEntry) → Option ℕ → List (Placed Body) →
-    List (Placed (Data (Placed Operator))) → Gathered
-gathered_of n ts is js us ms gs vs es f ss k bs ds =
+    List (Placed (Data (Placed Operator))) → List (Placed Custom) → Gathered
+gathered_of n ts is js us ms gs vs es f ss k bs ds cs =
     record {
       rank = n;
       types = ts;
@@ -35,6 +35,7 @@ gathered_of n ts is js us ms gs vs es f ss k bs ds =
       data_count = k;
       bodies = bs;
       datas = ds;
+      customs = cs;
     }
 
 pub returns-in_err-gathered : goal.returns-in_err-gathered
@@ -52,7 +53,7 @@ returns-then-not-is_whole c =
     gathered_of c.gathered.inside.rank c.gathered.inside.types c.gathered.inside.imports.items c.gathered.inside.type_indices.items
     c.gathered.inside.tables.items c.gathered.inside.memories.items c.gathered.inside.tags.items c.gathered.inside.globals.items
     c.gathered.inside.exports.items c.gathered.inside.start c.gathered.inside.elements.items c.gathered.inside.data_count c.gathered.inside.bodies.items
-    c.gathered.inside.datas.items in
+    c.gathered.inside.datas.items c.gathered.inside.customs.items in
     let h : HoldsSections c.read_preamble.new.cursor g = subst (HoldsSections c.read_preamble.new.cursor) (sym c.gathered.view_is) c.in_ok-gathered.ensures in
     module_unpaired c.args.wasm.now preamble_bytes c.read_preamble.new.cursor first g h
     (λ whole. let t = c.is_whole.ensures.1 (subst IsWhole c.gathered.view_is whole) in let f = c.if-not-is_whole.true in cc)
@@ -64,7 +65,7 @@ invariant_of-result c =
     gathered_of c.gathered.inside.rank c.gathered.inside.types c.gathered.inside.imports.items c.gathered.inside.type_indices.items
     c.gathered.inside.tables.items c.gathered.inside.memories.items c.gathered.inside.tags.items c.gathered.inside.globals.items
     c.gathered.inside.exports.items c.gathered.inside.start c.gathered.inside.elements.items c.gathered.inside.data_count c.gathered.inside.bodies.items
-    c.gathered.inside.datas.items in
+    c.gathered.inside.datas.items c.gathered.inside.customs.items in
     let h : HoldsSections c.read_preamble.new.cursor g = subst (HoldsSections c.read_preamble.new.cursor) (sym c.gathered.view_is) c.in_ok-gathered.ensures in
     let whole : IsWhole g = subst IsWhole (sym c.gathered.view_is) (c.is_whole.ensures.0 c.if-not-is_whole.false) in
     module_kept c.args.wasm.now preamble_bytes c.read_preamble.new.cursor first g h whole (are_bytes c.args.wasm.now c.type_inv.wasm)
@@ -76,7 +77,7 @@ returns c =
     gathered_of c.gathered.inside.rank c.gathered.inside.types c.gathered.inside.imports.items c.gathered.inside.type_indices.items
     c.gathered.inside.tables.items c.gathered.inside.memories.items c.gathered.inside.tags.items c.gathered.inside.globals.items
     c.gathered.inside.exports.items c.gathered.inside.start c.gathered.inside.elements.items c.gathered.inside.data_count c.gathered.inside.bodies.items
-    c.gathered.inside.datas.items in
+    c.gathered.inside.datas.items c.gathered.inside.customs.items in
     let h : HoldsSections c.read_preamble.new.cursor g = subst (HoldsSections c.read_preamble.new.cursor) (sym c.gathered.view_is) c.in_ok-gathered.ensures in
     let whole : IsWhole g = subst IsWhole (sym c.gathered.view_is) (c.is_whole.ensures.0 c.if-not-is_whole.false) in (
       module_spelled c.args.wasm.now preamble_bytes c.read_preamble.new.cursor first g h whole (are_bytes c.args.wasm.now c.type_inv.wasm),

@@ -4,7 +4,7 @@ use Rattle.wasmprinter_spec.specs.Grammar.{placed}
 use Rattle.wasmprinter_spec.specs.Binary.Types.{group}
 use Rattle.wasmprinter_spec.specs.Sections.{FunctionSection, TypeSection, holds}
 use Rattle.wasmprinter_entries.specs.Refusals.{HoldsItems}
-use Rattle.wasmprinter_entries.proofs.Wholes.{list_fault, list_grown}
+use Rattle.wasmprinter_entries.proofs.SectionLists.{list_fault, list_grown}
 use Rattle.wasmprinter_entries.proofs.types.Types.read.Goals as goal
 
 pub returns-in_err-groups : goal.returns-in_err-groups

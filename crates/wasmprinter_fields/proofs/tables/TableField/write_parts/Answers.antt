@@ -1,11 +1,20 @@
+use Rattle.std.proofs.Common.{refl}
 use Rattle.wasmprinter_print.specs.PrintsLaws.{both_pieces, pieces_end}
+use Rattle.wasmprinter_fields.specs.Scopes.{scope_view}
+use Rattle.wasmprinter_fields.proofs.Declared.{table-parts}
 use Rattle.wasmprinter_fields.proofs.tables.TableField.write_parts.Goals as goal
 
-pub returns-in_err-write_numbered_table_type : goal.returns-in_err-write_numbered_table_type
-returns-in_err-write_numbered_table_type g c =
-    pieces_end g.P.Print.meaning c.from_residual.result _ c.from_residual.ensures.1
-    (rw c.ty.ensures at (c.in_err-write_numbered_table_type.ensures c.args.options.now))
+pub returns-in_err-write_declared_table : goal.returns-in_err-write_declared_table
+returns-in_err-write_declared_table g c = record {
+  pieces = rw (table-parts (scope_view c.args.scope.now) c.args.number c.args.self.now.value)
+      (pieces_end g.P.Print.meaning c.from_residual.result _ c.from_residual.ensures.1
+      (rw c.ty.ensures at (c.in_err-write_declared_table.ensures c.args.options.now)));
+  scope = refl;
+}
 
 pub returns : goal.returns
-returns g c =
-    both_pieces g.P.Print.meaning (rw c.ty.ensures at (c.in_ok-write_numbered_table_type.ensures c.args.options.now)) c.write_init.ensures
+returns g c = record {
+  pieces = rw (table-parts (scope_view c.args.scope.now) c.args.number c.args.self.now.value)
+      (both_pieces g.P.Print.meaning (rw c.ty.ensures at (c.in_ok-write_declared_table.ensures c.args.options.now)) c.write_init.ensures.pieces);
+  scope = c.write_init.ensures.scope;
+}

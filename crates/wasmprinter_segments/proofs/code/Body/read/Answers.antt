@@ -1,6 +1,6 @@
 use Rattle.std.proofs.Common.{refl}
 use Rattle.std.proofs.lemmas.Result.{err_from_is_err_and}
-use Rattle.wasmprinter_segments.proofs.Over.{body_over, body_fault}
+use Rattle.wasmprinter_segments.proofs.TooManyLocals.{body_over, body_fault}
 use Rattle.wasmprinter_segments.proofs.code.Body.read.Goals as goal
 
 pub returns-then-are_too_many-clause-reads : goal.returns-then-are_too_many-clause-reads

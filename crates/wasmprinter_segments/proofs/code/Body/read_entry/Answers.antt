@@ -1,5 +1,5 @@
 use Rattle.std.proofs.lemmas.Result.{err_from_is_err_and}
-use Rattle.wasmprinter_segments.proofs.Over.{entry_fault}
+use Rattle.wasmprinter_segments.proofs.TooManyLocals.{entry_fault}
 use Rattle.wasmprinter_segments.proofs.code.Body.read_entry.Goals as goal
 
 pub returns-in_err-body-clause-reads : goal.returns-in_err-body-clause-reads

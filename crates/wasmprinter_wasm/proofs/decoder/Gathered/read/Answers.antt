@@ -1,7 +1,7 @@
 use Rattle.std.proofs.Common.{arith, sym, ◌∙◌}
 use Rattle.std.proofs.lemmas.Result.{err_from_is_err_and}
 use Rattle.wasmprinter_wasm.specs.Sections.{section_view}
-use Rattle.wasmprinter_wasm.proofs.Gathering.{takes_byte, gathering_none, gathering_more, gathering_unordered, gathering_fault}
+use Rattle.wasmprinter_wasm.proofs.Gathering.{takes_byte, gathering_none, gathering_more, gathering_unordered, gathering_fault, gathering_unkept}
 use Rattle.wasmprinter_wasm.proofs.decoder.Gathered.read.Goals as goal
 
 pub sections-init : goal.sections-init
@@ -13,7 +13,7 @@ sections-smaller c = takes_byte c.sections.cursor (section_view c.in_ok-section.
 pub sections-preserved : goal.sections-preserved
 sections-preserved c =
     gathering_more c.args.cursor.now c.sections.cursor c.read.new.cursor c.sections.gathered (section_view c.in_ok-section.section) c.in_ok-section.ensures.reads.0 c.sections.invariant
-    c.in_ok-section.ensures.reads.1 (sym c.may_precede.ensures ∙ c.if-not-may_precede.false) c.in_ok-section.ensures.end c.add.new.self c.add.ensures
+    c.in_ok-section.ensures.reads.1 (sym c.may_precede.ensures ∙ c.if-not-may_precede.false) c.in_ok-section.ensures.end c.add.new.self c.in_ok-add.ensures.added
 
 pub returns-then-not-may_precede : goal.returns-then-not-may_precede
 returns-then-not-may_precede c = (
@@ -26,3 +26,10 @@ returns-in_err-section c =
     let p = err_from_is_err_and c.from_residual.result c.from_residual.ensures.1 in
     rw (p.1, p.2)
     (gathering_fault c.args.cursor.now c.sections.cursor c.sections.gathered (λ none. let t = c.sections-test.ensures.1 none in cc) c.sections.invariant c.in_err-section.field-0.0 c.in_err-section.ensures.reads)
+
+pub returns-in_err-add : goal.returns-in_err-add
+returns-in_err-add c =
+    let p = err_from_is_err_and c.from_residual-in_err-add.result c.from_residual-in_err-add.ensures.1 in
+    rw (p.1, p.2)
+    (gathering_unkept c.args.cursor.now c.sections.cursor c.sections.gathered (λ none. let t = c.sections-test.ensures.1 none in cc) c.sections.invariant (section_view c.in_ok-section.section)
+    c.read.new.cursor c.in_ok-section.ensures.reads.0 c.in_err-add.ensures.needed)

@@ -1,0 +1,8 @@
+-- What is still to be told of the words: the file among the rest of them, behind the one that was found.
+use Rattle.std.proofs.Common.{◌≡◌, map, drop, option_copied, string_bytes}
+use Rattle.printwasm.specs.Words.{named_file}
+use Rattle.printwasm.proofs.Files.{named_behind}
+use Rattle.printwasm.proofs.program.file_of.Given as goal
+
+abbrev pub invariant-loop-word : goal.invariant-loop-word
+invariant-loop-word l = named_file (map string_bytes l.fn.words) ≡ named_behind (option_copied l.file) (map string_bytes (drop l.word-index l.fn.words))

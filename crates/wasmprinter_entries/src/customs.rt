@@ -1,0 +1,109 @@
+//! Custom sections (section 5.5, "Custom Section"). So far those are read that are called `name`.
+ghost use Rattle.std.specs.Prelude.{◌≡◌, ℕ, List, Some, IfOk, IfErr, bytes_eq};
+ghost use Rattle.wasmprinter_spec.specs.Grammar.{Input};
+ghost use Rattle.wasmprinter_spec.specs.Sized.{headed, left};
+ghost use Rattle.wasmprinter_spec.specs.Name.{name};
+ghost use Rattle.wasmprinter_spec.specs.Binary.Customs.{name_section, custom_section};
+ghost use Rattle.wasmprinter_entries.specs.Contents.{ReadsAll};
+
+use std::marker::Model;
+use wasmprinter_bytes::bytes::Cursor;
+use wasmprinter_error::Malformed;
+
+/// The name of name sections.
+const NAME_SECTION: &str = "name";
+
+/// A custom section: a name, and bytes that the standard gives no meaning, with the place of the section's content.
+#[derive(Drop)]
+pub struct Custom<'a> {
+    place: u64,
+    name: &'a str,
+    content: Cursor<'a>,
+}
+
+impl<'a> Model for Custom<'a> {
+    ghost use Rattle.wasmprinter_spec.specs.Grammar.{Placed};
+    ghost use Rattle.wasmprinter_spec.specs.Placed.{Custom as CustomValue, custom_of};
+
+    ghost Value = { Placed CustomValue };
+
+    ghost view = { λ c. record {
+      place = c.place;
+      value = custom_of c.name.now (record { place = c.content.place; value = c.content.bytes });
+    } };
+}
+
+impl<'a> Custom<'a> {
+    /// Reads a custom section of any name.
+    fn read(cursor: &mut Cursor<'a>) -> Result<Self, Malformed>
+        ensures reads { ReadsAll (λ c. (c.value.name, c.value.bytes)) (headed name left).parse cursor.old result }
+        ensures place { IfOk result (λ c. c.place ≡ cursor.old.place) }
+    {
+        let place = cursor.place();
+        let name = cursor.name()?;
+        Ok(Custom {
+            place,
+            name,
+            content: cursor.fork(),
+        })
+    }
+
+    /// The place of its name, with which the section's content begins.
+    pub fn place(&self) -> u64
+        ensures { result ≡ self.now.place }
+    {
+        self.place
+    }
+
+    /// Its name.
+    pub fn name(&self) -> &'a str
+        ensures { result.now ≡ self.now.value.name }
+    {
+        self.name
+    }
+
+    /// The place of the first of its bytes.
+    pub fn bytes_place(&self) -> u64
+        ensures { result ≡ self.now.value.bytes.place }
+    {
+        self.content.place()
+    }
+
+    /// Its bytes, behind the name.
+    pub fn bytes(&self) -> &'a [u8]
+        ensures { result.now ≡ self.now.value.bytes.value }
+    {
+        self.content.rest()
+    }
+
+    /// A cursor over its bytes.
+    pub fn cursor(&self) -> Cursor<'a>
+        ensures { result ≡ record { place = self.now.value.bytes.place; bytes = self.now.value.bytes.value } }
+    {
+        self.content.fork()
+    }
+
+    /// Whether it is a name section.
+    pub fn is_name_section(&self) -> bool
+        ensures { result ≡ bytes_eq self.now.value.name name_section }
+    {
+        self.name == NAME_SECTION
+    }
+}
+
+/// Reads what a custom section holds, which is refused at its place unless it is a name section.
+pub fn read_custom<'a>(cursor: &mut Cursor<'a>) -> Result<Custom<'a>, Malformed>
+    ensures reads { ReadsAll (λ c. c) custom_section.parse cursor.old result }
+
+    // A whole name is refused at its own place.
+    ensures named { (x : List ℕ × Input) → name.parse cursor.old ≡ Some x → IfErr result (λ e. e.place ≡ cursor.old.place) }
+{
+    let custom = Custom::read(cursor)?;
+    if custom.is_name_section() {
+        Ok(custom)
+    } else {
+        Err(Malformed {
+            place: custom.place(),
+        })
+    }
+}

@@ -1,0 +1,92 @@
+//! What an operator's immediates are printed by, and the identifiers of indices (section 6.3 of the WebAssembly Core Specification,
+//! "Identifiers").
+ghost use Rattle.std.specs.Prelude.{◌≡◌, ◌+◌, ◌<◌, ◌^◌, suc, List, length, option_map};
+ghost use Rattle.wasmprinter_spec.specs.Labels.{Label, outside};
+ghost use Rattle.wasmprinter_spec.specs.Names.{in_function};
+ghost use Rattle.wasmprinter_names.specs.Shown.{identifier_view, shown};
+ghost use Rattle.wasmprinter_names.specs.Spaces.{id_of};
+ghost use Rattle.wasmprinter_ops.specs.Shapes.{role_view, space_view};
+ghost use Rattle.wasmprinter_flat.specs.Contexts.{names_in, around, operand_subsection};
+
+use crate::operators::Setting;
+use wasmprinter_labels::OpenLabels;
+use wasmprinter_names::{Identifier, Identifiers, Space as NamedSpace};
+use wasmprinter_ops::opcode::{Role, Space};
+use wasmprinter_text::signature::Signatures;
+
+/// What an operator's immediates are printed by.
+#[derive(Drop)]
+pub(crate) struct Context<'c, 's, 'n, 'a, S: Signatures> {
+    /// What every operator of the list is printed by.
+    pub(crate) setting: &'c Setting<'s, S>,
+    /// The labels that are open in front of the operator.
+    pub(crate) labels: &'c OpenLabels<'n, 'a>,
+    /// The role of the operator.
+    pub(crate) role: Role,
+}
+
+/// What names are given for in an index space, `None` for labels, whose identifiers go by another rule.
+fn named_space(space: Space) -> Option<NamedSpace>
+    ensures { option_map id_of result ≡ operand_subsection (space_view space) }
+{
+    match space {
+        Space::Types => Some(NamedSpace::Types),
+        Space::Func => Some(NamedSpace::Func),
+        Space::Table => Some(NamedSpace::Table),
+        Space::Memory => Some(NamedSpace::Memory),
+        Space::Tag => Some(NamedSpace::Tag),
+        Space::Global => Some(NamedSpace::Global),
+        Space::Elem => Some(NamedSpace::Elem),
+        Space::Data => Some(NamedSpace::Data),
+        Space::Local => Some(NamedSpace::Local),
+        Space::Label => None,
+    }
+}
+
+/// How many blocks are open whose labels an operator may mean: for `delegate` those outside its own.
+fn depth_outside(role: Role, depth: u64) -> u64
+    ensures { (labels : List Label) → depth ≡ length labels → result ≡ length (outside (role_view role) labels) }
+{
+    match role {
+        Role::Delegates => depth.saturating_sub(1),
+        _ => depth,
+    }
+}
+
+impl<'n, 'a, S: Signatures> Context<'_, '_, 'n, 'a, S> {
+    /// The identifiers of the module.
+    pub(crate) fn identifiers(&self) -> Identifiers<'n, 'a>
+        ensures { shown result ≡ names_in self.now }
+    {
+        self.labels.identifiers()
+    }
+
+    /// The identifier of what an index means, if it has one. Labels go by another rule.
+    pub(crate) fn identifier(&self, space: Space, index: u32) -> Option<Identifier<'n>>
+        ensures { option_map identifier_view result
+            ≡ in_function (names_in self.now) self.now.setting.now.function (space_view space) index }
+    {
+        match named_space(space) {
+            Some(named) => self
+                .identifiers()
+                .item(named, self.setting.function, u64::from(index)),
+            None => None,
+        }
+    }
+
+    /// The identifier of a field of a structure type, if it has one.
+    pub(crate) fn field(&self, type_index: u32, field: u32) -> Option<Identifier<'n>>
+        ensures { option_map identifier_view result ≡ (names_in self.now).fields type_index field }
+    {
+        self.identifiers()
+            .item(NamedSpace::Field, u64::from(type_index), u64::from(field))
+    }
+
+    /// The number of the block that the operator opens, if it opens one. Blocks are counted from 1.
+    pub(crate) fn block(&self) -> u64
+        requires { length self.now.labels.now.labels + 1 < 2 ^ 64 }
+        ensures { result ≡ suc (length (around self.now)) }
+    {
+        depth_outside(self.role, self.labels.depth()) + 1
+    }
+}

@@ -1,0 +1,145 @@
+-- A scan goes on behind an operator.
+use Rattle.std.proofs.Common.{◌≡◌, ◌≢◌, ℕ, zero, suc, ◌-◌, ◌<◌, List, [], ◌∷◌, ◌++◌, length, refl, sym, ap, ◌∙◌, subst, arith}
+use Rattle.std.proofs.lemmas.List.Elements.{All-contains}
+use Rattle.std.specs.Prelude.{Bool, nat_eq, bytes_eq, Some, None}
+use Rattle.std.specs.List.{All, AllByRecursion, list_any}
+use Rattle.wasmprinter_spec.specs.Labels.{Label, same_name}
+use Rattle.wasmprinter_names.specs.Views.{NamedItem, name_view}
+use Rattle.wasmprinter_labels.specs.Found.{found_named, found}
+use Rattle.wasmprinter_labels.specs.Scan.{Scan, opened, closed}
+use Rattle.wasmprinter_labels.specs.Stack.{Block, Stack, depths, AreBelow, Descend, closed_at, StandsAt, unnamed, labels_from}
+use Rattle.wasmprinter_labels.specs.Numbers.{given_of, AreNumbered}
+use Rattle.wasmprinter_labels.specs.Inside.{label_of, IsOf, IsKept}
+use Rattle.wasmprinter_labels.specs.declared.numbers.NumberedLabel.{NumberedLabel}
+use Rattle.wasmprinter_labels.proofs.Cursors.{own_some, own_none, cursor_named, cursor_unnamed, next_is_one}
+use Rattle.wasmprinter_labels.proofs.Targets.{labels_length, labels_named, labels_unnamed, below_more, below_closed, length_closed, all_closed, unnamed_found, found_at_name, found_unnamed}
+
+abbrev pub scan : List NamedItem → Bool → ℕ → ℕ → List Label → Scan
+scan named invents f n ls = record { named = named; invents = invents; function = f; count = n; labels = ls }
+
+abbrev pub block_of : ℕ → NumberedLabel → Block
+block_of d x = record { depth = d; alike = x.alike; name = name_view x.label.name }
+
+module _ (named : List NamedItem) (xs zs : List NumberedLabel) (invents : Bool) (next f n d : ℕ) (s : Stack) (k : IsKept named xs next f n d s) (same : zs ≡ xs) where
+  -- ---- an operator that opens a block without a name
+
+  module _ (e : label_of zs next f n ≡ None) where
+    none : label_of xs next f n ≡ None
+    none = ap (λ l. label_of l next f n) (sym same) ∙ e
+
+    pub kept_unnamed : IsKept named xs next f (suc n) (suc d) s
+    kept_unnamed = record {
+      lists = k.lists;
+      ascend = k.ascend;
+      of_labels = k.of_labels;
+      numbered = k.numbered;
+      limit = k.limit;
+      few = k.few;
+      blocks = k.blocks;
+      cursor = cursor_unnamed f n next xs _ k.lists none k.cursor;
+      below = below_more d (depths s.blocks) k.below;
+      shallow = omega (arith, k.shallow);
+    }
+
+    pub scan_unnamed : scan named invents f (suc n) (labels_from invents s.blocks (suc d)) ≡ opened (scan named invents f n (labels_from invents s.blocks d))
+    scan_unnamed =
+        ap (scan named invents f (suc n)) (labels_unnamed invents s.blocks d k.below ∙ ap (λ (x : Label). x ∷ labels_from invents s.blocks d) (sym
+        (own_none named xs invents f n next (length (labels_from invents s.blocks d)) k.lists k.ascend k.of_labels k.cursor zs same e
+        ∙ ap (unnamed invents) (labels_length invents s.blocks d))))
+
+  -- ---- one with a name
+
+  module _ (x : NumberedLabel) (e : label_of zs next f n ≡ Some x) where
+    some : label_of xs next f n ≡ Some x
+    some = ap (λ l. label_of l next f n) (sym same) ∙ e
+
+    pub has_room : length s.blocks < s.limit
+    has_room = let p = next_is_one f n next xs x some in omega (arith, p.1, k.few, k.limit)
+
+    pub has_number : x.alike < s.limit
+    has_number =
+        let p = next_is_one f n next xs x some in
+        let lt = All-contains (λ (y : NumberedLabel). y.alike < length xs) xs x k.numbered.few p.0 in
+        omega (arith, lt, k.limit)
+
+    pub not_last : next < length xs
+    not_last = (next_is_one f n next xs x some).1
+
+    pub kept_named : IsKept named xs (suc next) f (suc n) (suc d) (record { blocks = block_of d x ∷ s.blocks; limit = s.limit })
+    kept_named = record {
+      lists = k.lists;
+      ascend = k.ascend;
+      of_labels = k.of_labels;
+      numbered = k.numbered;
+      limit = k.limit;
+      few = omega (arith, k.few);
+      blocks = (record { label = x; is_one = (next_is_one f n next xs x some).0; alike = refl; name = refl }, k.blocks);
+      cursor = cursor_named f n next xs _ x k.lists k.ascend some k.cursor;
+      below = (omega arith, below_more d (depths s.blocks) k.below);
+      shallow = omega (arith, k.shallow);
+    }
+
+    pub scan_named : scan named invents f (suc n) (labels_from invents (block_of d x ∷ s.blocks) (suc d)) ≡ opened (scan named invents f n (labels_from invents s.blocks d))
+    scan_named =
+        ap (scan named invents f (suc n)) (labels_named invents (block_of d x) s.blocks d refl ∙ ap (λ (y : Label). y ∷ labels_from invents s.blocks d) (sym
+        (own_some named xs invents f n next (length (labels_from invents s.blocks d)) k.lists k.ascend k.of_labels k.cursor zs same x e)))
+
+-- ---- an operator that closes a block
+
+pub kept_closed : (named : List NamedItem) (xs : List NumberedLabel) (next f n d e : ℕ) (s : Stack) → IsKept named xs next f n e s → e ≡ suc d → Descend (depths s.blocks)
+    → IsKept named xs next f n d (record { blocks = closed_at d s.blocks; limit = s.limit })
+kept_closed named xs next f n d e s k is descend = record {
+  lists = k.lists;
+  ascend = k.ascend;
+  of_labels = k.of_labels;
+  numbered = k.numbered;
+  limit = k.limit;
+  cursor = k.cursor;
+  few = let le = length_closed d s.blocks in omega (arith, le, k.few);
+  blocks = all_closed (IsOf xs) d s.blocks k.blocks;
+  below = below_closed d s.blocks (subst (λ m. AreBelow m (depths s.blocks)) is k.below) descend;
+  shallow = omega (arith, k.shallow, is);
+}
+
+pub scan_closed : (named : List NamedItem) (invents : Bool) (f n d e : ℕ) (bs : List Block) → e ≡ suc d
+    → scan named invents f n (labels_from invents (closed_at d bs) d) ≡ closed (scan named invents f n (labels_from invents bs e))
+scan_closed named invents f n d e bs is = ap (λ m. closed (scan named invents f n (labels_from invents bs m))) (sym is)
+
+-- ---- given names
+
+-- two blocks have one number if they have one given name
+same_numbers : (xs : List NumberedLabel) (a b : Block) → AreNumbered xs → IsOf xs a → IsOf xs b → nat_eq a.alike b.alike ≡ same_name a.name.given b.name.given
+same_numbers xs a b m p q =
+    let h = All-contains (λ (y : NumberedLabel). nat_eq p.label.alike y.alike ≡ bytes_eq (given_of p.label) (given_of y)) xs q.label
+    (All-contains (λ (x : NumberedLabel). All (λ y. nat_eq x.alike y.alike ≡ bytes_eq (given_of x) (given_of y)) xs) xs p.label m.same p.is_one) q.is_one in
+    rw (p.alike, q.alike, p.name, q.name) h
+
+all_behind : (P : Block → Type 0) (front rest : List Block) (b : Block) → AllByRecursion P (front ++ b ∷ rest) → P b
+all_behind P [] rest b h = h.0
+all_behind P (x ∷ front) rest b h = all_behind P front rest b h.1
+
+pub hidden_alike : (xs : List NumberedLabel) (b : Block) (front rest : List Block) → AreNumbered xs → AllByRecursion (IsOf xs) (front ++ b ∷ rest)
+    → list_any (λ x. same_name x.name.given b.name.given) front ≡ list_any (λ x. nat_eq x.alike b.alike) front
+hidden_alike xs b [] rest m h = refl
+hidden_alike xs b (x ∷ front) rest m h =
+    let e = same_numbers xs x b m h.0 (all_behind (IsOf xs) front rest b h.1) in
+    rw (e, hidden_alike xs b front rest m h.1) refl
+
+-- ---- what is found
+
+named_at : (invents : Bool) (d l e : ℕ) (bs : List Block) (b : Block) (hidden : Bool) (s : StandsAt bs e b hidden) → Descend (depths bs) → AreBelow d (depths bs) → l < d → e ≡ d - 1 - l
+    → list_any (λ x. same_name x.name.given b.name.given) s.front ≡ hidden → found [] (labels_from invents bs d) l ≡ found_named b.name hidden
+named_at invents zero l e bs b hidden s descend below lt is h = absurd (omega (arith, lt))
+named_at invents (suc d) l e bs b hidden s descend below lt is h =
+    found_at_name invents l d bs b hidden (record { front = s.front; rest = s.rest; is = s.is; depth = refl; hides = s.hides }) descend below (omega (arith, s.depth, is, lt)) h
+
+pub found_other : (invents : Bool) (d l e : ℕ) (bs : List Block) → AllByRecursion (λ b. b.depth ≢ e) bs → l < d → e ≡ d - 1 - l
+    → found [] (labels_from invents bs d) l ≡ unnamed_found (unnamed invents e) (d - l)
+found_other invents zero l e bs h lt is = absurd (omega (arith, lt))
+found_other invents (suc d) l e bs h lt is = found_unnamed invents l d e bs h (omega (arith, is, lt))
+
+pub found_name : (named : List NamedItem) (xs : List NumberedLabel) (next f n d : ℕ) (s : Stack) → IsKept named xs next f n d s → (invents : Bool) (l e : ℕ) (b : Block) (hidden : Bool)
+    → StandsAt s.blocks e b hidden → Descend (depths s.blocks) → l < d → e ≡ d - 1 - l → found [] (labels_from invents s.blocks d) l ≡ found_named b.name hidden
+found_name named xs next f n d s k invents l e b hidden at descend lt is =
+    named_at invents d l e s.blocks b hidden at descend k.below lt is
+    (hidden_alike xs b at.front at.rest k.numbered (subst (AllByRecursion (IsOf xs)) at.is k.blocks) ∙ at.hides)

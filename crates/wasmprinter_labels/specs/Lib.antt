@@ -1,0 +1,7 @@
+pub mod Found
+pub mod Scan
+pub mod Stack
+pub mod Blocks
+pub mod Numbers
+pub mod Inside
+pub mod Views

@@ -1,0 +1,59 @@
+-- What is known of the labels between two operators of an expression.
+use Rattle.std.specs.Prelude.{ℕ, suc, List, [], ◌∷◌, length, Bool}
+use Rattle.wasmprinter_spec.specs.Row.{Role}
+use Rattle.wasmprinter_spec.specs.Labels.{Label, labels_after, count_after, outside, inside}
+use Rattle.wasmprinter_spec.specs.Names.{Names, names_by}
+use Rattle.wasmprinter_names.specs.Views.{NamedItem, name_at}
+use Rattle.wasmprinter_names.specs.declared.identifiers.Identifiers.{Identifiers}
+use Rattle.wasmprinter_labels.specs.Found.{Found, found}
+
+-- The names of the module, and whether identifiers are made up; then the function, how many blocks were opened in the expression, and the labels of
+-- those that are open, the innermost first.
+pub record Scan : Type 0 where
+  pub named : List NamedItem
+  pub invents : Bool
+  pub function : ℕ
+  pub count : ℕ
+  pub labels : List Label
+
+-- the identifiers of the module
+abbrev pub names_of : Scan → Names
+names_of s = names_by s.invents (name_at s.named)
+
+-- the identifier of the block that would be opened next
+abbrev pub own_label : Scan → Label
+own_label s = (names_of s).labels s.function s.count (length s.labels)
+
+-- in front of an expression of the function
+abbrev pub at_start : Identifiers → ℕ → Scan
+at_start x f = record { named = x.names.now; invents = x.invents; function = f; count = 0; labels = [] }
+
+-- the same for an expression of another function
+abbrev pub begun : ℕ → Scan → Scan
+begun f s = record { named = s.named; invents = s.invents; function = f; count = 0; labels = [] }
+
+-- behind an operator that opens a block
+abbrev pub opened : Scan → Scan
+opened s = record { named = s.named; invents = s.invents; function = s.function; count = suc s.count; labels = own_label s ∷ s.labels }
+
+abbrev pub without_first : List Label → List Label
+without_first [] = []
+without_first (x ∷ xs) = xs
+
+-- behind one that closes a block
+abbrev pub closed : Scan → Scan
+closed s = record { named = s.named; invents = s.invents; function = s.function; count = s.count; labels = without_first s.labels }
+
+-- behind an operator of the role
+abbrev pub advanced : Role → Scan → Scan
+advanced role s = record {
+  named = s.named;
+  invents = s.invents;
+  function = s.function;
+  count = count_after role s.count;
+  labels = labels_after role (own_label s) s.labels;
+}
+
+-- what a label means in an operator of the role
+abbrev pub found_at : Role → Scan → ℕ → Found
+found_at role s l = found (inside role s.labels) (outside role s.labels) l

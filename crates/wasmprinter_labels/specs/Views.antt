@@ -1,0 +1,11 @@
+-- What a label means, as the definitions see it.
+use Rattle.wasmprinter_names.specs.Shown.{identifier_view}
+use Rattle.wasmprinter_labels.specs.Found.{Found, ByName, ByNumber, ToBlock, ToNothing}
+use Rattle.wasmprinter_labels.specs.declared.open.Meant.{Meant}
+use Rattle.wasmprinter_labels.specs.declared.open.Meant.TheVariants as meant
+
+abbrev pub found_view : Meant → Found
+found_view (meant.ByName identifier) = ByName (identifier_view identifier)
+found_view meant.ByNumber = ByNumber
+found_view (meant.ToBlock number) = ToBlock number
+found_view meant.ToNothing = ToNothing

@@ -1,0 +1,152 @@
+//! Open blocks whose labels have names, and which of them no block further in hides.
+ghost use Rattle.std.specs.Prelude.{◌≡◌, ◌<◌, ◌∷◌, [], length, IfOk, IsOk, replicate, None};
+ghost use Rattle.wasmprinter_names.specs.Views.{name_view};
+ghost use Rattle.wasmprinter_labels.specs.Stack.{depths, AreBelow, Descend, Pops, closed_at};
+
+use std::alloc::{AllocError, Global};
+use std::marker::Model;
+use wasmprinter_names::Name;
+
+/// An open block whose label has a name.
+#[derive(Clone, Copy)]
+pub(crate) struct NamedBlock<'n> {
+    /// How many blocks are around it.
+    depth: u64,
+    name: Name<'n>,
+    /// The number that labels of one given name share.
+    alike: usize,
+    /// Where the innermost block of that number stands among those around it.
+    hides: Option<usize>,
+}
+
+/// The label of a block by its depth.
+#[derive(Clone, Copy)]
+pub(crate) enum NameAt<'n> {
+    /// It has a name, which means it.
+    Shown(Name<'n>),
+    /// It has the name of a block further in.
+    Hidden,
+    /// It has no name.
+    Unnamed,
+}
+
+/// The open blocks whose labels have names.
+#[derive(Drop)]
+pub(crate) struct NamedBlocks<'n> {
+    /// From the outside on.
+    blocks: Vec<NamedBlock<'n>>,
+    /// For each number where the innermost block of that number stands.
+    innermost: Vec<Option<usize>>,
+}
+
+impl<'n> Model for NamedBlocks<'n> {
+    ghost use Rattle.std.specs.Prelude.{length, reverse};
+    ghost use Rattle.std.specs.Vec.{vec_capacity};
+    ghost use Rattle.wasmprinter_labels.specs.Stack.{Stack};
+    ghost use Rattle.wasmprinter_labels.specs.Blocks.{blocks_view, AreKept};
+
+    ghost Value = { Stack };
+
+    ghost view = { λ s. record { blocks = blocks_view s.blocks.items; limit = length s.innermost.items } };
+
+    ghost invariant = { λ s. AreKept (reverse s.blocks.items) s.innermost.items (vec_capacity s.blocks) };
+}
+
+/// No block for each number.
+fn no_blocks(alloc: Global, limit: usize) -> Result<Vec<Option<usize>>, AllocError>
+    ensures none { IfOk result (λ v. v.items ≡ replicate limit None) }
+    ensures needed { limit ≡ 0 → IsOk result }
+{
+    let mut none = Vec::with_capacity(alloc, limit)?;
+    for _ in 0..limit {
+        none.push(None)?;
+    }
+    Ok(none)
+}
+
+impl<'n> NamedBlocks<'n> {
+    ghost use Rattle.wasmprinter_labels.specs.Blocks.{IsNameAt};
+
+    /// No block, with room for so many, whose numbers are below that.
+    pub(crate) fn new(alloc: Global, limit: usize) -> Result<Self, AllocError>
+        ensures none { IfOk result (λ s. s ≡ record { blocks = []; limit = limit }) }
+        ensures needed { limit ≡ 0 → IsOk result }
+    {
+        Ok(NamedBlocks {
+            blocks: Vec::with_capacity(alloc, limit)?,
+            innermost: no_blocks(alloc, limit)?,
+        })
+    }
+
+    /// Adds the innermost block.
+    pub(crate) fn push(&mut self, depth: u64, name: Name<'n>, alike: usize)
+        requires room { length self.old.blocks < self.old.limit }
+        requires number { alike < self.old.limit }
+        requires inside { AreBelow depth (depths self.old.blocks) }
+        ensures { self.new ≡ record {
+          blocks = record { depth = depth; alike = alike; name = name_view name.entry } ∷ self.old.blocks;
+          limit = self.old.limit;
+        } }
+    {
+        let block = NamedBlock {
+            depth,
+            name,
+            alike,
+            hides: self.innermost[alike],
+        };
+        self.innermost[alike] = Some(self.blocks.len());
+        match self.blocks.push(block) {
+            Ok(()) => {}
+            Err(_) => unreachable!(),
+        }
+    }
+
+    /// Takes the innermost block away, if there is one.
+    fn pop(&mut self) -> bool
+        ensures { Pops self.old result self.new }
+    {
+        match self.blocks.pop() {
+            Some(block) => {
+                self.innermost[block.alike] = block.hides;
+                true
+            }
+            None => false,
+        }
+    }
+
+    /// Takes all blocks away.
+    pub(crate) fn clear(&mut self)
+        ensures { self.new ≡ record { blocks = []; limit = self.old.limit } }
+    {
+        'pops: while self.pop() {}
+    }
+
+    /// Takes the innermost block away if it is at this depth.
+    pub(crate) fn close(&mut self, depth: u64)
+        ensures closed { self.new ≡ record { blocks = closed_at depth self.old.blocks; limit = self.old.limit } }
+        ensures descend { Descend (depths self.old.blocks) }
+    {
+        if self.blocks.last().is_some_and(|block| block.depth == depth) {
+            self.pop();
+        }
+    }
+
+    /// What stands at a depth.
+    pub(crate) fn find(&self, depth: u64) -> NameAt<'n>
+        ensures name { IsNameAt self.now.blocks depth result }
+        ensures descend { Descend (depths self.now.blocks) }
+    {
+        let Ok(position) = self
+            .blocks
+            .binary_search_by_key(&depth, |block| block.depth)
+        else {
+            return NameAt::Unnamed;
+        };
+        let block = self.blocks[position];
+        if self.innermost[block.alike] == Some(position) {
+            NameAt::Shown(block.name)
+        } else {
+            NameAt::Hidden
+        }
+    }
+}

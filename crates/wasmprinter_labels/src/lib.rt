@@ -1,0 +1,11 @@
+//! The labels of open blocks, and which of them an operator may call by name (section 6.5 of the WebAssembly Core Specification, "Labels").
+#![tactic(auto)]
+
+mod blocks;
+mod numbers;
+mod open;
+
+pub use open::{Meant, OpenLabels};
+
+#[cfg(test)]
+mod tests;

@@ -1,0 +1,221 @@
+//! The labels of open blocks, and what an operator's label means among them.
+ghost use Rattle.std.specs.Prelude.{◌≡◌, ℕ, ◌+◌, ◌<◌, ◌^◌, [], ◌∷◌, length, None, option_map, IsOk, IfOk};
+ghost use Rattle.wasmprinter_spec.specs.Names.Section.{label_subsection};
+ghost use Rattle.wasmprinter_ops.specs.Shapes.{role_view};
+ghost use Rattle.wasmprinter_names.specs.Views.{name_at};
+ghost use Rattle.wasmprinter_names.specs.Shown.{identifier_view};
+ghost use Rattle.wasmprinter_labels.specs.Found.{found};
+ghost use Rattle.wasmprinter_labels.specs.Scan.{own_label, at_start, begun, opened, closed, advanced, found_at};
+ghost use Rattle.wasmprinter_labels.specs.Stack.{unnamed};
+ghost use Rattle.wasmprinter_labels.specs.Inside.{label_of};
+ghost use Rattle.wasmprinter_labels.specs.Views.{found_view};
+
+use crate::blocks::{NameAt, NamedBlocks};
+use crate::numbers::{NumberedLabel, numbered};
+use std::alloc::{AllocError, Global};
+use std::marker::Model;
+use wasmprinter_names::{Identifier, Identifiers, Space};
+use wasmprinter_ops::opcode::Role;
+
+/// What a label means to a printer.
+#[derive(Clone, Copy, Debug, PartialEq, Eq)]
+pub enum Meant<'n> {
+    /// A block around, which this identifier means.
+    ByName(Identifier<'n>),
+    /// A block around whose identifier means another one further in; or the body.
+    ByNumber,
+    /// A block around without an identifier, by its number, which is counted from 1, the outermost first.
+    ToBlock(u64),
+    /// No block.
+    ToNothing,
+}
+
+/// The labels of the blocks that are open between two operators of an expression.
+#[derive(Drop)]
+pub struct OpenLabels<'n, 'a> {
+    identifiers: Identifiers<'n, 'a>,
+    /// The labels that have names, by function and number.
+    labels: Vec<NumberedLabel<'n>>,
+    /// How many of them belong to blocks in front of the next one.
+    next: usize,
+    function: u64,
+    /// How many blocks were opened.
+    opened: u64,
+    /// How many blocks are open.
+    depth: u64,
+    /// Those of them whose labels have names.
+    named: NamedBlocks<'n>,
+}
+
+impl<'n, 'a> Model for OpenLabels<'n, 'a> {
+    ghost use Rattle.wasmprinter_labels.specs.Scan.{Scan};
+    ghost use Rattle.wasmprinter_labels.specs.Stack.{labels_from};
+    ghost use Rattle.wasmprinter_labels.specs.Inside.{IsKept};
+
+    ghost Value = { Scan };
+
+    ghost view = { λ x. record {
+      named = x.identifiers.names.now;
+      invents = x.identifiers.invents;
+      function = x.function;
+      count = x.opened;
+      labels = labels_from x.identifiers.invents x.named.blocks x.depth;
+    } };
+
+    ghost invariant = { λ x. IsKept x.identifiers.names.now x.labels.items x.next x.function x.opened x.depth x.named };
+}
+
+/// The label with the index, if it is the one of the block of the function.
+fn label_of<'n>(
+    labels: &[NumberedLabel<'n>],
+    index: usize,
+    function: u64,
+    block: u64,
+) -> Option<NumberedLabel<'n>>
+    ensures { result ≡ label_of labels.now index function block }
+{
+    let label = *labels.get(index)?;
+    (label.label.function == function && label.label.number == block).then_some(label)
+}
+
+/// The identifier of a label without a name, by how many blocks are around its block.
+fn unnamed<'n>(invents: bool, depth: u64) -> Option<Identifier<'n>>
+    ensures { option_map identifier_view result ≡ unnamed invents depth }
+{
+    invents.then_some(Identifier::Invented {
+        space: Space::Label,
+        number: depth,
+    })
+}
+
+impl<'n, 'a> OpenLabels<'n, 'a> {
+    /// In front of an expression of function 0, with room for all labels that have names.
+    ///
+    /// # Errors
+    ///
+    /// Where memory for that room is refused. None is asked for if no label has a name.
+    pub fn new(alloc: Global, identifiers: Identifiers<'n, 'a>) -> Result<Self, AllocError>
+        ensures start { IfOk result (λ labels. labels ≡ at_start identifiers.entry 0) }
+        ensures needed { ((f n : ℕ) → name_at identifiers.entry.names.now label_subsection f n ≡ None) → IsOk result }
+    {
+        let labels = numbered(alloc, &identifiers.names.labels(alloc)?)?;
+        let named = NamedBlocks::new(alloc, labels.len())?;
+        Ok(OpenLabels {
+            identifiers,
+            labels,
+            next: 0,
+            function: 0,
+            opened: 0,
+            depth: 0,
+            named,
+        })
+    }
+
+    /// The identifiers that it was made with.
+    pub fn identifiers(&self) -> Identifiers<'n, 'a>
+        ensures named { result.names.now ≡ self.now.named }
+        ensures invents { result.invents ≡ self.now.invents }
+    {
+        self.identifiers
+    }
+
+    /// Goes to the front of an expression of the function: no block is open, and none was opened.
+    pub fn begin(&mut self, function: u64)
+        ensures { self.new ≡ begun function self.old }
+    {
+        self.next = self
+            .labels
+            .partition_point(|label| label.label.function < function);
+        self.function = function;
+        self.opened = 0;
+        self.depth = 0;
+        self.named.clear();
+    }
+
+    /// How many blocks are open.
+    pub fn depth(&self) -> u64
+        ensures { result ≡ length self.now.labels }
+    {
+        self.depth
+    }
+
+    /// The identifier of the block that would be opened next.
+    pub fn own(&self) -> Option<Identifier<'n>>
+        ensures { option_map identifier_view result ≡ own_label self.now }
+    {
+        match label_of(&self.labels, self.next, self.function, self.opened) {
+            Some(next) => Some(Identifier::Given(next.label.name)),
+            None => unnamed(self.identifiers.invents, self.depth),
+        }
+    }
+
+    /// Goes on behind an operator that opens a block.
+    fn open(&mut self)
+        requires { self.old.count + 1 < 2 ^ 64 }
+        ensures { self.new ≡ opened self.old }
+    {
+        let label = label_of(&self.labels, self.next, self.function, self.opened);
+        let depth = self.depth;
+        self.opened += 1;
+        self.depth += 1;
+        let Some(label) = label else {
+            return;
+        };
+        self.named.push(depth, label.label.name, label.alike);
+        self.next += 1;
+    }
+
+    /// Goes on behind an operator that closes a block.
+    fn close(&mut self)
+        ensures { self.new ≡ closed self.old }
+    {
+        if self.depth > 0 {
+            self.depth -= 1;
+            self.named.close(self.depth);
+        }
+    }
+
+    /// Goes on behind an operator of the role.
+    pub fn advance(&mut self, role: Role)
+        requires { self.old.count + 1 < 2 ^ 64 }
+        ensures { self.new ≡ advanced (role_view role) self.old }
+    {
+        match role {
+            Role::Opens | Role::OpensIf | Role::OpensTry => self.open(),
+            Role::Delegates | Role::Ends => self.close(),
+            Role::Plain | Role::Turns | Role::Catches | Role::CatchesAll => {}
+        }
+    }
+
+    /// What a label means among all that are open.
+    fn meaning(&self, label: u64) -> Meant<'n>
+        ensures { found_view result ≡ found [] self.now.labels label }
+    {
+        if label > self.depth {
+            return Meant::ToNothing;
+        }
+        if label == self.depth {
+            return Meant::ByNumber;
+        }
+        let depth = self.depth - 1 - label;
+        match self.named.find(depth) {
+            NameAt::Shown(name) => Meant::ByName(Identifier::Given(name)),
+            NameAt::Hidden => Meant::ByNumber,
+            NameAt::Unnamed => match unnamed(self.identifiers.invents, depth) {
+                Some(identifier) => Meant::ByName(identifier),
+                None => Meant::ToBlock(self.depth - label),
+            },
+        }
+    }
+
+    /// What a label means in an operator of the role. For `delegate` the innermost block isn't counted, but its label still hides others.
+    pub fn find(&self, role: Role, label: u32) -> Meant<'n>
+        ensures { found_view result ≡ found_at (role_view role) self.now label }
+    {
+        let label = u64::from(label);
+        match role {
+            Role::Delegates if self.depth > 0 => self.meaning(label + 1),
+            _ => self.meaning(label),
+        }
+    }
+}

@@ -1,0 +1,7 @@
+-- A label with its name, as the definitions see it.
+use Rattle.wasmprinter_names.specs.Views.{name_view}
+use Rattle.wasmprinter_names.specs.Labels.{NamedLabel}
+use Rattle.wasmprinter_names.specs.declared.store.LabelName.{LabelName}
+
+abbrev pub label_view : LabelName → NamedLabel
+label_view l = record { function = l.function; number = l.number; name = name_view l.name }

@@ -1,0 +1,26 @@
+-- The identifiers of a text, as the definitions see them.
+use Rattle.std.specs.Prelude.{ℕ, Bool, true, false, Option, Some, None}
+use Rattle.wasmprinter_spec.specs.Labels.{Named}
+use Rattle.wasmprinter_spec.specs.Names.{Names, names_by}
+use Rattle.wasmprinter_spec.specs.Names.Content.{group_of, index_content}
+use Rattle.wasmprinter_names.specs.Spaces.{id_of}
+use Rattle.wasmprinter_names.specs.Views.{name_view, name_at}
+use Rattle.wasmprinter_names.specs.declared.identifiers.Identifier.{Identifier}
+use Rattle.wasmprinter_names.specs.declared.identifiers.Identifier.TheVariants.{Given, Invented}
+use Rattle.wasmprinter_names.specs.declared.identifiers.Identifiers.{Identifiers}
+
+-- the identifier that is made up for an item of a subsection
+abbrev pub invented_name : ℕ → ℕ → Named
+invented_name s number = record { given = None; content = index_content (group_of s) number }
+
+abbrev pub invented_view : Bool → ℕ → ℕ → Option Named
+invented_view true s number = Some (invented_name s number)
+invented_view false s number = None
+
+abbrev pub identifier_view : Identifier → Named
+identifier_view (Given name) = name_view name
+identifier_view (Invented space number) = invented_name (id_of space) number
+
+-- the identifiers of a module
+abbrev pub shown : Identifiers → Names
+shown x = names_by x.invents (name_at x.names.now)

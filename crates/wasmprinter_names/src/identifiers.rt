@@ -1,0 +1,55 @@
+//! The identifiers that a text has for the items of a module (section 6.3 of the WebAssembly Core Specification, "Identifiers").
+ghost use Rattle.std.specs.Prelude.{◌≡◌, Some, None, option_map};
+ghost use Rattle.wasmprinter_spec.specs.Names.{name_in};
+ghost use Rattle.wasmprinter_spec.specs.Names.Section.{module_subsection};
+ghost use Rattle.wasmprinter_names.specs.Spaces.{id_of, outer_of};
+ghost use Rattle.wasmprinter_names.specs.Views.{name_view, name_at};
+ghost use Rattle.wasmprinter_names.specs.Shown.{identifier_view, invented_view};
+
+use crate::space::Space;
+use crate::store::{Name, Names};
+
+/// The identifier of an item.
+#[derive(Clone, Copy, Debug, PartialEq, Eq)]
+pub enum Identifier<'a> {
+    /// That of a name which a name section gives.
+    Given(Name<'a>),
+    /// Made up of the sign `#`, the word for the items of the space, and the number.
+    Invented { space: Space, number: u64 },
+}
+
+/// The names of a module, and whether identifiers are made up for items without one.
+#[derive(Clone, Copy)]
+pub struct Identifiers<'n, 'a> {
+    /// The names that the module's name sections give.
+    pub names: &'n Names<'a>,
+    /// Whether identifiers are made up.
+    pub invents: bool,
+}
+
+/// An identifier that is made up, where any are.
+fn invented<'n>(invents: bool, space: Space, number: u64) -> Option<Identifier<'n>>
+    ensures { option_map identifier_view result ≡ invented_view invents (id_of space) number }
+{
+    invents.then_some(Identifier::Invented { space, number })
+}
+
+impl<'n> Identifiers<'n, '_> {
+    /// The identifier of an item. `outer` is the function of a local and the type of a field, and else ignored.
+    pub fn item(&self, space: Space, outer: u64, number: u64) -> Option<Identifier<'n>>
+        ensures { option_map identifier_view result
+            ≡ name_in self.now.invents (name_at self.now.names.now) (id_of space) (outer_of space outer) number }
+    {
+        match self.names.name(space, outer, number) {
+            Some(name) => Some(Identifier::Given(name)),
+            None => invented(self.invents, space, number),
+        }
+    }
+
+    /// The identifier of the module, which is never made up.
+    pub fn module(&self) -> Option<Identifier<'n>>
+        ensures { option_map identifier_view result ≡ name_at self.now.names.now module_subsection 0 0 }
+    {
+        self.names.module_name().map(Identifier::Given)
+    }
+}

@@ -1,0 +1,43 @@
+-- Declarations with the identifiers that they have: parameters, locals and fields.
+use Rattle.std.proofs.Common.{◌≡◌, true, ℕ, zero, suc, ◌+◌, ◌≤◌, ◌^◌, List, [], ◌∷◌, ◌++◌, length, Option, Some, refl, ap, ◌∙◌, arith, option_map}
+use Rattle.wasmprinter_spec.specs.Labels.{Named}
+use Rattle.wasmprinter_spec.specs.IndexSpaces.{are_distinct, index_space}
+use Rattle.wasmprinter_spec.specs.Names.{AreDistinct, identifiers_at, identifiers}
+use Rattle.wasmprinter_spec.specs.Text.Items.{Declaration, declaration, ids_of, types_of}
+use Rattle.wasmprinter_reading.proofs.Names.Resolving.{identifiers_are_distinct}
+
+-- what a reader keeps of an identifier
+abbrev pub id : Option Named → Option (List ℕ)
+id o = option_map (λ n. n.content) o
+
+-- declarations k, k + 1 ..
+abbrev pub declared_from : {A : Type 0} → (ℕ → Option Named) → ℕ → List A → List (Declaration A)
+declared_from named k [] = []
+declared_from named k (x ∷ xs) = declaration (id (named k)) x ∷ declared_from named (k + 1) xs
+
+pub types_of-declared : {A : Type 0} (named : ℕ → Option Named) (k : ℕ) (xs : List A) → types_of (declared_from named k xs) ≡ xs
+types_of-declared named k [] = refl
+types_of-declared named k (x ∷ xs) = ap (λ ys. x ∷ ys) (types_of-declared named (k + 1) xs)
+
+pub ids_of-declared : {A : Type 0} (named : ℕ → Option Named) (k : ℕ) (xs : List A) → ids_of (declared_from named k xs) ≡ identifiers_at named k (length xs)
+ids_of-declared named k [] = refl
+ids_of-declared named k (x ∷ xs) = ap (λ is. id (named k) ∷ is) (ids_of-declared named (k + 1) xs)
+
+-- the identifiers of so many items, and of those behind them
+pub identifiers_at-more : (named : ℕ → Option Named) (k m n : ℕ) → identifiers_at named k m ++ identifiers_at named (k + m) n ≡ identifiers_at named k (m + n)
+identifiers_at-more named k zero n =
+    let e : k + 0 ≡ k = omega arith in
+    let f : n ≡ 0 + n = omega arith in
+    ap (λ j. identifiers_at named j n) e ∙ ap (λ j. identifiers_at named k j) f
+identifiers_at-more named k (suc m) n =
+    let e : k + suc m ≡ k + 1 + m = omega arith in
+    let f : suc (m + n) ≡ suc m + n = omega arith in
+    ap (λ is. id (named k) ∷ is) (ap (λ j. identifiers_at named (k + 1) m ++ identifiers_at named j n) e ∙ identifiers_at-more named (k + 1) m n)
+    ∙ ap (λ j. identifiers_at named k j) f
+
+-- the first declarations are one space
+pub declared_space : {A : Type 0} (named : ℕ → Option Named) → AreDistinct named → (xs : List A) → length xs ≤ 2 ^ 64 →
+    index_space (ids_of (declared_from named 0 xs)) ≡ Some (identifiers named (length xs))
+declared_space named apart xs few =
+    let distinct : are_distinct (identifiers named (length xs)) ≡ true = identifiers_are_distinct named apart (length xs) few in
+    rw (ids_of-declared named 0 xs, distinct)

@@ -1,0 +1,87 @@
+-- What fields are laid out by, read with and counted in: the same types and the same identifiers.
+use Rattle.std.proofs.Common.{◌≡◌, ℕ, ◌<◌, ◌^◌, List, Some, refl, subst, ◌∙◌, min}
+use Rattle.std.specs.List.{AllByRecursion}
+use Rattle.wasmprinter_spec.specs.Forest.{Forest}
+use Rattle.wasmprinter_spec.specs.Types.{HeapType, ValType, FuncType, signature_at, ExternKind, FuncKind, TableKind, MemoryKind, GlobalKind, TagKind}
+use Rattle.wasmprinter_spec.specs.Row.{Space, Types}
+use Rattle.wasmprinter_spec.specs.Names.{Names, AreApart, in_function, identifiers}
+use Rattle.wasmprinter_spec.specs.Indexed.{Counts, IsIndex, IsDeclaredHeap, IsDeclaredVal, IsDeclaredFunc, parameter_count, space_of}
+use Rattle.wasmprinter_spec.specs.IndexSpaces.{space_in, index, Context}
+use Rattle.wasmprinter_spec.specs.Layout.Declarations.{Scope}
+use Rattle.wasmprinter_spec.specs.Layout.Expressions.{in_line}
+use Rattle.wasmprinter_reading.specs.Listed.{IsSignatureInRange}
+use Rattle.wasmprinter_reading.specs.OperatorLaws.{count_in, HaveSameTypes, HaveSameNames}
+use Rattle.wasmprinter_reading.proofs.Identifiers.{index_items, id_items, Declares, Reads, index_reads, of_least, reads_least}
+use Rattle.wasmprinter_reading.proofs.Types.Ranged.{IsRangedHeap, IsRangedVal}
+
+-- what an item is written as where it is declared, before what it is
+abbrev pub own_id : Scope → Space → ℕ → Forest
+own_id s space i = id_items (s.names.items space i)
+
+-- what an index of an item is written as
+abbrev pub own_index : Scope → Space → ℕ → Forest
+own_index s space i = index_items (s.names.items space i) i
+
+-- types and identifiers are the same, and identifiers are apart
+pub record AreScoped (s : Scope) (c : Context) (n : Counts) : Type 0 where
+  pub types : HaveSameTypes (in_line s) c n
+  pub names : HaveSameNames (in_line s) c n
+  pub apart : AreApart s.names
+  pub few : (i : ℕ) → parameter_count (signature_at s.types i) < 2 ^ 32
+
+-- a space of the module
+abbrev pub IsOfModule : Space → Type 0
+IsOfModule space = (names : Names) (f : ℕ) → in_function names f space ≡ names.items space
+
+pub space_of-module : (kind : ExternKind) → IsOfModule (space_of kind)
+space_of-module FuncKind names f = refl
+space_of-module TableKind names f = refl
+space_of-module MemoryKind names f = refl
+space_of-module GlobalKind names f = refl
+space_of-module TagKind names f = refl
+
+pub space_of-counted : (kind : ExternKind) (n : Counts) (i : ℕ) → IsIndex n (space_of kind) i → i < count_in n (space_of kind)
+space_of-counted FuncKind n i h = h
+space_of-counted TableKind n i h = h
+space_of-counted MemoryKind n i h = h
+space_of-counted GlobalKind n i h = h
+space_of-counted TagKind n i h = h
+
+module _ (s : Scope) (c : Context) (n : Counts) (scoped : AreScoped s c n) where
+  pub scope_declares : (space : Space) → IsOfModule space → Declares (space_in c.spaces space) (s.names.items space) (count_in n space)
+  scope_declares space own = record {
+    are = subst (λ named. space_in c.spaces space ≡ identifiers named (count_in n space)) (own s.names s.function) (scoped.names.spaces space);
+    few = scoped.names.few space;
+    apart = scoped.apart.items space;
+  }
+
+  -- an index of an item that is counted reads as itself
+  pub own_index-reads : (space : Space) → IsOfModule space → (i : ℕ) → i < count_in n space → i < 2 ^ 32 →
+      index (space_in c.spaces space) (own_index s space i) ≡ Some i
+  own_index-reads space own i declared small = index_reads (space_in c.spaces space) (s.names.items space) (count_in n space) (scope_declares space own) i declared small
+
+  -- indices of types below this read as themselves
+  abbrev pub type_bound : ℕ
+  type_bound = min (2 ^ 32) n.types
+
+  pub type_indices-read : Reads c.spaces.types (s.names.items Types) type_bound
+  type_indices-read = reads_least c.spaces.types (s.names.items Types) n.types (scope_declares Types (λ names f. refl))
+
+  -- what is in range and declared
+  pub heap_bounded : (h : HeapType) → IsRangedHeap h → IsDeclaredHeap n.types h → IsDeclaredHeap type_bound h
+  heap_bounded h r d = of_least (λ k. IsDeclaredHeap k h) (2 ^ 32) n.types r d
+
+  pub val_bounded : (t : ValType) → IsRangedVal t → IsDeclaredVal n.types t → IsDeclaredVal type_bound t
+  val_bounded t r d = of_least (λ k. IsDeclaredVal k t) (2 ^ 32) n.types r d
+
+  pub vals_bounded : (ts : List ValType) → AllByRecursion IsRangedVal ts → AllByRecursion (IsDeclaredVal n.types) ts → AllByRecursion (IsDeclaredVal type_bound) ts
+  vals_bounded ts r d = of_least (λ k. AllByRecursion (IsDeclaredVal k) ts) (2 ^ 32) n.types r d
+
+  -- a function type, whose signature is printed beside its index
+  pub signature_bounded : (t : FuncType) (i : ℕ) → signature_at s.types i ≡ Some t → IsDeclaredFunc type_bound t
+  signature_bounded t i own =
+      of_least (λ k. IsDeclaredFunc k t) (2 ^ 32) n.types
+      (subst IsSignatureInRange own (scoped.types.in_range i)) (scoped.names.signatures i t (scoped.types.counted i ∙ own))
+
+  pub signature_declared : (t : FuncType) (i : ℕ) → signature_at s.types i ≡ Some t → i < n.types
+  signature_declared t i own = scoped.names.functions i t (scoped.types.counted i ∙ own)

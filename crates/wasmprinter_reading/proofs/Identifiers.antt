@@ -1,0 +1,132 @@
+-- Identifiers: what indices and declarations are written as, that their pieces write this, and that an index reads back.
+use Rattle.std.proofs.Common.{◌⊎◌, inl, inr, sym, ◌≡◌, ℕ, ◌<◌, ◌≤◌, ◌^◌, Bool, true, false, cond, List, [], ◌∷◌, Option, Some, None, refl, ap, ◌∙◌, subst, arith, bytes_eq, chars, decimal, length, encode_utf8_all, min}
+use Rattle.std.specs.Prelude.{IsUtf8}
+use Rattle.std.proofs.Math.Utf8.{scalars}
+use Rattle.std.proofs.Math.Nat.{min-le_left, min-le_right, min-eq_left, min-eq_right}
+use Rattle.std.proofs.lemmas.Bool.{cases_lt}
+use Rattle.std.proofs.lemmas.Str.{encodes-chars, scalars-chars, is_utf8-from_IsUtf8}
+use Rattle.wasmprinter_spec.specs.Token.{is_name}
+use Rattle.wasmprinter_spec.specs.Forest.{Forest, End, Word, Name, onto}
+use Rattle.wasmprinter_spec.specs.Labels.{Named}
+use Rattle.wasmprinter_spec.specs.IndexSpaces.{Identifiers, index, leading_index}
+use Rattle.wasmprinter_spec.specs.Names.{IsGiven, IsNamed, IsNamedIfAny, AreDistinct, identifiers}
+use Rattle.wasmprinter_spec.specs.Text.Items.{identified}
+use Rattle.wasmprinter_spec.specs.Piece.{Piece, Gap, NumberRemark, EndStyle, Identifier, NameNote}
+use Rattle.wasmprinter_spec.specs.Layout.Identifiers.{given_pieces, mark_pieces, leading_mark_pieces, mark_gap_pieces, identifier_gap_pieces, declaration_pieces, index_pieces}
+use Rattle.wasmprinter_lexical.proofs.Grown.{onto-End}
+use Rattle.wasmprinter_lexical.proofs.Pieces.{Edge, Free, Bound}
+use Rattle.wasmprinter_lexical.proofs.Writes.{Writes, writing, both_write, identifier_writes, gap_writes, begin_name_writes, nothing_writes}
+use Rattle.wasmprinter_reading.proofs.Items.{index-decimal}
+use Rattle.wasmprinter_reading.proofs.Declarations.{id}
+use Rattle.wasmprinter_reading.proofs.Names.Resolving.{resolves}
+
+-- ---- what they are written as
+
+-- an index: the identifier of what is meant, or else the number
+abbrev pub index_items : Option Named → ℕ → Forest
+index_items None n = Word (decimal n) End
+index_items (Some m) n = Name m.content End
+
+-- a declaration: the identifier, if it has one
+abbrev pub id_items : Option Named → Forest
+id_items None = End
+id_items (Some n) = Name n.content End
+
+-- ---- they read back
+
+-- no identifier stands in front
+abbrev pub IsUnidentified : Forest → Type 0
+IsUnidentified f = identified f ≡ (None, f)
+
+pub declaration-items : (o : Option Named) (f : Forest) → IsUnidentified f → identified (onto (id_items o) f) ≡ (id o, f)
+declaration-items None f h = h
+declaration-items (Some n) f h = refl
+
+-- An identifier of these declarations means the one that has it.
+pub record Declares (ids : Identifiers) (named : ℕ → Option Named) (count : ℕ) : Type 0 where
+  pub are : ids ≡ identifiers named count
+  pub few : count ≤ 2 ^ 64
+  pub apart : AreDistinct named
+
+-- Below a bound each printed index reads as itself.
+abbrev pub Reads : Identifiers → (ℕ → Option Named) → ℕ → Type 0
+Reads ids named bound = (n : ℕ) → n < bound → index ids (index_items (named n) n) ≡ Some n
+
+pub index_reads : (ids : Identifiers) (named : ℕ → Option Named) (count : ℕ) → Declares ids named count → (n : ℕ) → n < count → n < 2 ^ 32 →
+    index ids (index_items (named n) n) ≡ Some n
+index_reads ids named count d n declared small = by (named n) refl
+  where
+    by : (o : Option Named) → named n ≡ o → index ids (index_items o n) ≡ Some n
+    by None e = index-decimal ids n small
+    by (Some m) e = ap (λ is. index is (Name m.content End)) d.are ∙ resolves named d.apart count n m d.few declared e
+
+-- the same in front of other items
+pub leading_reads : (ids : Identifiers) (o : Option Named) (n : ℕ) (f : Forest) → index ids (index_items o n) ≡ Some n →
+    leading_index ids (onto (index_items o n) f) ≡ Some (n, f)
+leading_reads ids None n f e = rw e
+leading_reads ids (Some m) n f e = rw e
+
+-- What holds of two numbers holds of the lesser.
+pub of_least : (P : ℕ → Type 0) (m n : ℕ) → P m → P n → P (min m n)
+of_least P m n h k = by (cases_lt m n)
+  where
+    by : (m < n) ⊎ (n ≤ m) → P (min m n)
+    by (inl l) = let le : m ≤ n = omega (arith, l) in subst P (sym (min-eq_left le)) h
+    by (inr l) = subst P (sym (min-eq_right l)) k
+
+pub reads_least : (ids : Identifiers) (named : ℕ → Option Named) (count : ℕ) → Declares ids named count → Reads ids named (min (2 ^ 32) count)
+reads_least ids named count d n h = index_reads ids named count d n (omega (arith, h, min-le_right (2 ^ 32) count)) (omega (arith, h, min-le_left (2 ^ 32) count))
+
+-- ---- their pieces write them
+
+is_name-utf8 : (s : List ℕ) → IsUtf8 s → 0 < length s → is_name s ≡ true
+is_name-utf8 [] h some = absurd (omega arith)
+is_name-utf8 (b ∷ bs) h some = is_utf8-from_IsUtf8 (b ∷ bs) h
+
+-- an identifier before other pieces
+name_writes : {b : Edge} {ps : List Piece} {f : Forest} (n : Named) → IsNamed n → Writes Bound ps b f → Writes Free (Identifier (chars n.content) ∷ ps) b (Name n.content f)
+name_writes {b = b} {ps = ps} {f = f} n h w =
+    let e : encode_utf8_all (chars n.content) ≡ n.content = encodes-chars n.content h.content in
+    let is : is_name (encode_utf8_all (chars n.content)) ≡ true = ap is_name e ∙ is_name-utf8 n.content h.content h.some in
+    subst (λ s. Writes Free (Identifier (chars n.content) ∷ ps) b (Name s f)) e (identifier_writes (scalars-chars n.content h.content) is w)
+
+given_writes : (g : Option (List ℕ)) (content : List ℕ) → IsGiven g → Writes Bound (given_pieces g content) Bound End
+given_writes None content h = search writing
+given_writes (Some s) content h = by (bytes_eq s content)
+  where
+    scalar : scalars (chars s) ≡ true
+    scalar = scalars-chars s h
+
+    by : (t : Bool) → Writes Bound (cond t [] (Gap ∷ (NameNote (chars s) ∷ []))) Bound End
+    by true = search writing
+    by false = search (writing, scalar)
+
+pub mark_writes : (n : Named) → IsNamed n → Writes Free (mark_pieces n) Bound (Name n.content End)
+unfolding mark_pieces
+mark_writes n h = name_writes n h (given_writes n.given n.content h.given)
+
+pub leading_mark_writes : (o : Option Named) → IsNamedIfAny o → Writes Bound (leading_mark_pieces o) Bound (id_items o)
+unfolding leading_mark_pieces
+leading_mark_writes None h = nothing_writes
+leading_mark_writes (Some n) h = gap_writes refl (mark_writes n h)
+
+pub mark_gap_writes : (o : Option Named) → IsNamedIfAny o → Writes Free (mark_gap_pieces o) Free (id_items o)
+unfolding mark_gap_pieces
+mark_gap_writes None h = nothing_writes
+mark_gap_writes (Some n) h = both_write (mark_writes n h) (gap_writes refl nothing_writes)
+
+pub identifier_gap_writes : (o : Option Named) → IsNamedIfAny o → Writes Free (identifier_gap_pieces o) Free (id_items o)
+unfolding identifier_gap_pieces
+identifier_gap_writes None h = nothing_writes
+identifier_gap_writes (Some n) h = name_writes n h (gap_writes refl nothing_writes)
+
+pub declaration_writes : (o : Option Named) (i : ℕ) → IsNamedIfAny o → i < 2 ^ 64 → Writes Free (declaration_pieces o i) Bound (id_items o)
+unfolding declaration_pieces
+declaration_writes o i h small =
+    let number : Writes Free (NumberRemark i ∷ (EndStyle ∷ [])) Bound End = search writing in
+    begin_name_writes (rw onto-End at (both_write (mark_gap_writes o h) number))
+
+pub index_writes : (o : Option Named) (n : ℕ) → IsNamedIfAny o → n < 2 ^ 64 → Writes Free (index_pieces o n) Bound (index_items o n)
+unfolding index_pieces
+index_writes None n h small = search writing
+index_writes (Some m) n h small = begin_name_writes (name_writes m h (search writing))

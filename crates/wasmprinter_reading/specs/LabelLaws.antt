@@ -1,0 +1,21 @@
+-- The laws of labels by their identifiers (section 6.5 of the standard, "Labels").
+use Rattle.std.specs.Prelude.{◌≡◌, ℕ, ◌<◌, ◌^◌, List, [], ◌∷◌, ◌++◌, length, map, true, false, Some, option_map}
+use Rattle.wasmprinter_spec.specs.Labels.{Label, Named, Naming, AreApart, is_hidden, Around, target}
+use Rattle.wasmprinter_spec.specs.Piece.{Gap, Number}
+use Rattle.wasmprinter_spec.specs.Layout.Operators.{label_name_pieces, label_pieces}
+use Rattle.wasmprinter_spec.specs.Text.Operators.{depth}
+
+-- the labels of open blocks, the innermost first: each is that of a block with so many blocks around it
+abbrev pub Opened : Naming → List Label → Type 0
+Opened naming [] = Unit {0}
+Opened naming (x ∷ xs) = ((i : ℕ) × (naming i (length xs) ≡ x)) × (length xs < 2 ^ 64) × Opened naming xs
+
+-- A label of a block with an identifier, among the labels that an operator may mean and, further in than these, others that it may not: where none
+-- further in was given its name, the identifier is printed, and by it a reader finds that very block; where one was, the number is printed.
+abbrev pub LabelsMeanTheirBlocks : Type 0
+LabelsMeanTheirBlocks =
+    (naming : Naming) → AreApart naming → (inner xs : List Label) → Opened naming xs →
+    (l : ℕ) (n : Named) (further : List Label) → target l xs ≡ Around (Some n) further →
+    (is_hidden n (inner ++ further) ≡ false → (label_pieces inner xs l ≡ Gap ∷ label_name_pieces n.given l n)
+    × (depth n.content (map (λ x. option_map (λ m. m.content) x) xs) ≡ Some l))
+    × (is_hidden n (inner ++ further) ≡ true → label_pieces inner xs l ≡ Gap ∷ (Number l ∷ []))

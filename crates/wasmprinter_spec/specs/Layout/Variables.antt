@@ -1,0 +1,36 @@
+-- The layout of parameters and locals (section 6.6 of the standard, "Functions" and "Type Uses"). One with an identifier stands in a group of its
+-- own, and neighbours without share one.
+use Rattle.std.specs.Prelude.{ℕ, ◌+◌, List, [], ◌∷◌, ◌++◌, Option, Some, None}
+use Rattle.wasmprinter_spec.specs.Types.{ValType}
+use Rattle.wasmprinter_spec.specs.Labels.{Named}
+use Rattle.wasmprinter_spec.specs.Names.{Names}
+use Rattle.wasmprinter_spec.specs.Piece.{Piece, Gap}
+use Rattle.wasmprinter_spec.specs.Layout.Groups.{line_group}
+use Rattle.wasmprinter_spec.specs.Layout.Identifiers.{mark_gap_pieces}
+use Rattle.wasmprinter_spec.specs.Layout.ValTypes.{val_pieces, type_list}
+
+-- a group of variables
+pub data Variables : Type 0 where
+  Alone : Named → ValType → Variables
+  Together : List ValType → Variables
+
+-- a variable before these groups
+abbrev pub with_variable : Option Named → ValType → List Variables → List Variables
+with_variable (Some n) t gs = Alone n t ∷ gs
+with_variable None t (Together ts ∷ gs) = Together (t ∷ ts) ∷ gs
+with_variable None t gs = Together (t ∷ []) ∷ gs
+
+-- variables k, k + 1 .. in their groups
+abbrev pub grouped : (ℕ → Option Named) → ℕ → List ValType → List Variables
+grouped named k [] = []
+grouped named k (t ∷ ts) = with_variable (named k) t (grouped named (k + 1) ts)
+
+module _ (names : Names) where
+  unfoldable pub variables_pieces : List ℕ → Variables → List Piece
+  variables_pieces w (Alone n t) = line_group w (Gap ∷ (mark_gap_pieces (Some n) ++ val_pieces names t))
+  variables_pieces w (Together ts) = line_group w (type_list names ts)
+
+  -- groups, a blank before each
+  unfoldable pub groups_pieces : List ℕ → List Variables → List Piece
+  groups_pieces w [] = []
+  groups_pieces w (g ∷ gs) = Gap ∷ (variables_pieces w g ++ groups_pieces w gs)

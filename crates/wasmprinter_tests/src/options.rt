@@ -1,0 +1,231 @@
+//! Options by their setters: texts with places, without bodies, and with several options chained; and options that are taken back.
+
+use std::test::Fail;
+use wasmprinter::Config;
+use wasmprinter_samples::{
+    EVERY_SPACE, EVERYTHING, EVERYTHING_TEXT, FIELDS, FIELDS_TEXT, IDENTITY, IDENTITY_TEXT,
+    PREAMBLE,
+};
+
+/// `IDENTITY` with places.
+const IDENTITY_PLACES: &str = r#"(module
+(;@b     ;)  (type (;0;) (func (param i32) (result i32)))
+(;@17    ;)  (export "f" (func 0))
+(;@1f    ;)  (func (;0;) (type 0) (param i32) (result i32)
+(;@20    ;)    local.get 0
+(;@22    ;)  )
+(;@23    ;))
+"#;
+
+/// `IDENTITY` with places and without its body.
+const IDENTITY_OUTLINE: &str = r#"(module
+(;@b     ;)  (type (;0;) (func (param i32) (result i32)))
+(;@17    ;)  (export "f" (func 0))
+(;@1f    ;)  (func (;0;) (type 0) (param i32) (result i32) ...)
+(;@23    ;))
+"#;
+
+/// `IDENTITY` with places, without its body, and with identifiers made up.
+const IDENTITY_OUTLINE_INVENTED: &str = r#"(module
+(;@b     ;)  (type $#type0 (;0;) (func (param i32) (result i32)))
+(;@17    ;)  (export "f" (func $#func0))
+(;@1f    ;)  (func $#func0 (;0;) (type $#type0) (param $#local0 i32) (result i32) ...)
+(;@23    ;))
+"#;
+
+/// `EVERYTHING` with places: the second function's locals begin a line, and the first function, which has no operators, ends in one.
+const EVERYTHING_PLACES: &str = r#"(module
+(;@b     ;)  (type (;0;) (func))
+(;@e     ;)  (type (;1;) (func (param i32) (result i64)))
+(;@1b    ;)  (export "go" (func 1))
+(;@20    ;)  (export "" (func 0))
+(;@27    ;)  (func (;0;) (type 1) (param i32) (result i64)
+(;@28    ;)  )
+(;@2a    ;)  (func (;1;) (type 0)
+(;@2b    ;)    (local i32 i32 i64)
+(;@2f    ;)    i32.const -2
+(;@31    ;)    i64.const -9223372036854775808
+(;@3c    ;)    drop
+(;@3d    ;)    local.set 1
+(;@3f    ;)    local.get 1
+(;@42    ;)    call 0
+(;@44    ;)    return
+(;@45    ;)  )
+(;@46    ;))
+"#;
+
+/// `EVERY_SPACE` with places, and without bodies, items of element segments and bytes of data segments.
+const EVERY_SPACE_OUTLINE: &str = r#"(module $all
+(;@b     ;)  (type $sig (;0;) (func (param i32) (result i32)))
+(;@10    ;)  (type (;1;) (struct (field i32) (field $x (mut i64))))
+(;@16    ;)  (type (;2;) (func (param i32)))
+(;@1a    ;)  (type (;3;) (func))
+(;@20    ;)  (import "a" "f" (func (;0;) (type $sig) (param $arg i32) (result i32)))
+(;@2e    ;)  (table (;0;) 1 funcref)
+(;@31    ;)  (table $tab (;1;) 2 funcref)
+(;@37    ;)  (memory (;0;) 1)
+(;@39    ;)  (memory $mem (;1;) 2)
+(;@3e    ;)  (tag (;0;) (type 3))
+(;@40    ;)  (tag $exc (;1;) (type 2) (param i32))
+(;@45    ;)  (global (;0;) i32 i32.const 3)
+(;@4a    ;)  (global $var (;1;) i32 global.get 0)
+(;@52    ;)  (export "f" (func $run))
+(;@56    ;)  (export "a" (table $tab))
+(;@5a    ;)  (export "m" (memory $mem))
+(;@5e    ;)  (export "g" (global $var))
+(;@62    ;)  (export "t" (tag 1))
+(;@68    ;)  (start $init)
+(;@6c    ;)  (elem (;0;) (table $tab) (i32.const 0) ...)
+(;@74    ;)  (elem $els (;1;) ...)
+(;@7f    ;)  (func $run (;1;) (type $sig) (param $arg i32) (result i32) ...)
+(;@d9    ;)  (func $init (;2;) (type 3) ...)
+(;@de    ;)  (data (;0;) (memory $mem) (global.get $var) ...)
+(;@e6    ;)  (data $raw (;1;) ...)
+(;@164   ;))
+"#;
+
+#[test]
+fn prints_places(rt: HostRuntime) -> Result<(), Fail> {
+    let modules: [(&[u8], &str); 3] = [
+        (&PREAMBLE, "(module\n(;@8     ;))\n"),
+        (&IDENTITY, IDENTITY_PLACES),
+        (&EVERYTHING, EVERYTHING_PLACES),
+    ];
+    let mut config = Config::new();
+    config.print_offsets(true);
+    for (wasm, expected) in modules {
+        let text = config.print_to_string(rt.alloc(), wasm)?;
+        assert_eq!(rt; text.as_str(), expected);
+    }
+    Ok(())
+}
+
+#[test]
+fn leaves_bodies_out(rt: HostRuntime) -> Result<(), Fail> {
+    let mut config = Config::new();
+    config.print_skeleton(true);
+    let text = config.print_to_string(rt.alloc(), &IDENTITY)?;
+    assert_eq!(rt;
+        text.as_str(),
+        r#"(module
+  (type (;0;) (func (param i32) (result i32)))
+  (export "f" (func 0))
+  (func (;0;) (type 0) (param i32) (result i32) ...)
+)
+"#
+    );
+    Ok(())
+}
+
+#[test]
+fn prints_places_of_fields(rt: HostRuntime) -> Result<(), Fail> {
+    let mut config = Config::new();
+    config.print_offsets(true);
+    let text = config.print_to_string(rt.alloc(), &FIELDS)?;
+    assert_eq!(rt;
+        text.as_str(),
+        r#"(module
+(;@b     ;)  (type (;0;) (func))
+(;@11    ;)  (import "a" "f" (func (;0;) (type 0)))
+(;@17    ;)  (import "a" "g" (global (;0;) (mut i32)))
+(;@21    ;)  (table (;0;) 1 funcref)
+(;@24    ;)  (table (;1;) 1 funcref ref.func 0)
+(;@2f    ;)  (memory (;0;) 1)
+(;@34    ;)  (tag (;0;) (type 0))
+(;@39    ;)  (global (;1;) i32 block (result i32)  (; label = @1 ;) i32.const 7 end)
+(;@44    ;)  (export "m" (memory 0))
+(;@4a    ;)  (start 0)
+(;@4e    ;)  (elem (;0;) (i32.const 0) func 0)
+(;@54    ;)  (elem (;1;) funcref (ref.func 0) (ref.null func))
+(;@60    ;)  (data (;0;) (i32.const 0) "hi")
+(;@67    ;)  (data (;1;) "")
+(;@69    ;))
+"#
+    );
+    Ok(())
+}
+
+#[test]
+fn prints_fields_of_a_skeleton(rt: HostRuntime) -> Result<(), Fail> {
+    let mut config = Config::new();
+    config.print_skeleton(true);
+    let text = config.print_to_string(rt.alloc(), &FIELDS)?;
+    assert_eq!(rt;
+        text.as_str(),
+        r#"(module
+  (type (;0;) (func))
+  (import "a" "f" (func (;0;) (type 0)))
+  (import "a" "g" (global (;0;) (mut i32)))
+  (table (;0;) 1 funcref)
+  (table (;1;) 1 funcref ref.func 0)
+  (memory (;0;) 1)
+  (tag (;0;) (type 0))
+  (global (;1;) i32 block (result i32)  (; label = @1 ;) i32.const 7 end)
+  (export "m" (memory 0))
+  (start 0)
+  (elem (;0;) (i32.const 0) ...)
+  (elem (;1;) ...)
+  (data (;0;) (i32.const 0) ...)
+  (data (;1;) ...)
+)
+"#
+    );
+    Ok(())
+}
+
+#[test]
+fn chains_setters(rt: HostRuntime) -> Result<(), Fail> {
+    let mut config = Config::new();
+    config.print_offsets(true).print_skeleton(true);
+    let outline = config.print_to_string(rt.alloc(), &EVERY_SPACE)?;
+    assert_eq!(rt; outline.as_str(), EVERY_SPACE_OUTLINE);
+    let text = Config::new()
+        .name_unnamed(true)
+        .print_skeleton(true)
+        .print_offsets(true)
+        .print_to_string(rt.alloc(), &IDENTITY)?;
+    assert_eq!(rt; text.as_str(), IDENTITY_OUTLINE_INVENTED);
+    Ok(())
+}
+
+#[test]
+fn takes_options_back(rt: HostRuntime) -> Result<(), Fail> {
+    let mut config = Config::new();
+    config.print_offsets(true).print_skeleton(true);
+    config.name_unnamed(true).name_unnamed(false);
+    let outline = config.print_to_string(rt.alloc(), &IDENTITY)?;
+    assert_eq!(rt; outline.as_str(), IDENTITY_OUTLINE);
+    config.print_skeleton(false);
+    let places = config.print_to_string(rt.alloc(), &IDENTITY)?;
+    assert_eq!(rt; places.as_str(), IDENTITY_PLACES);
+    config.print_offsets(false);
+    let text = config.print_to_string(rt.alloc(), &IDENTITY)?;
+    assert_eq!(rt; text.as_str(), IDENTITY_TEXT);
+    Ok(())
+}
+
+#[test]
+fn prints_as_by_default_where_no_option_is_asked_for(rt: HostRuntime) -> Result<(), Fail> {
+    let mut config = Config::new();
+    config
+        .print_offsets(false)
+        .print_skeleton(false)
+        .name_unnamed(false);
+    let modules: [(&[u8], &str); 2] = [(&EVERYTHING, EVERYTHING_TEXT), (&FIELDS, FIELDS_TEXT)];
+    for (wasm, expected) in modules {
+        let text = config.print_to_string(rt.alloc(), wasm)?;
+        assert_eq!(rt; text.as_str(), expected);
+    }
+    Ok(())
+}
+
+#[test]
+fn shows_debug(rt: HostRuntime) -> Result<(), Fail> {
+    let config = Config::default();
+    let shown = format!(in rt.alloc(); "{config:?}")?;
+    assert_eq!(rt;
+        shown.as_str(),
+        "Config { options: PrintOptions { offsets: false, skeleton: false, invents: false, indent: TwoBlanks } }"
+    );
+    Ok(())
+}

@@ -1,0 +1,43 @@
+use Rattle.std.specs.Prelude.{◌≡◌, [], codes, length}
+use Rattle.std.proofs.Common.{ap, arith, ⊎_elim}
+use Rattle.wasmprinter_spec.specs.Layout.Types.{parameters_of}
+use Rattle.wasmprinter_print.specs.PrintsLaws.{next_written, next_fails, rest_written}
+use Rattle.wasmprinter_names.specs.Shown.{shown}
+use Rattle.wasmprinter_ops.specs.ValTypes.{types_view}
+use Rattle.wasmprinter_text.proofs.Counting.{none-left}
+use Rattle.wasmprinter_text.proofs.Walks.{walk-groups, walk-next, walk-none}
+use Rattle.wasmprinter_text.proofs.types.variables.write_params.Goals as goal
+
+pub returns-in_err-before : goal.returns-in_err-before
+returns-in_err-before g c o =
+    let names = shown c.args.identifiers.now in
+    let named = parameters_of names c.args.owner in
+    let step = walk-next names (codes "param") named c.loop-number.before c.loop-number.number-iterator.a.start _ _ _ c.in-Some.ensures.steps.1 in
+    let made = rw c.in-Some.ensures.steps.0.1.1 at (c.in_err-before.ensures.pieces o) in
+    rw (← walk-groups names (codes "param") named 0 (types_view c.args.types.now))
+    (next_fails g.P.Print.meaning _ _ c.from_residual.result (rw step at (c.loop-number.invariant.lacks o)) made c.from_residual.ensures.1)
+
+pub loop-number-preserved : goal.loop-number-preserved
+loop-number-preserved g c =
+    let names = shown c.args.identifiers.now in
+    let named = parameters_of names c.args.owner in
+    let step = walk-next names (codes "param") named c.loop-number.before c.loop-number.number-iterator.a.start _ _ _ c.in-Some.ensures.steps.1 in
+    record {
+      lacks = λ o.
+          let made = rw c.in-Some.ensures.steps.0.1.1 at (c.in_ok-before.ensures.pieces o) in
+          rw (c.in_ok-before.ensures.next, c.in-Some.ensures.steps.0.1.1, c.in-Some.ensures.steps.0.1.2)
+          (next_written g.P.Print.meaning _ _ (rw step at (c.loop-number.invariant.lacks o)) made);
+      count = omega (arith, c.loop-number.invariant.count, ap length c.in-Some.ensures.steps.1, c.in-Some.ensures.steps.0.0, c.in-Some.ensures.steps.0.1.2);
+      next = ((tt, tt), tt);
+    }
+
+pub returns : goal.returns
+returns g c o =
+    let names = shown c.args.identifiers.now in
+    let named = parameters_of names c.args.owner in
+    let items = c.loop-number.number-iterator.b in
+    let none : items ≡ [] =
+    ⊎_elim (λ u. none-left _ _ items c.loop-number.invariant.count u.1.1.0) (λ u. u.1.0) c.in-None.ensures.steps in
+    let last = walk-none names (codes "param") named c.loop-number.before c.loop-number.number-iterator.a.start items none in
+    rw (← walk-groups names (codes "param") named 0 (types_view c.args.types.now))
+    (rest_written g.P.Print.meaning _ (rw last at (c.loop-number.invariant.lacks o)) (c.end_variables.ensures o))

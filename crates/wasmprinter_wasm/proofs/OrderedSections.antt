@@ -1,0 +1,145 @@
+-- What sections in order hold together.
+use Rattle.std.proofs.Common.{◌≡◌, ℕ, ◌<◌, ◌≤◌, lit≤, true, List, [], ◌∷◌, ◌++◌, length, Option, Some, None, refl, sym, ap, subst, ◌∙◌, arith, append-nil}
+use Rattle.std.specs.List.{AllByRecursion}
+use Rattle.wasmprinter_spec.specs.Grammar.{Placed}
+use Rattle.wasmprinter_spec.specs.Placed.{Custom}
+use Rattle.wasmprinter_spec.specs.Repeated.{some_or}
+use Rattle.wasmprinter_spec.specs.Sections.{CustomSection, TypeSection, ImportSection, FunctionSection, TableSection, MemorySection, TagSection, GlobalSection}
+use Rattle.wasmprinter_spec.specs.Sections.{ExportSection, StartSection, ElementSection, DataCountSection, CodeSection, DataSection}
+use Rattle.wasmprinter_spec.specs.Sections.{Kind, Section, holds, section_kind, content_of, rank, rank_behind, are_above}
+use Rattle.wasmprinter_spec.specs.Binary.{type_indices_in, tables_in, bodies_in, customs_in}
+use Rattle.wasmprinter_spec.specs.Limits.{most_functions}
+use Rattle.wasmprinter_spec.proofs.Ordered.{with_one, held_push, held_each, held_midst, held_picked}
+use Rattle.wasmprinter_entries.specs.Refusals.{AnyIsOver, FirstIsEmpty}
+use Rattle.wasmprinter_entries.specs.Contents.{HasFew, HasNoEmpty, IsSmall, HasCount, HasOver, HasEmpty, item_count}
+use Rattle.wasmprinter_wasm.specs.Gathering.{Gathered, none_gathered, Kept, kept, kept_in, with_section, IsHeld, item_count_in}
+
+-- ---- custom sections
+
+-- one more in front, if there is one
+abbrev in_front : Option (Placed Custom) → List (Placed Custom) → List (Placed Custom)
+in_front o cs = some_or o cs (λ c. c ∷ cs)
+
+front_push : (o : Option (Placed Custom)) (cs ds more : List (Placed Custom)) → ds ≡ cs ++ more → in_front o ds ≡ in_front o cs ++ more
+front_push None cs ds more e = e
+front_push (Some c) cs ds more e = ap (λ (xs : List (Placed Custom)). c ∷ xs) e
+
+front_length : (o : Option (Placed Custom)) (cs : List (Placed Custom)) → length cs ≤ length (in_front o cs)
+front_length None cs = omega arith
+front_length (Some c) cs = omega arith
+
+-- one more section behind others
+customs_push : (ss : List Section) (s : Section) → customs_in (ss ++ s ∷ []) ≡ customs_in ss ++ in_front (content_of CustomSection s) []
+customs_push [] s = refl
+customs_push (x ∷ xs) s = front_push (content_of CustomSection x) (customs_in xs) (customs_in (xs ++ s ∷ [])) (in_front (content_of CustomSection s) []) (customs_push xs s)
+
+-- one among others
+customs_midst : (xs : List Section) (c : Placed Custom) (ys : List Section) → 0 < length (customs_in (xs ++ holds CustomSection c ∷ ys))
+customs_midst [] c ys = omega arith
+customs_midst (x ∷ xs) c ys =
+    let rest : List (Placed Custom) = customs_in (xs ++ holds CustomSection c ∷ ys) in
+    omega (arith, customs_midst xs c ys, front_length (content_of CustomSection x) rest)
+
+-- a section that is a custom one
+pub custom_kind : (s : Section) → section_kind s ≡ CustomSection → (c : Placed Custom) × (s ≡ holds CustomSection c)
+custom_kind (holds CustomSection c) e = (c, refl)
+custom_kind (holds _ x) e = absurd cc
+
+-- ---- of each kind
+
+-- the rank that is kept is that of the last section that has one
+pub rank_added : (g : Gathered) (s : Section) → (with_section g s).rank ≡ rank_behind g.rank (rank (section_kind s))
+rank_added g (holds CustomSection x) = refl
+rank_added g (holds TypeSection x) = refl
+rank_added g (holds ImportSection x) = refl
+rank_added g (holds FunctionSection x) = refl
+rank_added g (holds TableSection x) = refl
+rank_added g (holds MemorySection x) = refl
+rank_added g (holds TagSection x) = refl
+rank_added g (holds GlobalSection x) = refl
+rank_added g (holds ExportSection x) = refl
+rank_added g (holds StartSection x) = refl
+rank_added g (holds ElementSection x) = refl
+rank_added g (holds DataCountSection x) = refl
+rank_added g (holds CodeSection x) = refl
+rank_added g (holds DataSection x) = refl
+
+-- before any section nothing is kept
+pub kept_none : (kind : Kind) → kept kind none_gathered ≡ kept_in kind []
+kept_none CustomSection = refl
+kept_none _ = refl
+
+-- what is kept of a kind, with one more section
+abbrev pub kept_with : (kind : Kind) → Kept kind → Section → Kept kind
+kept_with CustomSection cs s = cs ++ in_front (content_of CustomSection s) []
+kept_with kind c s = with_one kind c s
+
+-- it is what sections hold with one more behind them
+pub kept_push : (kind : Kind) (ss : List Section) (s : Section) → kept_in kind (ss ++ s ∷ []) ≡ kept_with kind (kept_in kind ss) s
+kept_push CustomSection ss s = customs_push ss s
+kept_push kind ss s = held_push kind (kept kind none_gathered) ss s
+
+-- a section sets what is kept of its kind, or adds to it, and leaves the rest
+pub kept_added : (kind : Kind) (g : Gathered) (s : Section) → kept kind (with_section g s) ≡ kept_with kind (kept kind g) s
+kept_added CustomSection g (holds CustomSection x) = refl
+kept_added CustomSection g (holds _ x) = sym (append-nil g.customs)
+kept_added TypeSection g (holds TypeSection x) = refl
+kept_added ImportSection g (holds ImportSection x) = refl
+kept_added FunctionSection g (holds FunctionSection x) = refl
+kept_added TableSection g (holds TableSection x) = refl
+kept_added MemorySection g (holds MemorySection x) = refl
+kept_added TagSection g (holds TagSection x) = refl
+kept_added GlobalSection g (holds GlobalSection x) = refl
+kept_added ExportSection g (holds ExportSection x) = refl
+kept_added StartSection g (holds StartSection x) = refl
+kept_added ElementSection g (holds ElementSection x) = refl
+kept_added DataCountSection g (holds DataCountSection x) = refl
+kept_added CodeSection g (holds CodeSection x) = refl
+kept_added DataSection g (holds DataSection x) = refl
+kept_added _ g _ = refl
+
+-- sections in order among which one holds an item hold one
+pub some_midst : (xs : List Section) (s : Section) (ys : List Section) → are_above 0 (xs ++ s ∷ ys) ≡ true → 0 < item_count s → 0 < item_count_in (xs ++ s ∷ ys)
+some_midst xs (holds CustomSection x) ys up some = omega (arith, customs_midst xs x ys)
+some_midst xs (holds TypeSection x) ys up some = omega (arith, ap length (held_midst TypeSection 1 refl [] 0 xs x ys up))
+some_midst xs (holds ImportSection x) ys up some = omega (arith, ap length (held_midst ImportSection 2 refl [] 0 xs x ys up))
+some_midst xs (holds FunctionSection x) ys up some = omega (arith, ap length (held_midst FunctionSection 3 refl [] 0 xs x ys up))
+some_midst xs (holds TableSection x) ys up some = omega (arith, ap length (held_midst TableSection 4 refl [] 0 xs x ys up))
+some_midst xs (holds MemorySection x) ys up some = omega (arith, ap length (held_midst MemorySection 5 refl [] 0 xs x ys up))
+some_midst xs (holds TagSection x) ys up some = omega (arith, ap length (held_midst TagSection 6 refl [] 0 xs x ys up))
+some_midst xs (holds GlobalSection x) ys up some = omega (arith, ap length (held_midst GlobalSection 7 refl [] 0 xs x ys up))
+some_midst xs (holds ExportSection x) ys up some = omega (arith, ap length (held_midst ExportSection 8 refl [] 0 xs x ys up))
+some_midst xs (holds StartSection x) ys up some = absurd (omega (arith, some))
+some_midst xs (holds ElementSection x) ys up some = omega (arith, ap length (held_midst ElementSection 10 refl [] 0 xs x ys up))
+some_midst xs (holds DataCountSection x) ys up some = absurd (omega (arith, some))
+some_midst xs (holds CodeSection x) ys up some = omega (arith, ap length (held_midst CodeSection 12 refl [] 0 xs x ys up))
+some_midst xs (holds DataSection x) ys up some = omega (arith, ap length (held_midst DataSection 13 refl [] 0 xs x ys up))
+
+-- ---- limits
+
+-- all type indices are those of the one function section
+pub count_midst : (count : ℕ) (xs : List Section) (s : Section) (ys : List Section) → are_above 0 (xs ++ s ∷ ys) ≡ true → HasCount count s → length (type_indices_in (xs ++ s ∷ ys)) ≡ count
+count_midst count xs s ys up h = ap length (held_picked FunctionSection 3 refl [] 0 xs s h.0 ys h.1 up) ∙ h.2
+
+-- all bodies are those of the one code section
+pub over_midst : (place : ℕ) (xs : List Section) (s : Section) (ys : List Section) → are_above 0 (xs ++ s ∷ ys) ≡ true → HasOver place s → AnyIsOver place (bodies_in (xs ++ s ∷ ys))
+over_midst place xs s ys up h = subst (AnyIsOver place) (sym (held_picked CodeSection 12 refl [] 0 xs s h.0 ys h.1 up)) h.2
+
+-- all tables are those of the one table section
+pub empty_midst : (place : ℕ) (xs : List Section) (s : Section) (ys : List Section) → are_above 0 (xs ++ s ∷ ys) ≡ true → HasEmpty place s
+    → FirstIsEmpty place (tables_in (xs ++ s ∷ ys))
+empty_midst place xs s ys up h = subst (FirstIsEmpty place) (sym (held_picked TableSection 4 refl [] 0 xs s h.0 ys h.1 up)) h.2
+
+-- no function has too many locals, there aren't too many functions, and no table has an empty initialiser
+pub record HoldsFew (g : Gathered) : Type 0 where
+  pub functions : length g.type_indices ≤ most_functions
+  pub tables : AllByRecursion HasNoEmpty g.tables
+  pub locals : AllByRecursion HasFew g.bodies
+
+-- sections within the limits hold no more together
+pub few_held : (g : Gathered) (ss : List Section) → AllByRecursion IsSmall ss → IsHeld g ss → HoldsFew g
+few_held g ss small held = record {
+  functions = subst (λ (is : List ℕ). length is ≤ most_functions) (sym (held FunctionSection)) (held_each FunctionSection IsSmall [] ss small (lit≤ tt));
+  tables = subst (AllByRecursion HasNoEmpty) (sym (held TableSection)) (held_each TableSection IsSmall [] ss small tt);
+  locals = subst (AllByRecursion HasFew) (sym (held CodeSection)) (held_each CodeSection IsSmall [] ss small tt);
+}

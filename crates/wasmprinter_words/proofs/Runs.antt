@@ -1,0 +1,123 @@
+-- Characters that stand in identifiers.
+use Rattle.std.specs.Prelude.{◌≡◌, ℕ, ◌<◌, ◌≤◌, ◌^◌, Bool, true, false, not, ◌&&◌, ◌||◌, List, [], ◌∷◌, ◌++◌, length, IsUtf8, chars, decimal, if◌then◌else◌, encode_utf8_all}
+use Rattle.std.specs.List.{list_all}
+use Rattle.std.specs.Str.{IsAscii}
+use Rattle.std.specs.Str.Parse.{AllDigits}
+use Rattle.std.specs.Char.{digit_value}
+use Rattle.std.proofs.Common.{refl, sym, ap, ◌∙◌, arith, true≢false, leb, ltb, cond, lit<, suc, zero}
+use Rattle.std.proofs.lemmas.Bool.{and_parts, and_from, ltb-true, ltb-false, ne_eqb, le-ltb, le-leb, agree_below, agree_below_at}
+use Rattle.std.proofs.lemmas.Fmt.{decimal_is_IsNumeral}
+use Rattle.std.proofs.lemmas.Str.{chars-IsAscii, encodes-IsAscii, encodes-chars}
+use Rattle.std.proofs.lemmas.Str.Parse.{digit_at}
+use Rattle.wasmprinter_spec.specs.Character.{Foreign, class}
+use Rattle.wasmprinter_spec.specs.Names.Content.{index_content}
+use Rattle.wasmprinter_spec.specs.Quoted.{runs, all_run, is_run, quoted_text, identifier_text}
+
+-- the test of each character
+pub all_run-list : (cs : List ℕ) → list_all (λ c. runs (class c)) cs ≡ all_run cs
+all_run-list [] = refl
+all_run-list (c ∷ cs) = ap (λ b. runs (class c) && b) (all_run-list cs)
+
+-- a character from 128 on is foreign
+foreign : (c : ℕ) → 128 ≤ c → class c ≡ Foreign
+unfolding class
+foreign c h =
+    rw (
+      ne_eqb c 32 (λ e. omega arith),
+      ne_eqb c 9 (λ e. omega arith),
+      ne_eqb c 10 (λ e. omega arith),
+      ne_eqb c 13 (λ e. omega arith),
+      ne_eqb c 40 (λ e. omega arith),
+      ne_eqb c 41 (λ e. omega arith),
+      ne_eqb c 59 (λ e. omega arith),
+      ne_eqb c 34 (λ e. omega arith),
+      ne_eqb c 92 (λ e. omega arith),
+      ne_eqb c 36 (λ e. omega arith),
+      ne_eqb c 64 (λ e. omega arith),
+      ne_eqb c 44 (λ e. omega arith),
+      ne_eqb c 91 (λ e. omega arith),
+      ne_eqb c 93 (λ e. omega arith),
+      ne_eqb c 123 (λ e. omega arith),
+      ne_eqb c 125 (λ e. omega arith),
+      le-ltb c 32 (omega arith),
+      ne_eqb c 127 (λ e. omega arith),
+      le-leb 128 c h,
+    )
+
+low : (c : ℕ) → runs (class c) ≡ true → c < 128
+low c h = by (ltb c 128) refl
+  where
+    by : (t : Bool) → ltb c 128 ≡ t → c < 128
+    by true e = ltb-true c 128 e
+    by false e = absurd (true≢false (sym h ∙ ap runs (foreign c (ltb-false c 128 e))))
+
+-- characters of identifiers are ASCII
+ascii_at : (cs : List ℕ) → all_run cs ≡ true → IsAscii cs
+ascii_at [] h i = omega arith
+ascii_at (c ∷ cs) h zero = low c (and_parts (runs (class c)) (all_run cs) h).0
+ascii_at (c ∷ cs) h (suc i) = ascii_at cs (and_parts (runs (class c)) (all_run cs) h).1 i
+
+-- a text of characters of identifiers
+pub run-chars : (bs : List ℕ) → IsUtf8 bs → all_run (chars bs) ≡ true → chars bs ≡ bs
+run-chars bs u h = sym (encodes-IsAscii (chars bs) (ascii_at (chars bs) h)) ∙ encodes-chars bs u
+
+is_run-all : (cs : List ℕ) → is_run cs ≡ true → all_run cs ≡ true
+is_run-all [] h = absurd (true≢false (sym h))
+is_run-all (c ∷ cs) h = h
+
+-- the rest of an identifier without quotes
+pub plain-chars : (bs : List ℕ) → IsUtf8 bs → is_run (chars bs) ≡ true → chars bs ≡ bs
+plain-chars bs u h = run-chars bs u (is_run-all (chars bs) h)
+
+-- no text is no character
+pub run-empty : (bs : List ℕ) → IsUtf8 bs → length bs ≡ 0 → is_run (chars bs) ≡ false
+run-empty [] u e = ap is_run (chars-IsAscii [] (λ i. omega arith))
+run-empty (b ∷ bs) u e = absurd cc
+
+-- a text is some characters
+pub run-some : (bs : List ℕ) → IsUtf8 bs → (length bs ≡ 0 → ⊥) → is_run (chars bs) ≡ all_run (chars bs)
+run-some bs u n = by (chars bs) refl
+  where
+    by : (cs : List ℕ) → chars bs ≡ cs → is_run cs ≡ all_run cs
+    by [] e = absurd (n (ap length (sym (encodes-chars bs u) ∙ ap encode_utf8_all e)))
+    by (c ∷ cs) e = refl
+
+-- ---- made up identifiers
+
+is_digit_below : ℕ → Bool
+is_digit_below c = not (leb 48 c) || runs (class c)
+
+digits_below : agree_below is_digit_below (λ c. true) 58 ≡ true
+unfolding is_digit_below class
+digits_below = refl
+
+digit_runs : (c : ℕ) → digit_value c < 10 → runs (class c) ≡ true
+unfolding is_digit_below
+digit_runs c h =
+    let within : (48 ≤ c) × (c ≤ 57) = digit_at (c ∷ []) 0 (h, tt) (lit< tt) in
+    let above : leb 48 c ≡ true = le-leb 48 c within.0 in
+    let e : (not (leb 48 c) || runs (class c)) ≡ true = agree_below_at is_digit_below (λ x. true) 58 c digits_below (omega arith) in
+    rw above at e
+
+digits_run : (ds : List ℕ) → AllDigits 10 ds → all_run ds ≡ true
+digits_run [] h = refl
+digits_run (c ∷ cs) h = and_from (runs (class c)) (all_run cs) (digit_runs c h.0) (digits_run cs h.1)
+
+all_run-append : (cs ds : List ℕ) → all_run cs ≡ true → all_run ds ≡ true → all_run (cs ++ ds) ≡ true
+all_run-append [] ds h k = k
+all_run-append (c ∷ cs) ds h k =
+    let parts : (runs (class c) ≡ true) × (all_run cs ≡ true) = and_parts (runs (class c)) (all_run cs) h in
+    and_from (runs (class c)) (all_run (cs ++ ds)) parts.0 (all_run-append cs ds parts.1 k)
+
+made_up-runs : (group : List ℕ) (n : ℕ) → n < 2 ^ 64 → all_run group ≡ true → all_run (index_content group n) ≡ true
+unfolding class
+made_up-runs group n h g = all_run-append group (decimal n) g (digits_run (decimal n) (decimal_is_IsNumeral n h).0.1)
+
+-- it stands without quotes
+pub made_up-text : (group : List ℕ) (n : ℕ) → n < 2 ^ 64 → all_run group ≡ true →
+    identifier_text (chars (index_content group n)) ≡ 36 ∷ index_content group n
+unfolding identifier_text
+made_up-text group n h g =
+    let run : all_run (index_content group n) ≡ true = made_up-runs group n h g in
+    let plain : chars (index_content group n) ≡ index_content group n = chars-IsAscii (index_content group n) (ascii_at (index_content group n) run) in
+    ap (λ cs. 36 ∷ (if is_run cs then cs else quoted_text cs)) plain ∙ ap (λ t. 36 ∷ cond t (index_content group n) (quoted_text (index_content group n))) run

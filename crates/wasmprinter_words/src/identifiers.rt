@@ -1,0 +1,98 @@
+//! Identifiers and the annotations with names (section 6.3 of the WebAssembly Core Specification, "Identifiers", and the custom annotations
+//! proposal).
+ghost use Rattle.std.specs.Prelude.{◌≡◌, [], ◌∷◌, ◌++◌, true, chars, decimal, if◌then◌else◌};
+ghost use Rattle.wasmprinter_spec.specs.Call.{Text};
+ghost use Rattle.wasmprinter_spec.specs.Character.{class};
+ghost use Rattle.wasmprinter_spec.specs.Names.Content.{index_content};
+ghost use Rattle.wasmprinter_spec.specs.Options.{Options};
+ghost use Rattle.wasmprinter_spec.specs.Piece.{Identifier, NameNote};
+ghost use Rattle.wasmprinter_spec.specs.Quoted.{runs, all_run, is_run, quoted_text};
+ghost use Rattle.wasmprinter_print.specs.Emits.{Emits};
+ghost use Rattle.wasmprinter_print.specs.Prints.{Prints};
+
+use crate::numbers::{DECIMAL, write_digits};
+use crate::strings::write_chars;
+use std::io;
+use wasmprinter_print::{Print, Style, styled, text};
+
+/// Whether a character stands in an identifier.
+#[tactic(auto, unfolding(wasmprinter_spec::specs::Character::class))]
+fn is_identifier_char(c: char) -> bool
+    ensures { result ≡ runs (class c) }
+{
+    matches!(c, '!'..='~') && !matches!(c, '"' | '(' | ')' | ',' | ';' | '[' | ']' | '{' | '}')
+}
+
+/// Whether all characters of a text stand in an identifier.
+fn all_run(s: &str) -> bool
+    ensures { result ≡ all_run (chars s.now) }
+{
+    s.chars().all(is_identifier_char)
+}
+
+/// Whether a text is the rest of an identifier without quotes.
+fn is_run(s: &str) -> bool
+    ensures { result ≡ is_run (chars s.now) }
+{
+    !s.is_empty() && all_run(s)
+}
+
+/// Writes a text in quotes without a style.
+#[tactic(auto, unfolding(wasmprinter_spec::specs::Quoted::quoted_text))]
+fn write_in_quotes<P: Print>(p: &mut P, s: &str) -> io::Result<()>
+    ensures { Emits P.meaning p.old p.new result (Text (quoted_text (chars s.now)) ∷ []) }
+{
+    text(p, "\"")?;
+    write_chars(p, s)?;
+    text(p, "\"")
+}
+
+/// Writes what stands behind the dollar sign of an identifier.
+fn write_content<P: Print>(p: &mut P, content: &str) -> io::Result<()>
+    ensures { Emits P.meaning p.old p.new result
+        (Text (if is_run (chars content.now) then chars content.now else quoted_text (chars content.now)) ∷ []) }
+{
+    if is_run(content) {
+        text(p, content)
+    } else {
+        write_in_quotes(p, content)
+    }
+}
+
+/// Writes an identifier, by what stands behind its dollar sign: in quotes where a character doesn't stand in an identifier.
+#[tactic(auto, unfolding(wasmprinter_spec::specs::Quoted::identifier_text))]
+pub fn identifier<P: Print>(p: &mut P, content: &str) -> io::Result<()>
+    ensures { (o : Options) → Prints P.meaning o p.old p.new result (Identifier (chars content.now) ∷ []) }
+{
+    text(p, "$")?;
+    write_content(p, content)
+}
+
+/// Writes a word and a number behind a text.
+fn write_numbered<P: Print>(p: &mut P, before: &str, word: &str, number: u64) -> io::Result<()>
+    ensures { Emits P.meaning p.old p.new result (Text (before.now ++ (word.now ++ decimal number)) ∷ []) }
+{
+    text(p, before)?;
+    text(p, word)?;
+    write_digits(p, DECIMAL, number)
+}
+
+/// Writes the identifier that is made up of the sign `#`, the word for a kind of items, and a number. It stands without quotes, so that the
+/// characters of the word must be those of identifiers.
+pub fn made_up<P: Print>(p: &mut P, group: &str, number: u64) -> io::Result<()>
+    ensures calls { Emits P.meaning p.old p.new result (Text (36 ∷ index_content group.now number) ∷ []) }
+    ensures pieces { all_run group.now ≡ true
+        → (o : Options) → Prints P.meaning o p.old p.new result (Identifier (chars (index_content group.now number)) ∷ []) }
+{
+    write_numbered(p, "$#", group, number)
+}
+
+/// Writes the annotation with the name that was given to an item.
+pub fn name_note<P: Print>(p: &mut P, name: &str) -> io::Result<()>
+    ensures { (o : Options) → Prints P.meaning o p.old p.new result (NameNote (chars name.now) ∷ []) }
+{
+    text(p, "(")?;
+    styled(p, Style::Keyword, "@name \"")?;
+    write_chars(p, name)?;
+    text(p, "\")")
+}
