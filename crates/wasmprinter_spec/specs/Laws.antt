@@ -55,7 +55,7 @@ abbrev pub TakesNested : Type 0
 TakesNested = (os : List Operator) → (if_nested os ≡ Some os) ↔ Nests Sequence (map (λ o. role_of o.opcode) os)
 
 -- The reading law: printed text reads back as the module that the bytes spell. (No initialiser of a table is empty: the text of such a table is
--- that of one without.)
+-- that of one without. So far no custom section is offered to the printer, so nothing rests on that none is claimed.)
 abbrev pub ReadsBack : Type 0
 ReadsBack =
     (bytes : List ℕ) (m : PlacedModule) (o : Options) (answers : Answers) →
