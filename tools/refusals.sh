@@ -7,7 +7,7 @@
 # library's requests; the runs past them show that nothing was refused.
 set -eu
 cd "$(dirname "$0")/../crates/refusals"
-last=${1:-260}
+last=${1:-280}
 began=$(date +%s)
 work=$(mktemp -d)
 trap 'rm -rf "$work"' EXIT

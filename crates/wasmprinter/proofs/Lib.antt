@@ -2,3 +2,5 @@ pub mod Headline
 pub mod Outcomes
 pub mod Texts
 pub mod Named
+pub mod Claims
+pub mod Subsections

@@ -1,18 +1,16 @@
 -- The names of a module: the identifiers that the printer shows are the definitions', and memory is wanted for them only where the module has a custom
 -- section, which is kept.
-use Rattle.std.proofs.Common.{◌≡◌, ◌≢◌, ℕ, zero, suc, ◌+◌, ◌<◌, Bool, true, false, ◌&&◌, Option, Some, None, List, [], ◌∷◌, ◌++◌, length, refl, sym, ap, ◌∙◌, subst, arith, append_assoc, inl, inr}
+use Rattle.std.proofs.Common.{◌≡◌, ◌≢◌, ℕ, ◌+◌, ◌<◌, Bool, true, false, ◌&&◌, Option, Some, None, List, [], ◌∷◌, ◌++◌, length, refl, sym, ap, ◌∙◌, subst, arith, append_assoc, inl, inr}
 use Rattle.std.proofs.Math.Path.{fun_ext}
 use Rattle.std.proofs.lemmas.List.{length-append}
 use Rattle.wasmprinter_spec.specs.Grammar.{◌>>=◌, bind_some, some_is, Placed, input}
 use Rattle.wasmprinter_spec.specs.Choices.{tested}
-use Rattle.wasmprinter_spec.specs.Labels.{Named}
-use Rattle.wasmprinter_spec.specs.Placed.{Custom, PlacedFunction, PlacedModule}
-use Rattle.wasmprinter_spec.specs.Sections.{CustomSection, Section, holds, section, are_above, contents_in}
-use Rattle.wasmprinter_spec.specs.Repeated.{until_end, some_or}
+use Rattle.wasmprinter_spec.specs.Placed.{Custom, CustomEntry, PlacedFunction, PlacedModule}
+use Rattle.wasmprinter_spec.specs.Sections.{Kind, CustomSection, Section, section, are_above, place_behind, with_custom, customs_behind}
+use Rattle.wasmprinter_spec.specs.Repeated.{until_end}
 use Rattle.wasmprinter_spec.specs.Binary.{Spells, binary, customs_in, type_indices_in, bodies_in, data_count_in, datas_in, function_pairs, counts_data, module_from}
-use Rattle.wasmprinter_spec.specs.Names.{Names, Naming, names_by}
+use Rattle.wasmprinter_spec.specs.Names.{Naming, names_by}
 use Rattle.wasmprinter_spec.specs.Options.{Options}
-use Rattle.wasmprinter_spec.specs.Layout.{module_pieces_with, module_pieces}
 use Rattle.wasmprinter_names.specs.Views.{NamedItem, name_at}
 use Rattle.wasmprinter_labels.specs.Scan.{Scan, names_of}
 use Rattle.wasmprinter_spec.specs.Names.Section.{Entry}
@@ -37,21 +35,22 @@ are_names invents m a e = same_names invents a (name_of (name_entries m.customs)
 -- ---- memory
 
 -- a module without custom sections has no names
-no_entries : (cs : List (Placed Custom)) → name_entries cs ≢ [] → 0 < length cs
+no_entries : (cs : List CustomEntry) → name_entries cs ≢ [] → 0 < length cs
 no_entries [] some = absurd (some refl)
 no_entries (c ∷ cs) some = omega arith
 
 -- sections up to the end, behind other bytes, one of which is a custom section
-custom_among : (p : ℕ) (before text : List ℕ) (ss : List Section) → (until_end section).spells (p + length before) text ss → 0 < length (contents_in CustomSection ss)
+custom_among : (last : Option Kind) (p : ℕ) (before text : List ℕ) (ss : List Section) → (until_end section).spells (p + length before) text ss → 0 < length (customs_behind last ss)
     → HasCustom (input p (before ++ text))
-custom_among p before text [] s some = absurd (omega (arith, some))
-custom_among p before text (x ∷ xs) s some =
+custom_among last p before text [] s some = absurd (omega (arith, some))
+custom_among last p before text (x ∷ xs) s some =
     elim (picks CustomSection x) [
       | inl other ↦
+          let next : Option Kind = place_behind last x in
           let rest : HasCustom (input p ((before ++ s.0) ++ s.1)) =
-          custom_among p (before ++ s.0) s.1 xs
+          custom_among next p (before ++ s.0) s.1 xs
           (subst (λ (q : ℕ). (until_end section).spells q s.1 xs) (omega (arith, length-append before s.0)) s.5)
-          (subst (λ (cs : List (Placed Custom)). 0 < length cs) (ap (λ (o : Option (Placed Custom)). some_or o (contents_in CustomSection xs) (λ c. c ∷ contents_in CustomSection xs)) other) some) in
+          (subst (λ (cs : List CustomEntry). 0 < length cs) (ap (λ (o : Option (Placed Custom)). with_custom last o (customs_behind next xs)) other) some) in
           subst (λ (bs : List ℕ). HasCustom (input p bs)) (append_assoc before s.0 s.1 ∙ ap (λ (r : List ℕ). before ++ r) (sym s.2)) rest
       | inr own ↦ record {
         before = before;
@@ -74,7 +73,8 @@ keeps_custom bytes m s some =
     let counted = tested (are_above 0 ss && counts_data (data_count_in ss) (length (datas_in ss))) (pairs >>= made) m s.spelled.1 in
     let paired = bind_some pairs made m counted.1 in
     let same : customs_in ss ≡ m.customs = ap (λ (x : PlacedModule). x.customs) (some_is (module_from size ss paired.0) m paired.2) in
-    let among : HasCustom (input 0 (head.0 ++ head.1)) = custom_among 0 head.0 head.1 ss head.4 (subst (λ (cs : List (Placed Custom)). 0 < length cs) (sym same) some) in
+    let among : HasCustom (input 0 (head.0 ++ head.1)) =
+    custom_among None 0 head.0 head.1 ss head.4 (subst (λ (cs : List CustomEntry). 0 < length cs) (sym same) some) in
     inr (subst (λ (bs : List ℕ). HasCustom (input 0 bs)) (sym head.2) among)
 
 -- it holds something
@@ -83,7 +83,7 @@ holds_custom m some = omega (arith, some)
 
 -- ---- refusals
 
-one_module : (bytes : List ℕ) (m n : PlacedModule) → Spells bytes m → Spells bytes n → m ≡ n
+pub one_module : (bytes : List ℕ) (m n : PlacedModule) → Spells bytes m → Spells bytes n → m ≡ n
 one_module bytes m n s t = some_is m n (sym (binary.complete (input 0 bytes) m s.spelled) ∙ binary.complete (input 0 bytes) n t.spelled)
 
 -- where a module has names, want of memory for them is a true refusal
@@ -103,11 +103,6 @@ pub shown_names : (o : Options) (m : PlacedModule) (s : Scan) (items : List Name
     ((t outer index : ℕ) → name_at items t outer index ≡ name_of (name_entries m.customs) t outer index) → names_of s ≡ module_names o.invents m
 shown_names o m s items same invents given =
     ap (λ (x : List NamedItem). names_by s.invents (name_at x)) same ∙ ap (λ (b : Bool). names_by b (name_at items)) invents ∙ are_names o.invents m (name_at items) given
-
--- the pieces by the module's own names
-pub own_pieces : (o : Options) (m : PlacedModule) (n : Names) → n ≡ module_names o.invents m → module_pieces_with o n m ≡ module_pieces o m
-unfolding module_pieces
-own_pieces o m n e = ap (λ (x : Names). module_pieces_with o x m) e
 
 -- what can't be so of a refusal
 pub not_ok : false ≡ true → ⊥

@@ -1,5 +1,5 @@
 -- What a printing function's end comes to, from what the decoder and the writer of modules promise.
-use Rattle.std.specs.Prelude.{◌≡◌, ℕ, List, ◌∷◌, ◌++◌, true, bytes_eq, Some, Result, Ok, Err, IfErr, IsErrAnd, refl}
+use Rattle.std.specs.Prelude.{◌≡◌, ℕ, List, ◌∷◌, ◌++◌, true, bytes_eq, Some, Result, Ok, Err, IfErr, IsErrAnd, OnOk, ◌↔◌, refl}
 use Rattle.std.proofs.Common.{sym, ap, ◌∙◌, subst, inl, inr}
 use Rattle.std.proofs.lemmas.Slice.Eq.{bytes_eq-Decides}
 use Rattle.wasmprinter_spec.specs.Choices.{tested}
@@ -7,24 +7,28 @@ use Rattle.wasmprinter_spec.specs.Binary.{Spells, IsComponent, magic, preamble_b
 use Rattle.wasmprinter_spec.specs.Placed.{PlacedModule}
 use Rattle.wasmprinter_spec.specs.Limits.{IsWithinLimits}
 use Rattle.wasmprinter_spec.specs.Meaning.{Meaning}
-use Rattle.wasmprinter_spec.specs.Options.{Options}
-use Rattle.wasmprinter_spec.specs.Layout.{module_pieces_with, module_pieces, layout}
-use Rattle.wasmprinter_print.specs.Emits.{Made, Ending, Through, AtCall}
+use Rattle.wasmprinter_spec.specs.Options.{Options, Answers}
+use Rattle.wasmprinter_spec.specs.Names.{Names}
+use Rattle.wasmprinter_spec.specs.Layout.{module_pieces, layout, refusal}
+use Rattle.wasmprinter_spec.specs.Layout.Customs.{Laid}
+use Rattle.wasmprinter_print.specs.Emits.{Made, Broken, Ending, Through, AtCall, Never}
 use Rattle.wasmprinter_print.specs.Prints.{Written}
 use Rattle.wasmprinter_print.specs.PrintsLaws.{written}
 use Rattle.wasmprinter_error.specs.declared.error.Error.{Error}
-use Rattle.wasmprinter_error.specs.declared.error.Error.TheVariants.{Malformed, Component, TooManyLocals, TooManyFunctions, EmptyTableInit, Printer, Memory}
+use Rattle.wasmprinter_error.specs.declared.error.Error.TheVariants.{Malformed, Component, TooManyLocals, TooManyFunctions, EmptyTableInit, FoldLegacy, FoldHint, DylinkSubsection, Unreadable, Printer, Memory}
 use Rattle.std.specs.declared.io.Error.{Error as IoError}
 use Rattle.wasmprinter_wasm.specs.Decoding.{IsRefusal}
-use Rattle.wasmprinter.specs.Printed.{Printed, unclaimed}
-use Rattle.wasmprinter.specs.Outcome.{HasCause, HasTextCause, IsTrueOf, IsTrueOfText, Leaves, as_growth}
-use Rattle.wasmprinter_spec.specs.Piece.{Piece}
+use Rattle.wasmprinter_annotations.specs.Parts.{PrintsLaid}
+use Rattle.wasmprinter_fields.specs.FieldGroups.{module_laid}
+use Rattle.wasmprinter.specs.Printed.{Printed}
+use Rattle.wasmprinter.specs.Outcome.{HasCause, HasTextCause, IsTrueOf, IsTrueOfText, AnyIsUnknown, MadeUpTo, Leaves, as_growth}
 use Rattle.wasmprinter_spec.specs.Names.Content.{name_of}
-use Rattle.wasmprinter_spec.specs.ModuleNames.{name_entries}
+use Rattle.wasmprinter_spec.specs.ModuleNames.{name_entries, module_names}
 use Rattle.wasmprinter_names.specs.Views.{NamedItem, name_at}
 use Rattle.wasmprinter_labels.specs.Scan.{Scan, names_of}
 use Rattle.wasmprinter.proofs.Headline.{printed}
-use Rattle.wasmprinter.proofs.Named.{shown_names, own_pieces}
+use Rattle.wasmprinter.proofs.Named.{shown_names, one_module}
+use Rattle.wasmprinter.proofs.Subsections.{refusal_unknown}
 
 -- bytes that spell a module are not marked as a component
 not_component : (bytes : List ℕ) (placed : PlacedModule) → Spells bytes placed → IsComponent bytes → ⊥
@@ -50,6 +54,7 @@ refusal_cause m bytes old _ h = absurd h
 -- it is true of the bytes
 pub refusal_true : (bytes : List ℕ) (e : Error) → IsRefusal bytes e → IsTrueOf bytes e
 refusal_true bytes (Printer x) h = absurd h
+refusal_true bytes (DylinkSubsection id) h = absurd h
 refusal_true bytes _ h = h
 
 -- and leaves the printer as it was
@@ -67,31 +72,86 @@ pub handed_on : (Q : Error → Type 0) (r : Result (Unit {0}) Error) (e : Error)
 handed_on Q (Ok x) e f h = tt
 handed_on Q (Err y) e f h = subst Q (sym f) h
 
-module _ {P : Type 0} (m : Meaning P) (o : Options) (bytes : List ℕ) (placed : PlacedModule) (spelled : Spells bytes placed) (within : IsWithinLimits placed) (old new : P) where
-  made : (r : Ending) → Written m o old new r (module_pieces o placed) → Made m old new r (layout o unclaimed placed)
+-- a module laid out by the names that its sections give
+abbrev pub own_laid : Options → Answers → PlacedModule → Laid
+own_laid o answers m = record { pieces = module_pieces o answers m; refused = refusal o answers m }
+
+module _ (o : Options) (answers : Answers) (m : PlacedModule) where
+  by_names : (n : Names) → n ≡ module_names o.invents m → module_laid o answers n m ≡ own_laid o answers m
+  unfolding module_pieces
+  by_names n e = ap (λ (x : Names). module_laid o answers x m) e
+
+  pub own_layout : (s : Scan) (items : List NamedItem) → s.named ≡ items → s.invents ≡ o.invents →
+      ((t outer index : ℕ) → name_at items t outer index ≡ name_of (name_entries m.customs) t outer index) → module_laid o answers (names_of s) m ≡ own_laid o answers m
+  own_layout s items same invents given = by_names (names_of s) (shown_names o m s items same invents given)
+
+module _ {P : Type 0} (m : Meaning P) (o : Options) (bytes : List ℕ) (placed : PlacedModule) (spelled : Spells bytes placed) (within : IsWithinLimits placed) (old new : P) (answers : Answers) where
+  made : (r : Ending) → Written m o old new r (module_pieces o answers placed) → Made m old new r (layout o answers placed)
   unfolding layout
   made r v = written m v
 
+  -- how printing ended
+  abbrev Ended : Result (Unit {0}) Error → Type 0
+  Ended r = PrintsLaid m o old new r (own_laid o answers placed)
+
   -- written by the names that the module's sections give
-  pub own_written : (r : Ending) (s : Scan) (items : List NamedItem) → s.named ≡ items → s.invents ≡ o.invents →
+  pub own_ended : (r : Result (Unit {0}) Error) (s : Scan) (items : List NamedItem) → s.named ≡ items → s.invents ≡ o.invents →
       ((t outer index : ℕ) → name_at items t outer index ≡ name_of (name_entries placed.customs) t outer index) →
-      Written m o old new r (module_pieces_with o (names_of s) placed) → Written m o old new r (module_pieces o placed)
-  own_written r s items same invents given v =
-      subst (λ (ps : List Piece). Written m o old new r ps) (own_pieces o placed (names_of s) (shown_names o placed s items same invents given)) v
+      PrintsLaid m o old new r (module_laid o answers (names_of s) placed) → Ended r
+  own_ended r s items same invents given v = subst (λ (l : Laid). PrintsLaid m o old new r l) (own_layout o answers placed s items same invents given) v
 
-  -- what the writer of modules wrote is printed
-  pub written_printed : Written m o old new Through (module_pieces o placed) → Printed m o bytes old new
-  written_printed v = printed m o bytes placed spelled within (made Through v).made
+  never : Written m o old new Never (module_pieces o answers placed) → ⊥
+  never v = (made Never v).made
 
-  -- where a call failed, that is the cause
-  pub failed_caused : (x : IoError) → Written m o old new (AtCall x) (module_pieces o placed) → HasCause m bytes old new (Printer x)
-  failed_caused x v =
-      let b = (made (AtCall x) v).made in
-      λ other s. record { calls = b.calls; before = b.before; run = b.run; call = b.call; failed = b.failed }
+  -- what is so where a call failed, and where a section was refused, is so of every error of printing
+  module _ (Q : Error → Type 0) (failed : (x : IoError) → Broken m old new x (layout o answers placed) → Q (Printer x))
+      (refused : (id : ℕ) → MadeUpTo m o old new id placed answers → Q (DylinkSubsection id)) where
+    each_end : (e : Error) → Ended (Err e) → Q e
+    each_end (Malformed place) v = absurd (never v.written)
+    each_end Component v = absurd (never v.written)
+    each_end (TooManyLocals place) v = absurd (never v.written)
+    each_end (TooManyFunctions count) v = absurd (never v.written)
+    each_end (EmptyTableInit place) v = absurd (never v.written)
+    each_end (FoldLegacy place) v = absurd (never v.written)
+    each_end (FoldHint place) v = absurd (never v.written)
+    each_end (DylinkSubsection id) v = refused id (record { ends = v.refused; made = (made Through v.written).made })
+    each_end Unreadable v = absurd (never v.written)
+    each_end (Printer x) v = failed x (made (AtCall x) v.written).made
+    each_end Memory v = absurd (never v.written)
 
-  -- and a beginning of its layout was
-  pub failed_left : (x : IoError) → Written m o old new (AtCall x) (module_pieces o placed) → Leaves m o bytes old new (Printer x)
-  failed_left x v = record { placed = placed; spelled = spelled; within = within; answers = unclaimed; left = (made (AtCall x) v).made }
+    if_ended : (r : Result (Unit {0}) Error) → Ended r → IfErr r Q
+    if_ended (Ok x) v = tt
+    if_ended (Err e) v = each_end e v
+
+  -- what was written whole is printed
+  pub ended_printed : (r : Result (Unit {0}) Error) → Ended r → OnOk r (Printed m o bytes old new)
+  ended_printed (Ok x) v = printed m o bytes placed answers spelled within v.refused (made Through v.written).made
+  ended_printed (Err e) v = tt
+
+  -- a failed call is the cause, or a section
+  pub ended_caused : (r : Result (Unit {0}) Error) → Ended r → IfErr r (HasCause m bytes old new)
+  ended_caused r v =
+      if_ended (HasCause m bytes old new) (λ x b other s. record { calls = b.calls; before = b.before; run = b.run; call = b.call; failed = b.failed })
+      (λ id u other s. subst (λ (n : PlacedModule). AnyIsUnknown id n.customs) (one_module bytes placed other spelled s) (refusal_unknown o answers placed id u.ends)) r v
+
+  -- the refusal is true of the bytes
+  pub ended_true : (r : Result (Unit {0}) Error) → Ended r → IfErr r (IsTrueOf bytes)
+  ended_true r v =
+      if_ended (IsTrueOf bytes) (λ x b. record { placed = placed; spelled = spelled; within = within })
+      (λ id u. record { placed = placed; spelled = spelled; within = within; unknown = refusal_unknown o answers placed id u.ends }) r v
+
+  -- and leaves the calls up to it
+  pub ended_left : (r : Result (Unit {0}) Error) → Ended r → IfErr r (Leaves m o bytes old new)
+  ended_left r v =
+      if_ended (Leaves m o bytes old new) (λ x b. record { placed = placed; spelled = spelled; within = within; answers = answers; left = b })
+      (λ id u. record { placed = placed; spelled = spelled; within = within; answers = answers; left = u }) r v
+
+  -- it isn't that the bytes are marked as a component
+  not_marked : (r : Result (Unit {0}) Error) → Ended r → r ≡ Err Component → ⊥
+  not_marked r v e = never (subst (λ (q : Result (Unit {0}) Error). Ended q) e v).written
+
+  pub ended_unmarked : (r : Result (Unit {0}) Error) → Ended r → (r ≡ Err Component) ↔ IsComponent bytes
+  ended_unmarked r v = (λ e. absurd (not_marked r v e), λ c. absurd (not_component bytes placed spelled c))
 
 -- where a printer that fails only by growth failed, a growth was refused
 pub growth_cause : {P : Type 0} (m : Meaning P) (bytes : List ℕ) (old new : P) (e : Error) → HasCause m bytes old new e → HasTextCause bytes (as_growth e)

@@ -1,18 +1,21 @@
 -- The text that a printer over a writer of text hands over.
 use Rattle.std.specs.Prelude.{◌≡◌, ℕ, List, [], ◌∷◌, ◌++◌, Result, Ok, Err, IfOk, refl}
+use Rattle.std.specs.List.{AllByRecursion}
 use Rattle.wasmprinter_error.specs.declared.error.Error.{Error}
 use Rattle.std.proofs.Common.{sym, ap, subst, ◌∙◌, append_assoc, append-nil, inl}
 use Rattle.wasmprinter_spec.specs.Call.{Call, Text, Newline, Line, Start, Claim, call_text, text_of}
 use Rattle.wasmprinter_spec.specs.Meaning.{Meaning, Run}
-use Rattle.wasmprinter_spec.specs.Options.{Options, Answers, defaults, IsBlank}
-use Rattle.wasmprinter_spec.specs.Placed.{PlacedModule}
+use Rattle.wasmprinter_spec.specs.Options.{Options, defaults, IsBlank}
 use Rattle.wasmprinter_spec.specs.Plain.{IsPlainText}
 use Rattle.wasmprinter_spec.specs.Layout.{layout}
 use Rattle.wasmprinter_print.specs.Writers.{FmtAfter}
 use Rattle.wasmprinter_lexical.proofs.Alike.{alike_texts}
 use Rattle.wasmprinter_reading.proofs.Main.{reads_back, prints_plain_text}
 use Rattle.wasmprinter_spec.specs.Read.{read}
-use Rattle.wasmprinter.specs.Printed.{Printed, HasTextBy, HasText, unclaimed}
+use Rattle.wasmprinter_reading.proofs.Hints.Kept.{hints_stay}
+use Rattle.wasmprinter_spec.specs.Text.Hints.{text_hints}
+use Rattle.wasmprinter.specs.Printed.{Printed, HasTextBy, HasText, unclaimed, IsUnclaimed}
+use Rattle.wasmprinter.proofs.Claims.{alike_unclaimed, unclaimed_layout}
 
 -- a view that each call extends by its text is extended by the text of a run
 run_text : {P : Type 0} (m : Meaning P) (view : P → List ℕ) → ((s : P) (c : Call) (t : P) → m.after s c t → view t ≡ view s ++ call_text c) →
@@ -30,25 +33,36 @@ grows_by gives view grows s (Line place) t h = ap view h ∙ sym (append-nil (vi
 grows_by gives view grows s (Start style) t h = ap view h ∙ sym (append-nil (view s))
 grows_by gives view grows s (Claim name place bytes answer) t h = ap view h.1 ∙ sym (append-nil (view s))
 
--- no custom section is in the grammar yet, so the answers to claims don't matter
-answers_alike : (o : Options) (a b : Answers) (placed : PlacedModule) → layout o a placed ≡ layout o b placed
-unfolding layout
-answers_alike o a b placed = refl
+-- a printer that claims nothing has claimed nothing
+pub none_claimed : {P : Type 0} (m : Meaning P) → ((s : P) (c : Call) (t : P) → m.after s c t → IsUnclaimed c) → (old new : P) (calls : List Call) → Run m old calls new →
+    AllByRecursion IsUnclaimed calls
+none_claimed m never old new [] r = tt
+none_claimed m never old new (c ∷ calls) r = (never old c r.0 r.1.step, none_claimed m never r.0 new calls r.2)
+
+pub claims_never : {T : Type 0} (gives : T → List ℕ → T → Type 0) (s : T) (c : Call) (t : T) → FmtAfter gives s c t → IsUnclaimed c
+claims_never gives s (Text bytes) t h = tt
+claims_never gives s Newline t h = tt
+claims_never gives s (Line place) t h = tt
+claims_never gives s (Start style) t h = tt
+claims_never gives s (Claim name place bytes answer) t h = h.0
 
 -- what was printed to a writer that was empty is its text
 pub printed_text : {P : Type 0} (m : Meaning P) (o : Options) (view : P → List ℕ) → ((s : P) (c : Call) (t : P) → m.after s c t → view t ≡ view s ++ call_text c) →
-    (bytes : List ℕ) (old new : P) → view old ≡ [] → Printed m o bytes old new → HasTextBy o bytes (view new)
-printed_text m o view grows bytes old new empty v =
+    ((s : P) (c : Call) (t : P) → m.after s c t → IsUnclaimed c) → (bytes : List ℕ) (old new : P) → view old ≡ [] → Printed m o bytes old new → HasTextBy o bytes (view new)
+printed_text m o view grows never bytes old new empty v =
     let handed : view new ≡ text_of v.calls = run_text m view grows old new v.calls v.run ∙ ap (λ t. t ++ text_of v.calls) empty in
-    let is : view new ≡ text_of (layout o unclaimed v.placed) =
-    handed ∙ alike_texts v.calls (layout o v.answers v.placed) v.alike ∙ ap text_of (answers_alike o v.answers unclaimed v.placed) in
+    let asked : AllByRecursion IsUnclaimed v.calls = none_claimed m never old new v.calls v.run in
+    let own = unclaimed_layout o v.answers v.placed v.accepted (alike_unclaimed v.calls (layout o v.answers v.placed) v.alike asked) in
+    let is : view new ≡ text_of (layout o unclaimed v.placed) = handed ∙ alike_texts v.calls (layout o v.answers v.placed) v.alike ∙ ap text_of own.layout in
     record {
       placed = v.placed;
       spelled = v.spelled;
       within = v.within;
+      accepted = own.refusal;
       is = is;
       plain = λ blank. subst IsPlainText (sym is) (prints_plain_text bytes v.placed o unclaimed v.spelled blank);
-      reads = λ indexed whole blank. ap read is ∙ reads_back bytes v.placed o unclaimed v.spelled indexed v.within.tables whole blank (λ n. refl);
+      reads = λ indexed whole blank. ap read is ∙ reads_back bytes v.placed o unclaimed v.spelled indexed v.within.tables whole blank (λ n. refl) own.refusal;
+      hints = λ hs whole blank given. ap text_hints is ∙ hints_stay bytes v.placed o unclaimed hs v.spelled whole blank own.refusal given;
     }
 
 two_blanks : IsBlank defaults.indent
@@ -60,9 +74,11 @@ default_text bytes text v = record {
   placed = v.placed;
   spelled = v.spelled;
   within = v.within;
+  accepted = v.accepted;
   is = v.is;
   plain = v.plain two_blanks;
   reads = λ indexed. v.reads indexed refl two_blanks;
+  hints = λ hs given. v.hints hs refl two_blanks given;
 }
 
 pub default_if_ok : {T : Type 0} (view : T → List ℕ) (bytes : List ℕ) (r : Result T Error) → IfOk r (λ t. HasTextBy defaults bytes (view t)) → IfOk r (λ t. HasText bytes (view t))

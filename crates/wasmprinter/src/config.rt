@@ -70,14 +70,15 @@ impl Config {
 
     /// Prints the text of a module in the binary format to a printer.
     ///
-    /// The module is read and checked whole, and its names are read, before the first call on the printer.
+    /// The module is read and checked whole, and its names are read, before the first call on the printer. Each custom section is offered to
+    /// the printer, `name` and `metadata.code.branch_hint` too; of one that it takes nothing is printed, but its names and hints stay.
     ///
     /// # Errors
     ///
     /// `Component`, `Malformed`, `TooManyLocals`, `TooManyFunctions` and `EmptyTableInit` as `decode` answers them, `Component`
-    /// before all others;
-    /// `Printer` where a call on the printer failed, with that call's error; `Memory` where a growth was refused to the decoder or to
-    /// what keeps the names. The printer took no call before an error other than `Printer`.
+    /// before all others; `Memory` where a growth was refused to the decoder or to what keeps the names. The printer took no call before
+    /// these. `DylinkSubsection` where a custom section `dylink.0` that the printer doesn't take has a subsection that isn't known: what
+    /// stands in front of it was printed. `Printer` where a call on the printer failed, with that call's error.
     pub fn print<P: Print>(&self, alloc: Global, wasm: &[u8], printer: &mut P) -> Result<(), Error>
         ensures printed { OnOk result (Printed P.meaning self.now wasm.now printer.old printer.new) }
         ensures caused { IfErr result (HasCause P.meaning wasm.now printer.old printer.new) }
@@ -92,8 +93,7 @@ impl Config {
             invents: self.options.invents,
         };
         let labels = OpenLabels::new(alloc, identifiers)?;
-        write_module(printer, &self.options, &module, labels)?;
-        Ok(())
+        write_module(printer, &self.options, &module, labels)
     }
 
     /// The text of a module in the binary format.

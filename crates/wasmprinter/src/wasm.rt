@@ -6,7 +6,8 @@ pub use wasmprinter_ops::operands::MemArg;
 pub use wasmprinter_ops::operator::{Immediates, Operator};
 pub use wasmprinter_ops::types::{HeapType, RefType, ValType, ValTypes};
 pub use wasmprinter_wasm::{
-    Body, Custom, Data, DataMode, Element, ElementItems, ElementMode, Export, ExternKind,
-    ExternType, Function, Global, GlobalType, Import, Limits, LocalEntry, Locals, Memory,
-    MemoryType, Module, Name, Names, Space, Start, Table, TableType, Tag, TypeGroup, decode,
+    Body, Custom, CustomEntry, Data, DataMode, Element, ElementItems, ElementMode, Export,
+    ExternKind, ExternType, Function, Global, GlobalType, Import, Limits, LocalEntry, Locals,
+    Memory, MemoryType, Module, Name, Names, SectionKind, Space, Start, Table, TableType, Tag,
+    TypeGroup, decode,
 };

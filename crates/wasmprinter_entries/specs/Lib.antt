@@ -1,3 +1,4 @@
 pub mod Externs
 pub mod Refusals
 pub mod Contents
+pub mod Places

@@ -1,9 +1,7 @@
-//! Custom sections (section 5.5, "Custom Section"). So far those are read that are called `name`.
-ghost use Rattle.std.specs.Prelude.{◌≡◌, ℕ, List, Some, IfOk, IfErr, bytes_eq};
-ghost use Rattle.wasmprinter_spec.specs.Grammar.{Input};
-ghost use Rattle.wasmprinter_spec.specs.Sized.{headed, left};
-ghost use Rattle.wasmprinter_spec.specs.Name.{name};
-ghost use Rattle.wasmprinter_spec.specs.Binary.Customs.{name_section, custom_section};
+//! Custom sections (section 5.5, "Custom Section").
+ghost use Rattle.std.specs.Prelude.{◌≡◌, bytes_eq};
+ghost use Rattle.wasmprinter_spec.specs.Binary.Customs.{custom_section};
+ghost use Rattle.wasmprinter_spec.specs.Customs.{name_section};
 ghost use Rattle.wasmprinter_entries.specs.Contents.{ReadsAll};
 
 use std::marker::Model;
@@ -34,10 +32,9 @@ impl<'a> Model for Custom<'a> {
 }
 
 impl<'a> Custom<'a> {
-    /// Reads a custom section of any name.
-    fn read(cursor: &mut Cursor<'a>) -> Result<Self, Malformed>
-        ensures reads { ReadsAll (λ c. (c.value.name, c.value.bytes)) (headed name left).parse cursor.old result }
-        ensures place { IfOk result (λ c. c.place ≡ cursor.old.place) }
+    /// Reads what a custom section holds.
+    pub fn read(cursor: &mut Cursor<'a>) -> Result<Self, Malformed>
+        ensures { ReadsAll (λ c. c) custom_section.parse cursor.old result }
     {
         let place = cursor.place();
         let name = cursor.name()?;
@@ -88,22 +85,5 @@ impl<'a> Custom<'a> {
         ensures { result ≡ bytes_eq self.now.value.name name_section }
     {
         self.name == NAME_SECTION
-    }
-}
-
-/// Reads what a custom section holds, which is refused at its place unless it is a name section.
-pub fn read_custom<'a>(cursor: &mut Cursor<'a>) -> Result<Custom<'a>, Malformed>
-    ensures reads { ReadsAll (λ c. c) custom_section.parse cursor.old result }
-
-    // A whole name is refused at its own place.
-    ensures named { (x : List ℕ × Input) → name.parse cursor.old ≡ Some x → IfErr result (λ e. e.place ≡ cursor.old.place) }
-{
-    let custom = Custom::read(cursor)?;
-    if custom.is_name_section() {
-        Ok(custom)
-    } else {
-        Err(Malformed {
-            place: custom.place(),
-        })
     }
 }

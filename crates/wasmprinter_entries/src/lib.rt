@@ -11,6 +11,7 @@ pub mod global_types;
 pub mod imports;
 pub mod limits;
 pub mod memories;
+pub mod places;
 pub mod start;
 pub mod table_types;
 pub mod tags;

@@ -5,6 +5,7 @@ use Rattle.wasmprinter_spec.specs.Grammar.{Placed}
 use Rattle.wasmprinter_spec.specs.Types.{SubType, MemoryType, TableType, GlobalType, ExternType, FuncExtern, TableExtern, MemoryExtern, GlobalExtern, TagExtern, all_types, signature_at}
 use Rattle.wasmprinter_spec.specs.Row as row
 use Rattle.wasmprinter_spec.specs.Indexed.{parameter_count}
+use Rattle.wasmprinter_spec.specs.Customs.Hints.{Hint}
 use Rattle.wasmprinter_spec.specs.Operator.{Operator}
 use Rattle.wasmprinter_spec.specs.Placed.{Import, Table, Global, Export, ElementEntry, Data, PlacedFunction, PlacedModule}
 use Rattle.wasmprinter_spec.specs.Module.{groups_of}
@@ -99,6 +100,6 @@ function_header s f = header_pieces s row.Func (Some s.function) s.function f.ty
 abbrev pub outline_parts : Scope → PlacedFunction → List Piece
 outline_parts s f = function_header s f ++ (Gap ∷ (Word (codes "...") ∷ []))
 
--- a function with its body
-abbrev pub definition_parts : Scope → PlacedFunction → List Piece
-definition_parts s f = function_header s f ++ inner_pieces s f
+-- a function with its body, its operators with these hints
+abbrev pub definition_parts : Scope → List (Placed Hint) → PlacedFunction → List Piece
+definition_parts s hs f = function_header s f ++ inner_pieces s hs f

@@ -1,7 +1,7 @@
 //! Data segments (section 6.6 of the WebAssembly Core Specification, "Data Segments").
 ghost use Rattle.std.specs.Prelude.{◌≡◌, codes};
 ghost use Rattle.wasmprinter_spec.specs.Options.{Options};
-ghost use Rattle.wasmprinter_spec.specs.Layout.DataSegments.{named_memory, data_mode_pieces, shown_bytes};
+ghost use Rattle.wasmprinter_spec.specs.Layout.DataSegments.{named_memory, data_mode_pieces};
 ghost use Rattle.wasmprinter_print.specs.Prints.{Prints};
 ghost use Rattle.wasmprinter_segments.specs.Segments.{data_mode_view};
 ghost use Rattle.wasmprinter_fields.specs.Parts.{data_parts};
@@ -14,9 +14,9 @@ use std::io;
 use wasmprinter_lines::options::PrintOptions;
 use wasmprinter_names::Space;
 use wasmprinter_print::Print;
+use wasmprinter_text::data::write_shown_bytes;
 use wasmprinter_wasm::{Data, DataMode};
-use wasmprinter_words::strings::write_byte_string;
-use wasmprinter_words::words::{gap, word};
+use wasmprinter_words::words::gap;
 
 /// Writes the memory of a segment and a blank, and nothing for memory 0.
 fn write_named_memory<P: Print>(p: &mut P, scope: &Scope<'_, '_>, memory: u32) -> io::Result<()>
@@ -48,17 +48,6 @@ fn write_data_mode<P: Print>(
             write_constant_group(p, options, scope, "offset", offset)?;
             gap(p)
         }
-    }
-}
-
-/// Writes the bytes of a segment, in a skeleton three points in their place.
-fn write_shown_bytes<P: Print>(p: &mut P, options: &PrintOptions, bytes: &[u8]) -> io::Result<()>
-    ensures { Prints P.meaning options.now p.old p.new result (shown_bytes options.now.skeleton bytes.now) }
-{
-    if options.skeleton {
-        word(p, "...")
-    } else {
-        write_byte_string(p, bytes)
     }
 }
 

@@ -7,6 +7,7 @@ ghost use Rattle.wasmprinter_fields.specs.Scopes.{scope_view};
 
 use crate::scope::Scope;
 use std::io;
+use wasmprinter_customs::FunctionHints;
 use wasmprinter_flat::operators::{Form, Setting, write_operators};
 use wasmprinter_lines::options::PrintOptions;
 use wasmprinter_ops::expression::Expression;
@@ -14,7 +15,7 @@ use wasmprinter_print::Print;
 use wasmprinter_words::words::{gap, open_bare, shut, word};
 
 /// Writes the operators of an expression, a blank between two.
-#[tactic(auto, unfolding(wasmprinter_spec::specs::Layout::Expressions::constant_pieces))]
+#[tactic(auto, unfolding(wasmprinter_spec::specs::Layout::Expressions::constant_pieces, wasmprinter_spec::specs::Layout::Operators::expression_pieces))]
 pub(crate) fn write_constant<P: Print>(
     p: &mut P,
     options: &PrintOptions,
@@ -30,8 +31,17 @@ pub(crate) fn write_constant<P: Print>(
         types: &scope.types,
         nesting: 0,
         function: scope.function,
+        body: 0,
     };
-    write_operators(p, options, &setting, &mut scope.labels, expression)
+    let labels = &mut scope.labels;
+    write_operators(
+        p,
+        options,
+        &setting,
+        labels,
+        FunctionHints::none(),
+        expression,
+    )
 }
 
 /// Whether the expression has exactly one operator.

@@ -1,5 +1,7 @@
 //! Functions (section 6.6 of the WebAssembly Core Specification, "Functions").
-ghost use Rattle.std.specs.Prelude.{◌≡◌, codes};
+ghost use Rattle.std.specs.Prelude.{◌≡◌, List, codes};
+ghost use Rattle.wasmprinter_spec.specs.Grammar.{Placed};
+ghost use Rattle.wasmprinter_spec.specs.Customs.Hints.{Hint};
 ghost use Rattle.wasmprinter_spec.specs.Options.{Options};
 ghost use Rattle.wasmprinter_spec.specs.Layout.Declarations.{Scope as FieldScope};
 ghost use Rattle.wasmprinter_spec.specs.Layout.Functions.{body_pieces, inner_pieces, function_group, function_pieces};
@@ -13,6 +15,7 @@ use crate::headers::write_function_header;
 use crate::locals::{has_locals, write_locals};
 use crate::scope::Scope;
 use std::io;
+use wasmprinter_customs::FunctionHints;
 use wasmprinter_flat::operators::{Form, Setting, has_operators, write_operators};
 use wasmprinter_lines::lines::{break_line, close_at};
 use wasmprinter_lines::options::PrintOptions;
@@ -58,7 +61,7 @@ fn write_outline_group<P: Print>(
 
 /// Whether a function has locals or operators, which begin lines.
 fn has_lines(function: &Function<'_>) -> bool
-    ensures { (s : FieldScope) → result ≡ has_break (definition_parts s function.now) }
+    ensures { (s : FieldScope) (hints : List (Placed Hint)) → result ≡ has_break (definition_parts s hints function.now) }
 {
     let body = function.body();
     has_locals(&body.locals()) || has_operators(body.expression())
@@ -74,17 +77,18 @@ fn parameter_count(scope: &Scope<'_, '_>, type_index: u32) -> u32
     }
 }
 
-/// Writes the operators of a body, each on a line of its own.
+/// Writes the operators of a body, each on a line of its own, behind its hint if it has one.
 #[tactic(auto, unfolding(wasmprinter_spec::specs::Layout::Functions::body_pieces))]
 fn write_body<P: Print>(
     p: &mut P,
     options: &PrintOptions,
     scope: &mut Scope<'_, '_>,
     number: u64,
+    hints: FunctionHints<'_>,
     body: &Body<'_>,
 ) -> io::Result<()>
     ensures pieces { Prints P.meaning options.now p.old p.new result
-        (body_pieces (within (scope_view scope.old) number) body.now.value.operators) }
+        (body_pieces (within (scope_view scope.old) number) hints.entry body.now) }
     ensures scope { scope_view scope.new ≡ scope_view scope.old }
 {
     let setting = Setting {
@@ -92,8 +96,16 @@ fn write_body<P: Print>(
         types: &scope.types,
         nesting: BODY_NESTING,
         function: number,
+        body: body.place(),
     };
-    write_operators(p, options, &setting, &mut scope.labels, body.expression())
+    write_operators(
+        p,
+        options,
+        &setting,
+        &mut scope.labels,
+        hints,
+        body.expression(),
+    )
 }
 
 /// Writes what a function holds behind its type.
@@ -103,16 +115,17 @@ fn write_inner<P: Print>(
     options: &PrintOptions,
     scope: &mut Scope<'_, '_>,
     number: u64,
+    hints: FunctionHints<'_>,
     function: &Function<'_>,
 ) -> io::Result<()>
     ensures pieces { Prints P.meaning options.now p.old p.new result
-        (inner_pieces (within (scope_view scope.old) number) function.now) }
+        (inner_pieces (within (scope_view scope.old) number) hints.entry function.now) }
     ensures scope { scope_view scope.new ≡ scope_view scope.old }
 {
     let parameters = parameter_count(scope, function.type_index());
     let body = function.body();
     write_locals(p, options, scope, number, parameters, &body.locals())?;
-    write_body(p, options, scope, number, body)
+    write_body(p, options, scope, number, hints, body)
 }
 
 /// Writes what stands for a function with its body.
@@ -122,14 +135,15 @@ fn write_definition<P: Print>(
     options: &PrintOptions,
     scope: &mut Scope<'_, '_>,
     number: u64,
+    hints: FunctionHints<'_>,
     function: &Function<'_>,
 ) -> io::Result<()>
     ensures pieces { Prints P.meaning options.now p.old p.new result
-        (definition_parts (within (scope_view scope.old) number) function.now) }
+        (definition_parts (within (scope_view scope.old) number) hints.entry function.now) }
     ensures scope { scope_view scope.new ≡ scope_view scope.old }
 {
     write_function_header(p, scope, number, function.type_index())?;
-    write_inner(p, options, scope, number, function)
+    write_inner(p, options, scope, number, hints, function)
 }
 
 /// Writes a function with its body, as a group.
@@ -139,16 +153,17 @@ fn write_definition_group<P: Print>(
     options: &PrintOptions,
     scope: &mut Scope<'_, '_>,
     number: u64,
+    hints: FunctionHints<'_>,
     function: &Function<'_>,
 ) -> io::Result<()>
     ensures pieces { Prints P.meaning options.now p.old p.new result
         (group_gap_at options.now.offsets function.now.body.value.end 1 (codes "func")
-        (definition_parts (within (scope_view scope.old) number) function.now)) }
+        (definition_parts (within (scope_view scope.old) number) hints.entry function.now)) }
     ensures scope { scope_view scope.new ≡ scope_view scope.old }
 {
     let end = function.body().end();
     open_gap(p, "func")?;
-    write_definition(p, options, scope, number, function)?;
+    write_definition(p, options, scope, number, hints, function)?;
     close_at(p, options, end, FIELD_NESTING, has_lines(function))
 }
 
@@ -158,32 +173,34 @@ fn write_function_group<P: Print>(
     options: &PrintOptions,
     scope: &mut Scope<'_, '_>,
     number: u64,
+    hints: FunctionHints<'_>,
     function: &Function<'_>,
 ) -> io::Result<()>
     ensures pieces { Prints P.meaning options.now p.old p.new result
-        (function_group options.now.skeleton options.now.offsets (within (scope_view scope.old) number) function.now) }
+        (function_group options.now.skeleton options.now.offsets (within (scope_view scope.old) number) hints.entry function.now) }
     ensures scope { scope_view scope.new ≡ scope_view scope.old }
 {
     if options.skeleton {
         write_outline_group(p, scope, number, function)
     } else {
-        write_definition_group(p, options, scope, number, function)
+        write_definition_group(p, options, scope, number, hints, function)
     }
 }
 
-/// Writes the function with the number.
+/// Writes the function with the number, its operators with these hints.
 #[tactic(auto, unfolding(wasmprinter_spec::specs::Layout::Functions::function_pieces))]
 pub(crate) fn write_function<P: Print>(
     p: &mut P,
     options: &PrintOptions,
     scope: &mut Scope<'_, '_>,
     number: u64,
+    hints: FunctionHints<'_>,
     function: &Function<'_>,
 ) -> io::Result<()>
     ensures pieces { Prints P.meaning options.now p.old p.new result
-        (function_pieces options.now (scope_view scope.old) number function.now) }
+        (function_pieces options.now (scope_view scope.old) number hints.entry function.now) }
     ensures scope { scope_view scope.new ≡ scope_view scope.old }
 {
     break_line(p, options, Some(function.body().place()), FIELD_NESTING)?;
-    write_function_group(p, options, scope, number, function)
+    write_function_group(p, options, scope, number, hints, function)
 }

@@ -15,6 +15,7 @@ mod locals;
 mod memories;
 pub mod modules;
 mod scope;
+mod sections;
 mod start;
 mod tables;
 mod tags;

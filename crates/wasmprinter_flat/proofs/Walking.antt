@@ -1,5 +1,5 @@
 -- The layout of operators, one by one.
-use Rattle.std.specs.Prelude.{◌≡◌, ℕ, ◌+◌, ◌<◌, ◌^◌, List, [], ◌∷◌, ◌++◌, length, map, Bool, true, false, Option, Some, None, is_some}
+use Rattle.std.specs.Prelude.{◌≡◌, ℕ, ◌+◌, ◌-◌, ◌<◌, ◌^◌, List, [], ◌∷◌, ◌++◌, length, map, Bool, true, false, Option, Some, None, is_some}
 use Rattle.std.specs.Iterator.{YieldsFirst}
 use Rattle.std.proofs.Common.{refl, sym, ap, ap₂, ◌∙◌, arith}
 use Rattle.wasmprinter_spec.specs.Grammar.{Placed}
@@ -10,10 +10,11 @@ use Rattle.wasmprinter_spec.specs.Table.{word_of, role_of, shape_of}
 use Rattle.wasmprinter_spec.specs.Names.{Names}
 use Rattle.wasmprinter_spec.specs.Labels.{Label, labels_after, count_after, outside, inside}
 use Rattle.wasmprinter_spec.specs.Options.{Options}
-use Rattle.wasmprinter_spec.specs.Piece.{Word}
+use Rattle.wasmprinter_spec.specs.Customs.Hints.{Hint, next_hint, hint_behind}
+use Rattle.wasmprinter_spec.specs.Piece.{Piece, Word}
 use Rattle.wasmprinter_spec.specs.Meaning.{Meaning}
 use Rattle.wasmprinter_spec.specs.Layout.Groups.{has_break}
-use Rattle.wasmprinter_spec.specs.Layout.Operators.{Setting, level, before_word, pieces_by, operator_pieces, operators_pieces, expression_pieces}
+use Rattle.wasmprinter_spec.specs.Layout.Operators.{Setting, level, before_word, pieces_by, operator_pieces, hint_pieces, operators_pieces}
 use Rattle.wasmprinter_print.specs.Emits.{Through}
 use Rattle.wasmprinter_print.specs.Prints.{Written, Lacks}
 use Rattle.wasmprinter_print.specs.PrintsLaws.{no_piece, next_written, lacks_none}
@@ -43,16 +44,19 @@ pub operator-out : (s : Setting) (first : Bool) (own : Label) (xs : List Label) 
 unfolding operator_pieces
 operator-out s first own xs place o role depth r e = rw (e, r) refl
 
-operators-of : (s : Setting) (first : Bool) (n : ℕ) (xs : List Label) (os rest : List (Placed Operator)) (o : Placed Operator) → os ≡ o ∷ rest →
-    operators_pieces s first n xs os
-    ≡ operator_pieces s first (s.names.labels s.function n (length xs)) xs o
-    ++ operators_pieces s false (count_after (role_of o.value.opcode) n) (labels_after (role_of o.value.opcode) (s.names.labels s.function n (length xs)) xs) rest
+operators-of : (s : Setting) (hs : List (Placed Hint)) (first : Bool) (n : ℕ) (xs : List Label) (os rest : List (Placed Operator)) (o : Placed Operator) → os ≡ o ∷ rest →
+    operators_pieces s hs first n xs os
+    ≡ hint_pieces (s.nesting + length xs) (next_hint (o.place - s.body) hs)
+    ++ (operator_pieces s first (s.names.labels s.function n (length xs)) xs o
+    ++ operators_pieces s (hint_behind (o.place - s.body) hs) false (count_after (role_of o.value.opcode) n)
+    (labels_after (role_of o.value.opcode) (s.names.labels s.function n (length xs)) xs) rest)
 unfolding operators_pieces
-operators-of s first n xs os rest o e = ap (λ ps. operators_pieces s first n xs ps) e
+operators-of s hs first n xs os rest o e = ap (λ ps. operators_pieces s hs first n xs ps) e
 
-operators-nil : (s : Setting) (first : Bool) (n : ℕ) (xs : List Label) (os : List (Placed Operator)) → os ≡ [] → operators_pieces s first n xs os ≡ []
+operators-nil : (s : Setting) (hs : List (Placed Hint)) (first : Bool) (n : ℕ) (xs : List Label) (os : List (Placed Operator)) → os ≡ [] →
+    operators_pieces s hs first n xs os ≡ []
 unfolding operators_pieces
-operators-nil s first n xs os e = ap (λ ps. operators_pieces s first n xs ps) e
+operators-nil s hs first n xs os e = ap (λ ps. operators_pieces s hs first n xs ps) e
 
 -- the identifiers of the module are those that are printed, and the function is that of the setting
 pub record Fits (s : Setting) (l : Scan) : Type 0 where
@@ -71,9 +75,9 @@ pub operator-fits : (s : Setting) (l : Scan) (first : Bool) (o : Placed Operator
 operator-fits s l first o f =
     ap₂ (λ (names : Names) (own : Label). operator_pieces (record s { names = names }) first own l.labels o) f.names (own-fits s l f)
 
--- So far all operators have been written but for the rest. There is room for as many labels as there may be.
-pub record Progress {P : Type 0} (m : Meaning P) (o : Options) (old new : P) (s : Setting) (start : Scan) (all rest : List (Placed Operator)) (first : Bool) (l : Scan) : Type 0 where
-  pub lacks : Lacks m o old new (expression_pieces s all) (operators_pieces s first l.count l.labels rest)
+-- So far all operators have been written but for the rest, for which the hints `left` wait. There is room for as many labels as there may be.
+pub record Progress {P : Type 0} (m : Meaning P) (o : Options) (old new : P) (s : Setting) (start : Scan) (hints : List (Placed Hint)) (all rest : List (Placed Operator)) (left : List (Placed Hint)) (first : Bool) (l : Scan) : Type 0 where
+  pub lacks : Lacks m o old new (operators_pieces s hints true 0 [] all) (operators_pieces s left first l.count l.labels rest)
   pub named : l.named ≡ start.named
   pub invents : l.invents ≡ start.invents
   pub fits : Fits s l
@@ -81,11 +85,10 @@ pub record Progress {P : Type 0} (m : Meaning P) (o : Options) (old new : P) (s 
   pub nested : length l.labels + length rest < 2 ^ 64
 
 -- nothing is written yet
-pub starts : {P : Type 0} (m : Meaning P) (o : Options) (a : P) (s : Setting) (start l : Scan) (all os : List (Placed Operator)) → l ≡ begun s.function start →
-    names_of start ≡ s.names → os ≡ all → length all < 2 ^ 64 → Progress m o a a s start all os true l
-unfolding expression_pieces
-starts m o a s start l all os b n e h = rw b (record {
-  lacks = record { front = []; written = no_piece m o a; joined = ap (λ ps. operators_pieces s true 0 [] ps) e };
+pub starts : {P : Type 0} (m : Meaning P) (o : Options) (a : P) (s : Setting) (start l : Scan) (hints : List (Placed Hint)) (all os : List (Placed Operator)) →
+    l ≡ begun s.function start → names_of start ≡ s.names → os ≡ all → length all < 2 ^ 64 → Progress m o a a s start hints all os hints true l
+starts m o a s start l hints all os b n e h = rw b (record {
+  lacks = record { front = []; written = no_piece m o a; joined = ap (λ ps. operators_pieces s hints true 0 [] ps) e };
   named = refl;
   invents = refl;
   fits = record { names = n; function = refl };
@@ -93,7 +96,7 @@ starts m o a s start l all os b n e h = rw b (record {
   nested = omega (arith, h, ap length e);
 })
 
-module _ {P : Type 0} (m : Meaning P) {o : Options} {a t : P} {s : Setting} {start : Scan} {all os : List (Placed Operator)} {first : Bool} {l : Scan} (p : Progress m o a t s start all os first l) where
+module _ {P : Type 0} (m : Meaning P) {o : Options} {a t : P} {s : Setting} {start : Scan} {hints : List (Placed Hint)} {all os : List (Placed Operator)} {left : List (Placed Hint)} {first : Bool} {l : Scan} (p : Progress m o a t s start hints all os left first l) where
   -- an operator is left, so there is room for one more block
   pub has_room : (rest : List (Placed Operator)) (x : ℕ × Operator) → pairs os ≡ x ∷ pairs rest → length l.labels + 1 < 2 ^ 64
   has_room rest x e = omega (arith, p.nested, ap length (first-pair os rest x e))
@@ -101,22 +104,34 @@ module _ {P : Type 0} (m : Meaning P) {o : Options} {a t : P} {s : Setting} {sta
   pub has_count : (rest : List (Placed Operator)) (x : ℕ × Operator) → pairs os ≡ x ∷ pairs rest → l.count + 1 < 2 ^ 64
   has_count rest x e = omega (arith, p.counted, ap length (first-pair os rest x e))
 
-  -- what is lacking: the next operator, and the others
-  pub lacks_next : (rest : List (Placed Operator)) (x : ℕ × Operator) → pairs os ≡ x ∷ pairs rest →
-      Lacks m o a t (expression_pieces s all)
-      (operator_pieces (record s { names = names_of l }) first (own_label l) l.labels (placed_view x)
-      ++ operators_pieces s false (count_after (role_of x.1.opcode) l.count) (labels_after (role_of x.1.opcode) (own_label l) l.labels) rest)
-  lacks_next rest x e =
+  -- what is lacking: the hint of the next operator, the operator, and the others
+  pub lacks_hint : (rest : List (Placed Operator)) (x : ℕ × Operator) → pairs os ≡ x ∷ pairs rest →
+      Lacks m o a t (operators_pieces s hints true 0 [] all)
+      (hint_pieces (s.nesting + length l.labels) (next_hint (x.0 - s.body) left)
+      ++ (operator_pieces (record s { names = names_of l }) first (own_label l) l.labels (placed_view x)
+      ++ operators_pieces s (hint_behind (x.0 - s.body) left) false (count_after (role_of x.1.opcode) l.count)
+      (labels_after (role_of x.1.opcode) (own_label l) l.labels) rest))
+  lacks_hint rest x e =
       rw (operator-fits s l first (placed_view x) p.fits, own-fits s l p.fits)
-      (rw (operators-of s first l.count l.labels os rest (placed_view x) (first-pair os rest x e)) at p.lacks)
+      (rw (operators-of s left first l.count l.labels os rest (placed_view x) (first-pair os rest x e)) at p.lacks)
 
-  -- the next operator was written
-  pub goes_on : {u : P} (rest : List (Placed Operator)) (x : ℕ × Operator) (role : Role) (k : Scan) → pairs os ≡ x ∷ pairs rest →
-      role ≡ role_of x.1.opcode → k ≡ advanced role l →
-      Written m o t u Through (operator_pieces (record s { names = names_of l }) first (own_label l) l.labels (placed_view x)) →
-      Progress m o a u s start all rest false k
-  goes_on rest x role k e r b v = rw (b, r) (record {
-    lacks = next_written m _ _ (lacks_next rest x e) v;
+  -- the hint of the next operator was written: the operator is lacking, and the others
+  pub lacks_next : {u : P} (rest : List (Placed Operator)) (x : ℕ × Operator) → pairs os ≡ x ∷ pairs rest →
+      Written m o t u Through (hint_pieces (s.nesting + length l.labels) (next_hint (x.0 - s.body) left)) →
+      Lacks m o a u (operators_pieces s hints true 0 [] all)
+      (operator_pieces (record s { names = names_of l }) first (own_label l) l.labels (placed_view x)
+      ++ operators_pieces s (hint_behind (x.0 - s.body) left) false (count_after (role_of x.1.opcode) l.count)
+      (labels_after (role_of x.1.opcode) (own_label l) l.labels) rest)
+  lacks_next rest x e v = next_written m _ _ (lacks_hint rest x e) v
+
+  -- the hint of the next operator was written, and the operator
+  pub goes_on : {u w : P} (rest : List (Placed Operator)) (x : ℕ × Operator) (role : Role) (k : Scan) (behind : List (Placed Hint)) → pairs os ≡ x ∷ pairs rest →
+      role ≡ role_of x.1.opcode → k ≡ advanced role l → behind ≡ hint_behind (x.0 - s.body) left →
+      Written m o t u Through (hint_pieces (s.nesting + length l.labels) (next_hint (x.0 - s.body) left)) →
+      Written m o u w Through (operator_pieces (record s { names = names_of l }) first (own_label l) l.labels (placed_view x)) →
+      Progress m o a w s start hints all rest behind false k
+  goes_on rest x role k behind e r b h v w = rw (b, r, h) (record {
+    lacks = next_written m _ _ (lacks_next rest x e v) w;
     named = p.named;
     invents = p.invents;
     fits = record { names = p.fits.names; function = p.fits.function };
@@ -125,22 +140,29 @@ module _ {P : Type 0} (m : Meaning P) {o : Options} {a t : P} {s : Setting} {sta
   })
 
   -- no operator is left
-  pub all_written : pairs os ≡ [] → Written m o a t Through (expression_pieces s all)
-  all_written e = lacks_none m _ (rw (operators-nil s first l.count l.labels os (no-pair os e)) at p.lacks)
+  pub all_written : pairs os ≡ [] → Written m o a t Through (operators_pieces s hints true 0 [] all)
+  all_written e = lacks_none m _ (rw (operators-nil s left first l.count l.labels os (no-pair os e)) at p.lacks)
 
 -- ---- whether there is an operator
 
-module _ (signature : ℕ → Option FuncType) (nesting : ℕ) (names : Names) (function : ℕ) where
-  breaks-of : (os rest : List (Placed Operator)) (o : Placed Operator) → os ≡ o ∷ rest → has_break (over_lines signature nesting names function os) ≡ true
-  unfolding expression_pieces operators_pieces operator_pieces
-  breaks-of os rest o e = ap (λ ps. has_break (over_lines signature nesting names function ps)) e
+-- a hint stands on a line of its own, so what is behind it decides only where there is none
+hint-break : (nesting : ℕ) (h : Option (Placed Hint)) (ps : List Piece) → has_break ps ≡ true → has_break (hint_pieces nesting h ++ ps) ≡ true
+hint-break nesting None ps e = e
+hint-break nesting (Some h) ps e = refl
 
-  breaks-nil : (os : List (Placed Operator)) → os ≡ [] → has_break (over_lines signature nesting names function os) ≡ false
-  unfolding expression_pieces operators_pieces
-  breaks-nil os e = ap (λ ps. has_break (over_lines signature nesting names function ps)) e
+module _ (signature : ℕ → Option FuncType) (nesting : ℕ) (names : Names) (function body : ℕ) (hints : List (Placed Hint)) where
+  breaks-of : (os rest : List (Placed Operator)) (o : Placed Operator) → os ≡ o ∷ rest →
+      has_break (over_lines signature nesting names function body hints os) ≡ true
+  unfolding operators_pieces operator_pieces
+  breaks-of os rest o e =
+      ap (λ ps. has_break (over_lines signature nesting names function body hints ps)) e ∙ hint-break (nesting + 0) (next_hint (o.place - body) hints) _ refl
+
+  breaks-nil : (os : List (Placed Operator)) → os ≡ [] → has_break (over_lines signature nesting names function body hints os) ≡ false
+  unfolding operators_pieces
+  breaks-nil os e = ap (λ ps. has_break (over_lines signature nesting names function body hints ps)) e
 
   -- over lines, whether lines change for operators is whether a first one is given
   pub operators-break : (os rest : List (Placed Operator)) (r : Option (ℕ × Operator)) → YieldsFirst pairs os r rest →
-      has_break (over_lines signature nesting names function os) ≡ is_some r
+      has_break (over_lines signature nesting names function body hints os) ≡ is_some r
   operators-break os rest None y = breaks-nil os (no-pair os y.0)
   operators-break os rest (Some x) y = breaks-of os rest (placed_view x) (first-pair os rest x y)

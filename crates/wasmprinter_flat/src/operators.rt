@@ -1,13 +1,16 @@
 //! Operators (section 6.5 of the WebAssembly Core Specification), each on a line of its own or all
 //! in one line.
-ghost use Rattle.std.specs.Prelude.{◌≡◌, ◌+◌, ◌<◌, ◌^◌, [], ◌∷◌, ℕ, length, Option, Some};
+ghost use Rattle.std.specs.Prelude.{◌≡◌, ◌+◌, ◌-◌, ◌<◌, ◌^◌, [], ◌∷◌, ℕ, List, length, true, Option, Some};
+ghost use Rattle.wasmprinter_spec.specs.Grammar.{Placed};
 ghost use Rattle.wasmprinter_spec.specs.Options.{Options};
 ghost use Rattle.wasmprinter_spec.specs.Piece.{Break};
 ghost use Rattle.wasmprinter_spec.specs.Table.{shape_of};
 ghost use Rattle.wasmprinter_spec.specs.Types.{FuncType};
 ghost use Rattle.wasmprinter_spec.specs.Names.{Names};
+ghost use Rattle.wasmprinter_spec.specs.Customs.Hints.{Hint as HintValue, next_hint, hint_behind};
 ghost use Rattle.wasmprinter_spec.specs.Layout.Groups.{has_break};
-ghost use Rattle.wasmprinter_spec.specs.Layout.Operators.{pieces_by, level as level_of, before_word, operator_pieces, expression_pieces};
+ghost use Rattle.wasmprinter_spec.specs.Layout.Operators.{pieces_by, level as level_of, before_word};
+ghost use Rattle.wasmprinter_spec.specs.Layout.Operators.{operator_pieces, hint_pieces, operators_pieces};
 ghost use Rattle.wasmprinter_print.specs.Prints.{Prints};
 ghost use Rattle.wasmprinter_ops.specs.Shapes.{role_view};
 ghost use Rattle.wasmprinter_labels.specs.Scan.{names_of, own_label};
@@ -17,6 +20,7 @@ ghost use Rattle.wasmprinter_flat.specs.Settings.{form_view, setting_view, over_
 use crate::context::Context;
 use crate::immediates::write_immediates;
 use std::io;
+use wasmprinter_customs::{FunctionHints, Hint};
 use wasmprinter_labels::OpenLabels;
 use wasmprinter_lines::lines::break_line;
 use wasmprinter_lines::options::PrintOptions;
@@ -25,6 +29,7 @@ use wasmprinter_ops::opcode::Role;
 use wasmprinter_ops::operator::Operator;
 use wasmprinter_print::Print;
 use wasmprinter_text::signature::Signatures;
+use wasmprinter_words::hints::hint_note;
 use wasmprinter_words::words::{gap, word};
 
 /// How operators stand.
@@ -47,6 +52,8 @@ pub struct Setting<'s, S: Signatures> {
     pub nesting: u64,
     /// The function whose locals and labels the operators use.
     pub function: u64,
+    /// The place of the body's first byte, from which hints are counted.
+    pub body: u64,
 }
 
 /// How deep an operator stands in so many blocks: what ends a block or a part of it stands further
@@ -149,30 +156,68 @@ fn write_operator<P: Print, S: Signatures>(
     write_behind(p, &context, operator)
 }
 
+/// Writes a hint on a line of its own, nested as deep as the operators of the block.
+fn write_hint<P: Print, S: Signatures>(
+    p: &mut P,
+    options: &PrintOptions,
+    setting: &Setting<'_, S>,
+    blocks: u64,
+    hint: &Hint,
+) -> io::Result<()>
+    ensures { Prints P.meaning options.now p.old p.new result
+        (hint_pieces (setting.now.nesting + blocks) (Some hint.now)) }
+{
+    break_inside(p, options, hint.place(), setting.nesting, blocks)?;
+    hint_note(p, hint.is_taken())
+}
+
+/// Writes the hint of the operator at the place, where the next hint is that operator's, and takes it.
+fn write_next_hint<P: Print, S: Signatures>(
+    p: &mut P,
+    options: &PrintOptions,
+    setting: &Setting<'_, S>,
+    blocks: u64,
+    hints: &mut FunctionHints<'_>,
+    place: u64,
+) -> io::Result<()>
+    ensures prints { Prints P.meaning options.now p.old p.new result
+        (hint_pieces (setting.now.nesting + blocks) (next_hint (place - setting.now.body) hints.old)) }
+    ensures behind { hints.new ≡ hint_behind (place - setting.now.body) hints.old }
+{
+    match hints.next_at(place.saturating_sub(setting.body)) {
+        Some(hint) => write_hint(p, options, setting, blocks, &hint),
+        None => Ok(()),
+    }
+}
+
 /// Whether an expression has operators, which begin lines where they stand over lines.
 pub fn has_operators(expression: &Expression<'_>) -> bool
-    ensures { (signature : ℕ → Option FuncType) (nesting : ℕ) (names : Names) (function : ℕ) →
-        result ≡ has_break (over_lines signature nesting names function expression.now.items) }
+    ensures { (signature : ℕ → Option FuncType) (nesting : ℕ) (names : Names) (function body : ℕ) (hints : List (Placed HintValue)) →
+        result ≡ has_break (over_lines signature nesting names function body hints expression.now.items) }
 {
     expression.operators().next().is_some()
 }
 
-/// Writes the operators of an expression. `labels` may be anywhere before; its identifiers are those that are printed.
+/// Writes the operators of an expression, each behind its hint if it has one. `labels` may be anywhere before; its identifiers are those
+/// that are printed.
 pub fn write_operators<P: Print, S: Signatures>(
     p: &mut P,
     options: &PrintOptions,
     setting: &Setting<'_, S>,
     labels: &mut OpenLabels<'_, '_>,
+    hints: FunctionHints<'_>,
     expression: &Expression<'_>,
 ) -> io::Result<()>
     ensures prints { Prints P.meaning options.now p.old p.new result
-        (expression_pieces (setting_view S.signature_at setting.now (names_of labels.old)) expression.now.items) }
+        (operators_pieces (setting_view S.signature_at setting.now (names_of labels.old)) hints.entry true 0 [] expression.now.items) }
     ensures named { labels.new.named ≡ labels.old.named }
     ensures invents { labels.new.invents ≡ labels.old.invents }
 {
     labels.begin(setting.function);
+    let mut hints = hints;
     let mut first = true;
     for (place, operator) in expression.operators() {
+        write_next_hint(p, options, setting, labels.depth(), &mut hints, place)?;
         write_operator(p, options, setting, labels, first, place, &operator)?;
         labels.advance(operator.opcode.role());
         first = false;

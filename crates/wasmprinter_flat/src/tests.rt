@@ -1,10 +1,11 @@
-//! Expressions in one line. What is expected is typed by hand.
+//! Expressions in one line, and over lines with hints. What is expected is typed by hand.
 ghost use Rattle.std.specs.Prelude.{None};
 
 use crate::operators::{Form, Setting, write_operators};
 use std::alloc::Global;
 use std::test::Fail;
 use wasmprinter_bytes::bytes::Cursor;
+use wasmprinter_customs::{FunctionHints, Hints};
 use wasmprinter_labels::OpenLabels;
 use wasmprinter_lines::options::PrintOptions;
 use wasmprinter_names::{Identifiers, NamesBuilder, read_names};
@@ -25,8 +26,32 @@ impl Signatures for NoTypes {
     }
 }
 
-/// The operators of an expression of function 0, printed in one line, in a module with the names of this section.
-fn with_names(alloc: Global, section: &[u8], invents: bool, bytes: &[u8]) -> Result<String, Fail> {
+/// The place of a body's first byte.
+const BODY: u64 = 0x10;
+
+/// The place of its first operator, behind the count of its locals.
+const OPERATORS: u64 = 0x11;
+
+/// The setting of function 0.
+fn setting(form: Form, nesting: u64) -> Setting<'static, NoTypes> {
+    Setting {
+        form,
+        types: &NoTypes,
+        nesting,
+        function: 0,
+        body: BODY,
+    }
+}
+
+/// The operators of an expression of function 0, printed in a module with the names of this section.
+fn printed(
+    alloc: Global,
+    section: &[u8],
+    invents: bool,
+    setting: &Setting<'_, NoTypes>,
+    hints: FunctionHints<'_>,
+    bytes: &[u8],
+) -> Result<String, Fail> {
     let mut builder = NamesBuilder::new(alloc);
     read_names(alloc, &mut builder, Cursor::new(0, section))?;
     let names = builder.finish();
@@ -35,22 +60,42 @@ fn with_names(alloc: Global, section: &[u8], invents: bool, bytes: &[u8]) -> Res
         invents,
     };
     let mut labels = OpenLabels::new(alloc, identifiers)?;
-    let expression = Expression::read(alloc, &mut Cursor::new(0, bytes))?;
-    let setting = Setting {
-        form: Form::InLine,
-        types: &NoTypes,
-        nesting: 0,
-        function: 0,
-    };
+    let expression = Expression::read(alloc, &mut Cursor::new(OPERATORS, bytes))?;
     let mut printer = PrintFmtWrite(String::new(alloc));
     write_operators(
         &mut printer,
         &PrintOptions::new(),
-        &setting,
+        setting,
         &mut labels,
+        hints,
         &expression,
     )?;
     Ok(printer.0)
+}
+
+/// The operators in one line, in a module with the names of this section.
+fn with_names(alloc: Global, section: &[u8], invents: bool, bytes: &[u8]) -> Result<String, Fail> {
+    printed(
+        alloc,
+        section,
+        invents,
+        &setting(Form::InLine, 0),
+        FunctionHints::none(),
+        bytes,
+    )
+}
+
+/// The operators over lines, with the hints of this section.
+fn with_hints(alloc: Global, section: &[u8], bytes: &[u8]) -> Result<String, Fail> {
+    let mut hints = Hints::given(0, section);
+    printed(
+        alloc,
+        &[],
+        false,
+        &setting(Form::OverLines, 2),
+        hints.next_function(0),
+        bytes,
+    )
 }
 
 /// The same without names.
@@ -149,6 +194,31 @@ fn identifiers_are_made_up(rt: HostRuntime) -> Result<(), Fail> {
     assert_eq!(rt;
         blocks.as_str(),
         "block $#label0 try $#label1 delegate $#label0 br $#label0 br 1 end"
+    );
+    Ok(())
+}
+
+#[test]
+fn hints_stand_before_their_operators(rt: HostRuntime) -> Result<(), Fail> {
+    // `br_if` stands 5 bytes behind the body's first byte, `if` 10
+    let text = with_hints(
+        rt.alloc(),
+        &[0x01, 0x00, 0x02, 0x05, 0x01, 0x01, 0x0a, 0x01, 0x00],
+        &[
+            0x02, 0x40, 0x20, 0x00, 0x0d, 0x00, 0x0b, 0x20, 0x00, 0x04, 0x40, 0x0b, 0x0b,
+        ],
+    )?;
+    assert_eq!(rt;
+        text.as_str(),
+        "\n    block ;; label = @1\
+         \n      local.get 0\
+         \n      (@metadata.code.branch_hint \"\\01\")\
+         \n      br_if 0 (;@1;)\
+         \n    end\
+         \n    local.get 0\
+         \n    (@metadata.code.branch_hint \"\\00\")\
+         \n    if ;; label = @1\
+         \n    end"
     );
     Ok(())
 }

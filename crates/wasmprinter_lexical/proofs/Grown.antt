@@ -2,7 +2,7 @@
 use Rattle.std.proofs.Common.{◌≡◌, List, [], ◌∷◌, ◌++◌, refl, sym, ap, ◌∙◌, append_assoc, append-nil, Some, bytes_eq, codes, cond, Bool, true, false}
 use Rattle.wasmprinter_spec.specs.Token as token
 use Rattle.wasmprinter_spec.specs.Token.{Token}
-use Rattle.wasmprinter_spec.specs.Forest.{Forest, End, Word, Name, String, Reserved, Group, Note, place, grow, the_one, onto, flat, cut, row_customs, customs}
+use Rattle.wasmprinter_spec.specs.Forest.{Forest, End, Word, Name, String, Reserved, Group, Note, place, grow, the_one, onto, flat, cut, row_customs}
 
 pub onto-End : (f : Forest) → onto f End ≡ f
 onto-End End = refl
@@ -78,12 +78,3 @@ row_customs-onto (Note id a f) g = by (bytes_eq id (codes "custom")) (row_custom
     by : (t : Bool) → row_customs (onto f g) ≡ row_customs f ++ row_customs g → cond t (a ∷ row_customs (onto f g)) (row_customs (onto f g)) ≡ cond t (a ∷ row_customs f) (row_customs f) ++ row_customs g
     by true e = ap (λ t. a ∷ t) e
     by false e = e
-
-pub customs-onto : (f g : Forest) → customs (onto f g) ≡ customs f ++ customs g
-customs-onto End g = refl
-customs-onto (Word s f) g = customs-onto f g
-customs-onto (Name s f) g = customs-onto f g
-customs-onto (String s f) g = customs-onto f g
-customs-onto (Reserved f) g = customs-onto f g
-customs-onto (Group a f) g = ap (λ t. row_customs a ++ t) (customs-onto f g) ∙ sym (append_assoc (row_customs a) (customs f) (customs g))
-customs-onto (Note id a f) g = customs-onto f g

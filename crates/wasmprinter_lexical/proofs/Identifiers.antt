@@ -28,7 +28,7 @@ after_dollar_begins At b k h = refl
 after_dollar_begins Plain b k h = refl
 after_dollar_begins _ b k h = absurd (true≢false (sym h))
 
-run_name : (cs rest : List ℕ) → is_run cs ≡ true → delimited rest ≡ true → lex AfterDollar (cs ++ rest) ≡ name cs ∷ lex Clear rest
+pub run_name : (cs rest : List ℕ) → is_run cs ≡ true → delimited rest ≡ true → lex AfterDollar (cs ++ rest) ≡ name cs ∷ lex Clear rest
 unfolding lex
 run_name [] rest h d = absurd (true≢false (sym h))
 run_name (b ∷ bs) rest h d =

@@ -5,9 +5,11 @@ pub mod FloatValues
 pub mod FloatPieces
 pub mod Quotes
 pub mod Grown
+pub mod Noted
 pub mod Printed
 pub mod Plain
 pub mod Identifiers
+pub mod Notes
 pub mod Pieces
 pub mod Writes
 pub mod PrintedPieces

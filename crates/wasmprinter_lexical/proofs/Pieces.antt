@@ -9,15 +9,16 @@ use Rattle.wasmprinter_spec.specs.Character.{class}
 use Rattle.wasmprinter_spec.specs.Call.{Call, Text, call_text, text_of}
 use Rattle.wasmprinter_spec.specs.Options.{Options, IsBlank}
 use Rattle.wasmprinter_spec.specs.Float.{IsWidth, sign_bit}
-use Rattle.wasmprinter_spec.specs.Quoted.{char_text, quoted_text, quoted_bytes, identifier_text}
+use Rattle.wasmprinter_spec.specs.Quoted.{is_run, char_text, quoted_text, quoted_bytes, identifier_text}
 use Rattle.wasmprinter_spec.specs.Token.{Clear, word, is_name, lex}
-use Rattle.wasmprinter_spec.specs.Piece.{Piece, Begin, Feed, Break, Gap, Open, OpenGap, OpenPlain, OpenBare, OpenTypeGap, Shut, Word, TypeWord, TypeWordGap, GapTypeWord, Number, Constant, Literals, GapLiterals, Float, NumberRemark, BeginName, EndStyle, Quoted, QuotedBytes, Identifier, NameNote, Remark, Ending, repeated, left_in, place_text, place_calls, most_indents, behind_blanks, word_tokens, calls, text, piece_tokens, all_calls, all_tokens}
+use Rattle.wasmprinter_spec.specs.Piece.{Piece, Begin, Feed, Break, Gap, Open, OpenGap, OpenPlain, OpenBare, OpenTypeGap, OpenNote, OpenNoteGap, OpenRun, Shut, Word, TypeWord, TypeWordGap, GapTypeWord, Number, Constant, Literals, GapLiterals, Float, NumberRemark, BeginName, EndStyle, Quoted, QuotedBytes, Identifier, NameNote, Remark, Ending, PlainEnding, HintNote, Claimed, flag_byte, repeated, left_in, place_text, place_calls, most_indents, behind_blanks, word_tokens, calls, text, piece_tokens, all_calls, all_tokens}
 use Rattle.wasmprinter_lexical.proofs.Runs.{is_quiet, ends_line, ending_lexes, is_word, are_words, all_quiet, all_blank, is_blank_class, delimited, begins_item, begins_item-word, left_lexes, word_lexes, open_lexes, blanks_lex, comment_lexes}
 use Rattle.wasmprinter_lexical.proofs.Numbers.{is_word-decimal, is_word-signed_decimal, all_quiet-decimal}
 use Rattle.wasmprinter_lexical.proofs.FloatPieces.{float_lexes}
 use Rattle.wasmprinter_lexical.proofs.Quotes.{text_lexes, quoted_bytes_lex}
 use Rattle.wasmprinter_lexical.proofs.Printed.{hex_digits_are_good, is_remark, remark}
 use Rattle.wasmprinter_lexical.proofs.Identifiers.{identifier_lexes, name_note_lexes}
+use Rattle.wasmprinter_lexical.proofs.Notes.{note_lexes, run_lexes, hint_lexes}
 
 -- ---- which piece may stand behind which
 
@@ -52,6 +53,8 @@ starts (Float w bits) = false
 starts BeginName = false
 starts EndStyle = false
 starts (Ending s) = false
+starts (PlainEnding s) = false
+starts (Claimed name place bytes answer) = false
 starts _ = true
 
 -- begins with the end of a line
@@ -63,6 +66,8 @@ feeds _ = false
 abbrev pub leaves : Piece → Edge
 leaves (Open w) = Bound
 leaves (OpenPlain w) = Bound
+leaves (OpenNote w) = Bound
+leaves (OpenRun w) = Bound
 leaves OpenBare = Opened
 leaves (Word w) = Bound
 leaves (TypeWord w) = Bound
@@ -77,6 +82,8 @@ leaves (Quoted cs) = Bound
 leaves (QuotedBytes bs) = Bound
 leaves (Identifier cs) = Bound
 leaves (Ending s) = Ended
+leaves (PlainEnding s) = Ended
+leaves (Claimed name place bytes answer) = Bound
 leaves _ = Free
 
 abbrev pub may_follow : Edge → Piece → Bool
@@ -95,6 +102,9 @@ IsPiece (Open w) = is_word w ≡ true
 IsPiece (OpenGap w) = is_word w ≡ true
 IsPiece (OpenPlain w) = is_word w ≡ true
 IsPiece (OpenTypeGap w) = is_word w ≡ true
+IsPiece (OpenNote w) = is_run w ≡ true
+IsPiece (OpenNoteGap w) = is_run w ≡ true
+IsPiece (OpenRun w) = is_run w ≡ true
 IsPiece (Word w) = is_word w ≡ true
 IsPiece (TypeWord w) = is_word w ≡ true
 IsPiece (TypeWordGap w) = is_word w ≡ true
@@ -111,6 +121,7 @@ IsPiece (Identifier cs) = (scalars cs ≡ true) × (is_name (encode_utf8_all cs)
 IsPiece (NameNote cs) = scalars cs ≡ true
 IsPiece (Remark t s) = is_remark s ≡ true
 IsPiece (Ending s) = is_remark s ≡ true
+IsPiece (PlainEnding s) = is_remark s ≡ true
 IsPiece _ = Unit {0}
 
 abbrev pub ArePieces : List Piece → Type 0
@@ -242,6 +253,12 @@ module _ (o : Options) (blank : all_blank o.indent ≡ true) where
       ap (λ t. lex Clear (40 ∷ (t ++ rest))) (append-nil (w ++ (32 ∷ [])))
       ∙ ap (λ t. lex Clear (40 ∷ t)) (append_assoc w (32 ∷ []) rest)
       ∙ open_lexes w (32 ∷ rest) h refl
+  piece_lexes (OpenNote w) rest h d = ap (λ t. lex Clear (40 ∷ (64 ∷ (t ++ rest)))) (append-nil w) ∙ note_lexes w rest h d
+  piece_lexes (OpenNoteGap w) rest h d =
+      ap (λ t. lex Clear (40 ∷ (64 ∷ (t ++ rest)))) (append-nil (w ++ (32 ∷ [])))
+      ∙ ap (λ t. lex Clear (40 ∷ (64 ∷ t))) (append_assoc w (32 ∷ []) rest)
+      ∙ note_lexes w (32 ∷ rest) h refl
+  piece_lexes (OpenRun w) rest h d = ap (λ t. lex Clear (40 ∷ (t ++ rest))) (append-nil w) ∙ run_lexes w rest h d
   piece_lexes Shut rest h d = refl
   piece_lexes (Word w) rest h d = ap (λ t. lex Clear (t ++ rest)) (append-nil w) ∙ word_lexes w rest h d
   piece_lexes (TypeWord w) rest h d = ap (λ t. lex Clear (t ++ rest)) (append-nil w) ∙ word_lexes w rest h d
@@ -281,6 +298,14 @@ module _ (o : Options) (blank : all_blank o.indent ≡ true) where
   piece_lexes (Ending s) rest h d =
       ap (λ t. lex Clear (codes ";; " ++ (t ++ rest))) (append-nil s)
       ∙ ending_lexes s rest (remark s h).inline d
+  piece_lexes (PlainEnding s) rest h d =
+      ap (λ t. lex Clear (codes ";; " ++ (t ++ rest))) (append-nil s)
+      ∙ ending_lexes s rest (remark s h).inline d
+  piece_lexes (HintNote taken) rest h d =
+      ap (λ t. lex Clear (codes "(@metadata.code.branch_hint " ++ (t ++ rest))) (append-nil (quoted_bytes (flag_byte taken ∷ []) ++ codes ")"))
+      ∙ ap (λ t. lex Clear (codes "(@metadata.code.branch_hint " ++ t)) (append_assoc (quoted_bytes (flag_byte taken ∷ [])) (codes ")") rest)
+      ∙ hint_lexes taken rest
+  piece_lexes (Claimed name place bytes answer) rest h d = refl
 
 begins_delimited : (o : Options) (p : Piece) (rest : List ℕ) → begins p ≡ true → follows (leaves p) rest ≡ true → delimited (text o p ++ rest) ≡ true
 unfolding class
@@ -293,6 +318,9 @@ begins_delimited o (OpenGap w) rest h d = refl
 begins_delimited o (OpenPlain w) rest h d = refl
 begins_delimited o OpenBare rest h d = refl
 begins_delimited o (OpenTypeGap w) rest h d = refl
+begins_delimited o (OpenNote w) rest h d = refl
+begins_delimited o (OpenNoteGap w) rest h d = refl
+begins_delimited o (OpenRun w) rest h d = refl
 begins_delimited o Shut rest h d = refl
 begins_delimited o (Word w) rest h d = absurd (true≢false (sym h))
 begins_delimited o (TypeWord w) rest h d = absurd (true≢false (sym h))
@@ -314,6 +342,9 @@ begins_delimited o (NameNote cs) rest h d = refl
 begins_delimited o (Remark true s) rest h d = refl
 begins_delimited o (Remark false s) rest h d = refl
 begins_delimited o (Ending s) rest h d = refl
+begins_delimited o (PlainEnding s) rest h d = refl
+begins_delimited o (HintNote taken) rest h d = refl
+begins_delimited o (Claimed name place bytes answer) rest h d = d
 
 starts_item : (o : Options) (p : Piece) (rest : List ℕ) → starts p ≡ true → IsPiece p → begins_item (text o p ++ rest) ≡ true
 unfolding class quoted_text quoted_bytes identifier_text
@@ -326,6 +357,9 @@ starts_item o (OpenGap w) rest h i = refl
 starts_item o (OpenPlain w) rest h i = refl
 starts_item o OpenBare rest h i = refl
 starts_item o (OpenTypeGap w) rest h i = refl
+starts_item o (OpenNote w) rest h i = refl
+starts_item o (OpenNoteGap w) rest h i = refl
+starts_item o (OpenRun w) rest h i = refl
 starts_item o Shut rest h i = refl
 starts_item o (Word w) rest h i = begins_item-word w [] rest i
 starts_item o (TypeWord w) rest h i = begins_item-word w [] rest i
@@ -349,6 +383,9 @@ starts_item o (NameNote cs) rest h i = refl
 starts_item o (Remark true s) rest h i = refl
 starts_item o (Remark false s) rest h i = refl
 starts_item o (Ending s) rest h i = absurd (true≢false (sym h))
+starts_item o (PlainEnding s) rest h i = absurd (true≢false (sym h))
+starts_item o (HintNote taken) rest h i = refl
+starts_item o (Claimed name place bytes answer) rest h i = absurd (true≢false (sym h))
 
 feeds_ends_line : (o : Options) (p : Piece) (rest : List ℕ) → feeds p ≡ true → ends_line (text o p ++ rest) ≡ true
 unfolding class

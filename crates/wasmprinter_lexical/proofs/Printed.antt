@@ -1,5 +1,5 @@
 -- Plain bytes by a test, which is computed for the bytes of each class: a line feed, a tab, or from the blank to the tilde.
-use Rattle.std.proofs.Common.{◌≡◌, ℕ, zero, suc, ◌<◌, ◌≤◌, ◌/◌, ◌%◌, Bool, true, false, ◌&&◌, ◌||◌, not, cond, leb, ltb, eqb, List, [], ◌∷◌, ◌++◌, refl, sym, ap, ◌∙◌, arith, true≢false, decimal}
+use Rattle.std.proofs.Common.{◌≡◌, ℕ, zero, suc, ◌<◌, ◌≤◌, ◌/◌, ◌%◌, Bool, true, false, ◌&&◌, ◌||◌, not, cond, leb, ltb, eqb, List, [], ◌∷◌, ◌++◌, refl, sym, ap, ◌∙◌, arith, true≢false, decimal, codes}
 use Rattle.std.proofs.lemmas.Bool.{and_parts, and_from, agree_below, agree_below_at, ltb-true, ltb-false, le-ltb, le-leb, ne_eqb}
 use Rattle.std.specs.Fmt.{digits, digits_onto, digit_glyph}
 use Rattle.wasmprinter_spec.specs.Character.{Class, Foreign, class}
@@ -120,6 +120,29 @@ good_digits (suc k) n bs g =
 pub hex_digits_are_good : (n : ℕ) → (all_printed (digits 16 false n) ≡ true) × (all_quiet (digits 16 false n) ≡ true)
 unfolding digits
 hex_digits_are_good n = good_digits 64 n [] (refl, refl)
+
+-- they stand in a word
+run_glyphs_low : agree_below (λ d. runs (class (digit_glyph false d))) (λ d. true) 16 ≡ true
+unfolding class
+run_glyphs_low = refl
+
+run_digit : (d : ℕ) (bs : List ℕ) → d < 16 → all_run bs ≡ true → all_run (digit_glyph false d ∷ bs) ≡ true
+run_digit d bs h g =
+    and_from (runs (class (digit_glyph false d))) (all_run bs) (agree_below_at (λ x. runs (class (digit_glyph false x))) (λ x. true) 16 d run_glyphs_low h) g
+
+run_digits : (k n : ℕ) (bs : List ℕ) → all_run bs ≡ true → all_run (digits_onto k 16 false n bs) ≡ true
+run_digits zero n bs g = g
+run_digits (suc k) n bs g =
+    by _ _ (eqb (n / 16) 0) (run_digit (n % 16) bs (omega arith) g) (run_digits k (n / 16) (digit_glyph false (n % 16) ∷ bs) (run_digit (n % 16) bs (omega arith) g))
+  where
+    by : (a b : List ℕ) (t : Bool) → all_run a ≡ true → all_run b ≡ true → all_run (cond t a b) ≡ true
+    by a b true x y = x
+    by a b false x y = y
+
+-- a number in hexadecimal, however great
+pub is_word-hex : (n : ℕ) → is_word (codes "0x" ++ digits 16 false n) ≡ true
+unfolding digits class
+is_word-hex n = run_digits 64 n [] refl
 
 -- ---- decimal digits of any number
 

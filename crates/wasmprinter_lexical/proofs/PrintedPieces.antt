@@ -1,5 +1,5 @@
 -- The text of pieces is plain.
-use Rattle.std.proofs.Common.{◌≡◌, ℕ, zero, suc, ◌<◌, ◌-◌, ◌/◌, ◌%◌, Bool, true, false, ◌&&◌, ◌||◌, not, min, cond, leb, eqb, List, [], ◌∷◌, ◌++◌, Option, Some, None, refl, ap, ◌∙◌, arith, append_assoc, codes, decimal, flat_map, replicate, length}
+use Rattle.std.proofs.Common.{◌≡◌, ℕ, zero, suc, ◌<◌, ◌-◌, ◌/◌, ◌%◌, Bool, true, false, ◌&&◌, ◌||◌, not, min, cond, leb, eqb, List, [], ◌∷◌, ◌++◌, Option, Some, None, refl, ap, ◌∙◌, arith, append_assoc, codes, decimal, flat_map, replicate, length, lit<}
 use Rattle.std.proofs.lemmas.Bool.{and_parts, and_from, or_right}
 use Rattle.std.specs.Fmt.{signed_decimal, digits, digit_glyph}
 use Rattle.std.specs.List.{AllByRecursion}
@@ -7,7 +7,7 @@ use Rattle.wasmprinter_spec.specs.Call.{Text, text_of}
 use Rattle.wasmprinter_spec.specs.Options.{Options, IsBlank}
 use Rattle.wasmprinter_spec.specs.Plain.{IsPlainText}
 use Rattle.wasmprinter_spec.specs.Quoted.{char_text, byte_text, is_plain, quoted_text, quoted_bytes, is_run, identifier_text}
-use Rattle.wasmprinter_spec.specs.Piece.{Piece, Begin, Feed, Break, Gap, Open, OpenGap, OpenPlain, OpenBare, OpenTypeGap, Shut, Word, TypeWord, TypeWordGap, GapTypeWord, Number, Constant, Literals, GapLiterals, Float, NumberRemark, BeginName, EndStyle, Quoted, QuotedBytes, Identifier, NameNote, Remark, Ending, behind_blanks, repeated, left_in, place_text, place_calls, most_indents, text, all_calls}
+use Rattle.wasmprinter_spec.specs.Piece.{Piece, Begin, Feed, Break, Gap, Open, OpenGap, OpenPlain, OpenBare, OpenTypeGap, OpenNote, OpenNoteGap, OpenRun, Shut, Word, TypeWord, TypeWordGap, GapTypeWord, Number, Constant, Literals, GapLiterals, Float, NumberRemark, BeginName, EndStyle, Quoted, QuotedBytes, Identifier, NameNote, Remark, Ending, PlainEnding, HintNote, Claimed, flag_byte, behind_blanks, repeated, left_in, place_text, place_calls, most_indents, text, all_calls}
 use Rattle.wasmprinter_lexical.proofs.Runs.{is_word, are_words}
 use Rattle.wasmprinter_lexical.proofs.Numbers.{is_word-decimal, is_word-signed_decimal}
 use Rattle.wasmprinter_lexical.proofs.FloatPieces.{printed_float}
@@ -94,6 +94,10 @@ printed_place_calls true None = all_printed-append (place_text None) [] (printed
 
 -- ---- pieces
 
+flag_is_byte : (taken : Bool) → flag_byte taken < 256
+flag_is_byte true = lit< tt
+flag_is_byte false = lit< tt
+
 printed_styled : (w : List ℕ) → all_printed w ≡ true → all_printed (w ++ []) ≡ true
 printed_styled w h = all_printed-append w [] h refl
 
@@ -113,6 +117,9 @@ module _ (o : Options) (blank : IsBlank o.indent) where
   printed_piece (OpenPlain w) h = printed_styled w (printed_word w h)
   printed_piece OpenBare h = refl
   printed_piece (OpenTypeGap w) h = printed_styled (w ++ (32 ∷ [])) (all_printed-append w (32 ∷ []) (printed_word w h) refl)
+  printed_piece (OpenNote w) h = printed_styled w (run_is_printed w h)
+  printed_piece (OpenNoteGap w) h = printed_styled (w ++ (32 ∷ [])) (all_printed-append w (32 ∷ []) (run_is_printed w h) refl)
+  printed_piece (OpenRun w) h = printed_styled w (run_is_printed w h)
   printed_piece Shut h = refl
   printed_piece (Word w) h = printed_styled w (printed_word w h)
   printed_piece (TypeWord w) h = printed_styled w (printed_word w h)
@@ -136,6 +143,11 @@ module _ (o : Options) (blank : IsBlank o.indent) where
   printed_piece (Remark true s) h = printed_styled (s ++ codes ";)") (all_printed-append s (codes ";)") (remark s h).printed refl)
   printed_piece (Remark false s) h = printed_styled (s ++ codes ";)") (all_printed-append s (codes ";)") (remark s h).printed refl)
   printed_piece (Ending s) h = printed_styled s (remark s h).printed
+  printed_piece (PlainEnding s) h = printed_styled s (remark s h).printed
+  printed_piece (HintNote taken) h =
+      printed_styled (quoted_bytes (flag_byte taken ∷ []) ++ codes ")")
+      (all_printed-append (quoted_bytes (flag_byte taken ∷ [])) (codes ")") (printed_quoted_bytes (flag_byte taken ∷ []) (flag_is_byte taken, tt)) refl)
+  printed_piece (Claimed name place bytes answer) h = refl
 
   printed_pieces : (ps : List Piece) → ArePieces ps → all_printed (all_text o ps) ≡ true
   printed_pieces [] h = refl

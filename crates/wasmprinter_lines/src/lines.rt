@@ -1,5 +1,5 @@
 //! Lines, their places and their indents, and groups that close on a line of their own.
-ghost use Rattle.std.specs.Prelude.{[], ◌∷◌, ◌++◌, ◌||◌, true, false, Some};
+ghost use Rattle.std.specs.Prelude.{[], ◌∷◌, ◌++◌, ◌||◌, true, false, None, Some};
 ghost use Rattle.std.specs.Fmt.{digits};
 ghost use Rattle.wasmprinter_spec.specs.Call.{Text};
 ghost use Rattle.wasmprinter_spec.specs.Options.{Options};
@@ -121,29 +121,41 @@ pub fn break_line<P: Print>(
 fn shut_below<P: Print>(
     p: &mut P,
     options: &PrintOptions,
-    place: u64,
+    place: Option<u64>,
     nesting: u64,
 ) -> io::Result<()>
-    ensures { Prints P.meaning options.now p.old p.new result (close (Some place) nesting true) }
+    ensures { Prints P.meaning options.now p.old p.new result (close place nesting true) }
 {
-    break_line(p, options, Some(place), nesting)?;
+    break_line(p, options, place, nesting)?;
     shut(p)
 }
 
 fn shut_if<P: Print>(
     p: &mut P,
     options: &PrintOptions,
-    place: u64,
+    place: Option<u64>,
     nesting: u64,
     on_new_line: bool,
 ) -> io::Result<()>
-    ensures { Prints P.meaning options.now p.old p.new result (close (Some place) nesting on_new_line) }
+    ensures { Prints P.meaning options.now p.old p.new result (close place nesting on_new_line) }
 {
     if on_new_line {
         shut_below(p, options, place, nesting)
     } else {
         shut(p)
     }
+}
+
+/// Closes a group: where the line has changed since the group began, on a line of its own, which stands for no place.
+pub fn close<P: Print>(
+    p: &mut P,
+    options: &PrintOptions,
+    nesting: u64,
+    changed: bool,
+) -> io::Result<()>
+    ensures { Prints P.meaning options.now p.old p.new result (close None nesting changed) }
+{
+    shut_if(p, options, None, nesting, changed)
 }
 
 /// Closes a group at a place: where the line has changed since the group began, or lines begin with their places, on a line of its
@@ -157,5 +169,5 @@ pub fn close_at<P: Print>(
 ) -> io::Result<()>
     ensures { Prints P.meaning options.now p.old p.new result (close (Some place) nesting (options.now.offsets || changed)) }
 {
-    shut_if(p, options, place, nesting, options.offsets || changed)
+    shut_if(p, options, Some(place), nesting, options.offsets || changed)
 }

@@ -10,7 +10,7 @@ use Rattle.wasmprinter_spec.specs.Row.{Space, Types, Func}
 use Rattle.wasmprinter_spec.specs.Names.{Names, AreApart, identifiers, identifiers_at, in_function}
 use Rattle.wasmprinter_spec.specs.Operator.{Operator}
 use Rattle.wasmprinter_spec.specs.Placed.{TypeGroup, Import, Export, Table, Global, Mode, Passive, Declared, Active, Items, Functions, Expressions, ElementEntry, DataMode, PassiveData, ActiveData, Data, PlacedFunction, PlacedModule}
-use Rattle.wasmprinter_spec.specs.Module.{func_import, table_import, memory_import, global_import, tag_import, without_places, each_value, mode_without_places, items_without_places, data_mode_without_places, groups_of, function_of, table_without_places, global_without_places, element_without_places, data_without_places, module_of}
+use Rattle.wasmprinter_spec.specs.Module.{func_import, table_import, memory_import, global_import, tag_import, without_places, each_value, mode_without_places, items_without_places, data_mode_without_places, groups_of, function_of, table_without_places, global_without_places, element_without_places, data_without_places, Module, module_of}
 use Rattle.wasmprinter_spec.specs.Limits.{HasNoEmptyInit}
 use Rattle.wasmprinter_spec.specs.Indexed as indexed
 use Rattle.wasmprinter_spec.specs.Indexed.{IsDeclaredSub, Counts, IsIndexed, IsIndexedFunction, IsIndexedImport, IsIndexedTable, IsIndexedGlobal, IsIndexedExport, IsIndexedElement, IsIndexedData, NamesFunction, space_of, counts_of, counts_in}
@@ -32,7 +32,6 @@ use Rattle.wasmprinter_spec.specs.Text.Globals.{read_global}
 use Rattle.wasmprinter_spec.specs.Text.Elements.{read_element}
 use Rattle.wasmprinter_spec.specs.Text.DataSegments.{read_data}
 use Rattle.wasmprinter_spec.specs.Read.{Fields, no_fields, fields, declared, imported_ids, space_behind, spaces_of, context, module_of_fields, read_forest}
-use Rattle.wasmprinter_lexical.proofs.Grown.{onto-End}
 use Rattle.wasmprinter_reading.specs.Listed.{AreSignaturesInRange}
 use Rattle.wasmprinter_reading.specs.OperatorLaws.{count_in, HaveSameTypes, HaveSameNames}
 use Rattle.wasmprinter_reading.proofs.Ranged.{IsRanged, IsRangedImport, IsRangedTable, IsRangedGlobal, IsRangedExport, IsRangedElement, IsRangedData, IsRangedFunction}
@@ -162,7 +161,7 @@ module _ (names : Names) (m : PlacedModule) where
       (onto (start_items early m.start)
       (onto (field_rows (codes "elem") (own_element skeleton) 0 m.elements)
       (onto (field_rows (codes "func") (own_function skeleton) (before FuncKind) m.functions)
-      (field_rows (codes "data") (own_data skeleton) 0 m.datas))))))))))
+      (onto (field_rows (codes "data") (own_data skeleton) 0 m.datas) End))))))))))
 
   abbrev own_imports : List ImportField
   own_imports = imports_held early no_numbers m.imports
@@ -186,9 +185,6 @@ module _ (names : Names) (m : PlacedModule) where
   fields-module_items : IsRanged m → fields (module_items false) ≡ Some all_fields
   unfolding module_items all_fields
   fields-module_items h =
-      let held : List Forest = map_numbered (own_data false) 0 m.datas in
-      let datas : fields (field_rows (codes "data") (own_data false) 0 m.datas) ≡ Some (record no_fields { datas = held ++ [] }) =
-      rw onto-End at (fields-gathered gathered_datas (own_data false) 0 m.datas End no_fields refl refl) in
       fields-types names 0 m.types _ _ h.each_group
       (fields-imports early no_numbers m.imports _ _ h.each_import
       (fields-gathered gathered_tables own_table _ m.tables _ _ refl
@@ -198,7 +194,8 @@ module _ (names : Names) (m : PlacedModule) where
       (fields-gathered gathered_exports own_export _ m.exports _ _ refl
       (fields-start early m.start _ _ refl
       (fields-gathered gathered_elements (own_element false) _ m.elements _ _ refl
-      (fields-gathered gathered_functions (own_function false) _ m.functions _ _ refl datas)))))))))
+      (fields-gathered gathered_functions (own_function false) _ m.functions _ _ refl
+      (fields-gathered gathered_datas (own_data false) 0 m.datas End no_fields refl refl))))))))))
       ∙ ap (λ v. Some v) (simp append-nil)
 
   -- ---- the index spaces
@@ -467,7 +464,11 @@ module _ (names : Names) (m : PlacedModule) where
         (type_indices-read early whole_context own_counts (scoped early.function)) apart.fields 0 m.types
         (all_bounded own_counts.types (groups_of m.types) (groups_ranged m.types h.each_group) k.types) h.each_group
 
-    module_of-all_fields : AllByRecursion (λ t. HasNoEmptyInit t.value.init) m.tables → module_of_fields all_fields ≡ Some (module_of m)
+    -- the module without its custom sections, which no field holds
+    abbrev uncustomed : Module
+    uncustomed = record (module_of m) { customs = [] }
+
+    module_of-all_fields : AllByRecursion (λ t. HasNoEmptyInit t.value.init) m.tables → module_of_fields all_fields ≡ Some uncustomed
     unfolding all_fields
     module_of-all_fields some =
         rw (
@@ -500,10 +501,10 @@ module _ (names : Names) (m : PlacedModule) where
       (unidentified_start early m.start _
       (unidentified_rows _ _
       (unidentified_rows _ _
-      (rw onto-End at (unidentified_rows (map_numbered (λ i d. Word (codes "data") (own_data false i d)) 0 m.datas) End refl)))))))))))
+      (unidentified_rows _ End refl))))))))))
 
   -- behind the word `module` stand the module's identifier and its fields
   pub module_reads : AreApart names → IsIndexed (module_of m) → IsRanged m → AllByRecursion (λ t. HasNoEmptyInit t.value.init) m.tables →
-      read_forest (Group (Word (codes "module") (onto (id_items names.module_name) (module_items false))) End) ≡ Some (module_of m)
+      read_forest (Group (Word (codes "module") (onto (id_items names.module_name) (module_items false))) End) ≡ Some (record (module_of m) { customs = [] })
   module_reads apart k h some =
       rw (declaration-items names.module_name (module_items false) no_identifier, fields-module_items h, module_of-all_fields apart k h some)

@@ -2,9 +2,9 @@
 use Rattle.std.proofs.Common.{List, [], ◌∷◌, ◌++◌, Bool, true, false, bytes_eq}
 use Rattle.std.specs.Prelude.{if◌then◌else◌}
 use Rattle.std.specs.List.{AllByRecursion}
-use Rattle.wasmprinter_spec.specs.Grammar.{input, Placed}
-use Rattle.wasmprinter_spec.specs.Placed.{Custom, PlacedModule}
-use Rattle.wasmprinter_spec.specs.Binary.Customs.{name_section}
+use Rattle.wasmprinter_spec.specs.Grammar.{input}
+use Rattle.wasmprinter_spec.specs.Placed.{Custom, CustomEntry, PlacedModule}
+use Rattle.wasmprinter_spec.specs.Customs.{name_section}
 use Rattle.wasmprinter_spec.specs.Names.{AreApart, AreNamed}
 use Rattle.wasmprinter_spec.specs.Names.Section.{Entry}
 use Rattle.wasmprinter_spec.specs.ModuleNames.{entries_given, custom_entries, name_entries, module_names}
@@ -24,12 +24,12 @@ custom_entries-are : (c : Custom) → IsRangedCustom c → AreEntries (custom_en
 custom_entries-are c h = by (bytes_eq c.name name_section)
   where
     by : (b : Bool) → AreEntries (if b then entries_given c.bytes else [])
-    by true = let at = input c.bytes.place c.bytes.value in bytes_give_entries at (entries_given c.bytes) h (gives_some at)
+    by true = let at = input c.bytes.place c.bytes.value in bytes_give_entries at (entries_given c.bytes) h.bytes (gives_some at)
     by false = tt
 
-name_entries-are : (cs : List (Placed Custom)) → AllByRecursion (λ c. IsRangedCustom c.value) cs → AreEntries (name_entries cs)
+name_entries-are : (cs : List CustomEntry) → AllByRecursion (λ c. IsRangedCustom c.section.value) cs → AreEntries (name_entries cs)
 name_entries-are [] h = tt
-name_entries-are (c ∷ cs) h = both_entries (custom_entries c.value) (name_entries cs) (custom_entries-are c.value h.0) (name_entries-are cs h.1)
+name_entries-are (c ∷ cs) h = both_entries (custom_entries c.section.value) (name_entries cs) (custom_entries-are c.section.value h.0) (name_entries-are cs h.1)
 
 pub module_names_apart : (invents : Bool) (m : PlacedModule) → IsRanged m → AreApart (module_names invents m)
 module_names_apart invents m h = identifiers_are_apart invents (name_entries m.customs) (name_entries-are m.customs h.each_custom)

@@ -15,7 +15,7 @@ use Rattle.wasmprinter_spec.specs.Piece.{Piece, Gap, NumberRemark, EndStyle, Ide
 use Rattle.wasmprinter_spec.specs.Layout.Identifiers.{given_pieces, mark_pieces, leading_mark_pieces, mark_gap_pieces, identifier_gap_pieces, declaration_pieces, index_pieces}
 use Rattle.wasmprinter_lexical.proofs.Grown.{onto-End}
 use Rattle.wasmprinter_lexical.proofs.Pieces.{Edge, Free, Bound}
-use Rattle.wasmprinter_lexical.proofs.Writes.{Writes, writing, both_write, identifier_writes, gap_writes, begin_name_writes, nothing_writes}
+use Rattle.wasmprinter_lexical.proofs.Writes.{Writes, writing, both_write, identifier_writes, noted_identifier_writes, gap_writes, begin_name_writes, nothing_writes, free_writes}
 use Rattle.wasmprinter_reading.proofs.Items.{index-decimal}
 use Rattle.wasmprinter_reading.proofs.Declarations.{id}
 use Rattle.wasmprinter_reading.proofs.Names.Resolving.{resolves}
@@ -84,26 +84,35 @@ is_name-utf8 [] h some = absurd (omega arith)
 is_name-utf8 (b ∷ bs) h some = is_utf8-from_IsUtf8 (b ∷ bs) h
 
 -- an identifier before other pieces
+record IsIdentifier (n : Named) : Type 0 where
+  same : encode_utf8_all (chars n.content) ≡ n.content
+  scalar : scalars (chars n.content) ≡ true
+  is : is_name (encode_utf8_all (chars n.content)) ≡ true
+
+named_is : (n : Named) → IsNamed n → IsIdentifier n
+named_is n h =
+    let e : encode_utf8_all (chars n.content) ≡ n.content = encodes-chars n.content h.content in
+    record { same = e; scalar = scalars-chars n.content h.content; is = ap is_name e ∙ is_name-utf8 n.content h.content h.some }
+
 name_writes : {b : Edge} {ps : List Piece} {f : Forest} (n : Named) → IsNamed n → Writes Bound ps b f → Writes Free (Identifier (chars n.content) ∷ ps) b (Name n.content f)
 name_writes {b = b} {ps = ps} {f = f} n h w =
-    let e : encode_utf8_all (chars n.content) ≡ n.content = encodes-chars n.content h.content in
-    let is : is_name (encode_utf8_all (chars n.content)) ≡ true = ap is_name e ∙ is_name-utf8 n.content h.content h.some in
-    subst (λ s. Writes Free (Identifier (chars n.content) ∷ ps) b (Name s f)) e (identifier_writes (scalars-chars n.content h.content) is w)
-
-given_writes : (g : Option (List ℕ)) (content : List ℕ) → IsGiven g → Writes Bound (given_pieces g content) Bound End
-given_writes None content h = search writing
-given_writes (Some s) content h = by (bytes_eq s content)
-  where
-    scalar : scalars (chars s) ≡ true
-    scalar = scalars-chars s h
-
-    by : (t : Bool) → Writes Bound (cond t [] (Gap ∷ (NameNote (chars s) ∷ []))) Bound End
-    by true = search writing
-    by false = search (writing, scalar)
+    let i : IsIdentifier n = named_is n h in
+    subst (λ s. Writes Free (Identifier (chars n.content) ∷ ps) b (Name s f)) i.same (identifier_writes i.scalar i.is w)
 
 pub mark_writes : (n : Named) → IsNamed n → Writes Free (mark_pieces n) Bound (Name n.content End)
 unfolding mark_pieces
-mark_writes n h = name_writes n h (given_writes n.given n.content h.given)
+mark_writes n h = by n.given h.given
+  where
+    with_note : (s : List ℕ) → IsUtf8 s → (t : Bool) → Writes Free (Identifier (chars n.content) ∷ cond t [] (Gap ∷ (NameNote (chars s) ∷ []))) Bound (Name n.content End)
+    with_note s g true = name_writes n h nothing_writes
+    with_note s g false =
+        let i : IsIdentifier n = named_is n h in
+        subst (λ t. Writes Free (Identifier (chars n.content) ∷ (Gap ∷ (NameNote (chars s) ∷ []))) Bound (Name t End)) i.same
+        (noted_identifier_writes i.scalar i.is (scalars-chars s g) free_writes)
+
+    by : (g : Option (List ℕ)) → IsGiven g → Writes Free (Identifier (chars n.content) ∷ given_pieces g n.content) Bound (Name n.content End)
+    by None g = name_writes n h nothing_writes
+    by (Some s) g = with_note s g (bytes_eq s n.content)
 
 pub leading_mark_writes : (o : Option Named) → IsNamedIfAny o → Writes Bound (leading_mark_pieces o) Bound (id_items o)
 unfolding leading_mark_pieces

@@ -1,5 +1,6 @@
 pub mod Bytes
 pub mod AllSpelled
+pub mod AllGiven
 pub mod LebRange
 pub mod Vectors
 pub mod Few
@@ -10,6 +11,7 @@ pub mod Identifiers
 pub mod Types
 pub mod Tabled
 pub mod Operators
+pub mod Customs
 pub mod Ranged
 pub mod PartRanges
 pub mod Ranges
@@ -20,9 +22,11 @@ pub mod Fields
 pub mod Sorted
 pub mod DeclaredTypes
 pub mod Back
+pub mod Written
 pub mod Stays
 pub mod Nested
 pub mod Main
+pub mod Hints
 pub mod OperatorRows
 pub mod ModuleRows
 pub mod Names

@@ -1,184 +1,185 @@
 -- Printed text reads back, and its tokens do not depend on places and indent.
-use Rattle.std.proofs.Common.{◌≡◌, ℕ, ◌<◌, ◌≤◌, ◌+◌, ◌^◌, cond, [], ◌∷◌, ◌++◌, length, None, refl, sym, ap, ◌∙◌, codes, arith}
+use Rattle.std.proofs.Common.{◌≡◌, ℕ, ◌+◌, cond, List, [], ◌∷◌, ◌++◌, Option, Some, None, refl, sym, ap, ◌∙◌, codes, Bool, false, subst, append-nil, map}
 use Rattle.std.proofs.lemmas.Str.{is_utf8-from_IsUtf8}
-use Rattle.wasmprinter_spec.specs.Character.{class}
 use Rattle.wasmprinter_spec.specs.Grammar.{◌>>=◌}
-use Rattle.wasmprinter_spec.specs.Forest.{End, Word, Group, onto, forest, cut}
+use Rattle.wasmprinter_spec.specs.Forest.{Forest, End, Word, Name, String, Reserved, Group, Note, onto, forest, cut, row_customs, customs}
 use Rattle.wasmprinter_spec.specs.Token.{tokens}
 use Rattle.wasmprinter_spec.specs.Call.{text_of}
-use Rattle.wasmprinter_spec.specs.Options.{Options, IsBlank}
+use Rattle.wasmprinter_spec.specs.Options.{Options, Answers, AreUnclaimed, IsBlank}
 use Rattle.wasmprinter_spec.specs.Plain.{IsPlainText}
-use Rattle.wasmprinter_spec.specs.Piece.{Feed, all_calls, all_tokens}
-use Rattle.wasmprinter_spec.specs.Types.{FuncKind, TableKind, MemoryKind, TagKind, GlobalKind, signature_at}
+use Rattle.wasmprinter_spec.specs.Piece.{Piece, all_calls, all_tokens}
+use Rattle.wasmprinter_spec.specs.Kinds.{Kind, TypeSection, ImportSection, FunctionSection, TableSection, MemorySection, TagSection, GlobalSection, ExportSection, StartSection, ElementSection, CodeSection, DataSection}
+use Rattle.wasmprinter_spec.specs.Types.{FuncKind}
+use Rattle.wasmprinter_spec.specs.Customs.{RawCustom, raw_customs}
+use Rattle.wasmprinter_spec.specs.Customs.Hints.{FunctionHints, hints_of, hints_behind}
 use Rattle.wasmprinter_spec.specs.Placed.{PlacedModule, PlacedFunction}
 use Rattle.wasmprinter_spec.specs.Names.{Names, AreNamed}
+use Rattle.wasmprinter_spec.specs.Labels.{Named}
+use Rattle.wasmprinter_spec.specs.Layout.Declarations.{Scope}
 use Rattle.wasmprinter_spec.specs.ModuleNames.{module_names}
-use Rattle.wasmprinter_spec.specs.Module.{without_places, imported, func_import, table_import, memory_import, global_import, tag_import}
-use Rattle.wasmprinter_spec.specs.Layout.Groups.{numbered}
-use Rattle.wasmprinter_spec.specs.Layout.Identifiers.{leading_mark_pieces}
-use Rattle.wasmprinter_spec.specs.Layout.Functions.{function_pieces}
-use Rattle.wasmprinter_spec.specs.Layout.Imports.{no_numbers, imports_pieces}
-use Rattle.wasmprinter_spec.specs.Layout.Tables.{table_pieces}
-use Rattle.wasmprinter_spec.specs.Layout.Memories.{memory_pieces}
-use Rattle.wasmprinter_spec.specs.Layout.Globals.{global_pieces}
-use Rattle.wasmprinter_spec.specs.Layout.Elements.{element_pieces}
-use Rattle.wasmprinter_spec.specs.Layout.DataSegments.{data_pieces}
-use Rattle.wasmprinter_spec.specs.Layout.Exports.{export_pieces}
-use Rattle.wasmprinter_spec.specs.Layout.{tag_pieces, module_field_pieces, module_pieces_with, module_pieces, layout}
+use Rattle.wasmprinter_spec.specs.Module.{Module, module_of}
+use Rattle.wasmprinter_spec.specs.Layout.{module_pieces_with, module_pieces, layout, refusal}
 use Rattle.wasmprinter_spec.specs.Laws.{ReadsBack, TokensStay, PrintsPlainText}
-use Rattle.wasmprinter_spec.specs.Read.{read, read_groups, read_forest, without_customs}
-use Rattle.wasmprinter_lexical.proofs.Pieces.{Free, Bound}
-use Rattle.wasmprinter_lexical.proofs.Writes.{Writes, both_write, nothing_writes, break_writes, writes_forest, writes_tokens, begin_writes, group_at_then, feed_writes}
+use Rattle.wasmprinter_spec.specs.Read.{read, read_groups, read_forest, read_customs}
+use Rattle.wasmprinter_spec.specs.Text.Items.{each}
+use Rattle.wasmprinter_spec.specs.Text.Customs.{read_custom}
 use Rattle.wasmprinter_lexical.proofs.Plain.{plain_is_utf8}
 use Rattle.wasmprinter_lexical.proofs.PrintedPieces.{text_is_plain}
-use Rattle.wasmprinter_reading.specs.Listed.{AreSignaturesInRange}
-use Rattle.wasmprinter_reading.proofs.Ranged.{IsRanged, IsRangedTable, IsRangedMemory, IsRangedGlobal, IsRangedExport, IsRangedElement, IsRangedData, IsRangedFunction}
+use Rattle.wasmprinter_reading.proofs.Ranged.{IsRanged}
 use Rattle.wasmprinter_reading.proofs.Ranges.{ranged}
 use Rattle.wasmprinter_reading.proofs.GivenNames.{module_names_apart, module_names_named}
-use Rattle.wasmprinter_reading.proofs.Identifiers.{id_items, leading_mark_writes}
-use Rattle.wasmprinter_reading.proofs.Numbered.{numbered_writes}
-use Rattle.wasmprinter_reading.proofs.Fields.Imports.{imports_items, imports_write}
-use Rattle.wasmprinter_reading.proofs.Fields.Tables.{table_writes}
-use Rattle.wasmprinter_reading.proofs.Fields.Globals.{global_writes}
-use Rattle.wasmprinter_reading.proofs.Fields.Elements.{element_writes}
-use Rattle.wasmprinter_reading.proofs.Fields.DataSegments.{data_writes}
-use Rattle.wasmprinter_reading.proofs.Fields.Memories.{memory_writes}
-use Rattle.wasmprinter_reading.proofs.Fields.Tags.{tag_writes}
-use Rattle.wasmprinter_reading.proofs.Fields.Start.{start_writes}
-use Rattle.wasmprinter_reading.proofs.Fields.Exports.{export_writes}
-use Rattle.wasmprinter_reading.proofs.Fields.Functions.{function_writes}
-use Rattle.wasmprinter_reading.proofs.Types.Trees.{type_section_writes}
-use Rattle.wasmprinter_reading.proofs.Sorted.{field_rows}
 use Rattle.wasmprinter_reading.proofs.Stays.{module_pieces_stay}
-use Rattle.wasmprinter_reading.proofs.Back.{early, late, before, own_types, own_memory, own_tag, own_table, own_global, own_export, own_element, own_function, own_data, signatures_ranged, numbers_fit, module_items, module_reads}
+use Rattle.wasmprinter_lexical.proofs.Pieces.{Bound}
+use Rattle.wasmprinter_lexical.proofs.Noted.{Noted, noted-cut, noted-raw_groups}
+use Rattle.wasmprinter_lexical.proofs.Writes.{Writes, pieces_tokens, writes_forest}
+use Rattle.wasmprinter_reading.proofs.Identifiers.{id_items}
+use Rattle.wasmprinter_reading.proofs.Fields.Functions.{functions_hinted}
+use Rattle.wasmprinter_reading.proofs.Customs.Notes.{at_place, RowReads, both_rows}
+use Rattle.wasmprinter_reading.proofs.Customs.Places.{raws_over_all}
+use Rattle.wasmprinter_reading.proofs.Written.{types_write, own_imports_write, tables_write, memories_write, tags_write, globals_write, exports_write, start_write, elements_write, datas_write, noting, noted, module_noted, laid, module_writes, module_stands}
+use Rattle.wasmprinter_reading.proofs.Back.{early, before, module_items, module_reads}
 
-module _ (o : Options) (names : Names) (named : AreNamed names) (m : PlacedModule) (h : IsRanged m) where
-  signatures : AreSignaturesInRange (signature_at (own_types names m))
-  signatures = signatures_ranged names m h
+-- ---- raw custom sections read back
 
-  function_pieces_write : (i : ℕ) (f : PlacedFunction) → i < 2 ^ 64 → IsRangedFunction f →
-      Writes Bound (function_pieces o (early names m) i f) Bound (Group (Word (codes "func") (own_function names m o.skeleton i f)) End)
-  unfolding function_pieces
-  function_pieces_write i f small k = break_writes (function_writes (early names m) named signatures refl o.skeleton o.offsets i f small k)
+-- behind cuts no annotation is left
+row_customs-cut : (f : Forest) → row_customs (cut f) ≡ []
+row_customs-cut End = refl
+row_customs-cut (Word s f) = row_customs-cut f
+row_customs-cut (Name s f) = row_customs-cut f
+row_customs-cut (String s f) = row_customs-cut f
+row_customs-cut (Reserved f) = row_customs-cut f
+row_customs-cut (Group g f) = row_customs-cut f
+row_customs-cut (Note id g f) = row_customs-cut f
 
-  own_imports_write : Writes Bound (imports_pieces (early names m) no_numbers m.imports) Bound (imports_items (early names m) no_numbers m.imports)
-  own_imports_write =
-      let small : 0 + length m.imports ≤ 2 ^ 64 = omega (arith, h.imports) in
-      imports_write (early names m) named signatures no_numbers m.imports
-      (record { functions = small; tables = small; memories = small; globals = small; tags = small })
-      h.each_import
+-- the raw custom sections of a row read as these
+record RawRow (f : Forest) (rs : List RawCustom) : Type 0 where
+  reads : RowReads f rs
 
-  tables_write : Writes Bound (numbered (table_pieces (early names m)) (length (imported table_import (without_places m.imports))) m.tables) Bound
-      (field_rows (codes "table") (own_table names m) (before names m TableKind) m.tables)
-  tables_write =
-      numbered_writes (λ t. IsRangedTable t.value) (table_pieces (early names m)) (λ i t. Word (codes "table") (own_table names m i t))
-      (table_writes (early names m) named signatures)
-      _ m.tables (numbers_fit names m h TableKind _ h.tables) h.each_table
+raw_rows : {f g : Forest} {rs ts : List RawCustom} → RawRow f rs → RawRow g ts → RawRow (onto f g) (rs ++ ts)
+raw_rows {f = f} {g = g} {rs = rs} {ts = ts} a b = record { reads = both_rows f g rs ts a.reads b.reads }
 
-  memories_write : Writes Bound (numbered (memory_pieces (early names m)) (length (imported memory_import (without_places m.imports))) m.memories) Bound
-      (field_rows (codes "memory") (own_memory names m) (before names m MemoryKind) m.memories)
-  memories_write =
-      numbered_writes (λ x. IsRangedMemory x.value) (memory_pieces (early names m)) (λ i x. Word (codes "memory") (own_memory names m i x))
-      (memory_writes (early names m) named)
-      _ m.memories (numbers_fit names m h MemoryKind _ h.memories) h.each_memory
+plain_row : {ps : List Piece} {f : Forest} → Writes Bound ps Bound f → RawRow f []
+plain_row {f = f} w =
+    let none : row_customs f ≡ [] = ap row_customs (sym w.without) ∙ row_customs-cut f in
+    record { reads = ap (λ cs. each read_custom (map cut cs)) none }
 
-  tags_write : Writes Bound (numbered (tag_pieces (early names m)) (length (imported tag_import (without_places m.imports))) m.tags) Bound
-      (field_rows (codes "tag") (own_tag names m) (before names m TagKind) m.tags)
-  tags_write =
-      numbered_writes (λ t. t.value < 2 ^ 32) (tag_pieces (early names m)) (λ i t. Word (codes "tag") (own_tag names m i t))
-      (tag_writes (early names m) named signatures)
-      _ m.tags (numbers_fit names m h TagKind _ h.tags) h.each_tag
+functions_row : (skeleton : Bool) (s : Scope) (es : List FunctionHints) (i : ℕ) (fs : List PlacedFunction) → RowReads (functions_hinted skeleton s es i fs) []
+functions_row skeleton s es i [] = refl
+functions_row skeleton s es i (f ∷ fs) = functions_row skeleton s (hints_behind i es) (i + 1) fs
 
-  globals_write : Writes Bound (numbered (global_pieces (early names m)) (length (imported global_import (without_places m.imports))) m.globals) Bound
-      (field_rows (codes "global") (own_global names m) (before names m GlobalKind) m.globals)
-  globals_write =
-      numbered_writes (λ g. IsRangedGlobal g.value) (global_pieces (early names m)) (λ i g. Word (codes "global") (own_global names m i g))
-      (global_writes (early names m) named signatures)
-      _ m.globals (numbers_fit names m h GlobalKind _ h.globals) h.each_global
+id_row : (o : Option Named) → RawRow (id_items o) []
+id_row None = record { reads = refl }
+id_row (Some n) = record { reads = refl }
 
-  exports_write : Writes Bound (numbered (λ i e. export_pieces (early names m) e) 0 m.exports) Bound (field_rows (codes "export") (own_export names m) 0 m.exports)
-  exports_write =
-      numbered_writes (λ e. IsRangedExport e.value) (λ i e. export_pieces (early names m) e) (λ i e. Word (codes "export") (own_export names m i e))
-      (λ i e small k. export_writes (early names m) named e k) 0 m.exports (omega (arith, h.exports)) h.each_export
+each-map : {A B C : Type 0} (f : B → Option C) (g : A → B) (xs : List A) → each (λ x. f (g x)) xs ≡ each f (map g xs)
+each-map f g [] = refl
+each-map f g (x ∷ xs) = ap (λ t. f (g x) >>= λ y. t >>= λ ys. Some (y ∷ ys)) (each-map f g xs)
 
-  elements_write : Writes Bound (numbered (element_pieces o.skeleton (early names m)) 0 m.elements) Bound
-      (field_rows (codes "elem") (own_element names m o.skeleton) 0 m.elements)
-  elements_write =
-      numbered_writes (λ e. IsRangedElement e.value) (element_pieces o.skeleton (early names m)) (λ i e. Word (codes "elem") (own_element names m o.skeleton i e))
-      (element_writes (early names m) named signatures o.skeleton) 0 m.elements (omega (arith, h.elements)) h.each_element
+module _ (o : Options) (names : Names) (named : AreNamed names) (m : PlacedModule) (h : IsRanged m) (answers : Answers) (unclaimed : AreUnclaimed answers)
+    (whole : o.skeleton ≡ false) where
+  raws : Option Kind → List RawCustom
+  raws place = raw_customs (at_place place m.customs)
 
-  functions_write : Writes Bound (numbered (function_pieces o (early names m)) (length (imported func_import (without_places m.imports))) m.functions) Bound
-      (field_rows (codes "func") (own_function names m o.skeleton) (before names m FuncKind) m.functions)
-  functions_write =
-      numbered_writes IsRangedFunction (function_pieces o (early names m)) (λ i f. Word (codes "func") (own_function names m o.skeleton i f))
-      function_pieces_write _ m.functions (numbers_fit names m h FuncKind _ h.functions) h.each_function
+  own_noted : Option Kind → Forest
+  own_noted place = noted o names named m h answers place
 
-  datas_write : Writes Bound (numbered (data_pieces o.skeleton (late names m)) 0 m.datas) Bound (field_rows (codes "data") (own_data names m o.skeleton) 0 m.datas)
-  datas_write =
-      numbered_writes (λ d. IsRangedData d.value) (data_pieces o.skeleton (late names m)) (λ i d. Word (codes "data") (own_data names m o.skeleton i d))
-      (data_writes (late names m) named signatures o.skeleton) 0 m.datas (omega (arith, h.datas)) h.each_data
+  place_row : (place : Option Kind) → RawRow (own_noted place) (raws place)
+  unfolding own_noted raws
+  place_row place = record { reads = (noting o names named m h answers place).reads unclaimed whole }
 
-  field_writes : Writes Bound (module_field_pieces o names m) Bound (module_items names m o.skeleton)
-  unfolding module_field_pieces module_items
-  field_writes =
-      both_write (type_section_writes names named 0 m.types (omega (arith, h.types)) h.each_group)
-      (both_write own_imports_write (both_write tables_write (both_write memories_write (both_write tags_write (both_write globals_write
-      (both_write exports_write (both_write (start_writes (early names m) named m.start h.start)
-      (both_write elements_write (both_write functions_write datas_write)))))))))
+  -- a part and the sections behind it
+  field_row : {f rest : Forest} {rs : List RawCustom} (place : Option Kind) → RawRow f [] → RawRow rest rs → RawRow (onto f (onto (own_noted place) rest)) (raws place ++ rs)
+  field_row place e r = raw_rows e (raw_rows (place_row place) r)
 
-  pub module_writes : Writes Free (module_pieces_with o names m) Free
-      (Group (Word (codes "module") (onto (id_items names.module_name) (module_items names m o.skeleton))) End)
-  unfolding module_pieces_with class
-  module_writes =
-      let last : Writes Bound (Feed ∷ []) Free End = feed_writes nothing_writes in
-      let held = both_write (leading_mark_writes names.module_name named.module_name) field_writes in
-      begin_writes (group_at_then o.offsets m.size 0 (codes "module") (leading_mark_pieces names.module_name ++ module_field_pieces o names m) (Feed ∷ []) refl refl held last)
+  module_row : RawRow (module_noted o names named m h answers) (raw_customs m.customs)
+  unfolding module_noted own_noted raws
+  module_row =
+      let functions : RawRow (functions_hinted o.skeleton (early names m) (hints_of m.customs) (before names m FuncKind) m.functions) [] =
+      record { reads = functions_row o.skeleton (early names m) (hints_of m.customs) (before names m FuncKind) m.functions } in
+      let last : RawRow (own_noted (Some DataSection)) (raws (Some DataSection) ++ []) =
+      subst (RawRow (own_noted (Some DataSection))) (sym (append-nil (raws (Some DataSection)))) (place_row (Some DataSection)) in
+      subst (RawRow (module_noted o names named m h answers)) (raws_over_all 0 m.customs h.customs_in_order)
+      (raw_rows (place_row None)
+      (field_row (Some TypeSection) (plain_row (types_write o names named m h))
+      (field_row (Some ImportSection) (plain_row (own_imports_write o names named m h))
+      (raw_rows (place_row (Some FunctionSection))
+      (field_row (Some TableSection) (plain_row (tables_write o names named m h))
+      (field_row (Some MemorySection) (plain_row (memories_write o names named m h))
+      (field_row (Some TagSection) (plain_row (tags_write o names named m h))
+      (field_row (Some GlobalSection) (plain_row (globals_write o names named m h))
+      (field_row (Some ExportSection) (plain_row (exports_write o names named m h))
+      (field_row (Some StartSection) (plain_row (start_write o names named m h))
+      (field_row (Some ElementSection) (plain_row (elements_write o names named m h))
+      (field_row (Some CodeSection) functions
+      (raw_rows (plain_row (datas_write o names named m h)) last)))))))))))))
 
-  read_pieces : IsBlank o.indent → read (text_of (all_calls o (module_pieces_with o names m))) ≡
-      read_forest (Group (Word (codes "module") (onto (id_items names.module_name) (module_items names m o.skeleton))) End)
-  read_pieces blank =
-      let w = module_writes in
-      let plain : IsPlainText (text_of (all_calls o (module_pieces_with o names m))) = text_is_plain o blank (module_pieces_with o names m) w.are in
-      ap (λ t. cond t (forest (text_of (all_calls o (module_pieces_with o names m))) >>= read_groups) None) (is_utf8-from_IsUtf8 _ (plain_is_utf8 _ plain))
-      ∙ ap (λ f. f >>= read_groups) (writes_forest o blank (module_pieces_with o names m) w)
-      ∙ ap (λ c. without_customs c (read_forest (cut w.whole))) w.in_groups
-      ∙ ap read_forest w.without
+  abbrev own_items : Forest
+  own_items = Group (Word (codes "module") (onto (id_items names.module_name) (module_items names m o.skeleton))) End
 
-module _ (o : Options) (m : PlacedModule) (h : IsRanged m) (blank : IsBlank o.indent) where
+  abbrev own_forest : Forest
+  own_forest = Group (Word (codes "module") (onto (id_items names.module_name) (module_noted o names named m h answers))) End
+
+  customs_read : (f : Forest) → Noted f own_forest → read_customs f ≡ Some (raw_customs m.customs)
+  customs_read f n =
+      each-map read_custom cut (customs f)
+      ∙ ap (each read_custom) (noted-raw_groups n)
+      ∙ ap (λ cs. each read_custom (map cut cs)) (append-nil (row_customs (onto (id_items names.module_name) (module_noted o names named m h answers))))
+      ∙ (raw_rows (id_row names.module_name) module_row).reads
+
+  -- ---- the text reads as the module
+
+  read_pieces : IsBlank o.indent → (laid o names named m h answers).refused ≡ None → (x : Module) → read_forest own_items ≡ Some x →
+      read (text_of (all_calls o (module_pieces_with o answers names m))) ≡ Some (record x { customs = raw_customs m.customs })
+  read_pieces blank none x e =
+      let ps : List Piece = module_pieces_with o answers names m in
+      let w = module_writes o names named m h answers none in
+      let plain : IsPlainText (text_of (all_calls o ps)) = text_is_plain o blank ps w.are in
+      ap (λ t. cond t (forest (text_of (all_calls o ps)) >>= read_groups) None) (is_utf8-from_IsUtf8 _ (plain_is_utf8 _ plain))
+      ∙ ap (λ f. f >>= read_groups) (writes_forest o blank ps w)
+      ∙ ap (λ f. read_forest f >>= λ y. read_customs w.whole >>= λ cs. Some (record y { customs = cs })) (noted-cut w.noted ∙ w.without)
+      ∙ ap (λ r. r >>= λ y. read_customs w.whole >>= λ cs. Some (record y { customs = cs })) e
+      ∙ ap (λ r. r >>= λ cs. Some (record x { customs = cs })) (customs_read w.whole w.noted)
+
+-- ---- the laws
+
+module _ (o : Options) (answers : Answers) (m : PlacedModule) (h : IsRanged m) (blank : IsBlank o.indent) where
   abbrev own_names : Names
   own_names = module_names o.invents m
 
   named : AreNamed own_names
   named = module_names_named o.invents m h
 
-  layout_tokens : tokens (text_of (all_calls o (module_pieces o m))) ≡ all_tokens (module_pieces o m)
+  layout_tokens : tokens (text_of (all_calls o (module_pieces o answers m))) ≡ all_tokens (module_pieces o answers m)
   unfolding module_pieces
-  layout_tokens = writes_tokens o blank (module_pieces_with o own_names m) (module_writes o own_names named m h)
+  layout_tokens =
+      let stands = module_stands o own_names named m h answers in
+      pieces_tokens o blank (module_pieces_with o answers own_names m) stands.0 stands.1
 
-  layout_is_plain : IsPlainText (text_of (all_calls o (module_pieces o m)))
+  layout_is_plain : IsPlainText (text_of (all_calls o (module_pieces o answers m)))
   unfolding module_pieces
-  layout_is_plain = text_is_plain o blank (module_pieces_with o own_names m) (module_writes o own_names named m h).are
+  layout_is_plain = text_is_plain o blank (module_pieces_with o answers own_names m) (module_stands o own_names named m h answers).1
 
-  read_layout : read (text_of (all_calls o (module_pieces o m))) ≡
-      read_forest (Group (Word (codes "module") (onto (id_items own_names.module_name) (module_items own_names m o.skeleton))) End)
+  read_layout : AreUnclaimed answers → o.skeleton ≡ false → refusal o answers m ≡ None → (x : Module) →
+      read_forest (Group (Word (codes "module") (onto (id_items own_names.module_name) (module_items own_names m o.skeleton))) End) ≡ Some x →
+      read (text_of (all_calls o (module_pieces o answers m))) ≡ Some (record x { customs = raw_customs m.customs })
   unfolding module_pieces
-  read_layout = read_pieces o own_names named m h blank
+  read_layout unclaimed whole none x e = read_pieces o own_names named m h answers unclaimed whole blank none x e
 
 pub reads_back : ReadsBack
 unfolding layout
-reads_back bytes m o answers spelled indexed some whole blank unclaimed =
+reads_back bytes m o answers spelled indexed some whole blank unclaimed none =
     let h : IsRanged m = ranged bytes m spelled in
     let names : Names = module_names o.invents m in
-    read_layout o m h blank
-    ∙ ap (λ s. read_forest (Group (Word (codes "module") (onto (id_items names.module_name) (module_items names m s))) End)) whole
-    ∙ module_reads names m (module_names_apart o.invents m h) indexed h some
+    read_layout o answers m h blank unclaimed whole none (record (module_of m) { customs = [] })
+    (ap (λ s. read_forest (Group (Word (codes "module") (onto (id_items names.module_name) (module_items names m s))) End)) whole
+    ∙ module_reads names m (module_names_apart o.invents m h) indexed h some)
 
 pub prints_plain_text : PrintsPlainText
 unfolding layout
-prints_plain_text bytes m o answers spelled blank = layout_is_plain o m (ranged bytes m spelled) blank
+prints_plain_text bytes m o answers spelled blank = layout_is_plain o answers m (ranged bytes m spelled) blank
 
 pub tokens_stay : TokensStay
 unfolding layout
 tokens_stay bytes m o p answers spelled same invents blank_o blank_p =
     let h : IsRanged m = ranged bytes m spelled in
-    layout_tokens o m h blank_o ∙ module_pieces_stay o p same invents m ∙ sym (layout_tokens p m h blank_p)
+    layout_tokens o answers m h blank_o ∙ module_pieces_stay o p same invents answers m ∙ sym (layout_tokens p answers m h blank_p)

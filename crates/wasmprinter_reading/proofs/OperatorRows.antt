@@ -73,7 +73,7 @@ counts = record {
 }
 
 abbrev setting : Names → Form → Setting
-setting names form = record { form = form; signature = signature; nesting = 2; names = names; function = 0 }
+setting names form = record { form = form; signature = signature; nesting = 2; names = names; function = 0; body = 0 }
 
 abbrev spaces : Names → Spaces
 spaces names = record {
@@ -146,9 +146,10 @@ two_blanks = (inl refl, (inl refl, tt))
 -- the text of operators that have what their law asks for reads as them
 reads_by : (invents : Bool) (entries : List Entry) → AreEntries entries → (form : Form) (os : List (Placed Operator)) → AreOperators counts os →
     read_alone (context (names_of invents entries)) (text_of (all_calls defaults (expression_pieces (setting (names_of invents entries) form) os))) ≡ Some (without_places os)
+unfolding expression_pieces
 reads_by invents entries h form os is =
     named_operators_read_back invents entries h (setting (names_of invents entries) form) refl (context (names_of invents entries)) counts
-    (same_types (names_of invents entries) form) (same_names (names_of invents entries) form) os is defaults two_blanks
+    (same_types (names_of invents entries) form) (same_names (names_of invents entries) form) [] os is defaults two_blanks
 
 -- no name sections, with identifiers made up or without
 abbrev unnamed : Names

@@ -1,6 +1,6 @@
 -- What a module that some bytes spell keeps to: counts and indices are numbers of 32 bits, names are UTF-8, and the table lists each
 -- operator with such immediates.
-use Rattle.std.proofs.Common.{◌≡◌, ℕ, ◌<◌, ◌≤◌, ◌^◌, Bool, true, false, length, List, Option, Some, None}
+use Rattle.std.proofs.Common.{◌≡◌, ℕ, ◌<◌, ◌≤◌, ◌^◌, suc, Bool, true, false, length, List, [], ◌∷◌, Option, Some, None}
 use Rattle.std.specs.Prelude.{IsUtf8}
 use Rattle.std.specs.List.{AllByRecursion}
 use Rattle.wasmprinter_spec.specs.Grammar.{Placed}
@@ -12,6 +12,7 @@ use Rattle.wasmprinter_spec.specs.Module.{without_places}
 use Rattle.wasmprinter_spec.specs.Placed.{LocalEntry, Body, Export, Import, Custom, Table, Global, Mode, Passive, Declared, Active, Items, Functions, Expressions, ElementEntry, DataMode, PassiveData, ActiveData, Data, PlacedFunction, PlacedModule}
 use Rattle.wasmprinter_reading.specs.Listed.{IsListed}
 use Rattle.wasmprinter_spec.specs.Binary.{AreBytes}
+use Rattle.wasmprinter_reading.proofs.Customs.Ordered.{AreInOrder}
 use Rattle.wasmprinter_reading.proofs.Types.Ranged.{IsRangedHeap, IsRangedVal, IsRangedGroup}
 
 abbrev pub IsRangedMax : Option ℕ → Type 0
@@ -97,26 +98,33 @@ abbrev pub IsRangedStart : Option (Placed ℕ) → Type 0
 IsRangedStart None = Unit {0}
 IsRangedStart (Some i) = i.value < 2 ^ 32
 
--- the bytes of a custom section are bytes
-abbrev pub IsRangedCustom : Custom → Type 0
-IsRangedCustom c = AreBytes c.bytes.value
+-- the name of a custom section is UTF-8, and its bytes are bytes
+pub record IsRangedCustom (c : Custom) : Type 0 where
+  pub name : IsUtf8 c.name
+  pub bytes : AreBytes c.bytes.value
 
 -- so many locals of a type in range
 pub record IsRangedLocal (e : LocalEntry) : Type 0 where
   pub count : e.count < 2 ^ 32
   pub type : IsRangedVal e.type
 
--- few groups of locals; operators that the table lists, well nested, as many as a size can count
-pub record IsRangedBody (b : Body) : Type 0 where
-  pub groups : length b.locals < 2 ^ 32
-  pub locals : AllByRecursion (λ e. IsRangedLocal e.value) b.locals
-  pub listed : AllByRecursion IsListed (without_places b.operators)
-  pub nested : Nests Sequence (roles b.operators)
-  pub count : length (without_places b.operators) ≤ 2 ^ 64
+-- their places rise from this one on
+abbrev pub ArePlaced : ℕ → List (Placed Operator) → Type 0
+ArePlaced p [] = Unit {0}
+ArePlaced p (o ∷ os) = (p ≤ o.place) × ArePlaced (suc o.place) os
+
+-- few groups of locals; operators that the table lists, well nested, as many as a size can count, one behind the other
+pub record IsRangedBody (b : Placed Body) : Type 0 where
+  pub groups : length b.value.locals < 2 ^ 32
+  pub locals : AllByRecursion (λ e. IsRangedLocal e.value) b.value.locals
+  pub listed : AllByRecursion IsListed (without_places b.value.operators)
+  pub nested : Nests Sequence (roles b.value.operators)
+  pub count : length (without_places b.value.operators) ≤ 2 ^ 64
+  pub places : ArePlaced b.place b.value.operators
 
 pub record IsRangedFunction (f : PlacedFunction) : Type 0 where
   pub type_index : f.type_index < 2 ^ 32
-  pub body : IsRangedBody f.body.value
+  pub body : IsRangedBody f.body
 
 pub record IsRanged (m : PlacedModule) : Type 0 where
   pub types : length m.types < 2 ^ 32
@@ -140,4 +148,5 @@ pub record IsRanged (m : PlacedModule) : Type 0 where
   pub each_element : AllByRecursion (λ e. IsRangedElement e.value) m.elements
   pub each_function : AllByRecursion IsRangedFunction m.functions
   pub each_data : AllByRecursion (λ d. IsRangedData d.value) m.datas
-  pub each_custom : AllByRecursion (λ c. IsRangedCustom c.value) m.customs
+  pub each_custom : AllByRecursion (λ c. IsRangedCustom c.section.value) m.customs
+  pub customs_in_order : AreInOrder 0 m.customs

@@ -1,24 +1,27 @@
 -- A module that bytes spell keeps to its ranges.
-use Rattle.std.proofs.Common.{◌≡◌, ℕ, suc, ◌<◌, ◌≤◌, ◌+◌, ◌^◌, ◌&&◌, List, [], ◌∷◌, length, bytes_eq, Some, None, refl, sym, ap, ◌∙◌, subst, inl, inr, arith}
+use Rattle.std.proofs.Common.{◌≡◌, ℕ, suc, ◌<◌, ◌≤◌, ◌+◌, ◌^◌, ◌&&◌, List, [], ◌∷◌, length, Option, Some, None, refl, sym, ap, subst, inl, inr, arith}
 use Rattle.std.specs.List.{AllByRecursion}
+use Rattle.std.proofs.lemmas.Bool.{and_parts}
 use Rattle.std.proofs.lemmas.List.{length-append, length-map}
 use Rattle.wasmprinter_spec.specs.Choices.{tested}
 use Rattle.wasmprinter_spec.specs.Grammar.{Grammar, Placed, ◌>>=◌, bind_some, some_is, seq, map_value, placed}
 use Rattle.wasmprinter_spec.specs.Name.{u32}
 use Rattle.wasmprinter_spec.specs.Operator.{Operator}
 use Rattle.wasmprinter_spec.specs.Nesting.{Nests, Sequence}
-use Rattle.wasmprinter_spec.specs.Instructions.{roles}
+use Rattle.wasmprinter_spec.specs.Instructions.{roles, operator, operator_takes}
+use Rattle.wasmprinter_spec.specs.Repeated.{Items}
 use Rattle.wasmprinter_spec.specs.Module.{without_places}
 use Rattle.wasmprinter_spec.specs.Placed.{Body, Custom, custom_of, PlacedFunction, PlacedModule}
 use Rattle.wasmprinter_spec.specs.Sized.{exactly, alone}
 use Rattle.wasmprinter_spec.specs.Binary.Exports.{extern_kind, export}
-use Rattle.wasmprinter_spec.specs.Binary.Customs.{name_section, listed_custom, custom_section}
+use Rattle.wasmprinter_spec.specs.Binary.Customs.{custom_section}
 use Rattle.wasmprinter_spec.specs.Binary.Code.{local_entry, body_from, body, code_entry}
-use Rattle.wasmprinter_spec.specs.Sections.{Kind, CustomSection, TypeSection, ImportSection, FunctionSection, TableSection, MemorySection, TagSection, GlobalSection, ExportSection, StartSection, ElementSection, DataCountSection, CodeSection, DataSection, Section, holds, content, content_of, section_id, section, are_above, contents_in}
-use Rattle.wasmprinter_spec.proofs.Ordered.{picks, picked_own, held_each}
+use Rattle.wasmprinter_spec.specs.Sections.{Kind, CustomSection, TypeSection, ImportSection, FunctionSection, TableSection, MemorySection, TagSection, GlobalSection, ExportSection, StartSection, ElementSection, DataCountSection, CodeSection, DataSection, Section, holds, content, content_of, section_id, section, are_above, place_behind, customs_behind}
+use Rattle.wasmprinter_spec.proofs.Ordered.{picks, held_each}
 use Rattle.wasmprinter_spec.specs.Binary.{type_indices_in, bodies_in, data_count_in, datas_in, counts_data, function_pairs, module_from, module_of_sections, AreBytes, Spells}
 use Rattle.wasmprinter_reading.specs.Listed.{IsListed}
-use Rattle.wasmprinter_reading.proofs.Ranged.{IsRangedImport, IsRangedTable, IsRangedMemory, IsRangedGlobal, IsRangedExport, IsRangedStart, IsRangedElement, IsRangedData, IsRangedCustom, IsRangedLocal, IsRangedBody, IsRangedFunction, IsRanged}
+use Rattle.wasmprinter_reading.proofs.Ranged.{IsRangedImport, IsRangedTable, IsRangedMemory, IsRangedGlobal, IsRangedExport, IsRangedStart, IsRangedElement, IsRangedData, IsRangedCustom, IsRangedLocal, ArePlaced, IsRangedBody, IsRangedFunction, IsRanged}
+use Rattle.wasmprinter_reading.proofs.Customs.Ordered.{in_order}
 use Rattle.wasmprinter_reading.proofs.AllSpelled.{AllSpelled, split_bytes, entries_have, AllSpelled-any, AllSpelled-seq, AllSpelled-map_value, AllSpelled-placed, AllSpelled-exactly, AllSpelled-within}
 use Rattle.wasmprinter_reading.proofs.Few.{FewSpelled, FewSpelled-placed, FewSpelled-vec, AllSpelled-few}
 use Rattle.wasmprinter_reading.proofs.PartRanges.{AllSpelled-name, AllSpelled-memory_type, AllSpelled-tag, FewSpelled-table, FewSpelled-global, AllSpelled-import, FewSpelled-element, FewSpelled-data}
@@ -49,7 +52,7 @@ IsRangedSection (holds ExportSection es) = IsVector (λ e. IsRangedExport e.valu
 IsRangedSection (holds StartSection start) = IsRangedStart start
 IsRangedSection (holds ElementSection es) = IsVector (λ e. IsRangedElement e.value) es
 IsRangedSection (holds DataCountSection count) = Unit {0}
-IsRangedSection (holds CodeSection bs) = IsVector (λ b. IsRangedBody b.value) bs
+IsRangedSection (holds CodeSection bs) = IsVector IsRangedBody bs
 IsRangedSection (holds DataSection ds) = IsVector (λ d. IsRangedData d.value) ds
 
 -- An export: a name, a kind and an index.
@@ -77,16 +80,37 @@ body_takes p text b s =
     let count : length x.1.items ≤ length parts.1 = expression_takes (p + length parts.0) parts.1 x.1 parts.4 in
     omega (arith, count, ap (λ y. length y.operators) same, ap length parts.2, length-append parts.0 parts.1)
 
+-- one stands behind the other
+operators_placed : (os : List (Placed Operator)) (low p : ℕ) (text : List ℕ) → low ≤ p → Items (placed operator) p text os → ArePlaced low os
+operators_placed [] low p text h s = tt
+operators_placed (o ∷ os) low p text h s =
+    let takes : 0 < length s.0 = operator_takes p s.0 o s.3 in
+    (omega (arith, h, s.3.0), operators_placed os (suc o.place) (p + length s.0) s.1 (omega (arith, takes, s.3.0)) s.4)
+
+body_placed : (p : ℕ) (text : List ℕ) (b : Placed Body) → (placed body).spells p text b → ArePlaced b.place b.value.operators
+body_placed p text b s =
+    let x = s.1.0 in
+    let parts = s.1.2 in
+    let same : body_from x.0 x.1 ≡ b.value = some_is (body_from x.0 x.1) b.value s.1.1 in
+    let placed : ArePlaced b.place x.1.items = operators_placed x.1.items b.place (p + length parts.0) parts.4.0 (omega (arith, s.0)) parts.4.2 in
+    subst (λ y. ArePlaced b.place y.operators) same placed
+
+AllSpelled-placed_body : AllSpelled (placed body) (λ b. IsNestedBody b.value × ArePlaced b.place b.value.operators)
+AllSpelled-placed_body = record {
+  has = λ p text b bytes s. ((AllSpelled-placed AllSpelled-body).has p text b bytes s, body_placed p text b s);
+}
+
 -- A code entry: its body.
-AllSpelled-code_entry : AllSpelled code_entry (λ b. IsRangedBody b.value)
+AllSpelled-code_entry : AllSpelled code_entry IsRangedBody
 AllSpelled-code_entry =
-    AllSpelled-map_value (AllSpelled-seq AllSpelled-u32 (λ size. AllSpelled-within {size = λ b. length b.value.operators} body_takes (AllSpelled-placed AllSpelled-body) size))
+    AllSpelled-map_value (AllSpelled-seq AllSpelled-u32 (λ size. AllSpelled-within {size = λ b. length b.value.operators} body_takes AllSpelled-placed_body size))
     (λ x h. record {
-      groups = h.1.0.locals.count;
-      locals = h.1.0.locals.each;
-      listed = h.1.0.listed;
-      nested = h.1.0.nested;
+      groups = h.1.0.0.locals.count;
+      locals = h.1.0.0.locals.each;
+      listed = h.1.0.0.listed;
+      nested = h.1.0.0.nested;
       count = omega (arith, h.0, h.1.1, length-map x.1.value.operators (λ (o : Placed Operator). o.value));
+      places = h.1.0.1;
     })
 
 -- A size and what a section holds.
@@ -100,17 +124,13 @@ AllSpelled-few_sized : {A : Type 0} {g : Grammar A} {P : A → Type 0} (made : A
 AllSpelled-few_sized made all keeps = AllSpelled-map_value (AllSpelled-seq AllSpelled-u32 (λ size. AllSpelled-few all size)) (λ x h. keeps x.1 (h.1 h.0))
 
 -- A custom section: a name, and all other bytes.
-custom_ranged : (x : List ℕ × Placed (List ℕ)) (c : Custom) → listed_custom x ≡ Some c → AreBytes x.1.value → IsRangedCustom c
-custom_ranged x c e h =
-    let t = tested (bytes_eq x.0 name_section) (Some (custom_of x.0 x.1)) c e in
-    subst IsRangedCustom (some_is (custom_of x.0 x.1) c t.1) h
-
 custom_has : (p : ℕ) (text : List ℕ) (c : Placed Custom) → AreBytes text → custom_section.spells p text c → IsRangedCustom c.value
 custom_has p text c bytes s =
     let x = s.1.0 in
     let parts = s.1.2 in
-    let behind = split_bytes parts.0 parts.1 (subst AreBytes parts.2 bytes) in
-    custom_ranged x c.value s.1.1 (subst AreBytes (sym parts.4.1) behind.1)
+    let both = split_bytes parts.0 parts.1 (subst AreBytes parts.2 bytes) in
+    subst IsRangedCustom (some_is (custom_of x.0 x.1) c.value s.1.1)
+    (record { name = AllSpelled-name.has p parts.0 x.0 both.0 parts.3; bytes = subst AreBytes (sym parts.4.1) both.1 })
 
 AllSpelled-custom : (size : ℕ) → AllSpelled (exactly custom_section size) (λ c. IsRangedCustom c.value)
 AllSpelled-custom size = record { has = λ p text c bytes s. custom_has p text c bytes s.1 }
@@ -140,15 +160,13 @@ AllSpelled-section = AllSpelled-map_value (AllSpelled-seq (AllSpelled-any sectio
 no_items : {A : Type 0} (P : A → Type 0) → IsVector P []
 no_items P = record { count = omega arith; each = tt }
 
--- What is so of each section is so of what those of a kind hold.
-contents_each : (kind : Kind) (P : Section → Type 0) (ss : List Section) → AllByRecursion P ss → AllByRecursion (λ x. P (holds kind x)) (contents_in kind ss)
-contents_each kind P [] all = tt
-contents_each kind P (s ∷ ss) all =
-    elim (picks kind s) [
-      | inl other ↦ rw other (contents_each kind P ss all.1)
-      | inr own ↦
-          let picked : content_of kind s ≡ Some own.0 = ap (content_of kind) own.1 ∙ picked_own kind own.0 in
-          rw picked (subst P own.1 all.0, contents_each kind P ss all.1)
+-- What is so of each section is so of each that is custom.
+customs_each : (last : Option Kind) (ss : List Section) → AllByRecursion IsRangedSection ss → AllByRecursion (λ c. IsRangedCustom c.section.value) (customs_behind last ss)
+customs_each last [] all = tt
+customs_each last (s ∷ ss) all =
+    elim (picks CustomSection s) [
+      | inl other ↦ rw other (customs_each (place_behind last s) ss all.1)
+      | inr own ↦ rw (ap (content_of CustomSection) own.1) (subst IsRangedSection own.1 all.0, customs_each (place_behind last s) ss all.1)
     ]
 
 -- ---- functions
@@ -159,7 +177,7 @@ AreRangedFunctions n fs = (length fs ≡ n) × AllByRecursion IsRangedFunction f
 
 -- Type indices and bodies that pair make as many functions.
 pairs_ranged : (is : List ℕ) (bs : List (Placed Body)) (fs : List PlacedFunction) → function_pairs is bs ≡ Some fs →
-    AllByRecursion (λ i. i < 2 ^ 32) is → AllByRecursion (λ b. IsRangedBody b.value) bs → AreRangedFunctions (length is) fs
+    AllByRecursion (λ i. i < 2 ^ 32) is → AllByRecursion IsRangedBody bs → AreRangedFunctions (length is) fs
 pairs_ranged [] [] fs e indices bodies = subst (AreRangedFunctions 0) (some_is [] fs e) (refl, tt)
 pairs_ranged (i ∷ is) (b ∷ bs) fs e indices bodies =
     let first : PlacedFunction = record { type_index = i; body = b } in
@@ -187,8 +205,8 @@ module_ranged size ss m e ranged =
     let exports = held_each ExportSection IsRangedSection [] ss ranged (no_items (λ e. IsRangedExport e.value)) in
     let start = held_each StartSection IsRangedSection None ss ranged tt in
     let elements = held_each ElementSection IsRangedSection [] ss ranged (no_items (λ e. IsRangedElement e.value)) in
-    let bodies = held_each CodeSection IsRangedSection [] ss ranged (no_items (λ b. IsRangedBody b.value)) in
-    let customs = contents_each CustomSection IsRangedSection ss ranged in
+    let bodies = held_each CodeSection IsRangedSection [] ss ranged (no_items IsRangedBody) in
+    let customs = customs_each None ss ranged in
     let datas = held_each DataSection IsRangedSection [] ss ranged (no_items (λ d. IsRangedData d.value)) in
     let pairs = pairs_ranged (type_indices_in ss) (bodies_in ss) functions.0 functions.1 type_indices.each bodies.each in
     subst IsRanged (some_is (module_from size ss functions.0) m functions.2)
@@ -215,6 +233,7 @@ module_ranged size ss m e ranged =
       each_function = pairs.1;
       each_data = datas.each;
       each_custom = customs;
+      customs_in_order = in_order 0 None ss refl (omega arith) (and_parts (are_above 0 ss) (counts_data (data_count_in ss) (length (datas_in ss))) ordered.0).0;
     })
 
 -- A module that bytes spell keeps to its ranges.

@@ -1,26 +1,24 @@
 -- The tokens of a layout do not depend on whether lines begin with their places.
-use Rattle.std.proofs.Common.{◌≡◌, ℕ, ◌+◌, Bool, true, false, ◌||◌, List, [], ◌∷◌, ◌++◌, Option, Some, length, refl, sym, ap, ap₂, ◌∙◌, codes}
+use Rattle.std.proofs.Common.{◌≡◌, ℕ, ◌+◌, Bool, true, false, ◌||◌, List, [], ◌∷◌, ◌++◌, Option, Some, None, length, refl, sym, ap, ap₂, subst, ◌∙◌, codes}
+use Rattle.wasmprinter_spec.specs.Grammar.{Placed}
 use Rattle.wasmprinter_spec.specs.Row.{Func}
+use Rattle.wasmprinter_spec.specs.Kinds.{Kind, TypeSection, ImportSection, FunctionSection, TableSection, MemorySection, TagSection, GlobalSection, ExportSection, StartSection, ElementSection, CodeSection, DataSection}
 use Rattle.wasmprinter_spec.specs.Names.{Names}
 use Rattle.wasmprinter_spec.specs.ModuleNames.{module_names}
 use Rattle.wasmprinter_spec.specs.Token.{Token, left, right, word}
-use Rattle.wasmprinter_spec.specs.Options.{Options}
+use Rattle.wasmprinter_spec.specs.Options.{Options, Answers}
+use Rattle.wasmprinter_spec.specs.Customs.Hints.{Hint, FunctionHints, hints_of, next_hints, hints_behind}
 use Rattle.wasmprinter_spec.specs.Piece.{Piece, Feed, all_tokens}
-use Rattle.wasmprinter_spec.specs.Placed.{Import, PlacedFunction, PlacedModule}
-use Rattle.wasmprinter_spec.specs.Module.{without_places, imported, func_import, table_import, memory_import, global_import, tag_import}
+use Rattle.wasmprinter_spec.specs.Placed.{PlacedFunction, PlacedModule}
+use Rattle.wasmprinter_spec.specs.Module.{without_places, imported, func_import}
 use Rattle.wasmprinter_spec.specs.Layout.Groups.{group_at, group_gap_at, close, has_break, numbered}
 use Rattle.wasmprinter_spec.specs.Layout.Identifiers.{leading_mark_pieces}
 use Rattle.wasmprinter_spec.specs.Layout.Declarations.{Scope}
-use Rattle.wasmprinter_spec.specs.Layout.Types.{type_section_pieces}
-use Rattle.wasmprinter_spec.specs.Layout.Memories.{memory_pieces}
-use Rattle.wasmprinter_spec.specs.Layout.Exports.{export_pieces}
-use Rattle.wasmprinter_spec.specs.Layout.Functions.{header_pieces, inner_pieces, function_pieces, function_group}
-use Rattle.wasmprinter_spec.specs.Layout.Tables.{table_pieces}
-use Rattle.wasmprinter_spec.specs.Layout.Globals.{global_pieces}
-use Rattle.wasmprinter_spec.specs.Layout.Imports.{no_numbers, imports_pieces}
+use Rattle.wasmprinter_spec.specs.Layout.Functions.{header_pieces, inner_pieces, function_pieces, functions_pieces, function_group}
 use Rattle.wasmprinter_spec.specs.Layout.Elements.{element_pieces}
 use Rattle.wasmprinter_spec.specs.Layout.DataSegments.{data_pieces}
-use Rattle.wasmprinter_spec.specs.Layout.{tag_pieces, start_pieces, early_scope, late_scope, module_field_pieces, module_pieces_with, module_pieces}
+use Rattle.wasmprinter_spec.specs.Layout.Customs.{Part, Shown, Stops, parts_at, Laid, laid_parts}
+use Rattle.wasmprinter_spec.specs.Layout.{early_scope, late_scope, module_parts, module_pieces_of, module_pieces_with, module_pieces}
 use Rattle.wasmprinter_lexical.proofs.Writes.{all_tokens-append, close_tokens}
 
 -- the tokens of a keyword, of what a group holds and of its end
@@ -40,22 +38,13 @@ unfolding group_gap_at
 group_gap_at_tokens offsets place nesting w ps = ap (λ ts. left ∷ (word w ∷ ts)) (closed_tokens ps (Some place) nesting (offsets || has_break ps))
 
 -- a function without regard to places
-function_stays : (skeleton a b : Bool) (s : Scope) (f : PlacedFunction) → all_tokens (function_group skeleton a s f) ≡ all_tokens (function_group skeleton b s f)
+function_stays : (skeleton a b : Bool) (s : Scope) (hs : List (Placed Hint)) (f : PlacedFunction) →
+    all_tokens (function_group skeleton a s hs f) ≡ all_tokens (function_group skeleton b s hs f)
 unfolding function_group
-function_stays true a b s f = refl
-function_stays false a b s f =
-    let ps : List Piece = header_pieces s Func (Some s.function) s.function f.type_index ++ inner_pieces s f in
+function_stays true a b s hs f = refl
+function_stays false a b s hs f =
+    let ps : List Piece = header_pieces s Func (Some s.function) s.function f.type_index ++ inner_pieces s hs f in
     group_gap_at_tokens a f.body.value.end 1 (codes "func") ps ∙ sym (group_gap_at_tokens b f.body.value.end 1 (codes "func") ps)
-
-numbered_stays : {A : Type 0} (f g : ℕ → A → List Piece) → ((i : ℕ) (x : A) → all_tokens (f i x) ≡ all_tokens (g i x)) →
-    (i : ℕ) (xs : List A) → all_tokens (numbered f i xs) ≡ all_tokens (numbered g i xs)
-unfolding numbered
-numbered_stays f g law i [] = refl
-numbered_stays f g law i (x ∷ xs) =
-    all_tokens-append (f i x) (numbered f (i + 1) xs)
-    ∙ ap (λ ts. ts ++ all_tokens (numbered f (i + 1) xs)) (law i x)
-    ∙ ap (λ ts. all_tokens (g i x) ++ ts) (numbered_stays f g law (i + 1) xs)
-    ∙ sym (all_tokens-append (g i x) (numbered g (i + 1) xs))
 
 -- the same pieces before others
 behind_stays : (ps qs rs : List Piece) → all_tokens qs ≡ all_tokens rs → all_tokens (ps ++ qs) ≡ all_tokens (ps ++ rs)
@@ -65,49 +54,97 @@ behind_stays ps qs rs e = all_tokens-append ps qs ∙ ap (λ ts. all_tokens ps +
 both_stay : (ps ps2 qs qs2 : List Piece) → all_tokens ps ≡ all_tokens ps2 → all_tokens qs ≡ all_tokens qs2 → all_tokens (ps ++ qs) ≡ all_tokens (ps2 ++ qs2)
 both_stay ps ps2 qs qs2 e f = all_tokens-append ps qs ∙ ap₂ (λ ts us. ts ++ us) e f ∙ sym (all_tokens-append ps2 qs2)
 
-module _ (o p : Options) (same : o.skeleton ≡ p.skeleton) where
-  function_pieces_stay : (s : Scope) (i : ℕ) (f : PlacedFunction) → all_tokens (function_pieces o s i f) ≡ all_tokens (function_pieces p s i f)
-  unfolding function_pieces
-  function_pieces_stay s i f =
-      let own : Scope = record s { function = i } in
-      ap (λ t. all_tokens (function_group t o.offsets own f)) same ∙ function_stays p.skeleton o.offsets p.offsets own f
+-- ---- parts with the same tokens and refusals
 
-  module _ (names : Names) (m : PlacedModule) where
-    module_field_pieces_stay : all_tokens (module_field_pieces o names m) ≡ all_tokens (module_field_pieces p names m)
-    unfolding module_field_pieces
-    module_field_pieces_stay =
-        let is : List Import = without_places m.imports in
+data PartsStay : List Part → List Part → Type 0 where
+  no_parts : PartsStay [] []
+  both_shown : {ps qs : List Piece} {xs ys : List Part} → all_tokens ps ≡ all_tokens qs → PartsStay xs ys → PartsStay (Shown ps ∷ xs) (Shown qs ∷ ys)
+  both_stop : {ps : List Piece} {id : ℕ} {xs ys : List Part} → PartsStay xs ys → PartsStay (Stops ps id ∷ xs) (Stops ps id ∷ ys)
+
+same_stay : (xs : List Part) → PartsStay xs xs
+same_stay [] = no_parts
+same_stay (Shown ps ∷ xs) = both_shown refl (same_stay xs)
+same_stay (Stops ps id ∷ xs) = both_stop (same_stay xs)
+
+parts_then : {xs ys zs ws : List Part} → PartsStay xs ys → PartsStay zs ws → PartsStay (xs ++ zs) (ys ++ ws)
+parts_then no_parts w = w
+parts_then (both_shown e v) w = both_shown e (parts_then v w)
+parts_then (both_stop v) w = both_stop (parts_then v w)
+
+record LaidAlike (a b : Laid) : Type 0 where
+  tokens : all_tokens a.pieces ≡ all_tokens b.pieces
+  refused : a.refused ≡ b.refused
+
+joined_alike : {xs ys : List Part} → PartsStay xs ys → LaidAlike (laid_parts xs) (laid_parts ys)
+joined_alike no_parts = record { tokens = refl; refused = refl }
+joined_alike (both_shown {ps} {qs} {xs} {ys} e v) =
+    let rest : LaidAlike (laid_parts xs) (laid_parts ys) = joined_alike v in
+    record { tokens = both_stay ps qs (laid_parts xs).pieces (laid_parts ys).pieces e rest.tokens; refused = rest.refused }
+joined_alike (both_stop v) = record { tokens = refl; refused = refl }
+
+-- ---- the module
+
+module _ (o p : Options) (same : o.skeleton ≡ p.skeleton) where
+  function_pieces_stay : (s : Scope) (i : ℕ) (hs : List (Placed Hint)) (f : PlacedFunction) → all_tokens (function_pieces o s i hs f) ≡ all_tokens (function_pieces p s i hs f)
+  unfolding function_pieces
+  function_pieces_stay s i hs f =
+      let own : Scope = record s { function = i } in
+      ap (λ t. all_tokens (function_group t o.offsets own hs f)) same ∙ function_stays p.skeleton o.offsets p.offsets own hs f
+
+  functions_stay : (s : Scope) (es : List FunctionHints) (i : ℕ) (fs : List PlacedFunction) → all_tokens (functions_pieces o s es i fs) ≡ all_tokens (functions_pieces p s es i fs)
+  unfolding functions_pieces
+  functions_stay s es i [] = refl
+  functions_stay s es i (f ∷ fs) =
+      both_stay (function_pieces o s i (next_hints i es) f) (function_pieces p s i (next_hints i es) f) _ _ (function_pieces_stay s i (next_hints i es) f)
+      (functions_stay s (hints_behind i es) (i + 1) fs)
+
+  module _ (answers : Answers) (names : Names) (m : PlacedModule) where
+    customs_stay : (place : Option Kind) → PartsStay (parts_at o.skeleton answers place 0 m.customs) (parts_at p.skeleton answers place 0 m.customs)
+    customs_stay place =
+        subst (λ t. PartsStay (parts_at o.skeleton answers place 0 m.customs) (parts_at t answers place 0 m.customs)) same
+        (same_stay (parts_at o.skeleton answers place 0 m.customs))
+
+    -- a part, and the custom sections behind it
+    field_stays : {ps qs : List Piece} (place : Option Kind) → all_tokens ps ≡ all_tokens qs →
+        PartsStay (Shown ps ∷ parts_at o.skeleton answers place 0 m.customs) (Shown qs ∷ parts_at p.skeleton answers place 0 m.customs)
+    field_stays place e = both_shown e (customs_stay place)
+
+    parts_stay : PartsStay (module_parts o answers names m) (module_parts p answers names m)
+    parts_stay =
         let s : Scope = early_scope names m in
         let elements : Bool → List Piece = λ t. numbered (element_pieces t s) 0 m.elements in
-        let functions : Options → List Piece = λ x. numbered (function_pieces x s) (length (imported func_import is)) m.functions in
         let datas : Bool → List Piece = λ t. numbered (data_pieces t (late_scope names m)) 0 m.datas in
-        behind_stays (type_section_pieces names 0 m.types) _ _
-        (behind_stays (imports_pieces s no_numbers m.imports) _ _
-        (behind_stays (numbered (table_pieces s) (length (imported table_import is)) m.tables) _ _
-        (behind_stays (numbered (memory_pieces s) (length (imported memory_import is)) m.memories) _ _
-        (behind_stays (numbered (tag_pieces s) (length (imported tag_import is)) m.tags) _ _
-        (behind_stays (numbered (global_pieces s) (length (imported global_import is)) m.globals) _ _
-        (behind_stays (numbered (λ i e. export_pieces s e) 0 m.exports) _ _
-        (behind_stays (start_pieces s m.start) _ _
-        (both_stay (elements o.skeleton) (elements p.skeleton) (functions o ++ datas o.skeleton) (functions p ++ datas p.skeleton)
-        (ap (λ t. all_tokens (elements t)) same)
-        (both_stay (functions o) (functions p) (datas o.skeleton) (datas p.skeleton)
-        (numbered_stays (function_pieces o s) (function_pieces p s) (function_pieces_stay s) (length (imported func_import is)) m.functions)
-        (ap (λ t. all_tokens (datas t)) same))))))))))
+        let functions = functions_stay s (hints_of m.customs) (length (imported func_import (without_places m.imports))) m.functions in
+        let first = parts_then (customs_stay None) (field_stays (Some TypeSection) refl) in
+        let second = parts_then (parts_then first (field_stays (Some ImportSection) refl)) (customs_stay (Some FunctionSection)) in
+        let third = parts_then (parts_then second (field_stays (Some TableSection) refl)) (field_stays (Some MemorySection) refl) in
+        let fourth = parts_then (parts_then third (field_stays (Some TagSection) refl)) (field_stays (Some GlobalSection) refl) in
+        let fifth = parts_then (parts_then fourth (field_stays (Some ExportSection) refl)) (field_stays (Some StartSection) refl) in
+        let sixth = parts_then (parts_then fifth (field_stays (Some ElementSection) (ap (λ t. all_tokens (elements t)) same))) (field_stays (Some CodeSection) functions) in
+        parts_then sixth (field_stays (Some DataSection) (ap (λ t. all_tokens (datas t)) same))
 
-    pub module_pieces_with_stay : all_tokens (module_pieces_with o names m) ≡ all_tokens (module_pieces_with p names m)
+    -- whole or up to a refusal
+    pieces_stay : (r : Option ℕ) (ps qs : List Piece) → all_tokens ps ≡ all_tokens qs →
+        all_tokens (module_pieces_of o names m.size ps r) ≡ all_tokens (module_pieces_of p names m.size qs r)
+    pieces_stay None ps qs e =
+        let name : List Piece = leading_mark_pieces names.module_name in
+        all_tokens-append (group_at o.offsets m.size 0 (codes "module") (name ++ ps)) (Feed ∷ [])
+        ∙ ap (λ ts. ts ++ [])
+        (group_at_tokens o.offsets m.size 0 (codes "module") (name ++ ps)
+        ∙ ap (group_tokens (codes "module")) (behind_stays name ps qs e)
+        ∙ sym (group_at_tokens p.offsets m.size 0 (codes "module") (name ++ qs)))
+        ∙ sym (all_tokens-append (group_at p.offsets m.size 0 (codes "module") (name ++ qs)) (Feed ∷ []))
+    pieces_stay (Some id) ps qs e = ap (λ ts. left ∷ (word (codes "module") ∷ ts)) (behind_stays (leading_mark_pieces names.module_name) ps qs e)
+
+    pub module_pieces_with_stay : all_tokens (module_pieces_with o answers names m) ≡ all_tokens (module_pieces_with p answers names m)
     unfolding module_pieces_with
     module_pieces_with_stay =
-        let name : List Piece = leading_mark_pieces names.module_name in
-        let whole : Options → List Piece = λ x. name ++ module_field_pieces x names m in
-        all_tokens-append (group_at o.offsets m.size 0 (codes "module") (whole o)) (Feed ∷ [])
-        ∙ ap (λ ts. ts ++ [])
-        (group_at_tokens o.offsets m.size 0 (codes "module") (whole o)
-        ∙ ap (group_tokens (codes "module")) (behind_stays name (module_field_pieces o names m) (module_field_pieces p names m) module_field_pieces_stay)
-        ∙ sym (group_at_tokens p.offsets m.size 0 (codes "module") (whole p)))
-        ∙ sym (all_tokens-append (group_at p.offsets m.size 0 (codes "module") (whole p)) (Feed ∷ []))
+        let a : Laid = laid_parts (module_parts o answers names m) in
+        let b : Laid = laid_parts (module_parts p answers names m) in
+        let alike : LaidAlike a b = joined_alike parts_stay in
+        ap (λ r. all_tokens (module_pieces_of o names m.size a.pieces r)) alike.refused ∙ pieces_stay b.refused a.pieces b.pieces alike.tokens
 
-  pub module_pieces_stay : o.invents ≡ p.invents → (m : PlacedModule) → all_tokens (module_pieces o m) ≡ all_tokens (module_pieces p m)
+  pub module_pieces_stay : o.invents ≡ p.invents → (answers : Answers) (m : PlacedModule) → all_tokens (module_pieces o answers m) ≡ all_tokens (module_pieces p answers m)
   unfolding module_pieces
-  module_pieces_stay invents m =
-      ap (λ t. all_tokens (module_pieces_with o (module_names t m) m)) invents ∙ module_pieces_with_stay (module_names p.invents m) m
+  module_pieces_stay invents answers m =
+      ap (λ t. all_tokens (module_pieces_with o answers (module_names t m) m)) invents ∙ module_pieces_with_stay answers (module_names p.invents m) m

@@ -1,5 +1,5 @@
 -- The laws of nested operators: their text reads as exactly them.
-use Rattle.std.specs.Prelude.{◌≡◌, ℕ, ◌<◌, ◌≤◌, ◌^◌, List, length, Bool, Option, Some}
+use Rattle.std.specs.Prelude.{◌≡◌, ℕ, ◌<◌, ◌≤◌, ◌^◌, List, [], length, Bool, true, Option, Some}
 use Rattle.std.specs.List.{AllByRecursion}
 use Rattle.wasmprinter_spec.specs.Grammar.{Placed, ◌>>=◌}
 use Rattle.wasmprinter_spec.specs.Types.{FieldType, FuncType}
@@ -14,7 +14,8 @@ use Rattle.wasmprinter_spec.specs.Options.{Options, IsBlank}
 use Rattle.wasmprinter_spec.specs.Names.Section.{Entry}
 use Rattle.wasmprinter_spec.specs.Names.{AreApart, AreNamed, in_function, identifiers, names_of}
 use Rattle.wasmprinter_spec.specs.Piece.{all_calls}
-use Rattle.wasmprinter_spec.specs.Layout.Operators.{Setting, expression_pieces}
+use Rattle.wasmprinter_spec.specs.Customs.Hints.{Hint}
+use Rattle.wasmprinter_spec.specs.Layout.Operators.{Setting, operators_pieces}
 use Rattle.wasmprinter_spec.specs.Forest.{forest, cut}
 use Rattle.wasmprinter_spec.specs.Code.{unfolded}
 use Rattle.wasmprinter_spec.specs.IndexSpaces.{Context, space_in}
@@ -62,14 +63,15 @@ pub record AreOperators (n : Counts) (os : List (Placed Operator)) : Type 0 wher
 abbrev pub read_alone : Context → List ℕ → Option (List Operator)
 read_alone c text = forest text >>= λ f. unfolded (cut f) >>= read_operators c
 
--- The text that is laid out for operators, over lines or in one, reads as exactly them, whatever items and labels are called.
+-- The text that is laid out for operators, over lines or in one, with hints in front of them or without, reads as exactly them, whatever items and
+-- labels are called.
 abbrev pub OperatorsReadBack : Type 0
 OperatorsReadBack =
     (s : Setting) → AreApart s.names → AreNamed s.names →
     (c : Context) (n : Counts) → HaveSameTypes s c n → HaveSameNames s c n →
-    (os : List (Placed Operator)) → AreOperators n os →
+    (hs : List (Placed Hint)) (os : List (Placed Operator)) → AreOperators n os →
     (o : Options) → IsBlank o.indent →
-    read_alone c (text_of (all_calls o (expression_pieces s os))) ≡ Some (without_places os)
+    read_alone c (text_of (all_calls o (operators_pieces s hs true 0 [] os))) ≡ Some (without_places os)
 
 -- The same where items and labels have the names of name sections, and the others identifiers made up for them, or none.
 abbrev pub NamedOperatorsReadBack : Type 0
@@ -77,6 +79,6 @@ NamedOperatorsReadBack =
     (invents : Bool) (entries : List Entry) → AreEntries entries →
     (s : Setting) → s.names ≡ names_of invents entries →
     (c : Context) (n : Counts) → HaveSameTypes s c n → HaveSameNames s c n →
-    (os : List (Placed Operator)) → AreOperators n os →
+    (hs : List (Placed Hint)) (os : List (Placed Operator)) → AreOperators n os →
     (o : Options) → IsBlank o.indent →
-    read_alone c (text_of (all_calls o (expression_pieces s os))) ≡ Some (without_places os)
+    read_alone c (text_of (all_calls o (operators_pieces s hs true 0 [] os))) ≡ Some (without_places os)

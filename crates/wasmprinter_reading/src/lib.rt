@@ -2,7 +2,7 @@
 //! with an empty body. No code of the printer is in them: they relate the grammar, the layout and the reader of text.
 #![tactic(auto)]
 
-ghost use Rattle.wasmprinter_spec.specs.Laws.{SpellsOne, TakesNested, ReadsBack, TokensStay};
+ghost use Rattle.wasmprinter_spec.specs.Laws.{SpellsOne, TakesNested, ReadsBack, TokensStay, HintsStay};
 ghost use Rattle.wasmprinter_spec.specs.Laws.{PrintsPlainText, PlainTextIsUtf8, PlainTextHasNoColour, PlainTextsJoin};
 ghost use Rattle.wasmprinter_reading.specs.OperatorLaws.{OperatorsReadBack, NamedOperatorsReadBack};
 ghost use Rattle.wasmprinter_reading.specs.NameLaws.{NamesAreOneList, EntriesAreGiven, NameMapsAreListed, BytesGiveEntries};
@@ -19,8 +19,9 @@ pub fn reader_takes_nested_operators()
     ensures { TakesNested }
 {}
 
-/// The reading law: the text that is laid out for a module that some bytes spell reads as exactly that module. No initialiser of a table is
-/// empty: the text of such a table is that of one without.
+/// The reading law: the text that is laid out for a module that some bytes spell reads as exactly that module, the custom sections that are
+/// printed as they stand among it. No initialiser of a table is empty: the text of such a table is that of one without; and no `dylink.0`
+/// section is refused.
 pub fn printed_text_reads_back()
     ensures { ReadsBack }
 {}
@@ -28,6 +29,11 @@ pub fn printed_text_reads_back()
 /// Places at the beginnings of lines, and the indent, change blanks and comments alone: the tokens stay.
 pub fn places_and_indent_keep_tokens()
     ensures { TokensStay }
+{}
+
+/// Branch hints stay: those of a module whose hint section is well formed are those of its text, each once, directly before its operator.
+pub fn hints_stay()
+    ensures { HintsStay }
 {}
 
 /// Printed text is made of tabs, line feeds and the characters from the blank to the tilde alone.
@@ -50,7 +56,8 @@ pub fn plain_texts_join()
     ensures { PlainTextsJoin }
 {}
 
-/// The text that is laid out for nested operators, over lines or in one, reads as exactly them, whatever items and labels are called.
+/// The text that is laid out for nested operators, over lines or in one, with branch hints in front of them or without, reads as exactly them,
+/// whatever items and labels are called.
 pub fn printed_operators_read_back()
     ensures { OperatorsReadBack }
 {}

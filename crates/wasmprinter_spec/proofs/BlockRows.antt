@@ -84,7 +84,7 @@ samples_read = refl
 
 -- laid out with these types
 abbrev setting : Form → List SubType → Setting
-setting form ts = record { form = form; signature = signature_at ts; nesting = 0; names = no_names; function = 0 }
+setting form ts = record { form = form; signature = signature_at ts; nesting = 0; names = no_names; function = 0; body = 0 }
 
 abbrev shown : Form → List SubType → List Operator → List ℕ
 shown form ts os = text_of (all_calls defaults (expression_pieces (setting form ts) (map placed os)))

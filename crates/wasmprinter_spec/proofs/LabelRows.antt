@@ -28,7 +28,7 @@ use Rattle.wasmprinter_spec.specs.Names.{no_names}
 
 abbrev printed : Naming → List Operator → List ℕ
 printed naming os =
-    text_of (all_calls defaults (expression_pieces (record { form = OverLines; signature = λ n. None; nesting = 2; names = record no_names { labels = λ f. naming }; function = 0 }) (map (λ o. record { place = 0; value = o }) os)))
+    text_of (all_calls defaults (expression_pieces (record { form = OverLines; signature = λ n. None; nesting = 2; names = record no_names { labels = λ f. naming }; function = 0; body = 0 }) (map (λ o. record { place = 0; value = o }) os)))
 
 -- lines in a body
 abbrev lines : List (List ℕ) → List ℕ

@@ -38,5 +38,6 @@ pub mod SectionTextRows
 pub mod SectionIndexedRows
 pub mod NameRows
 pub mod NamedTextRows
+pub mod CustomTextRows
 pub mod NameSections
 pub mod NameLabels

@@ -89,6 +89,7 @@ empty = record {
   start = None;
   elements = [];
   datas = [];
+  customs = [];
 }
 
 -- no index spaces hold anything

@@ -15,7 +15,7 @@ use Rattle.wasmprinter_spec.specs.Names.{no_names}
 abbrev called : ℕ → ℕ → Immediates → List Call
 called p n i =
     let placed : Placed Operator = record { place = 0; value = record { opcode = opcode p n; immediates = i } } in
-    atoms (all_calls defaults (expression_pieces (record { form = InLine; signature = signature_at sample_types; nesting = 0; names = no_names; function = 0 }) (placed ∷ [])))
+    atoms (all_calls defaults (expression_pieces (record { form = InLine; signature = signature_at sample_types; nesting = 0; names = no_names; function = 0; body = 0 }) (placed ∷ [])))
 
 abbrev plain : List ℕ → List Call
 plain s = Text s ∷ []

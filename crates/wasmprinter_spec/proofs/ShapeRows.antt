@@ -33,7 +33,7 @@ samples_spelled = refl
 abbrev printed : Operator → List ℕ
 printed o =
     let placed : Placed Operator = record { place = 0; value = o } in
-    text_of (all_calls defaults (expression_pieces (record { form = InLine; signature = signature_at sample_types; nesting = 0; names = no_names; function = 0 }) (placed ∷ [])))
+    text_of (all_calls defaults (expression_pieces (record { form = InLine; signature = signature_at sample_types; nesting = 0; names = no_names; function = 0; body = 0 }) (placed ∷ [])))
 
 samples_printed : map (λ ss. map (λ s. printed s.operator) ss) all_samples ≡ map (λ ss. map (λ s. s.text) ss) all_samples
 unfolding printing

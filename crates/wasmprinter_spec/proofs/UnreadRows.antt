@@ -13,6 +13,7 @@ use Rattle.wasmprinter_spec.specs.Text.Items.{groups}
 use Rattle.wasmprinter_spec.specs.Read.{read}
 use Rattle.wasmprinter_spec.specs.Text.Exports.{kind_of_word}
 use Rattle.wasmprinter_spec.proofs.Samples.{mixed_text}
+use Rattle.wasmprinter_spec.specs.Text.Customs.{section_of_word}
 
 abbrev number_if : Option Module → ℕ → List ℕ
 number_if None n = []
@@ -84,9 +85,16 @@ unread_touching : numbers_read (
 unfolding lex class escape numeral natural integer groups table head is_utf8 chars encode_utf8 heap_of_word ref_of_word number_of_word packed_of_word kind_of_word
 unread_touching = refl
 
--- custom sections are not read yet
-unread_customs : numbers_read (codes "(module (@custom \"a\" \"b\"))" ∷ codes "(module (type (func)) (@\"custom\" \"a\" (before first) \"b\"))" ∷ []) ≡ []
-unfolding lex class escape numeral natural integer groups table head is_utf8 chars encode_utf8 heap_of_word ref_of_word number_of_word packed_of_word kind_of_word
+-- a custom section without a place, with a place that is none, and with more than bytes
+unread_customs : numbers_read (
+    codes "(module (@custom \"a\" \"b\"))"
+    ∷ codes "(module (@custom \"a\" (before func) \"b\"))"
+    ∷ codes "(module (@custom \"a\" (after first) \"b\"))"
+    ∷ codes "(module (@custom \"a\" (after custom) \"b\"))"
+    ∷ codes "(module (@custom \"a\" (before first) b))"
+    ∷ codes "(module (@custom (before first) \"b\"))"
+    ∷ []) ≡ []
+unfolding lex class escape numeral natural integer groups table head is_utf8 chars encode_utf8 heap_of_word ref_of_word number_of_word packed_of_word kind_of_word section_of_word
 unread_customs = refl
 
 unread_fields : numbers_read (

@@ -6,8 +6,8 @@ use Rattle.wasmprinter_spec.specs.Repeated.{until_end}
 use Rattle.wasmprinter_spec.specs.Sized.{take_bytes, headed, concluded}
 use Rattle.wasmprinter_spec.specs.Types.{MemoryType}
 use Rattle.wasmprinter_spec.specs.Operator.{Operator}
-use Rattle.wasmprinter_spec.specs.Placed.{TypeGroup, Import, Table, Global, ElementEntry, Data, Body, Export, Custom, PlacedFunction, PlacedModule}
-use Rattle.wasmprinter_spec.specs.Sections.{Section, CustomSection, TypeSection, ImportSection, FunctionSection, TableSection, MemorySection, TagSection, GlobalSection, ExportSection, StartSection, ElementSection, DataCountSection, CodeSection, DataSection, section, are_above, content_in, contents_in}
+use Rattle.wasmprinter_spec.specs.Placed.{TypeGroup, Import, Table, Global, ElementEntry, Data, Body, Export, CustomEntry, PlacedFunction, PlacedModule}
+use Rattle.wasmprinter_spec.specs.Sections.{Section, TypeSection, ImportSection, FunctionSection, TableSection, MemorySection, TagSection, GlobalSection, ExportSection, StartSection, ElementSection, DataCountSection, CodeSection, DataSection, section, are_above, content_in, customs_behind}
 pub mod ValTypes
 pub mod Types
 pub mod Functions
@@ -74,8 +74,8 @@ bodies_in ss = content_in CodeSection [] ss
 abbrev pub datas_in : List Section → List (Placed (Data (Placed Operator)))
 datas_in ss = content_in DataSection [] ss
 
-abbrev pub customs_in : List Section → List (Placed Custom)
-customs_in ss = contents_in CustomSection ss
+abbrev pub customs_in : List Section → List CustomEntry
+customs_in ss = customs_behind None ss
 
 -- the type index of each function with its body, where there are as many of the one as of the other
 abbrev pub function_pairs : List ℕ → List (Placed Body) → Option (List PlacedFunction)

@@ -1,5 +1,5 @@
 -- The laws of these definitions. Functions of the crates above have them as their contracts.
-use Rattle.std.specs.Prelude.{◌≡◌, ℕ, ◌<◌, ◌^◌, List, [], ◌∷◌, ◌++◌, map, false, Some, ◌↔◌, chars, IsUtf8}
+use Rattle.std.specs.Prelude.{◌≡◌, ℕ, ◌<◌, ◌^◌, List, [], ◌∷◌, ◌++◌, map, false, Some, None, ◌↔◌, chars, IsUtf8}
 use Rattle.std.specs.List.{AllByRecursion}
 use Rattle.wasmprinter_spec.specs.Binary.{AreBytes, Spells}
 use Rattle.wasmprinter_spec.specs.Placed.{PlacedModule}
@@ -10,7 +10,7 @@ use Rattle.wasmprinter_spec.specs.Call.{Call, atoms, text_of}
 use Rattle.wasmprinter_spec.specs.Colour.{uncolour}
 use Rattle.wasmprinter_spec.specs.Plain.{IsPlainText}
 use Rattle.wasmprinter_spec.specs.Options.{Options, Answers, AreUnclaimed, IsBlank}
-use Rattle.wasmprinter_spec.specs.Layout.{layout}
+use Rattle.wasmprinter_spec.specs.Layout.{layout, refusal}
 use Rattle.wasmprinter_spec.specs.Quoted.{quoted_text, quoted_bytes}
 use Rattle.wasmprinter_spec.specs.Float.{Width, IsWidth, single, double, Scaled, IsValue, bits_with_value, float}
 use Rattle.wasmprinter_spec.specs.FloatText.{float_text, float_calls}
@@ -19,6 +19,8 @@ use Rattle.wasmprinter_spec.specs.Operator.{Operator}
 use Rattle.wasmprinter_spec.specs.Table.{role_of}
 use Rattle.wasmprinter_spec.specs.Nesting.{Nests, Sequence}
 use Rattle.wasmprinter_spec.specs.Text.Operators.{if_nested}
+use Rattle.wasmprinter_spec.specs.HintsOfModule.{OperatorHint, module_hints}
+use Rattle.wasmprinter_spec.specs.Text.Hints.{text_hints}
 use Rattle.wasmprinter_spec.specs.Read.{read}
 
 -- Given bytes spell at most one module with its places.
@@ -55,11 +57,12 @@ abbrev pub TakesNested : Type 0
 TakesNested = (os : List Operator) → (if_nested os ≡ Some os) ↔ Nests Sequence (map (λ o. role_of o.opcode) os)
 
 -- The reading law: printed text reads back as the module that the bytes spell. (No initialiser of a table is empty: the text of such a table is
--- that of one without. So far no custom section is offered to the printer, so nothing rests on that none is claimed.)
+-- that of one without; and no `dylink.0` section is refused.)
 abbrev pub ReadsBack : Type 0
 ReadsBack =
     (bytes : List ℕ) (m : PlacedModule) (o : Options) (answers : Answers) →
     Spells bytes m → IsIndexed (module_of m) → AllByRecursion (λ t. HasNoEmptyInit t.value.init) m.tables → o.skeleton ≡ false → IsBlank o.indent → AreUnclaimed answers →
+    refusal o answers m ≡ None →
     read (text_of (layout o answers m)) ≡ Some (module_of m)
 
 -- Places at the beginnings of lines, and an indent of blanks and tabs, change blanks and comments alone.
@@ -86,3 +89,10 @@ PlainTextHasNoColour = (text : List ℕ) → IsPlainText text → uncolour text 
 -- A plain text behind a plain text is plain.
 abbrev pub PlainTextsJoin : Type 0
 PlainTextsJoin = (a b : List ℕ) → IsPlainText a → IsPlainText b → IsPlainText (a ++ b)
+
+-- The hints of a module whose hint section is well formed are those of its printed text: each once, directly before its operator.
+abbrev pub HintsStay : Type 0
+HintsStay =
+    (bytes : List ℕ) (m : PlacedModule) (o : Options) (answers : Answers) (hs : List OperatorHint) →
+    Spells bytes m → o.skeleton ≡ false → IsBlank o.indent → refusal o answers m ≡ None → module_hints m ≡ Some hs →
+    text_hints (text_of (layout o answers m)) ≡ Some hs

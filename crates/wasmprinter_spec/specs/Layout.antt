@@ -4,18 +4,20 @@ use Rattle.std.specs.Prelude.{ℕ, ◌+◌, List, [], ◌∷◌, ◌++◌, codes
 use Rattle.wasmprinter_spec.specs.Grammar.{Placed}
 use Rattle.wasmprinter_spec.specs.Types.{all_types}
 use Rattle.wasmprinter_spec.specs.Row.{Func, Tag}
+use Rattle.wasmprinter_spec.specs.Kinds.{Kind, TypeSection, ImportSection, FunctionSection, TableSection, MemorySection, TagSection, GlobalSection, ExportSection, StartSection, ElementSection, CodeSection, DataSection}
+use Rattle.wasmprinter_spec.specs.Customs.Hints.{hints_of}
 use Rattle.wasmprinter_spec.specs.Names.{Names}
 use Rattle.wasmprinter_spec.specs.ModuleNames.{module_names}
 use Rattle.wasmprinter_spec.specs.Placed.{Import, PlacedModule}
 use Rattle.wasmprinter_spec.specs.Module.{groups_of, imported, func_import, table_import, memory_import, global_import, tag_import, without_places}
 use Rattle.wasmprinter_spec.specs.Call.{Call}
 use Rattle.wasmprinter_spec.specs.Options.{Options, Answers}
-use Rattle.wasmprinter_spec.specs.Piece.{Piece, Begin, Feed, Break, all_calls}
+use Rattle.wasmprinter_spec.specs.Piece.{Piece, Begin, Feed, Break, Open, all_calls}
 use Rattle.wasmprinter_spec.specs.Layout.Groups.{group_at, line_group_gap, numbered}
 use Rattle.wasmprinter_spec.specs.Layout.Identifiers.{leading_mark_pieces}
 use Rattle.wasmprinter_spec.specs.Layout.Declarations.{Scope, scope_of, item_index}
 use Rattle.wasmprinter_spec.specs.Layout.Types.{type_section_pieces}
-use Rattle.wasmprinter_spec.specs.Layout.Functions.{header_pieces, function_pieces}
+use Rattle.wasmprinter_spec.specs.Layout.Functions.{header_pieces, functions_pieces}
 use Rattle.wasmprinter_spec.specs.Layout.Imports.{no_numbers, imports_pieces}
 use Rattle.wasmprinter_spec.specs.Layout.Tables.{table_pieces}
 use Rattle.wasmprinter_spec.specs.Layout.Memories.{memory_pieces}
@@ -23,6 +25,7 @@ use Rattle.wasmprinter_spec.specs.Layout.Globals.{global_pieces}
 use Rattle.wasmprinter_spec.specs.Layout.Exports.{export_pieces}
 use Rattle.wasmprinter_spec.specs.Layout.Elements.{element_pieces}
 use Rattle.wasmprinter_spec.specs.Layout.DataSegments.{data_pieces}
+use Rattle.wasmprinter_spec.specs.Layout.Customs.{Part, Shown, parts_at, Laid, laid_parts}
 pub mod Groups
 pub mod Identifiers
 pub mod ValTypes
@@ -40,6 +43,7 @@ pub mod Imports
 pub mod Exports
 pub mod Elements
 pub mod DataSegments
+pub mod Customs
 
 -- ---- fields of the module, each on a line
 
@@ -59,32 +63,47 @@ early_scope names m = scope_of (all_types (groups_of m.types)) names (length (im
 abbrev pub late_scope : Names → PlacedModule → Scope
 late_scope names m = record (early_scope names m) { function = length (imported func_import (without_places m.imports)) + length m.functions }
 
--- the fields, in the order of their sections
-unfoldable pub module_field_pieces : Options → Names → PlacedModule → List Piece
-module_field_pieces o names m =
+-- the fields in the order of their sections, and the custom sections at their places among them
+abbrev pub module_parts : Options → Answers → Names → PlacedModule → List Part
+module_parts o answers names m =
     let is : List Import = without_places m.imports in
     let s : Scope = early_scope names m in
-    type_section_pieces names 0 m.types
-    ++ (imports_pieces s no_numbers m.imports
-    ++ (numbered (table_pieces s) (length (imported table_import is)) m.tables
-    ++ (numbered (memory_pieces s) (length (imported memory_import is)) m.memories
-    ++ (numbered (tag_pieces s) (length (imported tag_import is)) m.tags
-    ++ (numbered (global_pieces s) (length (imported global_import is)) m.globals
-    ++ (numbered (λ i e. export_pieces s e) 0 m.exports
-    ++ (start_pieces s m.start
-    ++ (numbered (element_pieces o.skeleton s) 0 m.elements
-    ++ (numbered (function_pieces o s) (length (imported func_import is)) m.functions
-    ++ numbered (data_pieces o.skeleton (late_scope names m)) 0 m.datas)))))))))
+    let customs : Option Kind → List Part = λ place. parts_at o.skeleton answers place 0 m.customs in
+    customs None
+    ++ (Shown (type_section_pieces names 0 m.types) ∷ customs (Some TypeSection))
+    ++ (Shown (imports_pieces s no_numbers m.imports) ∷ customs (Some ImportSection))
+    ++ customs (Some FunctionSection)
+    ++ (Shown (numbered (table_pieces s) (length (imported table_import is)) m.tables) ∷ customs (Some TableSection))
+    ++ (Shown (numbered (memory_pieces s) (length (imported memory_import is)) m.memories) ∷ customs (Some MemorySection))
+    ++ (Shown (numbered (tag_pieces s) (length (imported tag_import is)) m.tags) ∷ customs (Some TagSection))
+    ++ (Shown (numbered (global_pieces s) (length (imported global_import is)) m.globals) ∷ customs (Some GlobalSection))
+    ++ (Shown (numbered (λ i e. export_pieces s e) 0 m.exports) ∷ customs (Some ExportSection))
+    ++ (Shown (start_pieces s m.start) ∷ customs (Some StartSection))
+    ++ (Shown (numbered (element_pieces o.skeleton s) 0 m.elements) ∷ customs (Some ElementSection))
+    ++ (Shown (functions_pieces o s (hints_of m.customs) (length (imported func_import is)) m.functions) ∷ customs (Some CodeSection))
+    ++ (Shown (numbered (data_pieces o.skeleton (late_scope names m)) 0 m.datas) ∷ customs (Some DataSection))
+
+-- whole, or up to the refusal of a custom section
+abbrev pub module_pieces_of : Options → Names → ℕ → List Piece → Option ℕ → List Piece
+module_pieces_of o names size ps None =
+    Begin 0 ∷ (group_at o.offsets size 0 (codes "module") (leading_mark_pieces names.module_name ++ ps) ++ (Feed ∷ []))
+module_pieces_of o names size ps (Some id) =
+    Begin 0 ∷ (Open (codes "module") ∷ (leading_mark_pieces names.module_name ++ ps))
 
 -- a module with these identifiers
-unfoldable pub module_pieces_with : Options → Names → PlacedModule → List Piece
-module_pieces_with o names m =
-    Begin 0 ∷ (group_at o.offsets m.size 0 (codes "module") (leading_mark_pieces names.module_name ++ module_field_pieces o names m) ++ (Feed ∷ []))
+unfoldable pub module_pieces_with : Options → Answers → Names → PlacedModule → List Piece
+module_pieces_with o answers names m =
+    let laid : Laid = laid_parts (module_parts o answers names m) in
+    module_pieces_of o names m.size laid.pieces laid.refused
 
 -- a module with the identifiers that its name sections give
-unfoldable pub module_pieces : Options → PlacedModule → List Piece
-module_pieces o m = module_pieces_with o (module_names o.invents m) m
+unfoldable pub module_pieces : Options → Answers → PlacedModule → List Piece
+module_pieces o answers m = module_pieces_with o answers (module_names o.invents m) m
 
--- The calls on the printer. No custom section but name sections is in the grammar yet, and no claim is asked for.
+-- the calls on the printer
 unfoldable pub layout : Options → Answers → PlacedModule → List Call
-layout o answers m = all_calls o (module_pieces o m)
+layout o answers m = all_calls o (module_pieces o answers m)
+
+-- the id of the first subsection that isn't known of an unclaimed `dylink.0` section, behind whose claim the layout ends
+abbrev pub refusal : Options → Answers → PlacedModule → Option ℕ
+refusal o answers m = (laid_parts (module_parts o answers (module_names o.invents m) m)).refused

@@ -14,8 +14,10 @@ pub mod Nesting
 pub mod NestingSteps
 pub mod Table
 pub mod Instructions
+pub mod Kinds
 pub mod Placed
 pub mod Sections
+pub mod Customs
 pub mod Binary
 pub mod Module
 pub mod Limits
@@ -40,6 +42,7 @@ pub mod ModuleNames
 pub mod Layout
 pub mod IndexSpaces
 pub mod Code
+pub mod HintsOfModule
 pub mod Text
 pub mod Read
 pub mod Laws

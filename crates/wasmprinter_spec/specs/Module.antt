@@ -4,6 +4,7 @@ use Rattle.std.specs.Prelude.{ℕ, List, [], ◌∷◌, ◌++◌, map, replicate
 use Rattle.wasmprinter_spec.specs.Grammar.{Placed}
 use Rattle.wasmprinter_spec.specs.Types.{ValType, SubType, TableType, MemoryType, GlobalType, ExternType, FuncExtern, TableExtern, MemoryExtern, GlobalExtern, TagExtern}
 use Rattle.wasmprinter_spec.specs.Operator.{Operator}
+use Rattle.wasmprinter_spec.specs.Customs.{RawCustom, raw_customs}
 use Rattle.wasmprinter_spec.specs.Placed.{TypeGroup, LocalEntry, Export, Import, Table, table_of, Global, global_of, Mode, Passive, Declared, Active, Items, Functions, Expressions, Element, element_of, ElementEntry, DataMode, PassiveData, ActiveData, Data, data_of, PlacedFunction, PlacedModule}
 
 -- a defined function: the types of all its locals, parameters not among them, and its operators without the last `end`
@@ -12,7 +13,7 @@ pub record Function : Type 0 where
   pub locals : List ValType
   pub operators : List Operator
 
--- The types stand in their groups. A type by itself is a group of one. Tags are given by the indices of their types.
+-- Custom sections are those that are printed as they stand. The types stand in their groups. A type by itself is a group of one. Tags are given by the indices of their types.
 pub record Module : Type 0 where
   pub types : List (List SubType)
   pub imports : List Import
@@ -25,6 +26,7 @@ pub record Module : Type 0 where
   pub start : Option ℕ
   pub elements : List (Element Operator)
   pub datas : List (Data Operator)
+  pub customs : List RawCustom
 
 abbrev pub without_places : {A : Type 0} → List (Placed A) → List A
 without_places xs = map (λ x. x.value) xs
@@ -87,6 +89,7 @@ module_of m = record {
   start = option_map (λ x. x.value) m.start;
   elements = each_value element_without_places m.elements;
   datas = each_value data_without_places m.datas;
+  customs = raw_customs m.customs;
 }
 
 -- ---- what is imported of each kind: in each index space imports come first (section 2.5.1 of the standard, "Indices")

@@ -1,8 +1,8 @@
 -- The identifiers of a module, by its name sections (appendix "Name Section" of the standard).
 use Rattle.std.specs.Prelude.{ℕ, List, [], ◌∷◌, ◌++◌, Bool, bytes_eq, if◌then◌else◌, length}
 use Rattle.wasmprinter_spec.specs.Grammar.{input, Placed}
-use Rattle.wasmprinter_spec.specs.Placed.{Custom, PlacedModule}
-use Rattle.wasmprinter_spec.specs.Binary.Customs.{name_section}
+use Rattle.wasmprinter_spec.specs.Placed.{Custom, CustomEntry, PlacedModule}
+use Rattle.wasmprinter_spec.specs.Customs.{name_section}
 use Rattle.wasmprinter_spec.specs.Names.{Names, names_of}
 use Rattle.wasmprinter_spec.specs.Names.Section.{Entry, subsections}
 
@@ -15,9 +15,9 @@ abbrev pub custom_entries : Custom → List Entry
 custom_entries c = if bytes_eq c.name name_section then entries_given c.bytes else []
 
 -- the entries of all name sections, in order
-abbrev pub name_entries : List (Placed Custom) → List Entry
+abbrev pub name_entries : List CustomEntry → List Entry
 name_entries [] = []
-name_entries (c ∷ cs) = custom_entries c.value ++ name_entries cs
+name_entries (c ∷ cs) = custom_entries c.section.value ++ name_entries cs
 
 -- with identifiers made up for what has no name, or without
 abbrev pub module_names : Bool → PlacedModule → Names

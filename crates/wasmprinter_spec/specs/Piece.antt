@@ -1,7 +1,7 @@
 -- Pieces: the smallest parts of a layout that read by themselves. Each has its calls on the printer and its tokens.
 use Rattle.std.specs.Prelude.{ℕ, ℤ, zero, suc, ◌-◌, min, List, [], ◌∷◌, ◌++◌, Bool, true, false, codes, decimal, Option, Some, None, replicate, length, flat_map, encode_utf8_all, map}
 use Rattle.std.specs.Fmt.{signed_decimal, digits}
-use Rattle.wasmprinter_spec.specs.Call.{Call, Text, Newline, Line, Start, Style, Literal, Name, Keyword, TypeName, Comment, Reset, text_of}
+use Rattle.wasmprinter_spec.specs.Call.{Call, Text, Newline, Line, Start, Claim, Style, Literal, Name, Keyword, TypeName, Comment, Reset, text_of}
 use Rattle.wasmprinter_spec.specs.Options.{Options}
 use Rattle.wasmprinter_spec.specs.Float.{Width}
 use Rattle.wasmprinter_spec.specs.FloatText.{float_text, float_calls}
@@ -19,6 +19,9 @@ pub data Piece : Type 0 where
   OpenPlain : List ℕ → Piece  -- a parenthesis and a keyword without a style
   OpenBare : Piece  -- a parenthesis and no keyword
   OpenTypeGap : List ℕ → Piece  -- a parenthesis, the word of a type and a blank
+  OpenNote : List ℕ → Piece  -- a parenthesis, the sign @ and the name of an annotation
+  OpenNoteGap : List ℕ → Piece  -- the same and a blank
+  OpenRun : List ℕ → Piece  -- in an annotation: a parenthesis and any run of identifier characters
   Shut : Piece
   Word : List ℕ → Piece
   TypeWord : List ℕ → Piece  -- the word of a type
@@ -38,6 +41,9 @@ pub data Piece : Type 0 where
   NameNote : List ℕ → Piece  -- the annotation with a name, by its characters
   Remark : Bool → List ℕ → Piece  -- a blank and a comment, with a style or without
   Ending : List ℕ → Piece  -- a comment up to the end of the line
+  PlainEnding : List ℕ → Piece  -- the same without a style
+  HintNote : Bool → Piece  -- the annotation of a branch hint
+  Claimed : List ℕ → ℕ → List ℕ → Bool → Piece  -- the question whether the printer takes a custom section itself, and the answer
 
 -- the greatest number of levels of which each is indented
 abbrev pub most_indents : ℕ
@@ -73,6 +79,10 @@ behind_blanks (w ∷ ws) = 32 ∷ (w ++ behind_blanks ws)
 abbrev pub word_tokens : List (List ℕ) → List Token
 word_tokens ws = map token.word ws
 
+abbrev pub flag_byte : Bool → ℕ
+flag_byte true = 1
+flag_byte false = 0
+
 abbrev pub calls : Options → Piece → List Call
 calls o (Begin place) = Line (Some place) ∷ []
 calls o Feed = Newline ∷ []
@@ -83,6 +93,9 @@ calls o (OpenGap w) = Text (codes "(") ∷ styled Keyword (w ++ codes " ")
 calls o (OpenPlain w) = Text (codes "(" ++ w) ∷ []
 calls o OpenBare = Text (codes "(") ∷ styled Keyword []
 calls o (OpenTypeGap w) = Text (codes "(") ∷ styled TypeName (w ++ codes " ")
+calls o (OpenNote w) = Text (codes "(") ∷ styled Keyword (64 ∷ w)
+calls o (OpenNoteGap w) = Text (codes "(") ∷ styled Keyword (64 ∷ (w ++ codes " "))
+calls o (OpenRun w) = Text (codes "(") ∷ styled Keyword w
 calls o Shut = Text (codes ")") ∷ []
 calls o (Word w) = Text w ∷ []
 calls o (TypeWord w) = styled TypeName w
@@ -103,6 +116,9 @@ calls o (NameNote cs) = Text (codes "(") ∷ (styled Keyword (codes "@name \"") 
 calls o (Remark true s) = styled Comment (codes " (;" ++ (s ++ codes ";)"))
 calls o (Remark false s) = Text (codes " (;" ++ (s ++ codes ";)")) ∷ []
 calls o (Ending s) = styled Comment (codes ";; " ++ s)
+calls o (PlainEnding s) = Text (codes ";; " ++ s) ∷ []
+calls o (HintNote taken) = styled Comment (codes "(@metadata.code.branch_hint " ++ (quoted_bytes (flag_byte taken ∷ []) ++ codes ")"))
+calls o (Claimed name place bytes answer) = Claim name place bytes answer ∷ []
 
 abbrev pub piece_tokens : Piece → List Token
 piece_tokens (Open w) = token.left ∷ (token.word w ∷ [])
@@ -110,6 +126,9 @@ piece_tokens (OpenGap w) = token.left ∷ (token.word w ∷ [])
 piece_tokens (OpenPlain w) = token.left ∷ (token.word w ∷ [])
 piece_tokens OpenBare = token.left ∷ []
 piece_tokens (OpenTypeGap w) = token.left ∷ (token.word w ∷ [])
+piece_tokens (OpenNote w) = token.left_note w ∷ []
+piece_tokens (OpenNoteGap w) = token.left_note w ∷ []
+piece_tokens (OpenRun w) = token.tokens (40 ∷ w)
 piece_tokens Shut = token.right ∷ []
 piece_tokens (Word w) = token.word w ∷ []
 piece_tokens (TypeWord w) = token.word w ∷ []
@@ -124,6 +143,7 @@ piece_tokens (Quoted cs) = token.string (encode_utf8_all cs) ∷ []
 piece_tokens (QuotedBytes bs) = token.string bs ∷ []
 piece_tokens (Identifier cs) = token.name (encode_utf8_all cs) ∷ []
 piece_tokens (NameNote cs) = token.left_note (codes "name") ∷ (token.string (encode_utf8_all cs) ∷ (token.right ∷ []))
+piece_tokens (HintNote taken) = token.left_note (codes "metadata.code.branch_hint") ∷ (token.string (flag_byte taken ∷ []) ∷ (token.right ∷ []))
 piece_tokens _ = []
 
 abbrev pub text : Options → Piece → List ℕ

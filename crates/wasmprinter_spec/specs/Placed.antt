@@ -4,6 +4,7 @@ use Rattle.std.specs.Prelude.{ℕ, List, Bool, Option}
 use Rattle.wasmprinter_spec.specs.Grammar.{Placed}
 use Rattle.wasmprinter_spec.specs.Types.{ValType, SubType, RefType, TableType, MemoryType, GlobalType, ExternKind, ExternType}
 use Rattle.wasmprinter_spec.specs.Operator.{Operator}
+use Rattle.wasmprinter_spec.specs.Kinds.{Kind}
 
 -- A group of types: written as one, or a single type that stands by itself.
 pub record TypeGroup : Type 0 where
@@ -51,6 +52,14 @@ pub record Custom : Type 0 where
 
 abbrev pub custom_of : List ℕ → Placed (List ℕ) → Custom
 custom_of n bytes = record { name = n; bytes = bytes }
+
+-- a custom section with the place of its first byte behind its size, and the kind of the last section in front of it that holds something
+pub record CustomEntry : Type 0 where
+  pub behind : Option Kind
+  pub section : Placed Custom
+
+abbrev pub custom_entry : Option Kind → Placed Custom → CustomEntry
+custom_entry k c = record { behind = k; section = c }
 
 -- ---- what holds expressions: lists of operators, with or without their places
 
@@ -106,7 +115,7 @@ pub record Data (O : Type 0) : Type 0 where
 abbrev pub data_of : {O : Type 0} → DataMode O → List ℕ → Data O
 data_of mode bytes = record { mode = mode; bytes = bytes }
 
--- Tags by the indices of their types; the start function; custom sections in their order, each with the place of its first byte behind its size;
+-- Tags by the indices of their types; the start function; custom sections in their order;
 -- `size` is the number of the module's bytes.
 pub record PlacedModule : Type 0 where
   pub types : List (Placed TypeGroup)
@@ -120,5 +129,5 @@ pub record PlacedModule : Type 0 where
   pub elements : List (Placed ElementEntry)
   pub functions : List PlacedFunction
   pub datas : List (Placed (Data (Placed Operator)))
-  pub customs : List (Placed Custom)
+  pub customs : List CustomEntry
   pub size : ℕ

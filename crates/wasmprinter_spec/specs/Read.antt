@@ -20,6 +20,8 @@ use Rattle.wasmprinter_spec.specs.Text.Elements.{read_element}
 use Rattle.wasmprinter_spec.specs.Text.DataSegments.{read_data}
 use Rattle.wasmprinter_spec.specs.Text.Tags.{read_tag}
 use Rattle.wasmprinter_spec.specs.Text.Exports.{read_export}
+use Rattle.wasmprinter_spec.specs.Text.Customs.{read_custom}
+use Rattle.wasmprinter_spec.specs.Customs.{RawCustom}
 
 -- ---- fields
 
@@ -164,6 +166,7 @@ module_of_fields m = do
     start = start;
     elements = elements;
     datas = datas;
+    customs = [];
   })
 
 -- what a group `module` holds behind its identifier
@@ -174,13 +177,12 @@ module_fields _ = None
 abbrev pub read_forest : Forest → Option Module
 read_forest f = module_fields f >>= fields >>= module_of_fields
 
--- a text with custom sections is not read yet
-abbrev pub without_customs : List Forest → Option Module → Option Module
-without_customs [] m = m
-without_customs (c ∷ cs) m = None
+-- the custom sections of a text, each without the annotations in it
+abbrev pub read_customs : Forest → Option (List RawCustom)
+read_customs f = each (λ c. read_custom (cut c)) (customs f)
 
 abbrev pub read_groups : Forest → Option Module
-read_groups f = without_customs (customs f) (read_forest (cut f))
+read_groups f = read_forest (cut f) >>= λ m. read_customs f >>= λ cs. Some (record m { customs = cs })
 
 -- the module that a text writes
 abbrev pub read : List ℕ → Option Module

@@ -1,14 +1,14 @@
--- Sections (section 5.5 of the standard, "Sections"): each has a kind, and holds what is spelled by all the bytes of its size. The grammar so
--- far has all sections, custom ones by the name `name` alone. What is said of each kind stands here, one line for each; how the content of a kind
+-- Sections (section 5.5 of the standard, "Sections"): each has a kind, and holds what is spelled by all the bytes of its size. What is said of each kind stands here, one line for each; how the content of a kind
 -- is spelled stands in a file of its own, in `Binary`.
-use Rattle.std.specs.Prelude.{ℕ, List, [], ◌∷◌, Bool, true, ◌&&◌, nat_lt, Option, Some, None}
+use Rattle.std.specs.Prelude.{ℕ, List, [], ◌∷◌, Bool, true, false, ◌&&◌, nat_lt, if◌then◌else◌, Option, Some, None}
 use Rattle.wasmprinter_spec.specs.Grammar.{Grammar, Remainder, byte, seq, map_value, try_map, Placed}
 use Rattle.wasmprinter_spec.specs.Repeated.{some_or}
 use Rattle.wasmprinter_spec.specs.Sized.{exactly}
 use Rattle.wasmprinter_spec.specs.Name.{u32}
 use Rattle.wasmprinter_spec.specs.Types.{MemoryType}
+pub use Rattle.wasmprinter_spec.specs.Kinds.{Kind, CustomSection, TypeSection, ImportSection, FunctionSection, TableSection, MemorySection, TagSection, GlobalSection, ExportSection, StartSection, ElementSection, DataCountSection, CodeSection, DataSection}
 use Rattle.wasmprinter_spec.specs.Operator.{Operator}
-use Rattle.wasmprinter_spec.specs.Placed.{TypeGroup, Import, Table, Global, ElementEntry, Data, Body, Export, Custom}
+use Rattle.wasmprinter_spec.specs.Placed.{TypeGroup, Import, Table, Global, ElementEntry, Data, Body, Export, Custom, CustomEntry, custom_entry}
 use Rattle.wasmprinter_spec.specs.Binary.ValTypes.{lookup}
 use Rattle.wasmprinter_spec.specs.Binary.Types.{type_section}
 use Rattle.wasmprinter_spec.specs.Binary.Imports.{import_section}
@@ -23,22 +23,6 @@ use Rattle.wasmprinter_spec.specs.Binary.Elements.{element_section}
 use Rattle.wasmprinter_spec.specs.Binary.DataSegments.{data_count_section, data_section}
 use Rattle.wasmprinter_spec.specs.Binary.Code.{code_section}
 use Rattle.wasmprinter_spec.specs.Binary.Customs.{custom_section}
-
-pub data Kind : Type 0 where
-  CustomSection : Kind
-  TypeSection : Kind
-  ImportSection : Kind
-  FunctionSection : Kind
-  TableSection : Kind
-  MemorySection : Kind
-  TagSection : Kind
-  GlobalSection : Kind
-  ExportSection : Kind
-  StartSection : Kind
-  ElementSection : Kind
-  DataCountSection : Kind
-  CodeSection : Kind
-  DataSection : Kind
 
 -- the kind of the sections with the id
 abbrev pub kind_of : ℕ → Option Kind
@@ -152,7 +136,39 @@ abbrev pub content_in : (kind : Kind) → Content kind → List Section → Cont
 content_in kind none [] = none
 content_in kind none (s ∷ ss) = content_in kind (some_or (content_of kind s) none (λ x. x)) ss
 
--- what all sections of the kind hold, in order
-abbrev pub contents_in : (kind : Kind) → List Section → List (Content kind)
-contents_in kind [] = []
-contents_in kind (s ∷ ss) = some_or (content_of kind s) (contents_in kind ss) (λ x. x ∷ contents_in kind ss)
+-- ---- custom sections among the others
+
+abbrev pub is_filled : {A : Type 0} → List A → Bool
+is_filled [] = false
+is_filled (x ∷ xs) = true
+
+-- Whether there is something behind which a custom section can stand: a list with items, or a start function. (A data count is nothing of the
+-- module.)
+abbrev pub is_place : (kind : Kind) → Content kind → Bool
+is_place CustomSection x = false
+is_place TypeSection xs = is_filled xs
+is_place ImportSection xs = is_filled xs
+is_place FunctionSection xs = is_filled xs
+is_place TableSection xs = is_filled xs
+is_place MemorySection xs = is_filled xs
+is_place TagSection xs = is_filled xs
+is_place GlobalSection xs = is_filled xs
+is_place ExportSection xs = is_filled xs
+is_place StartSection x = true
+is_place ElementSection xs = is_filled xs
+is_place DataCountSection x = false
+is_place CodeSection xs = is_filled xs
+is_place DataSection xs = is_filled xs
+
+-- the kind of the last section that is a place, if this is that of those in front
+abbrev pub place_behind : Option Kind → Section → Option Kind
+place_behind last (holds kind x) = if is_place kind x then Some kind else last
+
+abbrev pub with_custom : Option Kind → Option (Placed Custom) → List CustomEntry → List CustomEntry
+with_custom last None cs = cs
+with_custom last (Some c) cs = custom_entry last c ∷ cs
+
+-- the custom sections, in order, each with what it stands behind
+abbrev pub customs_behind : Option Kind → List Section → List CustomEntry
+customs_behind last [] = []
+customs_behind last (s ∷ ss) = with_custom last (content_of CustomSection s) (customs_behind (place_behind last s) ss)

@@ -15,3 +15,5 @@ pub mod Imports
 pub mod Exports
 pub mod Elements
 pub mod DataSegments
+pub mod Customs
+pub mod Hints

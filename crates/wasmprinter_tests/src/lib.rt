@@ -1,5 +1,6 @@
 //! Tests that cross crates, through the paths of the crate `wasmprinter` alone: whole texts, all operators, single values, refusals,
-//! limits, names, options, decoded modules, and calls on printers that record them or fail. What is expected is typed by hand.
+//! limits, names, custom sections, branch hints, options, decoded modules, and calls on printers that record them or fail. What is expected is
+//! typed by hand.
 #![tactic(auto)]
 
 #[cfg(test)]
@@ -7,11 +8,15 @@ mod calls;
 #[cfg(test)]
 mod control;
 #[cfg(test)]
+mod customs;
+#[cfg(test)]
 mod decoding;
 #[cfg(test)]
 mod example;
 #[cfg(test)]
 mod floats;
+#[cfg(test)]
+mod hints;
 #[cfg(test)]
 mod imports;
 #[cfg(test)]

@@ -27,6 +27,8 @@ pub struct Recorder {
     made: u32,
     /// Which of them is refused, and how.
     refusal: Option<(u32, ErrorKind)>,
+    /// The name of the custom sections that it takes itself.
+    taken: &'static str,
     /// A call could not be written down.
     lost: bool,
 }
@@ -37,6 +39,7 @@ impl Recorder {
             calls: String::new(alloc),
             made: 0,
             refusal: None,
+            taken: "",
             lost: false,
         }
     }
@@ -45,6 +48,13 @@ impl Recorder {
     pub fn refusing(alloc: Global, call: u32, kind: ErrorKind) -> Recorder {
         let mut recorder = Recorder::new(alloc);
         recorder.refusal = Some((call, kind));
+        recorder
+    }
+
+    /// Takes the custom sections with this name itself.
+    pub fn taking(alloc: Global, name: &'static str) -> Recorder {
+        let mut recorder = Recorder::new(alloc);
+        recorder.taken = name;
         recorder
     }
 
@@ -138,7 +148,7 @@ impl Print for Recorder {
     ) -> io::Result<bool> {
         let written = write!(self.calls, "{{? {name:?} {binary_offset:#x} {bytes:?}}}");
         self.answer(written)?;
-        Ok(false)
+        Ok(!name.is_empty() && name == self.taken)
     }
 
     fn start_literal(&mut self) -> io::Result<()> {

@@ -1,6 +1,7 @@
 //! Types (section 6.4 of the WebAssembly Core Specification) and indices with their identifiers, over any printer.
 #![tactic(auto)]
 
+pub mod data;
 pub mod indices;
 pub mod signature;
 pub mod types;

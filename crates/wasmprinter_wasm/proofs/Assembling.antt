@@ -10,7 +10,7 @@ use Rattle.wasmprinter_spec.specs.Repeated.{until_end}
 use Rattle.wasmprinter_spec.specs.Sized.{headed}
 use Rattle.wasmprinter_spec.specs.Operator.{Operator}
 use Rattle.wasmprinter_spec.specs.Types.{MemoryType}
-use Rattle.wasmprinter_spec.specs.Placed.{TypeGroup, Import, Global, Export, ElementEntry, Data, Custom, PlacedFunction, PlacedModule}
+use Rattle.wasmprinter_spec.specs.Placed.{TypeGroup, Import, Global, Export, ElementEntry, Data, CustomEntry, PlacedFunction, PlacedModule}
 use Rattle.wasmprinter_spec.specs.Sections.{CustomSection, TypeSection, ImportSection, FunctionSection, TableSection, MemorySection, TagSection, GlobalSection}
 use Rattle.wasmprinter_spec.specs.Sections.{ExportSection, StartSection, ElementSection, DataCountSection, CodeSection, DataSection, Section, section, are_above}
 use Rattle.wasmprinter_spec.specs.Binary.{AreBytes, preamble, types_in, imports_in, type_indices_in, tables_in, memories_in, tags_in, globals_in, exports_in, elements_in, data_count_in, bodies_in, datas_in, customs_in}
@@ -54,7 +54,7 @@ alike : {ts ts' : List (Placed TypeGroup)}
     {ss ss' : List (Placed ElementEntry)}
     {fs fs' : List PlacedFunction}
     {ds ds' : List (Placed (Data (Placed Operator)))}
-    {cs cs' : List (Placed Custom)}
+    {cs cs' : List CustomEntry}
     {n n' : ℕ}
     → ts ≡ ts' → is ≡ is' → us ≡ us' → ms ≡ ms' → gs ≡ gs' → vs ≡ vs' → es ≡ es' → f ≡ f' → ss ≡ ss' → fs ≡ fs' → ds ≡ ds' → cs ≡ cs' → n ≡ n'
     → ◌≡◌ {A = PlacedModule}

@@ -1,8 +1,8 @@
 -- The loop over the sections of a module.
-use Rattle.std.proofs.Common.{◌≡◌, ℕ, ◌<◌, inl, inr, true, false, List, [], ◌∷◌, ◌++◌, length, Option, Some, None, refl, sym, ap, subst, ◌∙◌, arith, append_assoc, append-nil, length-append}
+use Rattle.std.proofs.Common.{◌≡◌, ℕ, ◌<◌, inl, inr, true, false, List, [], ◌∷◌, ◌++◌, length, Option, Some, None, refl, sym, ap, ap₂, subst, ◌∙◌, arith, append_assoc, append-nil, length-append}
 use Rattle.std.specs.List.{AllByRecursion}
 use Rattle.wasmprinter_spec.specs.Grammar.{Input, bind_some, some_is}
-use Rattle.wasmprinter_spec.specs.Sections.{CustomSection, FunctionSection, Section, holds, section, section_kind, rank, follows, rank_behind, are_above}
+use Rattle.wasmprinter_spec.specs.Sections.{Kind, CustomSection, FunctionSection, Section, holds, section, section_kind, rank, follows, rank_behind, are_above, place_behind}
 use Rattle.wasmprinter_spec.specs.Binary.{type_indices_in, tables_in, bodies_in}
 use Rattle.wasmprinter_spec.proofs.Ordered.{last_rank, last_rank_push, above_push, above_midst}
 use Rattle.wasmprinter_bytes.specs.Reads.{end_of}
@@ -15,7 +15,7 @@ use Rattle.wasmprinter_wasm.specs.Sections.{section_reasons}
 use Rattle.wasmprinter_wasm.specs.Gathering.{Gathered, none_gathered, Kept, kept, with_section, IsHeld, sections_at, item_count_in, HoldsSections, sections_reasons}
 use Rattle.wasmprinter_entries.proofs.LaterPlaces.{IsLater, later_none, later_more, many_later, empty_later, section_later, kept_later, custom_read}
 use Rattle.wasmprinter_wasm.proofs.ItemsToEnd.{in_front, until_item, until_fault, until_done}
-use Rattle.wasmprinter_wasm.proofs.OrderedSections.{custom_kind, rank_added, kept_none, kept_with, kept_push, kept_added, some_midst, count_midst, over_midst, empty_midst}
+use Rattle.wasmprinter_wasm.proofs.OrderedSections.{custom_kind, last_place, last_place_push, kept_none, kept_with, kept_push, kept_added, some_midst, count_midst, over_midst, empty_midst}
 
 -- a section takes a byte
 pub takes_byte : (at : Input) (x : Section × Input) → section.parse at ≡ Some x → length x.1.bytes < length at.bytes
@@ -31,6 +31,7 @@ pub record Gathering (start at : Input) (g : Gathered) : Type 0 where
   pub rise : are_above 0 sections ≡ true
   pub small : AllByRecursion IsSmall sections
   pub rank : g.rank ≡ last_rank 0 sections
+  pub behind : g.behind ≡ last_place None sections
   pub held : IsHeld g sections
   pub later : IsLater start at
   pub ends : end_of at ≡ end_of start
@@ -48,6 +49,7 @@ gathering_none at g same = record {
   rise = refl;
   small = tt;
   rank = ap (λ (x : Gathered). x.rank) same;
+  behind = ap (λ (x : Gathered). x.behind) same;
   held = λ kind. ap (kept kind) same ∙ kept_none kind;
   later = later_none at;
   ends = refl;
@@ -76,9 +78,11 @@ module _ (start at after : Input) (g : Gathered) (s : Section) (read : section.p
     is = one_more;
     rise = above_push 0 k.sections s k.rise (ap (λ (r : ℕ). follows r (rank (section_kind s))) (sym k.rank) ∙ on);
     small = small-push k.sections s k.small small;
-    rank = ap (λ (x : Gathered). x.rank) same ∙ rank_added g s ∙ ap (λ (r : ℕ). rank_behind r (rank (section_kind s))) k.rank ∙ sym (last_rank_push 0 k.sections s);
+    rank = ap (λ (x : Gathered). x.rank) same ∙ ap (λ (r : ℕ). rank_behind r (rank (section_kind s))) k.rank ∙ sym (last_rank_push 0 k.sections s);
+    behind = ap (λ (x : Gathered). x.behind) same ∙ ap (λ (last : Option Kind). place_behind last s) k.behind ∙ sym (last_place_push None k.sections s);
     held = λ kind.
-        ap (kept kind) same ∙ kept_added kind g s ∙ ap (λ (c : Kept kind). kept_with kind c s) (k.held kind) ∙ sym (kept_push kind k.sections s);
+        ap (kept kind) same ∙ kept_added kind g s ∙ ap₂ (λ (last : Option Kind) (c : Kept kind). kept_with kind last c s) k.behind (k.held kind)
+        ∙ sym (kept_push kind k.sections s);
     later = later_more section start at after s read k.later;
     ends = ends ∙ k.ends;
   }

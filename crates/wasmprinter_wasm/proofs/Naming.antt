@@ -2,9 +2,9 @@
 use Rattle.std.proofs.Common.{◌≡◌, ℕ, ◌+◌, ◌<◌, true, false, get_or, drop, List, [], ◌∷◌, ◌++◌, length, refl, sym, ap, subst, ◌∙◌, append_assoc, append-nil}
 use Rattle.std.specs.Prelude.{bytes_eq}
 use Rattle.std.proofs.lemmas.List.{at_drop_more}
-use Rattle.wasmprinter_spec.specs.Grammar.{Input, input, Placed}
-use Rattle.wasmprinter_spec.specs.Placed.{Custom}
-use Rattle.wasmprinter_spec.specs.Binary.Customs.{name_section}
+use Rattle.wasmprinter_spec.specs.Grammar.{Input, input}
+use Rattle.wasmprinter_spec.specs.Placed.{CustomEntry}
+use Rattle.wasmprinter_spec.specs.Customs.{name_section}
 use Rattle.wasmprinter_spec.specs.Names.Section.{Entry, GivesNames}
 use Rattle.wasmprinter_spec.specs.ModuleNames.{entries_given, custom_entries, name_entries}
 use Rattle.wasmprinter_spec.proofs.NameSections.{gives_some}
@@ -12,13 +12,13 @@ use Rattle.wasmprinter_names.specs.declared.store.NamesBuilder.{NamesBuilder}
 use Rattle.wasmprinter_names.specs.Holds.{Holds}
 
 -- the builder holds the entries of the custom sections in front of the one with the number
-pub record Naming (customs : List (Placed Custom)) (i : ℕ) (b : NamesBuilder) : Type 0 where
+pub record Naming (customs : List CustomEntry) (i : ℕ) (b : NamesBuilder) : Type 0 where
   pub entries : List Entry
   pub kept : Holds entries b
   pub all : entries ++ name_entries (drop i customs) ≡ name_entries customs
 
 -- before the loop it holds none
-pub naming_none : (customs : List (Placed Custom)) (b : NamesBuilder) → Holds [] b → Naming customs 0 b
+pub naming_none : (customs : List CustomEntry) (b : NamesBuilder) → Holds [] b → Naming customs 0 b
 naming_none customs b h = record { entries = []; kept = h; all = refl }
 
 -- no entries in front of others are none
@@ -32,13 +32,13 @@ behind_nil [] ys e = e
 behind_nil (x ∷ xs) ys e = absurd cc
 
 -- the next custom section
-module _ (customs : List (Placed Custom)) (i : ℕ) (b : NamesBuilder) (c : Placed Custom) (lt : i < length customs) (same : c ≡ get_or customs i c) (k : Naming customs i b) where
+module _ (customs : List CustomEntry) (i : ℕ) (b : NamesBuilder) (c : CustomEntry) (lt : i < length customs) (same : c ≡ get_or customs i c) (k : Naming customs i b) where
   -- its entries stand in front of those of the others
-  split : name_entries (drop i customs) ≡ custom_entries c.value ++ name_entries (drop (i + 1) customs)
-  split = at_drop_more name_entries customs i c lt ∙ ap (λ (x : Placed Custom). name_entries (x ∷ drop (i + 1) customs)) (sym same)
+  split : name_entries (drop i customs) ≡ custom_entries c.section.value ++ name_entries (drop (i + 1) customs)
+  split = at_drop_more name_entries customs i c lt ∙ ap (λ (x : CustomEntry). name_entries (x ∷ drop (i + 1) customs)) (sym same)
 
   -- they were added
-  naming_more : (next : NamesBuilder) (gives : List Entry) → custom_entries c.value ≡ gives → Holds (k.entries ++ gives) next → Naming customs (i + 1) next
+  naming_more : (next : NamesBuilder) (gives : List Entry) → custom_entries c.section.value ≡ gives → Holds (k.entries ++ gives) next → Naming customs (i + 1) next
   naming_more next gives e h = record {
     entries = k.entries ++ gives;
     kept = h;
@@ -48,31 +48,31 @@ module _ (customs : List (Placed Custom)) (i : ℕ) (b : NamesBuilder) (c : Plac
   }
 
   -- it is no name section
-  pub naming_other : bytes_eq c.value.name name_section ≡ false → Naming customs (i + 1) b
+  pub naming_other : bytes_eq c.section.value.name name_section ≡ false → Naming customs (i + 1) b
   naming_other other =
-      let none : custom_entries c.value ≡ [] = rw other refl in
+      let none : custom_entries c.section.value ≡ [] = rw other refl in
       naming_more b [] none (subst (λ (xs : List Entry). Holds xs b) (sym (append-nil k.entries)) k.kept)
 
   -- it is one
-  module _ (section : Input) (is : bytes_eq c.value.name name_section ≡ true) (stands : section ≡ input c.value.bytes.place c.value.bytes.value) where
-    its : custom_entries c.value ≡ entries_given c.value.bytes
+  module _ (section : Input) (is : bytes_eq c.section.value.name name_section ≡ true) (stands : section ≡ input c.section.value.bytes.place c.section.value.bytes.value) where
+    its : custom_entries c.section.value ≡ entries_given c.section.value.bytes
     its = rw is refl
 
-    given : GivesNames section (entries_given c.value.bytes)
-    given = subst (λ (at : Input). GivesNames at (entries_given c.value.bytes)) (sym stands) (gives_some (input c.value.bytes.place c.value.bytes.value))
+    given : GivesNames section (entries_given c.section.value.bytes)
+    given = subst (λ (at : Input). GivesNames at (entries_given c.section.value.bytes)) (sym stands) (gives_some (input c.section.value.bytes.place c.section.value.bytes.value))
 
     -- which was read
     pub naming_read : (next : NamesBuilder) → ((entries gives : List Entry) → GivesNames section gives → Holds entries b → Holds (entries ++ gives) next) → Naming customs (i + 1) next
-    naming_read next h = naming_more next (entries_given c.value.bytes) its (h k.entries (entries_given c.value.bytes) given k.kept)
+    naming_read next h = naming_more next (entries_given c.section.value.bytes) its (h k.entries (entries_given c.section.value.bytes) given k.kept)
 
     -- where there is no entry at all, it gives none
     pub naming_nothing : name_entries customs ≡ [] → GivesNames section []
     naming_nothing none =
         let rest : name_entries (drop i customs) ≡ [] = behind_nil k.entries (name_entries (drop i customs)) (k.all ∙ none) in
-        let nil : custom_entries c.value ≡ [] = front_nil (custom_entries c.value) (name_entries (drop (i + 1) customs)) (sym split ∙ rest) in
+        let nil : custom_entries c.section.value ≡ [] = front_nil (custom_entries c.section.value) (name_entries (drop (i + 1) customs)) (sym split ∙ rest) in
         subst (GivesNames section) (sym its ∙ nil) given
 
 -- no section is left
-pub naming_done : (customs : List (Placed Custom)) (i : ℕ) (b : NamesBuilder) → drop i customs ≡ [] → Naming customs i b → Holds (name_entries customs) b
+pub naming_done : (customs : List CustomEntry) (i : ℕ) (b : NamesBuilder) → drop i customs ≡ [] → Naming customs i b → Holds (name_entries customs) b
 naming_done customs i b past k =
-    subst (λ (xs : List Entry). Holds xs b) (sym (append-nil k.entries) ∙ ap (λ (cs : List (Placed Custom)). k.entries ++ name_entries cs) (sym past) ∙ k.all) k.kept
+    subst (λ (xs : List Entry). Holds xs b) (sym (append-nil k.entries) ∙ ap (λ (cs : List CustomEntry). k.entries ++ name_entries cs) (sym past) ∙ k.all) k.kept

@@ -1,44 +1,66 @@
 -- What sections in order hold together.
 use Rattle.std.proofs.Common.{◌≡◌, ℕ, ◌<◌, ◌≤◌, lit≤, true, List, [], ◌∷◌, ◌++◌, length, Option, Some, None, refl, sym, ap, subst, ◌∙◌, arith, append-nil}
+use Rattle.std.specs.Prelude.{Bool, false, if◌then◌else◌}
+use Rattle.std.specs.Option.{option_or}
 use Rattle.std.specs.List.{AllByRecursion}
 use Rattle.wasmprinter_spec.specs.Grammar.{Placed}
-use Rattle.wasmprinter_spec.specs.Placed.{Custom}
-use Rattle.wasmprinter_spec.specs.Repeated.{some_or}
+use Rattle.wasmprinter_spec.specs.Placed.{Custom, CustomEntry, custom_entry}
 use Rattle.wasmprinter_spec.specs.Sections.{CustomSection, TypeSection, ImportSection, FunctionSection, TableSection, MemorySection, TagSection, GlobalSection}
 use Rattle.wasmprinter_spec.specs.Sections.{ExportSection, StartSection, ElementSection, DataCountSection, CodeSection, DataSection}
-use Rattle.wasmprinter_spec.specs.Sections.{Kind, Section, holds, section_kind, content_of, rank, rank_behind, are_above}
-use Rattle.wasmprinter_spec.specs.Binary.{type_indices_in, tables_in, bodies_in, customs_in}
+use Rattle.wasmprinter_spec.specs.Sections.{Kind, Section, holds, section_kind, content_of, are_above, is_place, place_behind, with_custom, customs_behind}
+use Rattle.wasmprinter_spec.specs.Binary.{type_indices_in, tables_in, bodies_in}
 use Rattle.wasmprinter_spec.specs.Limits.{most_functions}
 use Rattle.wasmprinter_spec.proofs.Ordered.{with_one, held_push, held_each, held_midst, held_picked}
 use Rattle.wasmprinter_entries.specs.Refusals.{AnyIsOver, FirstIsEmpty}
 use Rattle.wasmprinter_entries.specs.Contents.{HasFew, HasNoEmpty, IsSmall, HasCount, HasOver, HasEmpty, item_count}
+use Rattle.wasmprinter_entries.specs.declared.places.SectionKind.{SectionKind}
+use Rattle.wasmprinter_entries.specs.Places.{place_view}
 use Rattle.wasmprinter_wasm.specs.Gathering.{Gathered, none_gathered, Kept, kept, kept_in, with_section, IsHeld, item_count_in}
 
 -- ---- custom sections
 
--- one more in front, if there is one
-abbrev in_front : Option (Placed Custom) → List (Placed Custom) → List (Placed Custom)
-in_front o cs = some_or o cs (λ c. c ∷ cs)
+-- the place of a section, before what the sections in front of it stand behind
+joined : (b : Bool) (kind : Kind) (last r : Option SectionKind) → place_view r ≡ (if b then Some kind else None) → place_view (option_or r last) ≡ (if b then Some kind else place_view last)
+joined true kind last None e = absurd cc
+joined true kind last (Some k) e = e
+joined false kind last None e = refl
+joined false kind last (Some k) e = absurd cc
 
-front_push : (o : Option (Placed Custom)) (cs ds more : List (Placed Custom)) → ds ≡ cs ++ more → in_front o ds ≡ in_front o cs ++ more
-front_push None cs ds more e = e
-front_push (Some c) cs ds more e = ap (λ (xs : List (Placed Custom)). c ∷ xs) e
+-- is what custom sections behind it stand behind
+pub place_joined : (last r : Option SectionKind) (s : Section) → place_view r ≡ place_behind None s → place_view (option_or r last) ≡ place_behind (place_view last) s
+place_joined last r (holds kind x) e = joined (is_place kind x) kind last r e
 
-front_length : (o : Option (Placed Custom)) (cs : List (Placed Custom)) → length cs ≤ length (in_front o cs)
-front_length None cs = omega arith
-front_length (Some c) cs = omega arith
+-- what custom sections stand behind that follow the sections, if those in front of these stand behind this
+abbrev pub last_place : Option Kind → List Section → Option Kind
+last_place last [] = last
+last_place last (s ∷ ss) = last_place (place_behind last s) ss
+
+-- with one more section behind them
+pub last_place_push : (last : Option Kind) (ss : List Section) (s : Section) → last_place last (ss ++ s ∷ []) ≡ place_behind (last_place last ss) s
+last_place_push last [] s = refl
+last_place_push last (x ∷ xs) s = last_place_push (place_behind last x) xs s
+
+front_push : (last : Option Kind) (o : Option (Placed Custom)) (cs ds more : List CustomEntry) → ds ≡ cs ++ more → with_custom last o ds ≡ with_custom last o cs ++ more
+front_push last None cs ds more e = e
+front_push last (Some c) cs ds more e = ap (λ (xs : List CustomEntry). custom_entry last c ∷ xs) e
+
+front_length : (last : Option Kind) (o : Option (Placed Custom)) (cs : List CustomEntry) → length cs ≤ length (with_custom last o cs)
+front_length last None cs = omega arith
+front_length last (Some c) cs = omega arith
 
 -- one more section behind others
-customs_push : (ss : List Section) (s : Section) → customs_in (ss ++ s ∷ []) ≡ customs_in ss ++ in_front (content_of CustomSection s) []
-customs_push [] s = refl
-customs_push (x ∷ xs) s = front_push (content_of CustomSection x) (customs_in xs) (customs_in (xs ++ s ∷ [])) (in_front (content_of CustomSection s) []) (customs_push xs s)
+customs_push : (last : Option Kind) (ss : List Section) (s : Section) → customs_behind last (ss ++ s ∷ []) ≡ customs_behind last ss ++ customs_behind (last_place last ss) (s ∷ [])
+customs_push last [] s = refl
+customs_push last (x ∷ xs) s =
+    let next : Option Kind = place_behind last x in
+    front_push last (content_of CustomSection x) (customs_behind next xs) (customs_behind next (xs ++ s ∷ [])) (customs_behind (last_place next xs) (s ∷ [])) (customs_push next xs s)
 
 -- one among others
-customs_midst : (xs : List Section) (c : Placed Custom) (ys : List Section) → 0 < length (customs_in (xs ++ holds CustomSection c ∷ ys))
-customs_midst [] c ys = omega arith
-customs_midst (x ∷ xs) c ys =
-    let rest : List (Placed Custom) = customs_in (xs ++ holds CustomSection c ∷ ys) in
-    omega (arith, customs_midst xs c ys, front_length (content_of CustomSection x) rest)
+customs_midst : (last : Option Kind) (xs : List Section) (c : Placed Custom) (ys : List Section) → 0 < length (customs_behind last (xs ++ holds CustomSection c ∷ ys))
+customs_midst last [] c ys = omega arith
+customs_midst last (x ∷ xs) c ys =
+    let rest : List CustomEntry = customs_behind (place_behind last x) (xs ++ holds CustomSection c ∷ ys) in
+    omega (arith, customs_midst (place_behind last x) xs c ys, front_length last (content_of CustomSection x) rest)
 
 -- a section that is a custom one
 pub custom_kind : (s : Section) → section_kind s ≡ CustomSection → (c : Placed Custom) × (s ≡ holds CustomSection c)
@@ -47,40 +69,23 @@ custom_kind (holds _ x) e = absurd cc
 
 -- ---- of each kind
 
--- the rank that is kept is that of the last section that has one
-pub rank_added : (g : Gathered) (s : Section) → (with_section g s).rank ≡ rank_behind g.rank (rank (section_kind s))
-rank_added g (holds CustomSection x) = refl
-rank_added g (holds TypeSection x) = refl
-rank_added g (holds ImportSection x) = refl
-rank_added g (holds FunctionSection x) = refl
-rank_added g (holds TableSection x) = refl
-rank_added g (holds MemorySection x) = refl
-rank_added g (holds TagSection x) = refl
-rank_added g (holds GlobalSection x) = refl
-rank_added g (holds ExportSection x) = refl
-rank_added g (holds StartSection x) = refl
-rank_added g (holds ElementSection x) = refl
-rank_added g (holds DataCountSection x) = refl
-rank_added g (holds CodeSection x) = refl
-rank_added g (holds DataSection x) = refl
-
 -- before any section nothing is kept
 pub kept_none : (kind : Kind) → kept kind none_gathered ≡ kept_in kind []
 kept_none CustomSection = refl
 kept_none _ = refl
 
--- what is kept of a kind, with one more section
-abbrev pub kept_with : (kind : Kind) → Kept kind → Section → Kept kind
-kept_with CustomSection cs s = cs ++ in_front (content_of CustomSection s) []
-kept_with kind c s = with_one kind c s
+-- what is kept of a kind, with one more section, in front of which custom sections stand behind this
+abbrev pub kept_with : (kind : Kind) → Option Kind → Kept kind → Section → Kept kind
+kept_with CustomSection last cs s = cs ++ customs_behind last (s ∷ [])
+kept_with kind last c s = with_one kind c s
 
 -- it is what sections hold with one more behind them
-pub kept_push : (kind : Kind) (ss : List Section) (s : Section) → kept_in kind (ss ++ s ∷ []) ≡ kept_with kind (kept_in kind ss) s
-kept_push CustomSection ss s = customs_push ss s
+pub kept_push : (kind : Kind) (ss : List Section) (s : Section) → kept_in kind (ss ++ s ∷ []) ≡ kept_with kind (last_place None ss) (kept_in kind ss) s
+kept_push CustomSection ss s = customs_push None ss s
 kept_push kind ss s = held_push kind (kept kind none_gathered) ss s
 
 -- a section sets what is kept of its kind, or adds to it, and leaves the rest
-pub kept_added : (kind : Kind) (g : Gathered) (s : Section) → kept kind (with_section g s) ≡ kept_with kind (kept kind g) s
+pub kept_added : (kind : Kind) (g : Gathered) (s : Section) → kept kind (with_section g s) ≡ kept_with kind g.behind (kept kind g) s
 kept_added CustomSection g (holds CustomSection x) = refl
 kept_added CustomSection g (holds _ x) = sym (append-nil g.customs)
 kept_added TypeSection g (holds TypeSection x) = refl
@@ -100,7 +105,7 @@ kept_added _ g _ = refl
 
 -- sections in order among which one holds an item hold one
 pub some_midst : (xs : List Section) (s : Section) (ys : List Section) → are_above 0 (xs ++ s ∷ ys) ≡ true → 0 < item_count s → 0 < item_count_in (xs ++ s ∷ ys)
-some_midst xs (holds CustomSection x) ys up some = omega (arith, customs_midst xs x ys)
+some_midst xs (holds CustomSection x) ys up some = omega (arith, customs_midst None xs x ys)
 some_midst xs (holds TypeSection x) ys up some = omega (arith, ap length (held_midst TypeSection 1 refl [] 0 xs x ys up))
 some_midst xs (holds ImportSection x) ys up some = omega (arith, ap length (held_midst ImportSection 2 refl [] 0 xs x ys up))
 some_midst xs (holds FunctionSection x) ys up some = omega (arith, ap length (held_midst FunctionSection 3 refl [] 0 xs x ys up))

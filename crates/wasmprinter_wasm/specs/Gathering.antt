@@ -5,10 +5,10 @@ use Rattle.wasmprinter_spec.specs.Grammar.{Input, Placed}
 use Rattle.wasmprinter_spec.specs.Repeated.{until_end}
 use Rattle.wasmprinter_spec.specs.Types.{MemoryType}
 use Rattle.wasmprinter_spec.specs.Operator.{Operator}
-use Rattle.wasmprinter_spec.specs.Placed.{TypeGroup, Import, Table, Global, ElementEntry, Data, Body, Export, Custom}
+use Rattle.wasmprinter_spec.specs.Placed.{TypeGroup, Import, Table, Global, ElementEntry, Data, Body, Export, CustomEntry}
 use Rattle.wasmprinter_spec.specs.Sections.{CustomSection, TypeSection, ImportSection, FunctionSection, TableSection, MemorySection, TagSection, GlobalSection}
 use Rattle.wasmprinter_spec.specs.Sections.{ExportSection, StartSection, ElementSection, DataCountSection, CodeSection, DataSection}
-use Rattle.wasmprinter_spec.specs.Sections.{Kind, Content, Section, holds, section, rank, rank_behind, are_above}
+use Rattle.wasmprinter_spec.specs.Sections.{Kind, Content, Section, holds, section_kind, section, rank, rank_behind, are_above, place_behind, customs_behind}
 use Rattle.wasmprinter_spec.specs.Binary.{types_in, imports_in, type_indices_in, tables_in, memories_in, tags_in, globals_in, exports_in, start_in, elements_in, data_count_in, bodies_in, datas_in, customs_in, counts_data}
 use Rattle.wasmprinter_spec.specs.Limits.{most_functions}
 use Rattle.wasmprinter_bytes.specs.Reads.{end_of}
@@ -17,9 +17,10 @@ use Rattle.wasmprinter_error.specs.Reasons.{Reasons, HasReason}
 use Rattle.wasmprinter_entries.specs.Refusals.{HasManyLocals, HasEmptyInit, BeginsSection, KeepsSome, AnyIsOver, FirstIsEmpty}
 use Rattle.wasmprinter_entries.specs.Contents.{IsSmall}
 
--- what the sections hold, and the rank of the last
+-- what the sections hold, the rank of the last, and what a custom section stands behind that follows them
 pub record Gathered : Type 0 where
   pub rank : ℕ
+  pub behind : Option Kind
   pub types : List (Placed TypeGroup)
   pub imports : List (Placed Import)
   pub type_indices : List ℕ
@@ -33,12 +34,13 @@ pub record Gathered : Type 0 where
   pub data_count : Option ℕ
   pub bodies : List (Placed Body)
   pub datas : List (Placed (Data (Placed Operator)))
-  pub customs : List (Placed Custom)
+  pub customs : List CustomEntry
 
 -- before any section
 abbrev pub none_gathered : Gathered
 none_gathered = record {
   rank = 0;
+  behind = None;
   types = [];
   imports = [];
   type_indices = [];
@@ -57,7 +59,7 @@ none_gathered = record {
 
 -- what is kept of each kind: all custom sections, and of all others what the only one holds
 abbrev pub Kept : Kind → Type 0
-Kept CustomSection = List (Placed Custom)
+Kept CustomSection = List CustomEntry
 Kept kind = Content kind
 
 abbrev pub kept : (kind : Kind) → Gathered → Kept kind
@@ -94,21 +96,25 @@ kept_in CodeSection ss = bodies_in ss
 kept_in DataSection ss = datas_in ss
 
 -- with what one more section holds, in place of what one of its kind held; a custom section stands behind those that were kept
+abbrev pub with_content : Gathered → Section → Gathered
+with_content g (holds CustomSection c) = record g { customs = g.customs ++ customs_behind g.behind (holds CustomSection c ∷ []) }
+with_content g (holds TypeSection ts) = record g { types = ts }
+with_content g (holds ImportSection is) = record g { imports = is }
+with_content g (holds FunctionSection is) = record g { type_indices = is }
+with_content g (holds TableSection ts) = record g { tables = ts }
+with_content g (holds MemorySection ms) = record g { memories = ms }
+with_content g (holds TagSection ts) = record g { tags = ts }
+with_content g (holds GlobalSection gs) = record g { globals = gs }
+with_content g (holds ExportSection es) = record g { exports = es }
+with_content g (holds StartSection f) = record g { start = f }
+with_content g (holds ElementSection es) = record g { elements = es }
+with_content g (holds DataCountSection n) = record g { data_count = n }
+with_content g (holds CodeSection bs) = record g { bodies = bs }
+with_content g (holds DataSection ds) = record g { datas = ds }
+
+-- with one more section
 abbrev pub with_section : Gathered → Section → Gathered
-with_section g (holds CustomSection c) = record g { rank = rank_behind g.rank (rank CustomSection); customs = g.customs ++ c ∷ [] }
-with_section g (holds TypeSection ts) = record g { rank = rank_behind g.rank (rank TypeSection); types = ts }
-with_section g (holds ImportSection is) = record g { rank = rank_behind g.rank (rank ImportSection); imports = is }
-with_section g (holds FunctionSection is) = record g { rank = rank_behind g.rank (rank FunctionSection); type_indices = is }
-with_section g (holds TableSection ts) = record g { rank = rank_behind g.rank (rank TableSection); tables = ts }
-with_section g (holds MemorySection ms) = record g { rank = rank_behind g.rank (rank MemorySection); memories = ms }
-with_section g (holds TagSection ts) = record g { rank = rank_behind g.rank (rank TagSection); tags = ts }
-with_section g (holds GlobalSection gs) = record g { rank = rank_behind g.rank (rank GlobalSection); globals = gs }
-with_section g (holds ExportSection es) = record g { rank = rank_behind g.rank (rank ExportSection); exports = es }
-with_section g (holds StartSection f) = record g { rank = rank_behind g.rank (rank StartSection); start = f }
-with_section g (holds ElementSection es) = record g { rank = rank_behind g.rank (rank ElementSection); elements = es }
-with_section g (holds DataCountSection n) = record g { rank = rank_behind g.rank (rank DataCountSection); data_count = n }
-with_section g (holds CodeSection bs) = record g { rank = rank_behind g.rank (rank CodeSection); bodies = bs }
-with_section g (holds DataSection ds) = record g { rank = rank_behind g.rank (rank DataSection); datas = ds }
+with_section g s = record (with_content g s) { rank = rank_behind g.rank (rank (section_kind s)); behind = place_behind g.behind s }
 
 -- what is gathered is what the sections hold of each kind
 abbrev pub IsHeld : Gathered → List Section → Type 0

@@ -1,4 +1,4 @@
-//! Custom sections called `name`: where they stand, what is at fault in one, and the names of a module. What is expected is typed by hand.
+//! Custom sections: their names and bytes, what is at fault in one, and the names of a module. What is expected is typed by hand.
 
 use crate::decoder::decode;
 use crate::tests::{CODE, FUNCTIONS, TYPES, is_accepted, module};
@@ -12,6 +12,9 @@ const FIRST_NAMES: &[u8] = b"\x00\x0f\x04name\x00\x02\x01m\x01\x04\x01\x00\x01a"
 
 /// A name section that calls function 0 `b` and function 1 `a`.
 const SECOND_NAMES: &[u8] = b"\x00\x0e\x04name\x01\x07\x02\x00\x01b\x01\x01a";
+
+/// What the first name section holds, in a custom section called `names`.
+const OTHER_NAMES: &[u8] = b"\x00\x10\x05names\x00\x02\x01m\x01\x04\x01\x00\x01a";
 
 /// A name section without names.
 const NO_NAMES: &[u8] = b"\x00\x05\x04name";
@@ -49,9 +52,9 @@ fn name_sections_may_stand_anywhere(rt: HostRuntime) -> Result<(), Fail> {
         let decoded = decode(rt.alloc(), &bytes)?;
         assert_eq!(rt; decoded.customs().len(), places.len());
         for (custom, place) in decoded.customs().iter().zip(places.iter().copied()) {
-            assert_eq!(rt; custom.place(), place);
-            assert_eq!(rt; custom.name(), "name");
-            assert!(rt; custom.is_name_section());
+            assert_eq!(rt; custom.section.place(), place);
+            assert_eq!(rt; custom.section.name(), "name");
+            assert!(rt; custom.section.is_name_section());
         }
     }
     Ok(())
@@ -65,16 +68,16 @@ fn custom_sections_hold_the_bytes_behind_their_name(rt: HostRuntime) -> Result<(
         assert!(rt; false);
         return Ok(());
     };
-    assert_eq!(rt; first.bytes().len(), 0);
-    assert_eq!(rt; first.bytes_place(), 0x0f);
-    assert_eq!(rt; second.place(), 0x1b);
-    assert_eq!(rt; second.bytes_place(), 0x20);
+    assert_eq!(rt; first.section.bytes().len(), 0);
+    assert_eq!(rt; first.section.bytes_place(), 0x0f);
+    assert_eq!(rt; second.section.place(), 0x1b);
+    assert_eq!(rt; second.section.bytes_place(), 0x20);
     assert_eq!(rt;
-        second.bytes(),
+        second.section.bytes(),
         b"\x00\x02\x01m\x01\x04\x01\x00\x01a".as_slice()
     );
-    assert_eq!(rt; second.cursor().place(), 0x20);
-    assert_eq!(rt; second.cursor().len(), 10);
+    assert_eq!(rt; second.section.cursor().place(), 0x20);
+    assert_eq!(rt; second.section.cursor().len(), 10);
     Ok(())
 }
 
@@ -87,18 +90,39 @@ fn two_name_sections_may_stand_together(rt: HostRuntime) -> Result<(), Fail> {
     Ok(())
 }
 
+/// Custom sections that are no name sections, with their names and the bytes behind these.
+const OTHERS: [(&[u8], &str, &[u8]); 6] = [
+    (b"\x00\x06\x05names", "names", b""),
+    (b"\x00\x04\x03nam", "nam", b""),
+    (b"\x00\x01\x00", "", b""),
+    (b"\x00\x05\x04Name", "Name", b""),
+    (b"\x00\x05\x02\xc3\xa9\xff\x00", "é", b"\xff\x00"),
+    (b"\x00\x0b\x09producers\x00", "producers", b"\x00"),
+];
+
+#[test]
+fn custom_sections_may_have_any_name(rt: HostRuntime) -> Result<(), Fail> {
+    for (section, name, content) in OTHERS {
+        let bytes = with_names(rt.alloc(), [section, NONE, section])?;
+        let decoded = decode(rt.alloc(), &bytes)?;
+        assert_eq!(rt; decoded.customs().len(), 2);
+        for custom in decoded.customs() {
+            assert_eq!(rt; custom.section.name(), name);
+            assert_eq!(rt; custom.section.bytes(), content);
+            assert!(rt; !custom.section.is_name_section());
+        }
+    }
+    Ok(())
+}
+
 /// Sections that are refused in front of all others and behind them; their faults lie so many bytes behind their first.
-const REFUSED: [(&[u8], u64); 9] = [
-    // other names: `names`, `nam`, none, `Name`, `producers`; each is blamed where it begins, its length in front
-    (b"\x00\x06\x05names", 2),
-    (b"\x00\x04\x03nam", 2),
-    (b"\x00\x01\x00", 2),
-    (b"\x00\x05\x04Name", 2),
-    (b"\x00\x0b\x09producers\x00", 2),
-    // no name, a name that is cut by the section's end, one that isn't UTF-8, one with a length of six bytes
+const REFUSED: [(&[u8], u64); 6] = [
+    // no name, names that are cut by the section's end, ones that aren't UTF-8, one with a length of six bytes
     (b"\x00\x00", 2),
     (b"\x00\x04\x04nam", 3),
+    (b"\x00\x04\x09pro", 3),
     (b"\x00\x05\x04nam\xff", 2),
+    (b"\x00\x03\x02\xc3n", 2),
     (b"\x00\x0a\x84\x80\x80\x80\x80\x00name", 6),
 ];
 
@@ -111,7 +135,7 @@ fn fault_place(alloc: Global, bytes: &[u8]) -> Option<u64> {
 }
 
 #[test]
-fn other_custom_sections_are_refused(rt: HostRuntime) -> Result<(), Fail> {
+fn custom_sections_without_a_whole_name_are_refused(rt: HostRuntime) -> Result<(), Fail> {
     for (section, offset) in REFUSED {
         let before = with_names(rt.alloc(), [section, NONE, NONE])?;
         assert_eq!(rt;
@@ -132,9 +156,10 @@ fn other_custom_sections_are_refused(rt: HostRuntime) -> Result<(), Fail> {
 /// Name sections, and the names of the module and of functions 0 and 1 by them.
 type Named = (Places, Option<&'static str>, [Option<&'static str>; 2]);
 
-const NAMED: [Named; 7] = [
+const NAMED: [Named; 8] = [
     ([NONE, NONE, NONE], None, [None, None]),
     ([NO_NAMES, NONE, NO_NAMES], None, [None, None]),
+    ([OTHER_NAMES, NONE, NONE], None, [None, None]),
     ([FIRST_NAMES, NONE, NONE], Some("m"), [Some("a"), None]),
     ([NONE, NONE, SECOND_NAMES], None, [Some("b"), Some("a")]),
     // a name that was given before is marked, and a later name of a function counts

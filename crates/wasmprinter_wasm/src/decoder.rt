@@ -14,10 +14,10 @@ use crate::sections::Section;
 use std::alloc::{AllocError, Global};
 use std::marker::Model;
 use wasmprinter_bytes::bytes::Cursor;
-use wasmprinter_entries::customs::Custom;
 use wasmprinter_entries::exports::Export;
 use wasmprinter_entries::imports::Import;
 use wasmprinter_entries::memories::Memory;
+use wasmprinter_entries::places::{CustomEntry, SectionKind};
 use wasmprinter_entries::start::Start;
 use wasmprinter_entries::tags::Tag;
 use wasmprinter_entries::types::Types;
@@ -58,6 +58,8 @@ fn read_preamble(cursor: &mut Cursor) -> Result<(), Malformed>
 struct Gathered<'a> {
     /// Where the last section stands in the order of sections.
     rank: u8,
+    /// What the next custom section stands behind.
+    behind: Option<SectionKind>,
     types: Types<'a>,
     imports: Vec<Import<'a>>,
     type_indices: Vec<u32>,
@@ -71,16 +73,18 @@ struct Gathered<'a> {
     data_count: Option<u32>,
     bodies: Vec<Body<'a>>,
     datas: Vec<Data<'a>>,
-    customs: Vec<Custom<'a>>,
+    customs: Vec<CustomEntry<'a>>,
 }
 
 impl<'a> Model for Gathered<'a> {
+    ghost use Rattle.wasmprinter_entries.specs.Places.{place_view};
     ghost use Rattle.wasmprinter_wasm.specs.Gathering.{Gathered as GatheredValue};
 
     ghost Value = { GatheredValue };
 
     ghost view = { λ g. record {
       rank = g.rank;
+      behind = place_view g.behind;
       types = g.types;
       imports = g.imports.items;
       type_indices = g.type_indices.items;
@@ -105,6 +109,7 @@ impl<'a> Gathered<'a> {
     {
         Gathered {
             rank: 0,
+            behind: None,
             types: Types::new(alloc),
             imports: Vec::new(alloc),
             type_indices: Vec::new(alloc),
@@ -133,13 +138,18 @@ impl<'a> Gathered<'a> {
     }
 
     /// Keeps what a section holds. Memory is wanted for custom sections alone.
+    #[tactic(auto, using(crate::proofs::OrderedSections::place_joined))]
     fn add(&mut self, section: Section<'a>) -> Result<(), AllocError>
         ensures added { OnOk result (self.new ≡ with_section self.old (section_view section.entry)) }
         ensures needed { IfErr result (λ _. section_kind (section_view section.entry) ≡ CustomSection) }
     {
         self.rank = section.rank().unwrap_or(self.rank);
+        self.behind = section.place().or(self.behind);
         match section {
-            Section::Custom(custom) => self.customs.push(custom)?,
+            Section::Custom(section) => self.customs.push(CustomEntry {
+                behind: self.behind,
+                section,
+            })?,
             Section::Types(types) => self.types.replace(types),
             Section::Imports(imports) => self.imports = imports,
             Section::Functions(type_indices) => self.type_indices = type_indices,

@@ -9,9 +9,10 @@ use wasmprinter_error::Error;
 /// Sections that stand alone in a module, with the place of their fault. The id stands at 8, the size at 9, the content from 10 on.
 type Faults = &'static [(&'static [u8], u64)];
 
-/// A custom section of another name, and sections with the first id that is free.
+/// Custom sections with a name that isn't UTF-8 and with one that is cut, and sections with the first id that is free.
 const UNKNOWN: Faults = &[
-    (&[0x00, 0x02, 0x01, 0x6e], 0x0a),
+    (&[0x00, 0x02, 0x01, 0xff], 0x0a),
+    (&[0x00, 0x02, 0x02, 0x6e], 0x0b),
     (&[0x0e, 0x01, 0x00], 0x08),
     (&[0x0e, 0x00], 0x08),
 ];

@@ -16,6 +16,7 @@ pub use wasmprinter_entries::global_types::GlobalType;
 pub use wasmprinter_entries::imports::{ExternType, Import};
 pub use wasmprinter_entries::limits::Limits;
 pub use wasmprinter_entries::memories::{Memory, MemoryType};
+pub use wasmprinter_entries::places::{CustomEntry, SectionKind};
 pub use wasmprinter_entries::start::Start;
 pub use wasmprinter_entries::table_types::TableType;
 pub use wasmprinter_entries::tags::Tag;
@@ -31,6 +32,8 @@ pub use wasmprinter_segments::tables::Table;
 mod custom_tests;
 #[cfg(test)]
 mod fault_tests;
+#[cfg(test)]
+mod place_tests;
 #[cfg(test)]
 mod segment_tests;
 #[cfg(test)]

@@ -7,10 +7,10 @@ ghost use Rattle.wasmprinter_wasm.specs.Modules.{body_at};
 
 use crate::function::Function;
 use std::marker::Model;
-use wasmprinter_entries::customs::Custom;
 use wasmprinter_entries::exports::{Export, ExternKind};
 use wasmprinter_entries::imports::Import;
 use wasmprinter_entries::memories::Memory;
+use wasmprinter_entries::places::CustomEntry;
 use wasmprinter_entries::start::Start;
 use wasmprinter_entries::tags::Tag;
 use wasmprinter_entries::types::{TypeGroup, Types};
@@ -36,7 +36,7 @@ pub struct Module<'a> {
     pub(crate) elements: Vec<Element<'a>>,
     pub(crate) bodies: Vec<Body<'a>>,
     pub(crate) datas: Vec<Data<'a>>,
-    pub(crate) customs: Vec<Custom<'a>>,
+    pub(crate) customs: Vec<CustomEntry<'a>>,
     pub(crate) size: u64,
 }
 
@@ -195,8 +195,8 @@ impl<'a> Module<'a> {
         &self.datas
     }
 
-    /// The custom sections, in their order.
-    pub fn customs(&self) -> &[Custom<'a>]
+    /// The custom sections, in their order, each with the kind of the last section in front of it that holds something.
+    pub fn customs(&self) -> &[CustomEntry<'a>]
         ensures { result.now ≡ self.now.customs }
     {
         &self.customs

@@ -26,8 +26,8 @@ impl<'a> Module<'a> {
     {
         let mut builder = NamesBuilder::new(alloc);
         for custom in self.customs() {
-            if custom.is_name_section() {
-                read_names(alloc, &mut builder, custom.cursor())?;
+            if custom.section.is_name_section() {
+                read_names(alloc, &mut builder, custom.section.cursor())?;
             }
         }
         Ok(builder.finish())

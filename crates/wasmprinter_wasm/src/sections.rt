@@ -1,16 +1,18 @@
 //! Sections (section 5.5, "Sections"): an id, a size, and content of exactly so many bytes.
-ghost use Rattle.std.specs.Prelude.{◌≡◌};
-ghost use Rattle.wasmprinter_spec.specs.Sections.{kind_of, section_kind, rank};
+ghost use Rattle.std.specs.Prelude.{◌≡◌, None};
+ghost use Rattle.wasmprinter_spec.specs.Sections.{kind_of, section_kind, rank, place_behind};
 ghost use Rattle.wasmprinter_bytes.specs.Reads.{end_of};
+ghost use Rattle.wasmprinter_entries.specs.Places.{place_view};
 ghost use Rattle.wasmprinter_wasm.specs.Sections.{section_view, TakesContent, TakesSection};
 
 use std::alloc::Global;
 use wasmprinter_bytes::bytes::Cursor;
-use wasmprinter_entries::customs::{Custom, read_custom};
+use wasmprinter_entries::customs::Custom;
 use wasmprinter_entries::exports::{Export, read_exports};
 use wasmprinter_entries::functions::read_functions;
 use wasmprinter_entries::imports::{Import, read_imports};
 use wasmprinter_entries::memories::{Memory, read_memories};
+use wasmprinter_entries::places::SectionKind;
 use wasmprinter_entries::start::{Start, read_start};
 use wasmprinter_entries::tags::{Tag, read_tags};
 use wasmprinter_entries::types::Types;
@@ -92,7 +94,7 @@ fn read_content<'a>(
     ensures { TakesContent place (kind_of id) cursor.old result }
 {
     match id {
-        CUSTOM => Ok(Section::Custom(read_custom(cursor)?)),
+        CUSTOM => Ok(Section::Custom(Custom::read(cursor)?)),
         TYPE => Ok(Section::Types(Types::read(alloc, cursor)?)),
         IMPORT => Ok(Section::Imports(read_imports(alloc, cursor)?)),
         FUNCTION => Ok(Section::Functions(read_functions(alloc, cursor)?)),
@@ -142,6 +144,27 @@ impl<'a> Section<'a> {
             Section::DataCount(_) => Some(11),
             Section::Code(_) => Some(12),
             Section::Data(_) => Some(13),
+        }
+    }
+
+    /// What custom sections behind this section stand behind, if it holds something: a list with items, or a start function.
+    pub(crate) fn place(&self) -> Option<SectionKind>
+        ensures { place_view result ≡ place_behind None (section_view self.now) }
+    {
+        match self {
+            Section::Types(types) => (!types.groups().is_empty()).then_some(SectionKind::Type),
+            Section::Imports(imports) => (!imports.is_empty()).then_some(SectionKind::Import),
+            Section::Functions(indices) => (!indices.is_empty()).then_some(SectionKind::Function),
+            Section::Tables(tables) => (!tables.is_empty()).then_some(SectionKind::Table),
+            Section::Memories(memories) => (!memories.is_empty()).then_some(SectionKind::Memory),
+            Section::Tags(tags) => (!tags.is_empty()).then_some(SectionKind::Tag),
+            Section::Globals(globals) => (!globals.is_empty()).then_some(SectionKind::Global),
+            Section::Exports(exports) => (!exports.is_empty()).then_some(SectionKind::Export),
+            Section::Start(_) => Some(SectionKind::Start),
+            Section::Elements(elements) => (!elements.is_empty()).then_some(SectionKind::Element),
+            Section::Code(bodies) => (!bodies.is_empty()).then_some(SectionKind::Code),
+            Section::Data(datas) => (!datas.is_empty()).then_some(SectionKind::Data),
+            Section::Custom(_) | Section::DataCount(_) => None,
         }
     }
 }

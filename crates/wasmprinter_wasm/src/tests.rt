@@ -290,16 +290,16 @@ fn type_indices_count_the_types_of_all_groups(rt: HostRuntime) -> Result<(), Fai
 }
 
 /// A memory section with one memory.
-const MEMORIES: [u8; 5] = [0x05, 0x03, 0x01, 0x00, 0x01];
+pub(crate) const MEMORIES: [u8; 5] = [0x05, 0x03, 0x01, 0x00, 0x01];
 
 /// A tag section with one tag.
-const TAGS: [u8; 5] = [0x0d, 0x03, 0x01, 0x00, 0x00];
+pub(crate) const TAGS: [u8; 5] = [0x0d, 0x03, 0x01, 0x00, 0x00];
 
 /// An export section that gives the first function out without a name.
-const EXPORTS: [u8; 6] = [0x07, 0x04, 0x01, 0x00, 0x00, 0x00];
+pub(crate) const EXPORTS: [u8; 6] = [0x07, 0x04, 0x01, 0x00, 0x00, 0x00];
 
 /// A start section with the first function.
-const START: [u8; 3] = [0x08, 0x01, 0x00];
+pub(crate) const START: [u8; 3] = [0x08, 0x01, 0x00];
 
 /// Sections in order, and sections that are not: one is too early, or comes again.
 const ORDERS: [(&[&[u8]], bool); 13] = [

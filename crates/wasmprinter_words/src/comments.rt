@@ -11,7 +11,12 @@ use std::io;
 use wasmprinter_print::{Print, Style, reset, start, text};
 
 /// Writes a text between two others.
-fn write_between<P: Print>(p: &mut P, before: &str, s: &str, after: &str) -> io::Result<()>
+pub(crate) fn write_between<P: Print>(
+    p: &mut P,
+    before: &str,
+    s: &str,
+    after: &str,
+) -> io::Result<()>
     ensures { Emits P.meaning p.old p.new result (Text (before.now ++ (s.now ++ after.now)) ∷ []) }
 {
     text(p, before)?;

@@ -2,7 +2,9 @@
 //! over any printer.
 #![tactic(auto)]
 
+pub mod annotations;
 pub mod comments;
+pub mod hints;
 pub mod identifiers;
 pub mod limits;
 pub mod numbers;

@@ -11,7 +11,12 @@ use std::io;
 use wasmprinter_print::{Print, Style, reset, start, styled, text};
 
 /// Writes two texts as one in a style.
-fn styled_pair<P: Print>(p: &mut P, style: Style, first: &str, second: &str) -> io::Result<()>
+pub(crate) fn styled_pair<P: Print>(
+    p: &mut P,
+    style: Style,
+    first: &str,
+    second: &str,
+) -> io::Result<()>
     ensures { Emits P.meaning p.old p.new result (in_style (style_of style) (first.now ++ second.now)) }
 {
     start(p, style)?;

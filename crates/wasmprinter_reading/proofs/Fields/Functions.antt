@@ -1,5 +1,5 @@
 -- Functions among the fields of a module.
-use Rattle.std.proofs.Common.{◌≡◌, ℕ, zero, suc, ◌+◌, ◌<◌, ◌≤◌, ◌^◌, true, false, Bool, cond, List, [], ◌∷◌, ◌++◌, length, Option, Some, refl, ap, ◌∙◌, subst, codes, replicate, arith}
+use Rattle.std.proofs.Common.{◌≡◌, ℕ, zero, suc, ◌+◌, ◌-◌, ◌<◌, ◌≤◌, ◌^◌, true, false, Bool, cond, List, [], ◌∷◌, ◌++◌, length, Option, Some, None, refl, ap, ◌∙◌, subst, codes, replicate, arith}
 use Rattle.std.specs.List.{AllByRecursion}
 use Rattle.wasmprinter_spec.specs.Character.{class}
 use Rattle.wasmprinter_spec.specs.Forest.{Forest, End, Word, Group, onto}
@@ -10,6 +10,7 @@ use Rattle.wasmprinter_spec.specs.Row.{Space, Types, Func}
 use Rattle.wasmprinter_spec.specs.Labels.{Named}
 use Rattle.wasmprinter_spec.specs.Names.{AreNamed, AreDistinct, identifiers_at, identifiers, in_function}
 use Rattle.wasmprinter_spec.specs.Operator.{Operator}
+use Rattle.wasmprinter_spec.specs.Customs.Hints.{Hint, FunctionHints, next_hint, next_hints, hints_behind}
 use Rattle.wasmprinter_spec.specs.Placed.{LocalEntry, PlacedFunction}
 use Rattle.wasmprinter_spec.specs.Module.{without_places, locals_of, function_of}
 use Rattle.wasmprinter_spec.specs.Indexed.{Counts, IsDeclaredVal, IsIndexedOperator, parameter_count}
@@ -19,7 +20,7 @@ use Rattle.wasmprinter_spec.specs.Layout.Groups.{group_gap_at, breaks, has_break
 use Rattle.wasmprinter_spec.specs.Layout.Variables.{Variables, grouped}
 use Rattle.wasmprinter_spec.specs.Layout.Declarations.{Scope}
 use Rattle.wasmprinter_spec.specs.Layout.Types.{parameters_of}
-use Rattle.wasmprinter_spec.specs.Layout.Operators.{OverLines, Setting, operator_pieces, operators_pieces, expression_pieces}
+use Rattle.wasmprinter_spec.specs.Layout.Operators.{OverLines, Setting, hint_pieces, operator_pieces, operators_pieces}
 use Rattle.wasmprinter_spec.specs.Layout.Functions.{locals_place, local_line, local_pieces, header_pieces, body_pieces, inner_pieces, function_group}
 use Rattle.wasmprinter_spec.specs.IndexSpaces.{Identifiers, index_space, space_in, index, Context}
 use Rattle.wasmprinter_spec.specs.Text.Items.{identified, groups, ids_of}
@@ -27,7 +28,7 @@ use Rattle.wasmprinter_spec.specs.Text.Types.{val_types, variables, signature}
 use Rattle.wasmprinter_spec.specs.Text.Functions.{function_of_type, read_function}
 use Rattle.wasmprinter_spec.specs.Text.Operators.{read_operators}
 use Rattle.wasmprinter_lexical.proofs.Pieces.{Edge, Bound, Ended}
-use Rattle.wasmprinter_lexical.proofs.Writes.{Writes, writing, is_open, both_write, behind_anything, nothing_writes, break_writes, line_group_gap_writes, group_gap_at_writes, ended_group_gap_at_writes}
+use Rattle.wasmprinter_lexical.proofs.Writes.{Writes, WritesNoted, writing, is_open, both_write, behind_anything, nothing_writes, break_writes, line_group_gap_writes, group_gap_at_writes, ended_group_gap_at_writes}
 use Rattle.wasmprinter_reading.specs.Listed.{AreSignaturesInRange, IsListed}
 use Rattle.wasmprinter_reading.specs.OperatorLaws.{count_in, HaveSameTypes, HaveSameNames}
 use Rattle.wasmprinter_reading.proofs.Ranged.{IsRangedLocal, IsRangedFunction}
@@ -36,15 +37,15 @@ use Rattle.wasmprinter_reading.proofs.Spaces.{identifiers_space}
 use Rattle.wasmprinter_reading.proofs.Types.Ranged.{IsRangedVal}
 use Rattle.wasmprinter_reading.proofs.Types.Trees.{groups_items, signature_items, type_use_items, HaveTypes, HaveNames, grouped_types, grouped_names, variables_write, groups_write}
 use Rattle.wasmprinter_reading.proofs.Types.Back.{variables_leave, variables_take, IsBehindSignature, printed_signature, signature-items, own_parameters}
-use Rattle.wasmprinter_reading.proofs.Operators.Lists.{expression_items, chunks_of, unfolded-operators, expression_writes, expression_reads}
+use Rattle.wasmprinter_reading.proofs.Operators.Lists.{expression_items, hinted_items, chunks_of, unfolded-operators, hinted_write, expression_reads}
 use Rattle.wasmprinter_reading.proofs.Fields.Scopes.{own_index, AreScoped, own_index-reads, type_bound, type_indices-read, vals_bounded, signature_bounded, signature_declared}
 use Rattle.wasmprinter_reading.proofs.Fields.Headers.{header_items, header_writes, identified-header}
 
 -- ---- what functions are written as
 
--- what the operators of a body are laid out by
-abbrev body_setting : Scope → Setting
-body_setting s = record { form = OverLines; signature = signature_at s.types; nesting = 2; names = s.names; function = s.function }
+-- what the operators of a body at this place are laid out by
+abbrev pub body_setting : Scope → ℕ → Setting
+body_setting s place = record { form = OverLines; signature = signature_at s.types; nesting = 2; names = s.names; function = s.function; body = place }
 
 -- the locals behind so many parameters
 abbrev local_items : Scope → ℕ → List ValType → Forest
@@ -52,20 +53,39 @@ local_items s count ls = groups_items s.names (codes "local") (grouped (s.names.
 
 -- what a function holds behind its type
 abbrev inner_items : Scope → ℕ → PlacedFunction → Forest
-inner_items s count f = onto (local_items s count (locals_of f.body.value.locals)) (expression_items (body_setting s) (without_places f.body.value.operators))
+inner_items s count f =
+    onto (local_items s count (locals_of f.body.value.locals)) (expression_items (body_setting s f.body.place) (without_places f.body.value.operators))
 
--- a function, whole or a skeleton
-abbrev function_items_by : Bool → Scope → PlacedFunction → Forest
-function_items_by true s f = header_items s Func (Some s.function) s.function f.type_index (Word (codes "...") End)
-function_items_by false s f =
-    header_items s Func (Some s.function) s.function f.type_index (inner_items s (parameter_count (signature_at s.types f.type_index)) f)
+-- the same with hints
+abbrev inner_hinted : Scope → List (Placed Hint) → ℕ → PlacedFunction → Forest
+inner_hinted s hs count f =
+    onto (local_items s count (locals_of f.body.value.locals)) (hinted_items (body_setting s f.body.place) hs 0 [] f.body.value.operators)
+
+-- a function with this behind its type, or a skeleton
+abbrev function_items_by : Bool → Scope → PlacedFunction → Forest → Forest
+function_items_by true s f inner = header_items s Func (Some s.function) s.function f.type_index (Word (codes "...") End)
+function_items_by false s f inner = header_items s Func (Some s.function) s.function f.type_index inner
 
 -- the function i
 abbrev pub function_scope : Scope → ℕ → Scope
 function_scope s i = record s { function = i }
 
+abbrev own_parameter_count : Scope → PlacedFunction → ℕ
+own_parameter_count s f = parameter_count (signature_at s.types f.type_index)
+
 abbrev pub function_items : Bool → Scope → ℕ → PlacedFunction → Forest
-function_items skeleton s i f = function_items_by skeleton (function_scope s i) f
+function_items skeleton s i f =
+    function_items_by skeleton (function_scope s i) f (inner_items (function_scope s i) (own_parameter_count s f) f)
+
+abbrev pub function_hinted : Bool → Scope → ℕ → List (Placed Hint) → PlacedFunction → Forest
+function_hinted skeleton s i hs f =
+    function_items_by skeleton (function_scope s i) f (inner_hinted (function_scope s i) hs (own_parameter_count s f) f)
+
+-- functions from i on, each with its hints
+abbrev pub functions_hinted : Bool → Scope → List FunctionHints → ℕ → List PlacedFunction → Forest
+functions_hinted skeleton s es i [] = End
+functions_hinted skeleton s es i (f ∷ fs) =
+    Group (Word (codes "func") (function_hinted skeleton s i (next_hints i es) f)) (functions_hinted skeleton s (hints_behind i es) (i + 1) fs)
 
 -- ---- their pieces write it
 
@@ -86,10 +106,15 @@ has_break-behind (p ∷ hs) ps h = by (breaks p) (has_break-behind hs ps h)
     by true e = refl
     by false e = e
 
+hint_breaks : (nesting : ℕ) (h : Option (Placed Hint)) (ps : List Piece) → has_break ps ≡ true → has_break (hint_pieces nesting h ++ ps) ≡ true
+hint_breaks nesting None ps e = e
+hint_breaks nesting (Some h) ps e = refl
+
 -- operators begin with a line
-body_breaks : (s : Scope) (o : Placed Operator) (os : List (Placed Operator)) → has_break (body_pieces s (o ∷ os)) ≡ true
-unfolding body_pieces expression_pieces operators_pieces operator_pieces
-body_breaks s o os = refl
+body_breaks : (s : Scope) (place : ℕ) (hs : List (Placed Hint)) (o : Placed Operator) (os : List (Placed Operator)) →
+    has_break (operators_pieces (body_setting s place) hs true 0 [] (o ∷ os)) ≡ true
+unfolding operators_pieces operator_pieces
+body_breaks s place hs o os = hint_breaks (2 + 0) (next_hint (o.place - place) hs) _ refl
 
 module _ (s : Scope) (named : AreNamed s.names) (ranged : AreSignaturesInRange (signature_at s.types)) where
   local_line_writes : (place : Option ℕ) (gs : List Variables) → AllByRecursion HaveNames gs → AllByRecursion (HaveTypes IsRangedVal) gs →
@@ -109,26 +134,28 @@ module _ (s : Scope) (named : AreNamed s.names) (ranged : AreSignaturesInRange (
       (grouped_names own (named.locals s.function) count (locals_of es))
       (grouped_types IsRangedVal own count (locals_of es) (locals_ranged es r))
 
-  body_writes : (os : List (Placed Operator)) → AllByRecursion IsListed (without_places os) →
-      Writes Bound (body_pieces s os) Ended (expression_items (body_setting s) (without_places os))
-  unfolding body_pieces
-  body_writes os l = behind_anything Bound (expression_writes (body_setting s) named ranged os l)
+  body_writes : (place : ℕ) (hs : List (Placed Hint)) (os : List (Placed Operator)) → AllByRecursion IsListed (without_places os) →
+      WritesNoted Bound (operators_pieces (body_setting s place) hs true 0 [] os) Ended (expression_items (body_setting s place) (without_places os))
+      (hinted_items (body_setting s place) hs 0 [] os)
+  body_writes place hs os l = behind_anything Bound (hinted_write (body_setting s place) named ranged hs os l)
 
-  empty_body_writes : Writes Bound (body_pieces s []) Bound End
-  unfolding body_pieces expression_pieces operators_pieces
-  empty_body_writes = nothing_writes
+  empty_body_writes : (place : ℕ) (hs : List (Placed Hint)) → Writes Bound (operators_pieces (body_setting s place) hs true 0 [] []) Bound End
+  unfolding operators_pieces
+  empty_body_writes place hs = nothing_writes
 
   -- a function closes on a line of its own behind its operators, so that no comment hides its parenthesis
-  pub function_group_writes : {a : Edge} → is_open a ≡ true → (skeleton offsets : Bool) (f : PlacedFunction) → s.function < 2 ^ 64 → IsRangedFunction f →
-      Writes a (function_group skeleton offsets s f) Bound (Group (Word (codes "func") (function_items_by skeleton s f)) End)
-  unfolding function_group inner_pieces class
-  function_group_writes e true offsets f h r =
+  pub function_group_writes : {a : Edge} → is_open a ≡ true → (skeleton offsets : Bool) (hs : List (Placed Hint)) (f : PlacedFunction) → s.function < 2 ^ 64 → IsRangedFunction f →
+      WritesNoted a (function_group skeleton offsets s hs f) Bound
+      (Group (Word (codes "func") (function_items_by skeleton s f (inner_items s (own_parameter_count s f) f))) End)
+      (Group (Word (codes "func") (function_items_by skeleton s f (inner_hinted s hs (own_parameter_count s f) f))) End)
+  unfolding function_group inner_pieces body_pieces class
+  function_group_writes e true offsets hs f h r =
       let rest : Writes Bound (Gap ∷ (piece.Word (codes "...") ∷ [])) Bound (Word (codes "...") End) = search writing in
-      line_group_gap_writes (codes "func") _ e refl (header_writes s named ranged Func (Some s.function) s.function f.type_index _ _ h r.type_index rest)
-  function_group_writes {a = a} e false offsets f h r = by f.body.value.operators r.body.listed
+      line_group_gap_writes (codes "func") _ e refl (header_writes s named ranged Func (Some s.function) s.function f.type_index _ _ _ h r.type_index rest)
+  function_group_writes {a = a} e false offsets hs f h r = by f.body.value.operators r.body.listed
     where
-      count : ℕ
-      count = parameter_count (signature_at s.types f.type_index)
+      place : ℕ
+      place = f.body.place
 
       locals : List (Placed LocalEntry)
       locals = f.body.value.locals
@@ -136,24 +163,31 @@ module _ (s : Scope) (named : AreNamed s.names) (ranged : AreSignaturesInRange (
       header : List Piece
       header = header_pieces s Func (Some s.function) s.function f.type_index
 
+      own_locals : List Piece
+      own_locals = local_pieces s.names s.function (own_parameter_count s f) locals
+
+      own_items : Forest → Forest
+      own_items x = header_items s Func (Some s.function) s.function f.type_index (onto (local_items s (own_parameter_count s f) (locals_of locals)) x)
+
       by : (os : List (Placed Operator)) → AllByRecursion IsListed (without_places os) →
-          Writes a (group_gap_at offsets f.body.value.end 1 (codes "func") (header ++ (local_pieces s.names s.function count locals ++ body_pieces s os))) Bound
-          (Group (Word (codes "func") (header_items s Func (Some s.function) s.function f.type_index
-          (onto (local_items s count (locals_of locals)) (expression_items (body_setting s) (without_places os))))) End)
+          WritesNoted a (group_gap_at offsets f.body.value.end 1 (codes "func") (header ++ (own_locals ++ operators_pieces (body_setting s place) hs true 0 [] os))) Bound
+          (Group (Word (codes "func") (own_items (expression_items (body_setting s place) (without_places os)))) End)
+          (Group (Word (codes "func") (own_items (hinted_items (body_setting s place) hs 0 [] os))) End)
       by [] l =
           group_gap_at_writes offsets f.body.value.end 1 (codes "func") _ e refl
-          (header_writes s named ranged Func (Some s.function) s.function f.type_index _ _ h r.type_index
-          (both_write (local_writes count locals r.body.locals) empty_body_writes))
+          (header_writes s named ranged Func (Some s.function) s.function f.type_index _ _ _ h r.type_index
+          (both_write (local_writes (own_parameter_count s f) locals r.body.locals) (empty_body_writes place hs)))
       by (o ∷ os) l =
           ended_group_gap_at_writes offsets f.body.value.end 1 (codes "func") _ e refl
-          (has_break-behind header _ (has_break-behind (local_pieces s.names s.function count locals) (body_pieces s (o ∷ os)) (body_breaks s o os)))
-          (header_writes s named ranged Func (Some s.function) s.function f.type_index _ _ h r.type_index
-          (both_write (local_writes count locals r.body.locals) (body_writes (o ∷ os) l)))
+          (has_break-behind header _ (has_break-behind own_locals _ (body_breaks s place hs o os)))
+          (header_writes s named ranged Func (Some s.function) s.function f.type_index _ _ _ h r.type_index
+          (both_write (local_writes (own_parameter_count s f) locals r.body.locals) (body_writes place hs (o ∷ os) l)))
 
 pub function_writes : (s : Scope) → AreNamed s.names → AreSignaturesInRange (signature_at s.types) → {a : Edge} → is_open a ≡ true → (skeleton offsets : Bool) (i : ℕ)
-    (f : PlacedFunction) → i < 2 ^ 64 → IsRangedFunction f →
-    Writes a (function_group skeleton offsets (function_scope s i) f) Bound (Group (Word (codes "func") (function_items skeleton s i f)) End)
-function_writes s named ranged e skeleton offsets i f h r = function_group_writes (function_scope s i) named ranged e skeleton offsets f h r
+    (hs : List (Placed Hint)) (f : PlacedFunction) → i < 2 ^ 64 → IsRangedFunction f →
+    WritesNoted a (function_group skeleton offsets (function_scope s i) hs f) Bound (Group (Word (codes "func") (function_items skeleton s i f)) End)
+    (Group (Word (codes "func") (function_hinted skeleton s i hs f)) End)
+function_writes s named ranged e skeleton offsets i hs f h r = function_group_writes (function_scope s i) named ranged e skeleton offsets hs f h r
 
 -- ---- they read back
 
@@ -174,7 +208,7 @@ variables_space named apart count ls few =
     ∙ identifiers_at-more named 0 count (length ls) in
     ap index_space are ∙ identifiers_space named apart (count + length ls) few
 
-module _ (s : Scope) (c : Context) (n : Counts) (scoped : AreScoped s c n) (i count : ℕ) (few : count ≤ 2 ^ 64) where
+module _ (s : Scope) (c : Context) (n : Counts) (scoped : AreScoped s c n) (i count : ℕ) (few : count ≤ 2 ^ 64) (place : ℕ) where
   -- what a function's operators are counted in and read with: so many parameters and locals
   abbrev own_counts : Counts
   own_counts = record n { locals = count }
@@ -209,7 +243,7 @@ module _ (s : Scope) (c : Context) (n : Counts) (scoped : AreScoped s c n) (i co
   own_few row.Data = scoped.names.few row.Data
   own_few row.Label = scoped.names.few row.Label
 
-  own_names : HaveSameNames (body_setting (function_scope s i)) own_context own_counts
+  own_names : HaveSameNames (body_setting (function_scope s i) place) own_context own_counts
   own_names = record {
     spaces = own_spaces;
     fields = scoped.names.fields;
@@ -220,13 +254,13 @@ module _ (s : Scope) (c : Context) (n : Counts) (scoped : AreScoped s c n) (i co
     structures = scoped.names.structures;
   }
 
-  own_types : HaveSameTypes (body_setting (function_scope s i)) own_context own_counts
+  own_types : HaveSameTypes (body_setting (function_scope s i) place) own_context own_counts
   own_types = record { read = scoped.types.read; counted = scoped.types.counted; in_range = scoped.types.in_range }
 
   body_reads : (f : PlacedFunction) → IsRangedFunction f → AllByRecursion (IsIndexedOperator own_counts) (without_places f.body.value.operators) →
-      read_operators own_context (chunks_of (body_setting (function_scope s i)) 0 [] (without_places f.body.value.operators)) ≡ Some (without_places f.body.value.operators)
+      read_operators own_context (chunks_of (body_setting (function_scope s i) place) 0 [] (without_places f.body.value.operators)) ≡ Some (without_places f.body.value.operators)
   body_reads f h d =
-      expression_reads (body_setting (function_scope s i)) own_context own_counts own_types own_names scoped.apart
+      expression_reads (body_setting (function_scope s i) place) own_context own_counts own_types own_names scoped.apart
       f.body.value.operators (record { listed = h.body.listed; nested = h.body.nested; count = h.body.count; indexed = d })
 
 -- how many parameters and locals a function has
@@ -249,7 +283,7 @@ module _ (s : Scope) (c : Context) (n : Counts) (scoped : AreScoped s c n) where
       let ls : List ValType = locals_of f.body.value.locals in
       let named : ℕ → Option Named = s.names.locals i in
       let count : ℕ = length t.params in
-      let setting : Setting = body_setting (function_scope s i) in
+      let setting : Setting = body_setting (function_scope s i) f.body.place in
       let code : Forest = expression_items setting os in
       let gs : List Variables = grouped named count ls in
       let rest : Forest = onto (groups_items s.names (codes "local") gs) code in
@@ -275,7 +309,7 @@ module _ (s : Scope) (c : Context) (n : Counts) (scoped : AreScoped s c n) where
         read,
         own_parameters (parameters_of s.names (Some i)) t,
         variables_space named (scoped.apart.locals i) count ls few,
-        body_reads s c n scoped i (count + length ls) few f h d,
+        body_reads s c n scoped i (count + length ls) few f.body.place f h d,
         types_of-declared named count ls,
       )
 

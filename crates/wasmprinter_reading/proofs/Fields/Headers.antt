@@ -17,7 +17,7 @@ use Rattle.wasmprinter_spec.specs.Text.Types.{signature}
 use Rattle.wasmprinter_spec.specs.Text.TypeIndices.{type_index}
 use Rattle.wasmprinter_lexical.proofs.Grown.{onto_assoc}
 use Rattle.wasmprinter_lexical.proofs.Pieces.{Edge, Free, Bound}
-use Rattle.wasmprinter_lexical.proofs.Writes.{Writes, both_write, nothing_writes, gap_writes}
+use Rattle.wasmprinter_lexical.proofs.Writes.{Writes, WritesNoted, both_write, nothing_writes, gap_writes}
 use Rattle.wasmprinter_reading.specs.Listed.{AreSignaturesInRange}
 use Rattle.wasmprinter_reading.proofs.Declarations.{id}
 use Rattle.wasmprinter_reading.proofs.Identifiers.{declaration-items, declaration_writes}
@@ -35,18 +35,23 @@ abbrev pub header_items : Scope → Space → Option ℕ → ℕ → ℕ → For
 header_items s space f i type_index rest = onto (own_id s space i) (onto (use_items s f type_index) rest)
 
 module _ (s : Scope) (named : AreNamed s.names) (ranged : AreSignaturesInRange (signature_at s.types)) where
-  pub header_writes : {b : Edge} (space : Space) (f : Option ℕ) (i type_index : ℕ) (qs : List Piece) (rest : Forest) → i < 2 ^ 64 → type_index < 2 ^ 32 →
-      Writes Bound qs b rest → Writes Free (header_pieces s space f i type_index ++ qs) b (header_items s space f i type_index rest)
+  pub header_writes : {b : Edge} (space : Space) (f : Option ℕ) (i type_index : ℕ) (qs : List Piece) (rest more : Forest) → i < 2 ^ 64 → type_index < 2 ^ 32 →
+      WritesNoted Bound qs b rest more →
+      WritesNoted Free (header_pieces s space f i type_index ++ qs) b (header_items s space f i type_index rest) (header_items s space f i type_index more)
   unfolding header_pieces
-  header_writes {b = b} space f i type_index qs rest h r w =
-      subst (Writes Free (header_pieces s space f i type_index ++ qs) b) (onto_assoc (own_id s space i) (use_items s f type_index) rest)
+  header_writes {b = b} space f i type_index qs rest more h r w =
+      let ps : List Piece = header_pieces s space f i type_index ++ qs in
+      let again : (x : Forest) → onto (onto (own_id s space i) (use_items s f type_index)) x ≡ header_items s space f i type_index x =
+      onto_assoc (own_id s space i) (use_items s f type_index) in
+      subst (WritesNoted Free ps b (header_items s space f i type_index rest)) (again more)
+      (subst (λ x. WritesNoted Free ps b x (onto (onto (own_id s space i) (use_items s f type_index)) more)) (again rest)
       (both_write (both_write (declaration_writes (s.names.items space i) i (named.items space i) h)
-      (gap_writes {a = Bound} refl (type_use_writes s.names named f type_index (signature_at s.types type_index) refl r (ranged type_index)))) w)
+      (gap_writes {a = Bound} refl (type_use_writes s.names named f type_index (signature_at s.types type_index) refl r (ranged type_index)))) w))
 
   -- where nothing stands behind it
   pub header_alone_writes : (space : Space) (f : Option ℕ) (i type_index : ℕ) → i < 2 ^ 64 → type_index < 2 ^ 32 →
       Writes Free (header_pieces s space f i type_index) Bound (header_items s space f i type_index End)
-  header_alone_writes space f i type_index h r = rw append-nil at (header_writes space f i type_index [] End h r nothing_writes)
+  header_alone_writes space f i type_index h r = rw append-nil at (header_writes space f i type_index [] End End h r nothing_writes)
 
 -- the identifier, and the rest
 pub identified-header : (s : Scope) (space : Space) (f : Option ℕ) (i type_index : ℕ) (rest : Forest) →

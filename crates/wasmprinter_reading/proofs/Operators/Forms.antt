@@ -1,10 +1,12 @@
 -- Operators over lines and in one line: what they may stand behind, and what may stand behind them.
-use Rattle.std.proofs.Common.{ℕ, Bool, true, false, List, [], ◌++◌, refl}
-use Rattle.wasmprinter_spec.specs.Forest.{Forest, End}
-use Rattle.wasmprinter_spec.specs.Piece.{Piece}
-use Rattle.wasmprinter_spec.specs.Layout.Operators.{Form, OverLines, InLine, before_word}
+use Rattle.std.proofs.Common.{ℕ, Bool, true, false, List, [], ◌∷◌, ◌++◌, Option, Some, None, codes, refl}
+use Rattle.wasmprinter_spec.specs.Grammar.{Placed}
+use Rattle.wasmprinter_spec.specs.Forest.{Forest, End, String, Note}
+use Rattle.wasmprinter_spec.specs.Customs.Hints.{Hint}
+use Rattle.wasmprinter_spec.specs.Piece.{Piece, flag_byte}
+use Rattle.wasmprinter_spec.specs.Layout.Operators.{Form, OverLines, InLine, before_word, hint_pieces}
 use Rattle.wasmprinter_lexical.proofs.Pieces.{Edge, Free, Bound, Ended}
-use Rattle.wasmprinter_lexical.proofs.Writes.{Writes, nothing_writes, free_writes, break_writes, gap_writes, behind_anything, before_line}
+use Rattle.wasmprinter_lexical.proofs.Writes.{Writes, WritesNoted, loosened, nothing_writes, free_writes, break_writes, gap_writes, hint_note_writes, behind_anything, before_line}
 
 -- ---- behind an operator
 
@@ -13,7 +15,7 @@ abbrev pub behind : Form → Edge
 behind OverLines = Ended
 behind InLine = Bound
 
-pub may_end : {ps : List Piece} {f : Forest} (form : Form) → Writes Bound ps Bound f → Writes Bound ps (behind form) f
+pub may_end : {ps : List Piece} {f k : Forest} (form : Form) → WritesNoted Bound ps Bound f k → WritesNoted Bound ps (behind form) f k
 may_end OverLines w = before_line Bound w
 may_end InLine w = w
 
@@ -25,11 +27,17 @@ ahead OverLines first = Ended
 ahead InLine true = Free
 ahead InLine false = Bound
 
-pub before_writes : {ps : List Piece} {b : Edge} {f : Forest} (form : Form) (first : Bool) (place nesting : ℕ) → Writes Free ps b f →
-    Writes (ahead form first) (before_word form first place nesting ++ ps) b f
+pub before_writes : {ps : List Piece} {b : Edge} {f k : Forest} (form : Form) (first : Bool) (place nesting : ℕ) → WritesNoted Free ps b f k →
+    WritesNoted (ahead form first) (before_word form first place nesting ++ ps) b f k
 before_writes OverLines first place nesting w = break_writes w
 before_writes InLine true place nesting w = w
 before_writes InLine false place nesting w = gap_writes refl w
+
+-- ---- hints
+
+abbrev pub hint_items : Option (Placed Hint) → Forest → Forest
+hint_items None f = f
+hint_items (Some h) f = Note (codes "metadata.code.branch_hint") (String (flag_byte h.value.taken ∷ []) End) f
 
 -- ---- lists of operators
 
@@ -39,11 +47,18 @@ no_operators_write InLine true = free_writes
 no_operators_write InLine false = nothing_writes
 
 -- further operators stand behind the first
-pub goes_on : {ps : List Piece} {b : Edge} {f : Forest} (form : Form) → Writes (ahead form false) ps b f → Writes (behind form) ps b f
+pub goes_on : {ps : List Piece} {b : Edge} {f k : Forest} (form : Form) → WritesNoted (ahead form false) ps b f k → WritesNoted (behind form) ps b f k
 goes_on OverLines w = w
 goes_on InLine w = w
 
--- the first may stand at the beginning of a text
-pub at_front : {ps : List Piece} {b : Edge} {f : Forest} (form : Form) → Writes (ahead form true) ps b f → Writes Free ps b f
-at_front OverLines w = behind_anything Free w
-at_front InLine w = w
+-- an operator may stand behind anything that ends
+pub at_free : {ps : List Piece} {b : Edge} {f k : Forest} (form : Form) (first : Bool) → WritesNoted (ahead form first) ps b f k → WritesNoted Free ps b f k
+at_free OverLines first w = behind_anything Free w
+at_free InLine true w = w
+at_free InLine false w = loosened w
+
+-- a hint in front of an operator, on a line of its own
+pub hinted_writes : {ps : List Piece} {b : Edge} {f k : Forest} (form : Form) (first : Bool) (nesting : ℕ) (h : Option (Placed Hint)) → WritesNoted (ahead form first) ps b f k →
+    WritesNoted (ahead form first) (hint_pieces nesting h ++ ps) b f (hint_items h k)
+hinted_writes form first nesting None w = w
+hinted_writes form first nesting (Some h) w = break_writes (hint_note_writes refl (at_free form first w))

@@ -1,5 +1,5 @@
 -- Lists of operators: what they are written as, that this is their code, and that it reads back.
-use Rattle.std.proofs.Common.{◌≡◌, ℕ, ◌<◌, ◌≤◌, ◌+◌, ◌^◌, Bool, true, false, List, [], ◌∷◌, Some, None, refl, sym, ap, ◌∙◌, subst, map, length, arith}
+use Rattle.std.proofs.Common.{◌≡◌, ℕ, ◌<◌, ◌≤◌, ◌+◌, ◌-◌, ◌^◌, Bool, true, false, List, [], ◌∷◌, Some, None, refl, sym, ap, ◌∙◌, subst, map, length, arith}
 use Rattle.std.specs.List.{AllByRecursion}
 use Rattle.wasmprinter_spec.specs.Grammar.{Placed}
 use Rattle.wasmprinter_spec.specs.Forest.{Forest, End, Word, onto}
@@ -12,6 +12,7 @@ use Rattle.wasmprinter_spec.specs.Nesting.{Nests, Sequence, advance, at_start}
 use Rattle.wasmprinter_spec.specs.NestingSteps.{stops_at_end}
 use Rattle.wasmprinter_spec.specs.Instructions.{roles}
 use Rattle.wasmprinter_spec.specs.Module.{without_places}
+use Rattle.wasmprinter_spec.specs.Customs.Hints.{Hint, next_hint, hint_behind}
 use Rattle.wasmprinter_spec.specs.Indexed.{Counts, AreDeclared, AreDeclaredBy, IsIndexedOperator}
 use Rattle.wasmprinter_spec.specs.Code.{Chunk, chunk, Instruction, Flat, code_of, with_word, code, flattened, unfolded}
 use Rattle.wasmprinter_spec.specs.Names.{IsNamedIfAny, AreNamed, AreApart}
@@ -19,13 +20,13 @@ use Rattle.wasmprinter_spec.specs.IndexSpaces.{Context}
 use Rattle.wasmprinter_spec.specs.Text.Operators.{id_of, immediates, labels_in_sight, open_behind, operators, are_nested, read_operators}
 use Rattle.wasmprinter_spec.specs.Layout.Operators.{Setting, level, operator_pieces, operators_pieces, expression_pieces}
 use Rattle.wasmprinter_lexical.proofs.Runs.{is_word}
-use Rattle.wasmprinter_lexical.proofs.Writes.{Writes, both_write, word_writes}
+use Rattle.wasmprinter_lexical.proofs.Writes.{Writes, WritesNoted, both_write, word_writes}
 use Rattle.wasmprinter_reading.specs.Listed.{IsListed, AreSignaturesInRange}
 use Rattle.wasmprinter_reading.specs.OperatorLaws.{HaveSameTypes, HaveSameNames, AreOperators}
 use Rattle.wasmprinter_reading.proofs.Tabled.{In, refuses, HasRow, row_for, fits}
 use Rattle.wasmprinter_reading.proofs.Operators.Labels.{ids, Opened}
 use Rattle.wasmprinter_reading.proofs.Operators.Arguments.{arguments_front}
-use Rattle.wasmprinter_reading.proofs.Operators.Forms.{behind, ahead, before_writes, no_operators_write, goes_on}
+use Rattle.wasmprinter_reading.proofs.Operators.Forms.{behind, ahead, hint_items, before_writes, no_operators_write, goes_on, hinted_writes}
 use Rattle.wasmprinter_reading.proofs.Operators.Immediates.{immediate_items, items_by, arguments_by, immediates_read, immediates_refused, writes_by}
 use Rattle.wasmprinter_reading.proofs.Operators.Rows.{IsSome, rows_of-row, first_reading-row}
 use Rattle.wasmprinter_reading.proofs.Operators.Open.{outside_ids, outside_opened, outside_labels, after_opened, after_labels, after_length, after_ids}
@@ -46,6 +47,22 @@ operators_items s n xs (o ∷ os) =
 abbrev pub expression_items : Setting → List Operator → Forest
 expression_items s os = operators_items s 0 [] os
 
+-- with hints in front of them
+abbrev pub hinted_items : Setting → List (Placed Hint) → ℕ → List Label → List (Placed Operator) → Forest
+hinted_items s hs n xs [] = End
+hinted_items s hs n xs (o ∷ os) =
+    hint_items (next_hint (o.place - s.body) hs)
+    (Word (word_of o.value.opcode) (onto (arguments_items s (s.names.labels s.function n (length xs)) xs o.value)
+    (hinted_items s (hint_behind (o.place - s.body) hs) (count_after (role_of o.value.opcode) n)
+    (labels_after (role_of o.value.opcode) (s.names.labels s.function n (length xs)) xs) os)))
+
+unhinted : (s : Setting) (n : ℕ) (xs : List Label) (os : List (Placed Operator)) → hinted_items s [] n xs os ≡ operators_items s n xs (without_places os)
+unhinted s n xs [] = refl
+unhinted s n xs (o ∷ os) =
+    let role : Role = role_of o.value.opcode in
+    let own : Label = s.names.labels s.function n (length xs) in
+    ap (λ f. Word (word_of o.value.opcode) (onto (arguments_items s own xs o.value) f)) (unhinted s (count_after role n) (labels_after role own xs) os)
+
 -- ---- this is their code
 
 abbrev pub chunks_of : Setting → ℕ → List Label → List Operator → List Chunk
@@ -55,11 +72,11 @@ chunks_of s n xs (o ∷ os) =
     ∷ chunks_of s (count_after (role_of o.opcode) n) (labels_after (role_of o.opcode) (s.names.labels s.function n (length xs)) xs) os
 
 -- an operator's word
-row_word : (o : Operator) (r : HasRow o) → word_of o.opcode ≡ r.row.word
+pub row_word : (o : Operator) (r : HasRow o) → word_of o.opcode ≡ r.row.word
 row_word o r = ap word_of_row r.found
 
 -- an operator's word takes what stands behind it
-word_takes : (r : Row) → In r table → (w : List ℕ) → w ≡ r.word → (f : Forest) (is : List Instruction) →
+pub word_takes : (r : Row) → In r table → (w : List ℕ) → w ≡ r.word → (f : Forest) (is : List Instruction) →
     with_word (rows_of w) w (Some (code_of f is)) ≡ Some (code_of End (Flat (chunk (rows_of w) f) ∷ is))
 word_takes r at w e f is =
     let rows : IsSome (rows_of r.word) = rows_of-row r at in
@@ -82,7 +99,7 @@ code-operators s n xs (o ∷ os) h =
     ap (with_word (rows_of (word_of o.opcode)) (word_of o.opcode)) e
     ∙ word_takes r.row r.in_table (word_of o.opcode) (row_word o r) a (map Flat (chunks_of s m ys os))
 
-flattened-Flat : (cs : List Chunk) → flattened (map Flat cs) ≡ Some cs
+pub flattened-Flat : (cs : List Chunk) → flattened (map Flat cs) ≡ Some cs
 flattened-Flat [] = refl
 flattened-Flat (c ∷ cs) = rw (flattened-Flat cs)
 
@@ -164,19 +181,29 @@ operator_writes s named ranged first own xs o h k l =
     (writes_by s named ranged (inside role xs) (outside role xs) own (outside_labels role xs h) k (shape_of o.value.opcode) o.value.immediates l.range))
 
 operators_write : (s : Setting) → AreNamed s.names → AreSignaturesInRange s.signature →
-    (first : Bool) (n : ℕ) (xs : List Label) (os : List (Placed Operator)) → AllByRecursion IsNamedIfAny xs → AllByRecursion IsListed (without_places os) →
-    Writes (ahead s.form first) (operators_pieces s first n xs os) (behind s.form) (operators_items s n xs (without_places os))
+    (hs : List (Placed Hint)) (first : Bool) (n : ℕ) (xs : List Label) (os : List (Placed Operator)) → AllByRecursion IsNamedIfAny xs → AllByRecursion IsListed (without_places os) →
+    WritesNoted (ahead s.form first) (operators_pieces s hs first n xs os) (behind s.form) (operators_items s n xs (without_places os)) (hinted_items s hs n xs os)
 unfolding operators_pieces
-operators_write s named ranged first n xs [] h l = no_operators_write s.form first
-operators_write s named ranged first n xs (o ∷ os) h l =
+operators_write s named ranged hs first n xs [] h l = no_operators_write s.form first
+operators_write s named ranged hs first n xs (o ∷ os) h l =
     let role : Role = role_of o.value.opcode in
     let own : Label = s.names.labels s.function n (length xs) in
     let k : IsNamedIfAny own = named.labels s.function n (length xs) in
-    both_write (operator_writes s named ranged first own xs o h k l.0)
-    (goes_on s.form (operators_write s named ranged false (count_after role n) (labels_after role own xs) os (after_labels role own xs k h) l.1))
+    let offset : ℕ = o.place - s.body in
+    let rest = operators_write s named ranged (hint_behind offset hs) false (count_after role n) (labels_after role own xs) os (after_labels role own xs k h) l.1 in
+    hinted_writes s.form first (s.nesting + length xs) (next_hint offset hs)
+    (both_write (operator_writes s named ranged first own xs o h k l.0) (goes_on s.form rest))
+
+-- operators with no label open
+pub hinted_write : (s : Setting) → AreNamed s.names → AreSignaturesInRange s.signature → (hs : List (Placed Hint)) (os : List (Placed Operator)) →
+    AllByRecursion IsListed (without_places os) →
+    WritesNoted (ahead s.form true) (operators_pieces s hs true 0 [] os) (behind s.form) (expression_items s (without_places os)) (hinted_items s hs 0 [] os)
+hinted_write s named ranged hs os l = operators_write s named ranged hs true 0 [] os tt l
 
 pub expression_writes : (s : Setting) → AreNamed s.names → AreSignaturesInRange s.signature → (os : List (Placed Operator)) →
     AllByRecursion IsListed (without_places os) →
     Writes (ahead s.form true) (expression_pieces s os) (behind s.form) (expression_items s (without_places os))
 unfolding expression_pieces
-expression_writes s named ranged os l = operators_write s named ranged true 0 [] os tt l
+expression_writes s named ranged os l =
+    let items : Forest = expression_items s (without_places os) in
+    subst (WritesNoted (ahead s.form true) (operators_pieces s [] true 0 [] os) (behind s.form) items) (unhinted s 0 [] os) (hinted_write s named ranged [] os l)

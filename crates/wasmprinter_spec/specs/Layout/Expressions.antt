@@ -9,7 +9,7 @@ use Rattle.wasmprinter_spec.specs.Layout.Operators.{InLine, Setting, expression_
 use Rattle.wasmprinter_spec.specs.Layout.Declarations.{Scope}
 
 abbrev pub in_line : Scope → Setting
-in_line s = record { form = InLine; signature = signature_at s.types; nesting = 0; names = s.names; function = s.function }
+in_line s = record { form = InLine; signature = signature_at s.types; nesting = 0; names = s.names; function = s.function; body = 0 }
 
 unfoldable pub constant_pieces : Scope → List (Placed Operator) → List Piece
 constant_pieces s os = expression_pieces (in_line s) os

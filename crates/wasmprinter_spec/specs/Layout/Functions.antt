@@ -1,19 +1,19 @@
 -- The layout of functions (section 6.6 of the standard, "Functions" and "Type Uses").
-use Rattle.std.specs.Prelude.{ℕ, List, [], ◌∷◌, ◌++◌, codes, Option, Some, None, Bool, true, false, ◌==◌, cond}
+use Rattle.std.specs.Prelude.{ℕ, ◌+◌, List, [], ◌∷◌, ◌++◌, codes, Option, Some, None, Bool, true, false, ◌==◌, cond}
 use Rattle.wasmprinter_spec.specs.Grammar.{Placed}
 use Rattle.wasmprinter_spec.specs.Types.{signature_at}
 use Rattle.wasmprinter_spec.specs.Row.{Space, Func}
 use Rattle.wasmprinter_spec.specs.Names.{Names}
 use Rattle.wasmprinter_spec.specs.Indexed.{parameter_count}
-use Rattle.wasmprinter_spec.specs.Operator.{Operator}
-use Rattle.wasmprinter_spec.specs.Placed.{LocalEntry, PlacedFunction}
+use Rattle.wasmprinter_spec.specs.Customs.Hints.{Hint, FunctionHints, next_hints, hints_behind}
+use Rattle.wasmprinter_spec.specs.Placed.{LocalEntry, Body, PlacedFunction}
 use Rattle.wasmprinter_spec.specs.Module.{locals_of}
 use Rattle.wasmprinter_spec.specs.Options.{Options}
 use Rattle.wasmprinter_spec.specs.Piece.{Piece, Break, Gap, Word}
 use Rattle.wasmprinter_spec.specs.Layout.Groups.{line_group_gap, group_gap_at}
 use Rattle.wasmprinter_spec.specs.Layout.Variables.{Variables, grouped, variables_pieces, groups_pieces}
 use Rattle.wasmprinter_spec.specs.Layout.Declarations.{Scope, item_declaration, type_use}
-use Rattle.wasmprinter_spec.specs.Layout.Operators.{OverLines, expression_pieces}
+use Rattle.wasmprinter_spec.specs.Layout.Operators.{OverLines, operators_pieces}
 
 -- the place of the first entry that declares a local, if one does
 abbrev pub locals_place : List (Placed LocalEntry) → Option ℕ
@@ -33,22 +33,29 @@ local_pieces names f count es = local_line names (locals_place es) (grouped (nam
 unfoldable pub header_pieces : Scope → Space → Option ℕ → ℕ → ℕ → List Piece
 header_pieces s space f i type_index = item_declaration s space i ++ (Gap ∷ type_use s f type_index)
 
--- the operators of the function, each on a line
-unfoldable pub body_pieces : Scope → List (Placed Operator) → List Piece
-body_pieces s os = expression_pieces (record { form = OverLines; signature = signature_at s.types; nesting = 2; names = s.names; function = s.function }) os
+-- the operators of the function, each on a line, with these hints
+unfoldable pub body_pieces : Scope → List (Placed Hint) → Placed Body → List Piece
+body_pieces s hs b =
+    operators_pieces (record { form = OverLines; signature = signature_at s.types; nesting = 2; names = s.names; function = s.function; body = b.place })
+    hs true 0 [] b.value.operators
 
 -- what a function holds behind its type
-unfoldable pub inner_pieces : Scope → PlacedFunction → List Piece
-inner_pieces s f =
-    local_pieces s.names s.function (parameter_count (signature_at s.types f.type_index)) f.body.value.locals ++ body_pieces s f.body.value.operators
+unfoldable pub inner_pieces : Scope → List (Placed Hint) → PlacedFunction → List Piece
+inner_pieces s hs f =
+    local_pieces s.names s.function (parameter_count (signature_at s.types f.type_index)) f.body.value.locals ++ body_pieces s hs f.body
 
 -- a function, whole or without its locals and operators
-unfoldable pub function_group : Bool → Bool → Scope → PlacedFunction → List Piece
-function_group true offsets s f =
+unfoldable pub function_group : Bool → Bool → Scope → List (Placed Hint) → PlacedFunction → List Piece
+function_group true offsets s hs f =
     line_group_gap (codes "func") (header_pieces s Func (Some s.function) s.function f.type_index ++ (Gap ∷ (Word (codes "...") ∷ [])))
-function_group false offsets s f =
-    group_gap_at offsets f.body.value.end 1 (codes "func") (header_pieces s Func (Some s.function) s.function f.type_index ++ inner_pieces s f)
+function_group false offsets s hs f =
+    group_gap_at offsets f.body.value.end 1 (codes "func") (header_pieces s Func (Some s.function) s.function f.type_index ++ inner_pieces s hs f)
 
--- function i
-unfoldable pub function_pieces : Options → Scope → ℕ → PlacedFunction → List Piece
-function_pieces o s i f = Break (Some f.body.place) 1 ∷ function_group o.skeleton o.offsets (record s { function = i }) f
+-- function i, with these hints
+unfoldable pub function_pieces : Options → Scope → ℕ → List (Placed Hint) → PlacedFunction → List Piece
+function_pieces o s i hs f = Break (Some f.body.place) 1 ∷ function_group o.skeleton o.offsets (record s { function = i }) hs f
+
+-- functions from i on, each with its hints: those of the next entry, where it is that function's
+unfoldable pub functions_pieces : Options → Scope → List FunctionHints → ℕ → List PlacedFunction → List Piece
+functions_pieces o s es i [] = []
+functions_pieces o s es i (f ∷ fs) = function_pieces o s i (next_hints i es) f ++ functions_pieces o s (hints_behind i es) (i + 1) fs

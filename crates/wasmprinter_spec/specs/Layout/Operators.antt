@@ -11,8 +11,9 @@ use Rattle.wasmprinter_spec.specs.Row.{Space, Label, Shape, NoneShape, FenceShap
 use Rattle.wasmprinter_spec.specs.Table.{word_of, role_of, shape_of}
 use Rattle.wasmprinter_spec.specs.Labels as labels
 use Rattle.wasmprinter_spec.specs.Names.{Names, in_function}
+use Rattle.wasmprinter_spec.specs.Customs.Hints.{Hint, next_hint, hint_behind}
 use Rattle.wasmprinter_spec.specs.Labels.{Named, is_hidden, Target, Around, Own, Nothing, target, labels_after, count_after, outside, inside}
-use Rattle.wasmprinter_spec.specs.Piece.{Piece, Break, Gap, Word, GapTypeWord, Number, Constant, GapLiterals, Float, Remark, Ending}
+use Rattle.wasmprinter_spec.specs.Piece.{Piece, Break, Gap, Word, GapTypeWord, Number, Constant, GapLiterals, Float, Remark, Ending, HintNote}
 use Rattle.wasmprinter_spec.specs.Layout.Groups.{line_group, line_group_gap}
 use Rattle.wasmprinter_spec.specs.Layout.Identifiers.{mark_pieces, leading_mark_pieces, index_pieces}
 use Rattle.wasmprinter_spec.specs.Layout.ValTypes.{type_index_pieces, heap_pieces, ref_pieces, val_pieces, type_list}
@@ -24,13 +25,15 @@ pub data Form : Type 0 where
   InLine : Form
 
 -- what every operator of a list is laid out by: the form, the signature of each type that is a function type, how deep the list is nested, and the
--- module's identifiers with the function whose locals and labels are meant
+-- module's identifiers with the function whose locals and labels are meant, and where the body begins
 pub record Setting : Type 0 where
   pub form : Form
   pub signature : ℕ → Option FuncType
   pub nesting : ℕ
   pub names : Names
   pub function : ℕ
+  -- the place of a body's first byte, from which hints are counted
+  pub body : ℕ
 
 -- an index, by its identifier if it has one
 abbrev pub named_index : Setting → Space → ℕ → List Piece
@@ -207,14 +210,21 @@ operator_pieces s first own xs o =
     ++ (Word (word_of o.value.opcode)
     ∷ pieces_by s (inside role xs) (outside role xs) own (shape_of o.value.opcode) o.value.immediates)
 
--- n blocks were opened before, and these labels are open
-unfoldable pub operators_pieces : Setting → Bool → ℕ → List labels.Label → List (Placed Operator) → List Piece
-operators_pieces s first n xs [] = []
-operators_pieces s first n xs (o ∷ os) =
+-- a hint on a line of its own, as deep as the operators of the block
+abbrev pub hint_pieces : ℕ → Option (Placed Hint) → List Piece
+hint_pieces nesting None = []
+hint_pieces nesting (Some h) = Break (Some h.place) nesting ∷ (HintNote h.value.taken ∷ [])
+
+-- n blocks were opened before, these labels are open, and these hints wait for their operators
+unfoldable pub operators_pieces : Setting → List (Placed Hint) → Bool → ℕ → List labels.Label → List (Placed Operator) → List Piece
+operators_pieces s hs first n xs [] = []
+operators_pieces s hs first n xs (o ∷ os) =
     let role : Role = role_of o.value.opcode in
     let own : labels.Label = s.names.labels s.function n (length xs) in
-    operator_pieces s first own xs o ++ operators_pieces s false (count_after role n) (labels_after role own xs) os
+    let offset : ℕ = o.place - s.body in
+    hint_pieces (s.nesting + length xs) (next_hint offset hs)
+    ++ (operator_pieces s first own xs o ++ operators_pieces s (hint_behind offset hs) false (count_after role n) (labels_after role own xs) os)
 
--- a list of operators, with no label open
+-- a list of operators, with no label open and without hints
 unfoldable pub expression_pieces : Setting → List (Placed Operator) → List Piece
-expression_pieces s os = operators_pieces s true 0 [] os
+expression_pieces s os = operators_pieces s [] true 0 [] os

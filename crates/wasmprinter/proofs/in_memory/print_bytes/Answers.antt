@@ -1,6 +1,5 @@
 -- The options are the defaults.
 use Rattle.std.proofs.Common.{string_bytes}
-use Rattle.std.specs.Prelude.{Result, Ok, Err, IfOk}
 use Rattle.wasmprinter.proofs.Texts.{default_if_ok}
 use Rattle.wasmprinter.proofs.in_memory.print_bytes.Goals as goal
 

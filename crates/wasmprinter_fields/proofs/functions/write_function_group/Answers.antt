@@ -8,7 +8,7 @@ pub returns-then-options : goal.returns-then-options
 returns-then-options g c =
     let skeleton : c.args.options.now.skeleton ≡ true = search rules in
     record {
-      pieces = rw (skeleton-group _ c.args.options.now.offsets (within (scope_view c.args.scope.now) c.args.number) c.args.function.now skeleton)
+      pieces = rw (skeleton-group _ c.args.options.now.offsets (within (scope_view c.args.scope.now) c.args.number) c.args.hints c.args.function.now skeleton)
           (c.write_outline_group.ensures c.args.options.now);
       scope = refl;
     }
@@ -17,7 +17,7 @@ pub returns-else-options : goal.returns-else-options
 returns-else-options g c =
     let whole : c.args.options.now.skeleton ≡ false = search rules in
     record {
-      pieces = rw (whole-group _ c.args.options.now.offsets (within (scope_view c.args.scope.now) c.args.number) c.args.function.now whole)
+      pieces = rw (whole-group _ c.args.options.now.offsets (within (scope_view c.args.scope.now) c.args.number) c.args.hints c.args.function.now whole)
           c.write_definition_group.ensures.pieces;
       scope = c.write_definition_group.ensures.scope;
     }

@@ -3,24 +3,27 @@ use Rattle.std.proofs.lemmas.List.Elements.{All-from_get_or, recursion_from_All}
 use Rattle.std.proofs.lemmas.Result.{err_from_is_err_and}
 use Rattle.wasmprinter_spec.specs.Grammar.{Placed}
 use Rattle.wasmprinter_spec.specs.Types.{MemoryType}
+use Rattle.wasmprinter_spec.specs.Kinds.{Kind}
 use Rattle.wasmprinter_spec.specs.Operator.{Operator}
-use Rattle.wasmprinter_spec.specs.Placed.{TypeGroup, Import, Global, Export, ElementEntry, Body, Data, Custom}
+use Rattle.wasmprinter_spec.specs.Placed.{TypeGroup, Import, Global, Export, ElementEntry, Body, Data, CustomEntry}
 use Rattle.wasmprinter_spec.specs.Binary.{AreBytes, preamble, preamble_bytes}
 use Rattle.wasmprinter_bytes.specs.Reads.{end_of}
 use Rattle.wasmprinter_wasm.specs.Gathering.{Gathered, IsWhole, HoldsSections}
 use Rattle.wasmprinter_entries.specs.Refusals.{PlacedTable}
+use Rattle.wasmprinter_entries.specs.Places.{place_view}
 use Rattle.wasmprinter_wasm.proofs.Assembling.{module_fault, module_unpaired, module_kept, module_spelled, module_within}
 use Rattle.wasmprinter_wasm.proofs.decoder.read_module.Goals as goal
 
 are_bytes : (bytes : List ℕ) → ((i : ℕ) → Fits w8 (get_or bytes i 0)) → AreBytes bytes
 are_bytes bytes h = recursion_from_All (λ b. b < 256) bytes (All-from_get_or (λ b. b < 256) bytes 0 (λ i l. (h i).fits))
 
-abbrev gathered_of : ℕ → List (Placed TypeGroup) → List (Placed Import) → List ℕ → List PlacedTable → List (Placed MemoryType) → List (Placed ℕ) →
+abbrev gathered_of : ℕ → Option Kind → List (Placed TypeGroup) → List (Placed Import) → List ℕ → List PlacedTable → List (Placed MemoryType) → List (Placed ℕ) →
     List (Placed (Global (Placed Operator))) → List (Placed Export) → Option (Placed ℕ) → List (Placed ElementEntry) → Option ℕ → List (Placed Body) →
-    List (Placed (Data (Placed Operator))) → List (Placed Custom) → Gathered
-gathered_of n ts is js us ms gs vs es f ss k bs ds cs =
+    List (Placed (Data (Placed Operator))) → List CustomEntry → Gathered
+gathered_of n last ts is js us ms gs vs es f ss k bs ds cs =
     record {
       rank = n;
+      behind = last;
       types = ts;
       imports = is;
       type_indices = js;
@@ -30,8 +33,7 @@ gathered_of n ts is js us ms gs vs es f ss k bs ds cs =
       globals = vs;
       exports = es;
       start = f;
-      elements
-          = ss;
+      elements = ss;
       data_count = k;
       bodies = bs;
       datas = ds;
@@ -50,7 +52,7 @@ pub returns-then-not-is_whole : goal.returns-then-not-is_whole
 returns-then-not-is_whole c =
     let first = ap preamble.parse (sym c.new-cursor.ensures) ∙ c.in_ok-read_preamble.ensures.reads in
     let g : Gathered =
-    gathered_of c.gathered.inside.rank c.gathered.inside.types c.gathered.inside.imports.items c.gathered.inside.type_indices.items
+    gathered_of c.gathered.inside.rank (place_view c.gathered.inside.behind) c.gathered.inside.types c.gathered.inside.imports.items c.gathered.inside.type_indices.items
     c.gathered.inside.tables.items c.gathered.inside.memories.items c.gathered.inside.tags.items c.gathered.inside.globals.items
     c.gathered.inside.exports.items c.gathered.inside.start c.gathered.inside.elements.items c.gathered.inside.data_count c.gathered.inside.bodies.items
     c.gathered.inside.datas.items c.gathered.inside.customs.items in
@@ -62,7 +64,7 @@ pub invariant_of-result : goal.invariant_of-result
 invariant_of-result c =
     let first = ap preamble.parse (sym c.new-cursor.ensures) ∙ c.in_ok-read_preamble.ensures.reads in
     let g : Gathered =
-    gathered_of c.gathered.inside.rank c.gathered.inside.types c.gathered.inside.imports.items c.gathered.inside.type_indices.items
+    gathered_of c.gathered.inside.rank (place_view c.gathered.inside.behind) c.gathered.inside.types c.gathered.inside.imports.items c.gathered.inside.type_indices.items
     c.gathered.inside.tables.items c.gathered.inside.memories.items c.gathered.inside.tags.items c.gathered.inside.globals.items
     c.gathered.inside.exports.items c.gathered.inside.start c.gathered.inside.elements.items c.gathered.inside.data_count c.gathered.inside.bodies.items
     c.gathered.inside.datas.items c.gathered.inside.customs.items in
@@ -74,7 +76,7 @@ pub returns : goal.returns
 returns c =
     let first = ap preamble.parse (sym c.new-cursor.ensures) ∙ c.in_ok-read_preamble.ensures.reads in
     let g : Gathered =
-    gathered_of c.gathered.inside.rank c.gathered.inside.types c.gathered.inside.imports.items c.gathered.inside.type_indices.items
+    gathered_of c.gathered.inside.rank (place_view c.gathered.inside.behind) c.gathered.inside.types c.gathered.inside.imports.items c.gathered.inside.type_indices.items
     c.gathered.inside.tables.items c.gathered.inside.memories.items c.gathered.inside.tags.items c.gathered.inside.globals.items
     c.gathered.inside.exports.items c.gathered.inside.start c.gathered.inside.elements.items c.gathered.inside.data_count c.gathered.inside.bodies.items
     c.gathered.inside.datas.items c.gathered.inside.customs.items in

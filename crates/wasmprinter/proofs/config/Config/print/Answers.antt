@@ -2,9 +2,8 @@ use Rattle.wasmprinter.specs.Outcome.{HasCause, IsTrueOf, Leaves}
 use Rattle.std.proofs.Common.{ap, ◌∙◌}
 use Rattle.wasmprinter_spec.specs.Names.Section.{label_subsection}
 use Rattle.wasmprinter_error.specs.declared.error.Error.TheVariants.{Memory}
-use Rattle.wasmprinter_print.specs.Emits.{Through, AtCall}
 use Rattle.wasmprinter.proofs.Named.{names_refusal, unnamed, not_ok}
-use Rattle.wasmprinter.proofs.Outcomes.{handed_on, refusal_cause, refusal_true, refusal_left, own_written, written_printed, failed_caused, failed_left}
+use Rattle.wasmprinter.proofs.Outcomes.{handed_on, refusal_cause, refusal_true, refusal_left, own_ended, ended_printed, ended_caused, ended_true, ended_left, ended_unmarked}
 use Rattle.wasmprinter.proofs.config.Config.print.Goals as goal
 
 pub returns-in_err-module-clause-caused : goal.returns-in_err-module-clause-caused
@@ -21,28 +20,6 @@ pub returns-in_err-module-clause-left : goal.returns-in_err-module-clause-left
 returns-in_err-module-clause-left g c =
     handed_on (Leaves g.P.Print.meaning c.args.self.now c.args.wasm.now c.args.printer.now c.args.printer.now) c.from_residual.result c.in_err-module.field-0.0 c.from_residual.ensures.1
     (refusal_left g.P.Print.meaning c.args.self.now c.args.wasm.now c.args.printer.now c.in_err-module.field-0.0 c.in_err-module.ensures.refused)
-
-pub returns-in_err-write_module-clause-caused : goal.returns-in_err-write_module-clause-caused
-returns-in_err-write_module-clause-caused g c =
-    handed_on (HasCause g.P.Print.meaning c.args.wasm.now c.args.printer.now c.write_module.new.p) c.from_residual-in_err-write_module.result _ c.from_residual-in_err-write_module.ensures.1
-    (failed_caused g.P.Print.meaning c.args.self.now c.args.wasm.now c.in_ok-module.module c.in_ok-module.ensures.ok.0 c.in_ok-module.ensures.ok.1 c.args.printer.now c.write_module.new.p
-    c.in_err-write_module.field-0.0 (own_written g.P.Print.meaning c.args.self.now c.args.wasm.now c.in_ok-module.module c.in_ok-module.ensures.ok.0 c.in_ok-module.ensures.ok.1 c.args.printer.now c.write_module.new.p (AtCall c.in_err-write_module.field-0.0) c.in_ok-labels.labels c.in_ok-names.names (ap (λ s. s.named) c.in_ok-labels.ensures.start) (ap (λ s. s.invents) c.in_ok-labels.ensures.start ∙ ap (λ i. i.options.invents) c.self-inside.view_is ∙ ap (λ o. o.invents) c.self.view_is) c.in_ok-names.ensures.names (rw c.self.view_is at c.in_err-write_module.ensures)))
-
-pub returns-in_err-write_module-clause-left : goal.returns-in_err-write_module-clause-left
-returns-in_err-write_module-clause-left g c =
-    handed_on (Leaves g.P.Print.meaning c.args.self.now c.args.wasm.now c.args.printer.now c.write_module.new.p) c.from_residual-in_err-write_module.result _ c.from_residual-in_err-write_module.ensures.1
-    (failed_left g.P.Print.meaning c.args.self.now c.args.wasm.now c.in_ok-module.module c.in_ok-module.ensures.ok.0 c.in_ok-module.ensures.ok.1 c.args.printer.now c.write_module.new.p
-    c.in_err-write_module.field-0.0 (own_written g.P.Print.meaning c.args.self.now c.args.wasm.now c.in_ok-module.module c.in_ok-module.ensures.ok.0 c.in_ok-module.ensures.ok.1 c.args.printer.now c.write_module.new.p (AtCall c.in_err-write_module.field-0.0) c.in_ok-labels.labels c.in_ok-names.names (ap (λ s. s.named) c.in_ok-labels.ensures.start) (ap (λ s. s.invents) c.in_ok-labels.ensures.start ∙ ap (λ i. i.options.invents) c.self-inside.view_is ∙ ap (λ o. o.invents) c.self.view_is) c.in_ok-names.ensures.names (rw c.self.view_is at c.in_err-write_module.ensures)))
-
-pub returns-clause-printed : goal.returns-clause-printed
-returns-clause-printed g c =
-    written_printed g.P.Print.meaning c.args.self.now c.args.wasm.now c.in_ok-module.module c.in_ok-module.ensures.ok.0 c.in_ok-module.ensures.ok.1 c.args.printer.now c.write_module.new.p
-    (own_written g.P.Print.meaning c.args.self.now c.args.wasm.now c.in_ok-module.module c.in_ok-module.ensures.ok.0 c.in_ok-module.ensures.ok.1 c.args.printer.now c.write_module.new.p Through c.in_ok-labels.labels c.in_ok-names.names (ap (λ s. s.named) c.in_ok-labels.ensures.start) (ap (λ s. s.invents) c.in_ok-labels.ensures.start ∙ ap (λ i. i.options.invents) c.self-inside.view_is ∙ ap (λ o. o.invents) c.self.view_is) c.in_ok-names.ensures.names (rw c.self.view_is at c.in_ok-write_module.ensures))
-
-pub returns-in_err-write_module-clause-refused : goal.returns-in_err-write_module-clause-refused
-returns-in_err-write_module-clause-refused g c =
-    handed_on (IsTrueOf c.args.wasm.now) c.from_residual-in_err-write_module.result _ c.from_residual-in_err-write_module.ensures.1
-    (record { placed = c.in_ok-module.module; spelled = c.in_ok-module.ensures.ok.0; within = c.in_ok-module.ensures.ok.1 })
 
 pub returns-in_err-names-clause-caused : goal.returns-in_err-names-clause-caused
 returns-in_err-names-clause-caused g c =
@@ -69,3 +46,26 @@ returns-in_err-labels-clause-refused g c =
     (refusal_true c.args.wasm.now Memory
     (names_refusal c.args.wasm.now c.in_ok-module.module c.in_ok-module.ensures.ok.0
     (λ none. not_ok (c.in_err-labels.ensures.needed (λ f n. c.in_ok-names.ensures.names label_subsection f n ∙ unnamed _ none label_subsection f n)))))
+
+pub returns : goal.returns
+returns g c =
+    let o = c.args.self.now in
+    let m = g.P.Print.meaning in
+    let bytes = c.args.wasm.now in
+    let placed = c.in_ok-module.module in
+    let spelled = c.in_ok-module.ensures.ok.0 in
+    let within = c.in_ok-module.ensures.ok.1 in
+    let old = c.args.printer.now in
+    let new = c.write_module.new.p in
+    let r = c.write_module.result in
+    let written = rw c.self.view_is at c.write_module.ensures in
+    let start = c.in_ok-labels.ensures.start in
+    let invents = ap (λ s. s.invents) start ∙ ap (λ i. i.options.invents) c.self-inside.view_is ∙ ap (λ o. o.invents) c.self.view_is in
+    let ended = own_ended m o bytes placed spelled within old new written.0 r c.in_ok-labels.labels c.in_ok-names.names (ap (λ s. s.named) start) invents c.in_ok-names.ensures.names written.1 in
+    record {
+      printed = ended_printed m o bytes placed spelled within old new written.0 r ended;
+      caused = ended_caused m o bytes placed spelled within old new written.0 r ended;
+      refused = ended_true m o bytes placed spelled within old new written.0 r ended;
+      left = ended_left m o bytes placed spelled within old new written.0 r ended;
+      component = ended_unmarked m o bytes placed spelled within old new written.0 r ended;
+    }

@@ -1,0 +1,164 @@
+-- Claims that were all answered no: the layout is that of a module of which no custom section is claimed.
+use Rattle.std.specs.Prelude.{◌≡◌, ℕ, ◌+◌, List, [], ◌∷◌, ◌++◌, ◌||◌, map, codes, Bool, true, false, Option, Some, None, refl}
+use Rattle.std.specs.List.{AllByRecursion}
+use Rattle.std.proofs.Common.{sym, ap, ap₂, ◌∙◌, subst}
+use Rattle.wasmprinter_spec.specs.Call.{Call, Text, Newline, Line, Start, Claim, cut_call, atoms}
+use Rattle.wasmprinter_spec.specs.Kinds.{Kind, TypeSection, ImportSection, FunctionSection, TableSection, MemorySection, TagSection, GlobalSection, ExportSection, StartSection, ElementSection, CodeSection, DataSection}
+use Rattle.wasmprinter_spec.specs.Placed.{CustomEntry, PlacedModule}
+use Rattle.wasmprinter_spec.specs.Names.{Names}
+use Rattle.wasmprinter_spec.specs.ModuleNames.{module_names}
+use Rattle.wasmprinter_spec.specs.Options.{Options, Answers}
+use Rattle.wasmprinter_spec.specs.Piece.{Piece, Begin, Feed, Open, all_calls}
+use Rattle.wasmprinter_spec.specs.Layout.{module_parts, module_pieces_of, module_pieces_with, module_pieces, layout, refusal}
+use Rattle.wasmprinter_spec.specs.Layout.Groups.{close, has_break, group_at}
+use Rattle.wasmprinter_spec.specs.Layout.Identifiers.{leading_mark_pieces}
+use Rattle.wasmprinter_spec.specs.Layout.Customs.{Part, Shown, Stops, Laid, laid_parts, custom_part, same_place, parts_at}
+use Rattle.wasmprinter_print.specs.PrintsLaws.{all_calls-append}
+use Rattle.wasmprinter_fields.specs.FieldGroups.{fields_of, first_scope, section_parts}
+use Rattle.wasmprinter.specs.Printed.{unclaimed, IsUnclaimed}
+
+-- ---- of two lists
+
+all_both : {A : Type 0} (Q : A → Type 0) (xs ys : List A) → AllByRecursion Q xs → AllByRecursion Q ys → AllByRecursion Q (xs ++ ys)
+all_both Q [] ys s t = t
+all_both Q (x ∷ xs) ys s t = (s.0, all_both Q xs ys s.1 t)
+
+all_front : {A : Type 0} (Q : A → Type 0) (xs ys : List A) → AllByRecursion Q (xs ++ ys) → AllByRecursion Q xs
+all_front Q [] ys s = tt
+all_front Q (x ∷ xs) ys s = (s.0, all_front Q xs ys s.1)
+
+all_behind : {A : Type 0} (Q : A → Type 0) (xs ys : List A) → AllByRecursion Q (xs ++ ys) → AllByRecursion Q ys
+all_behind Q [] ys s = s
+all_behind Q (x ∷ xs) ys s = all_behind Q xs ys s.1
+
+-- ---- of calls that are alike
+
+texts_unclaimed : (s : List ℕ) → AllByRecursion IsUnclaimed (map (λ b. Text (b ∷ [])) s)
+texts_unclaimed [] = tt
+texts_unclaimed (b ∷ bs) = (tt, texts_unclaimed bs)
+
+cut_unclaimed : (c : Call) → IsUnclaimed c → AllByRecursion IsUnclaimed (cut_call c)
+cut_unclaimed (Text s) h = texts_unclaimed s
+cut_unclaimed Newline h = (tt, tt)
+cut_unclaimed (Line place) h = (tt, tt)
+cut_unclaimed (Start style) h = (tt, tt)
+cut_unclaimed (Claim name place bytes answer) h = (h, tt)
+
+uncut_unclaimed : (c : Call) → AllByRecursion IsUnclaimed (cut_call c) → IsUnclaimed c
+uncut_unclaimed (Text s) h = tt
+uncut_unclaimed Newline h = tt
+uncut_unclaimed (Line place) h = tt
+uncut_unclaimed (Start style) h = tt
+uncut_unclaimed (Claim name place bytes answer) h = h.0
+
+atoms_unclaimed : (cs : List Call) → AllByRecursion IsUnclaimed cs → AllByRecursion IsUnclaimed (atoms cs)
+atoms_unclaimed [] h = tt
+atoms_unclaimed (c ∷ cs) h = all_both IsUnclaimed (cut_call c) (atoms cs) (cut_unclaimed c h.0) (atoms_unclaimed cs h.1)
+
+whole_unclaimed : (cs : List Call) → AllByRecursion IsUnclaimed (atoms cs) → AllByRecursion IsUnclaimed cs
+whole_unclaimed [] h = tt
+whole_unclaimed (c ∷ cs) h =
+    (uncut_unclaimed c (all_front IsUnclaimed (cut_call c) (atoms cs) h), whole_unclaimed cs (all_behind IsUnclaimed (cut_call c) (atoms cs) h))
+
+pub alike_unclaimed : (k l : List Call) → atoms k ≡ atoms l → AllByRecursion IsUnclaimed k → AllByRecursion IsUnclaimed l
+alike_unclaimed k l e h = whole_unclaimed l (subst (λ (cs : List Call). AllByRecursion IsUnclaimed cs) e (atoms_unclaimed k h))
+
+-- ---- of the parts of a layout
+
+module _ (o : Options) where
+  abbrev AreUnclaimedIn : List Piece → Type 0
+  AreUnclaimedIn ps = AllByRecursion IsUnclaimed (all_calls o ps)
+
+  abbrev IsUnclaimedPart : Part → Type 0
+  IsUnclaimedPart (Shown ps) = AreUnclaimedIn ps
+  IsUnclaimedPart (Stops ps id) = AreUnclaimedIn ps
+
+  pieces_front : (ps qs : List Piece) → AreUnclaimedIn (ps ++ qs) → AreUnclaimedIn ps
+  pieces_front ps qs h =
+      all_front IsUnclaimed (all_calls o ps) (all_calls o qs) (subst (λ (cs : List Call). AllByRecursion IsUnclaimed cs) (all_calls-append o ps qs) h)
+
+  pieces_behind : (ps qs : List Piece) → AreUnclaimedIn (ps ++ qs) → AreUnclaimedIn qs
+  pieces_behind ps qs h =
+      all_behind IsUnclaimed (all_calls o ps) (all_calls o qs) (subst (λ (cs : List Call). AllByRecursion IsUnclaimed cs) (all_calls-append o ps qs) h)
+
+  parts_unclaimed : (parts : List Part) → (laid_parts parts).refused ≡ None → AreUnclaimedIn (laid_parts parts).pieces → AllByRecursion IsUnclaimedPart parts
+  parts_unclaimed [] e h = tt
+  parts_unclaimed (Shown ps ∷ parts) e h =
+      (pieces_front ps (laid_parts parts).pieces h, parts_unclaimed parts e (pieces_behind ps (laid_parts parts).pieces h))
+  parts_unclaimed (Stops ps id ∷ parts) e h = absurd cc
+
+  -- a custom section
+  answered_no : (answer : Bool) (c : CustomEntry) → IsUnclaimedPart (custom_part o.skeleton answer c) → answer ≡ false
+  answered_no true c h = h.0
+  answered_no false c h = refl
+
+  -- those at one place
+  place_same : (answers : Answers) (place : Option Kind) (n : ℕ) (cs : List CustomEntry) → AllByRecursion IsUnclaimedPart (parts_at o.skeleton answers place n cs) →
+      parts_at o.skeleton answers place n cs ≡ parts_at o.skeleton unclaimed place n cs
+  place_same answers place n [] h = refl
+  place_same answers place n (c ∷ cs) h = by (same_place c.behind place) (λ others. place_same answers place (n + 1) cs others) refl
+    where
+      by : (t : Bool) → (AllByRecursion IsUnclaimedPart (parts_at o.skeleton answers place (n + 1) cs) → parts_at o.skeleton answers place (n + 1) cs ≡ parts_at o.skeleton unclaimed place (n + 1) cs) →
+          same_place c.behind place ≡ t → parts_at o.skeleton answers place n (c ∷ cs) ≡ parts_at o.skeleton unclaimed place n (c ∷ cs)
+      by true others e =
+          let parts : AllByRecursion IsUnclaimedPart (custom_part o.skeleton (answers n) c ∷ parts_at o.skeleton answers place (n + 1) cs) = rw e at h in
+          rw (e, answered_no (answers n) c parts.0, others parts.1) refl
+      by false others e =
+          let parts : AllByRecursion IsUnclaimedPart (parts_at o.skeleton answers place (n + 1) cs) = rw e at h in
+          rw (e, others parts) refl
+
+  abbrev IsSameIf : List Part → List Part → Type 0
+  IsSameIf xs ys = AllByRecursion IsUnclaimedPart xs → xs ≡ ys
+
+  both_same : {xs ys zs ws : List Part} → IsSameIf xs ys → IsSameIf zs ws → IsSameIf (xs ++ zs) (ys ++ ws)
+  both_same {xs} {zs = zs} f g h = ap₂ (λ (ps qs : List Part). ps ++ qs) (f (all_front IsUnclaimedPart xs zs h)) (g (all_behind IsUnclaimedPart xs zs h))
+
+  field_same : (p : Part) {xs ys : List Part} → IsSameIf xs ys → IsSameIf (p ∷ xs) (p ∷ ys)
+  field_same p f h = ap (λ (ps : List Part). p ∷ ps) (f h.1)
+
+  -- all of a module
+  module _ (answers : Answers) (names : Names) (m : PlacedModule) where
+    customs_same : (place : Option Kind) → IsSameIf (parts_at o.skeleton answers place 0 m.customs) (parts_at o.skeleton unclaimed place 0 m.customs)
+    customs_same place h = place_same answers place 0 m.customs h
+
+    section_same : (k : Kind) → IsSameIf (section_parts o (first_scope names m) m answers k) (section_parts o (first_scope names m) m unclaimed k)
+    section_same k = field_same (Shown (fields_of o (first_scope names m) m k)) (customs_same (Some k))
+
+    parts_same : IsSameIf (module_parts o answers names m) (module_parts o unclaimed names m)
+    parts_same =
+        both_same (both_same (both_same (both_same (both_same (both_same (both_same (both_same (both_same (both_same (both_same (both_same (customs_same None)
+        (section_same TypeSection)) (section_same ImportSection)) (customs_same (Some FunctionSection))) (section_same TableSection)) (section_same MemorySection))
+        (section_same TagSection)) (section_same GlobalSection)) (section_same ExportSection)) (section_same StartSection)) (section_same ElementSection))
+        (section_same CodeSection)) (section_same DataSection)
+
+  -- the pieces of a module's group among all
+  inner_unclaimed : (names : Names) (size : ℕ) (ps : List Piece) → AreUnclaimedIn (module_pieces_of o names size ps None) → AreUnclaimedIn ps
+  unfolding group_at
+  inner_unclaimed names size ps h =
+      let mark : List Piece = leading_mark_pieces names.module_name in
+      let shut : List Piece = close (Some size) 0 (o.offsets || has_break (mark ++ ps)) in
+      let front : List Piece = Begin 0 ∷ (Open (codes "module") ∷ []) in
+      let inner : AreUnclaimedIn (mark ++ ps) =
+      pieces_front (mark ++ ps) shut (pieces_front ((mark ++ ps) ++ shut) (Feed ∷ []) (pieces_behind front (((mark ++ ps) ++ shut) ++ (Feed ∷ [])) h)) in
+      pieces_behind mark ps inner
+
+  whole_unclaimed_in : (names : Names) (size : ℕ) (l : Laid) → l.refused ≡ None → AreUnclaimedIn (module_pieces_of o names size l.pieces l.refused) → AreUnclaimedIn l.pieces
+  whole_unclaimed_in names size l e h = inner_unclaimed names size l.pieces (rw e at h)
+
+-- the layout is that of a module of which no custom section is claimed, and as little of it is refused
+pub record IsSame (o : Options) (answers : Answers) (m : PlacedModule) : Type 0 where
+  pub layout : layout o answers m ≡ layout o unclaimed m
+  pub refusal : refusal o unclaimed m ≡ None
+
+-- no claim was answered yes
+pub unclaimed_layout : (o : Options) (answers : Answers) (m : PlacedModule) → refusal o answers m ≡ None → AllByRecursion IsUnclaimed (layout o answers m) → IsSame o answers m
+unfolding layout module_pieces module_pieces_with
+unclaimed_layout o answers m e h =
+    let names : Names = module_names o.invents m in
+    let laid : Laid = laid_parts (module_parts o answers names m) in
+    let same : module_parts o answers names m ≡ module_parts o unclaimed names m =
+    parts_same o answers names m (parts_unclaimed o (module_parts o answers names m) e (whole_unclaimed_in o names m.size laid e h)) in
+    record {
+      layout = ap (λ (ps : List Part). all_calls o (module_pieces_of o names m.size (laid_parts ps).pieces (laid_parts ps).refused)) same;
+      refusal = ap (λ (ps : List Part). (laid_parts ps).refused) (sym same) ∙ e;
+    }

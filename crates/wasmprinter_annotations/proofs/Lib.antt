@@ -1,0 +1,5 @@
+pub mod Lists
+pub mod Parts
+pub mod Places
+pub mod Roles
+pub mod Sections

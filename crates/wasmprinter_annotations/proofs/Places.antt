@@ -1,0 +1,136 @@
+-- Custom sections at one place: which answers decide what is made of them.
+use Rattle.std.specs.Prelude.{◌≡◌, ℕ, suc, ◌+◌, ◌==◌, List, [], ◌∷◌, Bool, true, false, Option, Some, None, slice_get, cond, refl}
+use Rattle.std.proofs.Common.{sym, ap, ap₂, ◌∙◌, arith}
+use Rattle.std.proofs.lemmas.Bool.{eq-eqb, ne_eqb}
+use Rattle.wasmprinter_spec.specs.Kinds.{Kind, CustomSection, TypeSection, ImportSection, FunctionSection, TableSection, MemorySection, TagSection, GlobalSection, ExportSection, StartSection, ElementSection, DataCountSection, CodeSection, DataSection, same_kind}
+use Rattle.wasmprinter_spec.specs.Placed.{CustomEntry}
+use Rattle.wasmprinter_spec.specs.Options.{Answers}
+use Rattle.wasmprinter_spec.specs.Layout.Customs.{Part, custom_part, same_place, parts_at}
+
+-- ---- one place
+
+same_kind-is : (j k : Kind) → same_kind j k ≡ true → j ≡ k
+same_kind-is CustomSection CustomSection e = refl
+same_kind-is TypeSection TypeSection e = refl
+same_kind-is ImportSection ImportSection e = refl
+same_kind-is FunctionSection FunctionSection e = refl
+same_kind-is TableSection TableSection e = refl
+same_kind-is MemorySection MemorySection e = refl
+same_kind-is TagSection TagSection e = refl
+same_kind-is GlobalSection GlobalSection e = refl
+same_kind-is ExportSection ExportSection e = refl
+same_kind-is StartSection StartSection e = refl
+same_kind-is ElementSection ElementSection e = refl
+same_kind-is DataCountSection DataCountSection e = refl
+same_kind-is CodeSection CodeSection e = refl
+same_kind-is DataSection DataSection e = refl
+same_kind-is _ _ e = absurd cc
+
+-- two places that are the same
+pub same_place-is : (a b : Option Kind) → same_place a b ≡ true → a ≡ b
+same_place-is None None e = refl
+same_place-is (Some j) (Some k) e = ap (λ (x : Kind). Some x) (same_kind-is j k e)
+same_place-is None (Some k) e = absurd cc
+same_place-is (Some j) None e = absurd cc
+
+same_kind-refl : (k : Kind) → same_kind k k ≡ true
+same_kind-refl CustomSection = refl
+same_kind-refl TypeSection = refl
+same_kind-refl ImportSection = refl
+same_kind-refl FunctionSection = refl
+same_kind-refl TableSection = refl
+same_kind-refl MemorySection = refl
+same_kind-refl TagSection = refl
+same_kind-refl GlobalSection = refl
+same_kind-refl ExportSection = refl
+same_kind-refl StartSection = refl
+same_kind-refl ElementSection = refl
+same_kind-refl DataCountSection = refl
+same_kind-refl CodeSection = refl
+same_kind-refl DataSection = refl
+
+same_place-refl : (a : Option Kind) → same_place a a ≡ true
+same_place-refl None = refl
+same_place-refl (Some k) = same_kind-refl k
+
+pub place-same : (a b : Option Kind) → a ≡ b → same_place a b ≡ true
+place-same a b e = ap (λ (x : Option Kind). same_place x b) e ∙ same_place-refl b
+
+pub place-other : (a b : Option Kind) → (a ≡ b → ⊥) → same_place a b ≡ false
+place-other a b other = by (same_place a b) refl
+  where
+    by : (t : Bool) → same_place a b ≡ t → t ≡ false
+    by true e = absurd (other (same_place-is a b e))
+    by false e = refl
+
+-- ---- answers
+
+module _ (skeleton : Bool) (place : Option Kind) where
+  -- only the answers to sections at the place are looked at
+  pub parts_at-agree : (a b : Answers) (n : ℕ) (cs : List CustomEntry) →
+      ((i : ℕ) (c : CustomEntry) → slice_get cs i ≡ Some c → same_place c.behind place ≡ true → a (n + i) ≡ b (n + i)) →
+      parts_at skeleton a place n cs ≡ parts_at skeleton b place n cs
+  parts_at-agree a b n [] agree = refl
+  parts_at-agree a b n (c ∷ cs) agree =
+      let others : parts_at skeleton a place (n + 1) cs ≡ parts_at skeleton b place (n + 1) cs =
+      parts_at-agree a b (n + 1) cs (λ i d at same.
+      let number : (n + 1) + i ≡ n + suc i = omega arith in
+      ap a number ∙ agree (suc i) d at same ∙ sym (ap b number)) in
+      by (same_place c.behind place) refl others
+    where
+      by : (t : Bool) → same_place c.behind place ≡ t → parts_at skeleton a place (n + 1) cs ≡ parts_at skeleton b place (n + 1) cs →
+          parts_at skeleton a place n (c ∷ cs) ≡ parts_at skeleton b place n (c ∷ cs)
+      by true e others =
+          let number : n + 0 ≡ n = omega arith in
+          let first : a n ≡ b n = sym (ap a number) ∙ agree 0 c refl e ∙ ap b number in
+          rw (e, first, others) refl
+      by false e others = rw (e, others) refl
+
+  -- ---- one section, and those behind it
+
+  -- a section that stands elsewhere
+  pub parts_at-passed : (a : Answers) (n : ℕ) (c : CustomEntry) (cs : List CustomEntry) → (c.behind ≡ place → ⊥) →
+      parts_at skeleton a place n (c ∷ cs) ≡ parts_at skeleton a place (n + 1) cs
+  parts_at-passed a n c cs other = rw (place-other c.behind place other) refl
+
+  -- one that stands here
+  pub parts_at-here : (a : Answers) (n : ℕ) (c : CustomEntry) (cs : List CustomEntry) → c.behind ≡ place →
+      parts_at skeleton a place n (c ∷ cs) ≡ custom_part skeleton (a n) c ∷ parts_at skeleton a place (n + 1) cs
+  parts_at-here a n c cs here = rw (place-same c.behind place here) refl
+
+-- ---- answers that are given one by one
+
+-- this answer to the section with the number, and those to the others
+abbrev pub with_answer : ℕ → Bool → Answers → Answers
+with_answer n answer others = λ k. cond (k == n) answer (others k)
+
+with_answer-at : (n : ℕ) (answer : Bool) (others : Answers) → with_answer n answer others n ≡ answer
+with_answer-at n answer others = rw (eq-eqb n n refl) refl
+
+with_answer-behind : (n i : ℕ) (answer : Bool) (others : Answers) → with_answer n answer others ((n + 1) + i) ≡ others ((n + 1) + i)
+with_answer-behind n i answer others = rw (ne_eqb ((n + 1) + i) n (λ e. omega (arith, e))) refl
+
+-- a section at the place, by its own answer, and those behind it
+pub parts_at-answered : (skeleton : Bool) (place : Option Kind) (answer : Bool) (others : Answers) (n : ℕ) (c : CustomEntry) (cs : List CustomEntry) → c.behind ≡ place →
+    parts_at skeleton (with_answer n answer others) place n (c ∷ cs) ≡ custom_part skeleton answer c ∷ parts_at skeleton others place (n + 1) cs
+parts_at-answered skeleton place answer others n c cs here =
+    let agree = parts_at-agree skeleton place (with_answer n answer others) others (n + 1) cs (λ i d at same. with_answer-behind n i answer others) in
+    parts_at-here skeleton place (with_answer n answer others) n c cs here
+    ∙ ap₂ (λ (x : Bool) (ps : List Part). custom_part skeleton x c ∷ ps) (with_answer-at n answer others) agree
+
+-- ---- one table of answers for all places
+
+abbrev answer_of : (Option Kind → Answers) → ℕ → Option CustomEntry → Bool
+answer_of table n None = false
+answer_of table n (Some c) = table c.behind n
+
+-- for each place some answers to its sections, and so answers to all sections
+pub one_table : (skeleton : Bool) (table : Option Kind → Answers) (cs : List CustomEntry) →
+    (answers : Answers) × ((place : Option Kind) → parts_at skeleton answers place 0 cs ≡ parts_at skeleton (table place) place 0 cs)
+one_table skeleton table cs =
+    let answers : Answers = λ n. answer_of table n (slice_get cs n) in (
+      answers,
+      λ place. parts_at-agree skeleton place answers (table place) 0 cs (λ i c at same.
+          let number : 0 + i ≡ i = omega arith in
+          ap answers number ∙ ap (answer_of table i) at ∙ ap (λ (q : Option Kind). table q i) (same_place-is c.behind place same) ∙ sym (ap (table place) number)),
+    )

@@ -1,0 +1,25 @@
+use Rattle.wasmprinter_print.specs.PrintsLaws.{both_pieces, pieces_end}
+use Rattle.wasmprinter_annotations.proofs.producers.write_producers.Goals as goal
+
+pub returns-in_err-open_note : goal.returns-in_err-open_note
+returns-in_err-open_note g c =
+    let m = g.P.Print.meaning in
+    let o = c.args.options.now in
+    let ended = pieces_end m c.from_residual-in_err-open_note.result _ c.from_residual-in_err-open_note.ensures.1 (c.in_err-open_note.ensures o) in
+    both_pieces m c.in_ok-break_line.ensures ended
+
+pub returns-in_err-write_fields : goal.returns-in_err-write_fields
+returns-in_err-write_fields g c =
+    let m = g.P.Print.meaning in
+    let o = c.args.options.now in
+    let ended = pieces_end m c.from_residual-in_err-write_fields.result _ c.from_residual-in_err-write_fields.ensures.1 c.in_err-write_fields.ensures in
+    both_pieces m c.in_ok-break_line.ensures
+    (both_pieces m (c.in_ok-open_note.ensures o) ended)
+
+pub returns : goal.returns
+returns g c =
+    let m = g.P.Print.meaning in
+    let o = c.args.options.now in
+    both_pieces m c.in_ok-break_line.ensures
+    (both_pieces m (c.in_ok-open_note.ensures o)
+    (both_pieces m c.in_ok-write_fields.ensures (rw c.has_lines.ensures at c.close.ensures)))

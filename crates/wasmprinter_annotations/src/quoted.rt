@@ -1,0 +1,34 @@
+//! Texts in quotes within annotations, and how deep annotations are nested.
+ghost use Rattle.wasmprinter_spec.specs.Options.{Options};
+ghost use Rattle.wasmprinter_spec.specs.Layout.Customs.{gap_quoted, gap_quoted_list};
+ghost use Rattle.wasmprinter_print.specs.Prints.{Prints};
+
+use std::io;
+use wasmprinter_customs::Names;
+use wasmprinter_print::Print;
+use wasmprinter_words::strings::write_string;
+use wasmprinter_words::words::gap;
+
+/// How deep the annotation of a section is nested.
+pub(crate) const SECTION_NESTING: u64 = 1;
+
+/// How deep the lines within an annotation are nested.
+pub(crate) const LINE_NESTING: u64 = 2;
+
+/// Writes a blank and a text in quotes.
+fn gap_string<P: Print>(p: &mut P, s: &str) -> io::Result<()>
+    ensures { (o : Options) → Prints P.meaning o p.old p.new result (gap_quoted s.now) }
+{
+    gap(p)?;
+    write_string(p, s)
+}
+
+/// Writes names in quotes, a blank before each.
+pub(crate) fn gap_strings<P: Print>(p: &mut P, names: &Names<'_>) -> io::Result<()>
+    ensures { (o : Options) → Prints P.meaning o p.old p.new result (gap_quoted_list names.now) }
+{
+    for name in names.iter() {
+        gap_string(p, name)?;
+    }
+    Ok(())
+}

@@ -1,0 +1,92 @@
+//! Raw custom sections (appendix "Custom Annotations" of the WebAssembly Core Specification).
+ghost use Rattle.std.specs.Prelude.{◌≡◌};
+ghost use Rattle.wasmprinter_spec.specs.Options.{Options};
+ghost use Rattle.wasmprinter_spec.specs.Layout.Customs.{place_word as word_of_place, two_words, place_pieces, raw_pieces, faulted_pieces};
+ghost use Rattle.wasmprinter_print.specs.Prints.{Prints};
+ghost use Rattle.wasmprinter_entries.specs.Places.{section_kind_view, place_view};
+
+use crate::quoted::SECTION_NESTING;
+use std::io;
+use wasmprinter_entries::places::{CustomEntry, SectionKind};
+use wasmprinter_lines::lines::break_line;
+use wasmprinter_lines::options::PrintOptions;
+use wasmprinter_print::Print;
+use wasmprinter_text::data::write_shown_bytes;
+use wasmprinter_words::annotations::{open_note_gap, plain_ending};
+use wasmprinter_words::strings::write_string;
+use wasmprinter_words::words::{gap, open_plain, shut, word};
+
+/// The word for a kind of section behind which another stands.
+fn place_word(kind: SectionKind) -> &'static str
+    ensures { result.now ≡ word_of_place (section_kind_view kind) }
+{
+    match kind {
+        SectionKind::Type => "type",
+        SectionKind::Import => "import",
+        SectionKind::Function => "func",
+        SectionKind::Table => "table",
+        SectionKind::Memory => "memory",
+        SectionKind::Tag => "tag",
+        SectionKind::Global => "global",
+        SectionKind::Export => "export",
+        SectionKind::Start => "start",
+        SectionKind::Element => "elem",
+        SectionKind::Code => "code",
+        SectionKind::Data => "data",
+    }
+}
+
+/// Writes two words as a group.
+fn write_two_words<P: Print>(p: &mut P, first: &str, second: &str) -> io::Result<()>
+    ensures { (o : Options) → Prints P.meaning o p.old p.new result (two_words first.now second.now) }
+{
+    open_plain(p, first)?;
+    gap(p)?;
+    word(p, second)?;
+    shut(p)
+}
+
+/// Writes where a section stands among the others.
+#[tactic(auto, unfolding(wasmprinter_spec::specs::Layout::Customs::place_pieces))]
+fn write_place<P: Print>(p: &mut P, behind: Option<SectionKind>) -> io::Result<()>
+    ensures { (o : Options) → Prints P.meaning o p.old p.new result (place_pieces (place_view behind)) }
+{
+    match behind {
+        None => write_two_words(p, "before", "first"),
+        Some(kind) => write_two_words(p, "after", place_word(kind)),
+    }
+}
+
+/// Writes a section as it stands.
+#[tactic(auto, unfolding(wasmprinter_spec::specs::Layout::Customs::raw_pieces))]
+pub(crate) fn write_raw<P: Print>(
+    p: &mut P,
+    options: &PrintOptions,
+    entry: &CustomEntry<'_>,
+) -> io::Result<()>
+    ensures { Prints P.meaning options.now p.old p.new result (raw_pieces options.now.skeleton entry.now) }
+{
+    break_line(p, options, Some(entry.section.place()), SECTION_NESTING)?;
+    open_note_gap(p, "custom")?;
+    write_string(p, entry.section.name())?;
+    gap(p)?;
+    write_place(p, entry.behind)?;
+    gap(p)?;
+    write_shown_bytes(p, options, entry.section.bytes())?;
+    shut(p)
+}
+
+/// Writes a line that tells of the fault of a section, and the section as it stands.
+#[tactic(auto, unfolding(wasmprinter_spec::specs::Layout::Customs::faulted_pieces))]
+pub(crate) fn write_faulted<P: Print>(
+    p: &mut P,
+    options: &PrintOptions,
+    entry: &CustomEntry<'_>,
+) -> io::Result<()>
+    ensures { Prints P.meaning options.now p.old p.new result (faulted_pieces options.now.skeleton entry.now) }
+{
+    let section = &entry.section;
+    break_line(p, options, Some(section.bytes_place()), SECTION_NESTING)?;
+    plain_ending(p, "failed to parse custom section `", section.name(), "`")?;
+    write_raw(p, options, entry)
+}

@@ -1,0 +1,26 @@
+-- A subsection of a known id is passed by.
+use Rattle.std.proofs.Common.{◌≡◌, ◌≢◌, ◌∷◌, ◌<◌, [], length, Some, None, ap, subst, ◌∙◌}
+use Rattle.wasmprinter_spec.specs.Grammar.{Input}
+use Rattle.wasmprinter_spec.specs.Customs.Dylink.{Subsection, subsection, judged, other_of}
+use Rattle.wasmprinter_customs.specs.Sound.{subsections_in, IsWhole}
+use Rattle.wasmprinter_customs.specs.Judgements.{found_view, HasKnownId}
+use Rattle.wasmprinter_customs.specs.declared.dylink.Found.{Found}
+use Rattle.wasmprinter_customs.specs.declared.dylink.Found.TheVariants.{Known}
+use Rattle.wasmprinter_customs.proofs.Subsections.{shrinks, outcome, outcome_goes_on, whole_goes_on}
+
+module _ (at after : Input) (some : at.bytes ≢ []) (found : Found) (s : Subsection) (known : found ≡ Known s)
+    (reads : subsection.parse at ≡ Some (found_view found, after)) (has_id : HasKnownId found) where
+  read : subsection.parse at ≡ Some (s, after)
+  read = reads ∙ ap (λ f. Some (found_view f, after)) known
+
+  id_known : other_of s.value ≡ None
+  id_known = subst HasKnownId known has_id
+
+  pub known_shrinks : length after.bytes < length at.bytes
+  known_shrinks = shrinks at (s, after) read
+
+  pub known_outcome : outcome (judged after) ≡ outcome (judged at)
+  known_outcome = outcome_goes_on at some (s, after) read id_known
+
+  pub known_whole : IsWhole (judged at) → IsWhole (judged after) × (subsections_in (judged at) ≡ s ∷ subsections_in (judged after))
+  known_whole w = whole_goes_on at some (s, after) read id_known w

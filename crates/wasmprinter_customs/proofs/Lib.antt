@@ -1,0 +1,5 @@
+pub mod FlagPieces
+mod FlagRows
+mod FoundSteps
+mod RunBytes
+mod Subsections

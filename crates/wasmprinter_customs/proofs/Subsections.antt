@@ -1,0 +1,165 @@
+-- Subsections of `dylink.0`, judged one after the other.
+use Rattle.std.proofs.Common.{◌≡◌, ◌≢◌, ℕ, zero, suc, ◌-◌, ◌<◌, ◌≤◌, List, [], ◌∷◌, length, Bool, true, false, Option, Some, None, refl, sym, ap, ◌∙◌, subst, arith}
+use Rattle.std.specs.Prelude.{◌==◌}
+use Rattle.std.proofs.lemmas.Bool.{eqb-true, eqb-false, eq-eqb, ne_eqb}
+use Rattle.std.proofs.lemmas.List.{length-append, nil_from_length}
+use Rattle.wasmprinter_spec.specs.Grammar.{Input}
+use Rattle.wasmprinter_spec.specs.Lenient.{Lenient, one, give, read_behind, unless_ended, repeat_at, continue_with}
+use Rattle.wasmprinter_spec.specs.Customs.Dylink.{Subsection, subsection, Judged, Whole, Unknown, Faulty, other_of, first_some, first_other, judged_by, judged}
+use Rattle.wasmprinter_customs.specs.Sound.{subsections_in, IsWhole}
+
+-- what is read in one turn
+abbrev turn : Lenient Subsection
+turn = unless_ended (one (λ s. s ∷ []) subsection)
+
+-- each subsection takes a byte at least
+pub shrinks : (at : Input) (x : Subsection × Input) → subsection.parse at ≡ Some x → length x.1.bytes < length at.bytes
+shrinks at x e =
+    let s = subsection.sound at x e in
+    let parts = s.spelled.1.2 in
+    omega (arith, ap length s.parts, length-append s.text x.1.bytes, ap length parts.2, length-append parts.0 parts.1, ap length parts.3)
+
+-- ---- the turns suffice
+
+-- behind the last byte
+ended : (n : ℕ) (at : Input) → length at.bytes ≡ 0 → repeat_at turn n at ≡ ([], Some at)
+ended zero at e = refl
+ended (suc n) at e = rw (eq-eqb (length at.bytes) 0 e, ended n at e) refl
+
+-- a subsection, and what is read behind it
+abbrev on_from : (Input → List Subsection × Option Input) → Option (Subsection × Input) → List Subsection × Option Input
+on_from k None = ([], None)
+on_from k (Some x) = (x.0 ∷ (k x.1).0, (k x.1).1)
+
+on_by : (k : Input → List Subsection × Option Input) (r : Option (Subsection × Input)) → continue_with turn (read_behind subsection (λ s. give (s ∷ [])) r) k ≡ on_from k r
+on_by k None = refl
+on_by k (Some x) = refl
+
+on_same : (j k : Input → List Subsection × Option Input) (r : Option (Subsection × Input)) → ((x : Subsection × Input) → r ≡ Some x → j x.1 ≡ k x.1) → on_from j r ≡ on_from k r
+on_same j k None h = refl
+on_same j k (Some x) h = ap (λ (r : List Subsection × Option Input). (x.0 ∷ r.0, r.1)) (h x refl)
+
+step : (n : ℕ) (at : Input) → length at.bytes ≢ 0 → repeat_at turn (suc n) at ≡ on_from (λ mid. repeat_at turn n mid) (subsection.parse at)
+step n at some = rw (ne_eqb (length at.bytes) 0 some) (on_by (λ mid. repeat_at turn n mid) (subsection.parse at))
+
+-- with as many turns as bytes more of them change nothing
+enough : (n m : ℕ) (at : Input) → length at.bytes ≤ n → length at.bytes ≤ m → repeat_at turn n at ≡ repeat_at turn m at
+enough zero m at le more = sym (ended m at (omega (arith, le)))
+enough (suc n) zero at le more = ended (suc n) at (omega (arith, more))
+enough (suc n) (suc m) at le more = by (length at.bytes == 0) refl (λ x e. enough n m x.1 (omega (arith, le, shrinks at x e)) (omega (arith, more, shrinks at x e)))
+  where
+    by : (t : Bool) → (length at.bytes == 0) ≡ t → ((x : Subsection × Input) → subsection.parse at ≡ Some x → repeat_at turn n x.1 ≡ repeat_at turn m x.1)
+        → repeat_at turn (suc n) at ≡ repeat_at turn (suc m) at
+    by true none same =
+        let e = eqb-true (length at.bytes) 0 none in
+        ended (suc n) at e ∙ sym (ended (suc m) at e)
+    by false some same =
+        let ne = eqb-false (length at.bytes) 0 some in
+        step n at ne ∙ on_same (λ mid. repeat_at turn n mid) (λ mid. repeat_at turn m mid) (subsection.parse at) same ∙ sym (step m at ne)
+
+-- ---- the first subsection, and then the others
+
+abbrev judged_read : List Subsection × Option Input → Judged
+judged_read r = judged_by r.0 (first_other r.0) r.1
+
+-- a subsection, perhaps of an unknown id, in front of others
+abbrev decided : Subsection → Option ℕ → Judged → Judged
+decided s (Some id) others = Unknown id
+decided s None (Whole ss) = Whole (s ∷ ss)
+decided s None (Unknown id) = Unknown id
+decided s None Faulty = Faulty
+
+abbrev judged_from : (Input → Judged) → Option (Subsection × Input) → Judged
+judged_from k None = Faulty
+judged_from k (Some x) = decided x.0 (other_of x.0.value) (k x.1)
+
+decided_by : (s : Subsection) (ss : List Subsection) (here behind : Option ℕ) (end : Option Input) → judged_by (s ∷ ss) (first_some here behind) end ≡ decided s here (judged_by ss behind end)
+decided_by s ss (Some id) behind end = refl
+decided_by s ss None (Some id) end = refl
+decided_by s ss None None (Some at) = refl
+decided_by s ss None None None = refl
+
+judged_on : (k : Input → List Subsection × Option Input) (r : Option (Subsection × Input)) → judged_read (on_from k r) ≡ judged_from (λ at. judged_read (k at)) r
+judged_on k None = refl
+judged_on k (Some x) = decided_by x.0 (k x.1).0 (other_of x.0.value) (first_other (k x.1).0) (k x.1).1
+
+judged_some : (at : Input) → length at.bytes ≢ 0 → judged at ≡ judged_from judged (subsection.parse at)
+judged_some at some =
+    let all : Input → List Subsection × Option Input = λ mid. repeat_at turn (length mid.bytes) mid in
+    let n : ℕ = length at.bytes - 1 in
+    let more : length at.bytes ≡ suc n = omega (arith, some) in
+    let read : repeat_at turn (length at.bytes) at ≡ on_from all (subsection.parse at) =
+    ap (λ (k : ℕ). repeat_at turn k at) more ∙ step n at some
+    ∙ on_same (λ mid. repeat_at turn n mid) all (subsection.parse at) (λ x e. enough n (length x.1.bytes) x.1 (omega (arith, more, shrinks at x e)) (omega arith)) in
+    ap judged_read read ∙ judged_on all (subsection.parse at)
+
+pub judged_none : (at : Input) → at.bytes ≡ [] → judged at ≡ Whole []
+judged_none at none = ap judged_read (ended (length at.bytes) at (ap length none))
+
+-- ---- a loop over them
+
+-- what is decided, without the subsections
+abbrev pub outcome : Judged → Judged
+outcome (Whole ss) = Whole []
+outcome (Unknown id) = Unknown id
+outcome Faulty = Faulty
+
+module _ (at : Input) (some : at.bytes ≢ []) where
+  longer : length at.bytes ≢ 0
+  longer e = some (nil_from_length at.bytes e)
+
+  pub fault_decides : subsection.parse at ≡ None → judged at ≡ Faulty
+  fault_decides e = judged_some at longer ∙ ap (judged_from judged) e
+
+  module _ (x : Subsection × Input) (read : subsection.parse at ≡ Some x) where
+    judged_front : judged at ≡ decided x.0 (other_of x.0.value) (judged x.1)
+    judged_front = judged_some at longer ∙ ap (judged_from judged) read
+
+    pub other_decides : (id : ℕ) → other_of x.0.value ≡ Some id → judged at ≡ Unknown id
+    other_decides id e = judged_front ∙ ap (λ o. decided x.0 o (judged x.1)) e
+
+    judged_known : other_of x.0.value ≡ None → judged at ≡ decided x.0 None (judged x.1)
+    judged_known e = judged_front ∙ ap (λ o. decided x.0 o (judged x.1)) e
+
+    outcome_by : (others : Judged) → outcome others ≡ outcome (decided x.0 None others)
+    outcome_by (Whole ss) = refl
+    outcome_by (Unknown id) = refl
+    outcome_by Faulty = refl
+
+    pub outcome_goes_on : other_of x.0.value ≡ None → outcome (judged x.1) ≡ outcome (judged at)
+    outcome_goes_on e = outcome_by (judged x.1) ∙ ap outcome (sym (judged_known e))
+
+    whole_by : (others : Judged) → IsWhole (decided x.0 None others) → IsWhole others × (subsections_in (decided x.0 None others) ≡ x.0 ∷ subsections_in others)
+    whole_by (Whole ss) w = (tt, refl)
+    whole_by (Unknown id) w = absurd w
+    whole_by Faulty w = absurd w
+
+    -- a section without a fault goes on without one
+    pub whole_goes_on : other_of x.0.value ≡ None → IsWhole (judged at) → IsWhole (judged x.1) × (subsections_in (judged at) ≡ x.0 ∷ subsections_in (judged x.1))
+    whole_goes_on e w =
+        let known : judged at ≡ decided x.0 None (judged x.1) = judged_known e in
+        let p = whole_by (judged x.1) (subst IsWhole known w) in
+        (p.0, ap subsections_in known ∙ p.1)
+
+    pub other_not_whole : (id : ℕ) → other_of x.0.value ≡ Some id → IsWhole (judged at) → ⊥
+    other_not_whole id e w = subst IsWhole (other_decides id e) w
+
+  pub fault_not_whole : subsection.parse at ≡ None → IsWhole (judged at) → ⊥
+  fault_not_whole e w = subst IsWhole (fault_decides e) w
+
+-- ---- what the outcome says
+
+pub whole_is : (j : Judged) → outcome j ≡ Whole [] → IsWhole j × (j ≡ Whole (subsections_in j))
+whole_is (Whole ss) e = (tt, refl)
+whole_is (Unknown id) e = absurd cc
+whole_is Faulty e = absurd cc
+
+pub unknown_is : (j : Judged) (id : ℕ) → outcome j ≡ Unknown id → j ≡ Unknown id
+unknown_is (Whole ss) id e = absurd cc
+unknown_is (Unknown i) id e = e
+unknown_is Faulty id e = e
+
+pub faulty_is : (j : Judged) → outcome j ≡ Faulty → j ≡ Faulty
+faulty_is (Whole ss) e = absurd cc
+faulty_is (Unknown id) e = e
+faulty_is Faulty e = e

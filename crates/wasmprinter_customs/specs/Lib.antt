@@ -1,0 +1,6 @@
+pub mod Contents
+pub mod FlagPieces
+pub mod Flags
+pub mod Judgements
+pub mod Roles
+pub mod Sound

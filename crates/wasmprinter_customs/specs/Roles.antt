@@ -1,0 +1,12 @@
+-- What a custom section is to the text, as the definitions see it.
+use Rattle.wasmprinter_spec.specs.Customs as d
+use Rattle.wasmprinter_customs.specs.declared.role.CustomRole.{CustomRole}
+use Rattle.wasmprinter_customs.specs.declared.role.CustomRole.TheVariants as r
+
+abbrev pub role_view : CustomRole → d.Role
+role_view r.Silent = d.Silent
+role_view (r.Producers fields) = d.Listed fields
+role_view (r.Dylink subsections) = d.Linked subsections
+role_view (r.Refused id) = d.Refused id
+role_view r.Raw = d.Raw
+role_view r.Faulted = d.Faulted

@@ -1,0 +1,12 @@
+-- The subsections of a section of `dylink.0` without a fault.
+use Rattle.std.specs.Prelude.{List, []}
+use Rattle.wasmprinter_spec.specs.Customs.Dylink.{Subsection, Judged, Whole}
+
+abbrev pub subsections_in : Judged → List Subsection
+subsections_in (Whole ss) = ss
+subsections_in _ = []
+
+-- there is no fault, and each id is known
+abbrev pub IsWhole : Judged → Type 0
+IsWhole (Whole ss) = Unit {0}
+IsWhole _ = ⊥

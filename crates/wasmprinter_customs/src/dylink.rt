@@ -1,0 +1,369 @@
+//! The section `dylink.0` (tool conventions, "Dynamic Linking"): subsections, each an id, a size and so many bytes.
+ghost use Rattle.std.specs.Prelude.{◌≡◌, IfOk};
+ghost use Rattle.wasmprinter_spec.specs.Customs.Dylink.{mem_info, export_info, import_info, known, is_known, subsection, judged};
+ghost use Rattle.wasmprinter_bytes.specs.Reads.{Reads};
+ghost use Rattle.wasmprinter_customs.specs.Contents.{content_view};
+ghost use Rattle.wasmprinter_customs.specs.Flags.{bits_of};
+ghost use Rattle.wasmprinter_customs.specs.Judgements.{found_view, HasKnownId, judgement_view};
+
+use crate::flags::SymbolFlags;
+use crate::items::{ItemsIn, ReadFrom};
+use crate::names::Names;
+use bitflags::Flags;
+use std::marker::Model;
+use wasmprinter_bytes::bytes::Cursor;
+use wasmprinter_error::Malformed;
+
+/// The id of `MemInfo`.
+const MEM_INFO: u8 = 1;
+
+/// The id of the names of libraries.
+const NEEDED: u8 = 2;
+
+/// The id of exports.
+const EXPORT_INFO: u8 = 3;
+
+/// The id of imports.
+const IMPORT_INFO: u8 = 4;
+
+/// The id of paths.
+const RUNTIME_PATH: u8 = 5;
+
+/// What a module wants of memory and of the table.
+#[derive(Drop)]
+pub struct MemInfo {
+    memory_size: u32,
+    memory_alignment: u32,
+    table_size: u32,
+    table_alignment: u32,
+}
+
+impl Model for MemInfo {
+    ghost use Rattle.wasmprinter_spec.specs.Customs.Dylink.{MemInfo as MemInfoValue};
+
+    ghost Value = { MemInfoValue };
+
+    ghost view = { λ m. record {
+      memory_size = m.memory_size;
+      memory_alignment = m.memory_alignment;
+      table_size = m.table_size;
+      table_alignment = m.table_alignment;
+    } };
+}
+
+impl MemInfo {
+    fn read(cursor: &mut Cursor) -> Result<Self, Malformed>
+        ensures { Reads (λ m. m) mem_info.parse cursor.old result cursor.new }
+    {
+        let memory_size = cursor.u32()?;
+        let memory_alignment = cursor.u32()?;
+        let table_size = cursor.u32()?;
+        let table_alignment = cursor.u32()?;
+        Ok(MemInfo {
+            memory_size,
+            memory_alignment,
+            table_size,
+            table_alignment,
+        })
+    }
+
+    /// Bytes of memory.
+    pub fn memory_size(&self) -> u32
+        ensures { result ≡ self.now.memory_size }
+    {
+        self.memory_size
+    }
+
+    /// Their alignment, as a power of two.
+    pub fn memory_alignment(&self) -> u32
+        ensures { result ≡ self.now.memory_alignment }
+    {
+        self.memory_alignment
+    }
+
+    /// Elements of the table.
+    pub fn table_size(&self) -> u32
+        ensures { result ≡ self.now.table_size }
+    {
+        self.table_size
+    }
+
+    /// Their alignment, as a power of two.
+    pub fn table_alignment(&self) -> u32
+        ensures { result ≡ self.now.table_alignment }
+    {
+        self.table_alignment
+    }
+}
+
+/// An export and its flags.
+#[derive(Drop)]
+pub struct ExportInfo<'a> {
+    name: &'a str,
+    flags: u32,
+}
+
+impl<'a> Model for ExportInfo<'a> {
+    ghost use Rattle.wasmprinter_spec.specs.Customs.Dylink.{ExportInfo as ExportInfoValue};
+
+    ghost Value = { ExportInfoValue };
+
+    ghost view = { λ e. record { name = e.name.now; flags = e.flags } };
+}
+
+impl<'a> ReadFrom for ExportInfo<'a> {
+    type Source = Cursor<'a>;
+
+    ghost parse = { export_info.parse };
+
+    fn read(cursor: &mut Cursor<'a>) -> Result<ExportInfo<'a>, Malformed> {
+        let name = cursor.name()?;
+        let flags = cursor.u32()?;
+        Ok(ExportInfo { name, flags })
+    }
+}
+
+impl<'a> ExportInfo<'a> {
+    /// The name of the export.
+    pub fn name(&self) -> &'a str
+        ensures { result.now ≡ self.now.name }
+    {
+        self.name
+    }
+
+    /// Its flags.
+    pub fn flags(&self) -> SymbolFlags
+        ensures { bits_of result ≡ self.now.flags }
+    {
+        SymbolFlags::from_bits_retain(self.flags)
+    }
+}
+
+/// An import and its flags.
+#[derive(Drop)]
+pub struct ImportInfo<'a> {
+    source: &'a str,
+    name: &'a str,
+    flags: u32,
+}
+
+impl<'a> Model for ImportInfo<'a> {
+    ghost use Rattle.wasmprinter_spec.specs.Customs.Dylink.{ImportInfo as ImportInfoValue};
+
+    ghost Value = { ImportInfoValue };
+
+    ghost view = { λ i. record { source = i.source.now; name = i.name.now; flags = i.flags } };
+}
+
+impl<'a> ReadFrom for ImportInfo<'a> {
+    type Source = Cursor<'a>;
+
+    ghost parse = { import_info.parse };
+
+    fn read(cursor: &mut Cursor<'a>) -> Result<ImportInfo<'a>, Malformed> {
+        let source = cursor.name()?;
+        let name = cursor.name()?;
+        let flags = cursor.u32()?;
+        Ok(ImportInfo {
+            source,
+            name,
+            flags,
+        })
+    }
+}
+
+impl<'a> ImportInfo<'a> {
+    /// The module that it comes from.
+    pub fn source(&self) -> &'a str
+        ensures { result.now ≡ self.now.source }
+    {
+        self.source
+    }
+
+    /// Its name there.
+    pub fn name(&self) -> &'a str
+        ensures { result.now ≡ self.now.name }
+    {
+        self.name
+    }
+
+    /// Its flags.
+    pub fn flags(&self) -> SymbolFlags
+        ensures { bits_of result ≡ self.now.flags }
+    {
+        SymbolFlags::from_bits_retain(self.flags)
+    }
+}
+
+/// What a subsection holds.
+#[derive(Drop)]
+pub enum Content<'a> {
+    /// What the module wants of memory and of the table.
+    MemInfo(MemInfo),
+    /// The names of the libraries that it needs.
+    Needed(Names<'a>),
+    /// Exports and their flags.
+    Exports(ItemsIn<ExportInfo<'a>>),
+    /// Imports and their flags.
+    Imports(ItemsIn<ImportInfo<'a>>),
+    /// Paths at which libraries are looked for.
+    RuntimePath(Names<'a>),
+}
+
+/// A subsection with the place of its id.
+#[derive(Drop)]
+pub struct Subsection<'a> {
+    place: u64,
+    content: Content<'a>,
+}
+
+impl<'a> Model for Subsection<'a> {
+    ghost use Rattle.wasmprinter_spec.specs.Customs.Dylink.{Subsection as SubsectionValue};
+    ghost use Rattle.wasmprinter_customs.specs.Contents.{content_view};
+
+    ghost Value = { SubsectionValue };
+
+    ghost view = { λ s. record { place = s.place; value = content_view s.content } };
+}
+
+/// Whether anything is known of the id.
+fn is_known(id: u8) -> bool
+    ensures { result ≡ is_known id }
+{
+    matches!(
+        id,
+        MEM_INFO | NEEDED | EXPORT_INFO | IMPORT_INFO | RUNTIME_PATH
+    )
+}
+
+impl<'a> Content<'a> {
+    /// Reads what a subsection of a known id holds.
+    fn read(id: u8, cursor: &mut Cursor<'a>) -> Result<Self, Malformed>
+        ensures { Reads content_view (known id).parse cursor.old result cursor.new }
+    {
+        match id {
+            MEM_INFO => Ok(Content::MemInfo(MemInfo::read(cursor)?)),
+            NEEDED => Ok(Content::Needed(Names::read(cursor)?)),
+            EXPORT_INFO => Ok(Content::Exports(ItemsIn::read(cursor)?)),
+            IMPORT_INFO => Ok(Content::Imports(ItemsIn::read(cursor)?)),
+            _ => Ok(Content::RuntimePath(Names::read(cursor)?)),
+        }
+    }
+}
+
+/// What stands in front: a subsection, or one of an unknown id.
+#[derive(Drop)]
+enum Found<'a> {
+    Known(Subsection<'a>),
+    Other { place: u64, id: u8 },
+}
+
+impl<'a> Found<'a> {
+    fn read(cursor: &mut Cursor<'a>) -> Result<Self, Malformed>
+        ensures reads { Reads found_view subsection.parse cursor.old result cursor.new }
+        ensures known { IfOk result HasKnownId }
+    {
+        let place = cursor.place();
+        let id = cursor.u8()?;
+        let size = cursor.u32()?;
+        let mut part = cursor.part(size as usize)?;
+        if !is_known(id) {
+            return Ok(Found::Other { place, id });
+        }
+        let content = Content::read(id, &mut part)?;
+        if !part.is_empty() {
+            return Err(Malformed { place });
+        }
+        Ok(Found::Known(Subsection { place, content }))
+    }
+}
+
+impl<'a> Subsection<'a> {
+    /// The place of its id.
+    pub fn place(&self) -> u64
+        ensures { result ≡ self.now.place }
+    {
+        self.place
+    }
+
+    /// What it holds.
+    pub fn content(&self) -> &Content<'a>
+        ensures { content_view result.now ≡ self.now.value }
+    {
+        &self.content
+    }
+}
+
+/// The subsections of a section without a fault, one after the other; the id of each is known.
+#[derive(Drop)]
+pub struct Dylink<'a> {
+    cursor: Cursor<'a>,
+}
+
+impl<'a> Model for Dylink<'a> {
+    ghost use Rattle.std.specs.Prelude.{List};
+    ghost use Rattle.wasmprinter_spec.specs.Customs.Dylink.{Subsection as SubsectionValue, judged};
+    ghost use Rattle.wasmprinter_customs.specs.Sound.{subsections_in, IsWhole};
+
+    ghost Value = { List SubsectionValue };
+
+    ghost view = { λ d. subsections_in (judged d.cursor) };
+
+    ghost invariant = { λ d. IsWhole (judged d.cursor) };
+}
+
+impl<'a> Dylink<'a> {
+    /// The subsections in order.
+    pub fn iter(&self) -> Dylink<'a>
+        ensures { result ≡ self.now }
+    {
+        Dylink {
+            cursor: self.cursor.fork(),
+        }
+    }
+}
+
+impl<'a> Iterator for Dylink<'a> {
+    ghost use Rattle.std.specs.Iterator.{YieldsFirst, item_count};
+
+    type Item = Subsection<'a>;
+
+    ghost next_gives = { YieldsFirst (λ subsections. subsections) };
+
+    ghost remaining = { item_count (λ subsections. subsections) };
+
+    fn next(&mut self) -> Option<Subsection<'a>> {
+        if self.cursor.is_empty() {
+            return None;
+        }
+        match Found::read(&mut self.cursor) {
+            Ok(Found::Known(subsection)) => Some(subsection),
+            _ => unreachable!(),
+        }
+    }
+}
+
+/// What a section is: the first subsection of an unknown id, or the first fault, decides.
+#[derive(Drop)]
+pub(crate) enum Judgement<'a> {
+    Whole(Dylink<'a>),
+    Unknown(u8),
+    Faulty,
+}
+
+impl<'a> Judgement<'a> {
+    pub(crate) fn of(section: Cursor<'a>) -> Self
+        ensures { judgement_view result ≡ judged section.entry }
+    {
+        let mut cursor = section.fork();
+        'subsections: while !cursor.is_empty() {
+            let Ok(found) = Found::read(&mut cursor) else {
+                return Judgement::Faulty;
+            };
+            if let Found::Other { id, .. } = found {
+                return Judgement::Unknown(id);
+            }
+        }
+        Judgement::Whole(Dylink { cursor: section })
+    }
+}

@@ -1,0 +1,245 @@
+//! Branch hints (Code Metadata): for functions, which operators are likely to branch.
+ghost use Rattle.std.specs.Prelude.{◌≡◌, ◌+◌, ◌<◌, ◌^◌, [], length, codes, bytes_eq};
+ghost use Rattle.wasmprinter_spec.specs.Grammar.{placed};
+ghost use Rattle.wasmprinter_spec.specs.Customs.Hints.{hint as hint_grammar, flag, function_hints, hint_section, hints_given};
+ghost use Rattle.wasmprinter_spec.specs.Customs.Hints.{next_hints, hints_behind, next_hint, hint_behind};
+ghost use Rattle.wasmprinter_spec.specs.FirstByte.{only};
+ghost use Rattle.wasmprinter_bytes.specs.Reads.{Reads, IsWithin, end_of};
+
+use crate::items::{ItemsIn, ReadFrom};
+use std::marker::Model;
+use wasmprinter_bytes::bytes::Cursor;
+use wasmprinter_bytes::lists::{Items, Spelled};
+use wasmprinter_error::Malformed;
+
+/// The name of sections of branch hints. Of several the last counts.
+pub(crate) const HINT_SECTION: &str = "metadata.code.branch_hint";
+
+/// More functions with hints are taken for a fault.
+const MOST_FUNCTIONS: u32 = 1000000;
+
+/// More hints in one function are taken for a fault.
+const MOST_HINTS: u32 = 131071;
+
+/// How many bytes a hint has: one.
+const HINT_SIZE: u8 = 0x01;
+
+/// Whether sections of this name hold branch hints.
+pub fn is_hint_section(name: &str) -> bool
+    ensures { result ≡ bytes_eq name.now (codes "metadata.code.branch_hint") }
+{
+    name == HINT_SECTION
+}
+
+/// A hint, with the place of its first byte.
+#[derive(Drop)]
+pub struct Hint {
+    place: u64,
+    offset: u32,
+    taken: bool,
+}
+
+impl Model for Hint {
+    ghost use Rattle.wasmprinter_spec.specs.Grammar.{Placed};
+    ghost use Rattle.wasmprinter_spec.specs.Customs.Hints.{Hint as HintValue};
+
+    ghost Value = { Placed HintValue };
+
+    ghost view = { λ h. record { place = h.place; value = record { offset = h.offset; taken = h.taken } } };
+}
+
+/// Reads the byte that says how many follow.
+fn read_size(cursor: &mut Cursor) -> Result<u8, Malformed>
+    ensures reads { Reads (λ b. b) (only 1).parse cursor.old result cursor.new }
+    ensures within { IsWithin cursor.old result }
+    ensures end { end_of cursor.new ≡ end_of cursor.old }
+{
+    let place = cursor.place();
+    let size = cursor.u8()?;
+    if size == HINT_SIZE {
+        Ok(size)
+    } else {
+        Err(Malformed { place })
+    }
+}
+
+/// Whether the flag says that the operator is likely to branch.
+fn flag_of(byte: u8) -> Option<bool>
+    ensures { result ≡ flag byte }
+{
+    match byte {
+        0x00 => Some(false),
+        0x01 => Some(true),
+        _ => None,
+    }
+}
+
+impl Spelled for Hint {
+    ghost parse = { (placed hint_grammar).parse };
+
+    fn read(cursor: &mut Cursor) -> Result<Hint, Malformed> {
+        let place = cursor.place();
+        let offset = cursor.u32()?;
+        read_size(cursor)?;
+        match flag_of(cursor.u8()?) {
+            Some(taken) => Ok(Hint {
+                place,
+                offset,
+                taken,
+            }),
+            None => Err(Malformed { place }),
+        }
+    }
+}
+
+impl Hint {
+    /// The place of its first byte.
+    pub fn place(&self) -> u64
+        ensures { result ≡ self.now.place }
+    {
+        self.place
+    }
+
+    /// Whether the operator is likely to branch.
+    pub fn is_taken(&self) -> bool
+        ensures { result ≡ self.now.value.taken }
+    {
+        self.taken
+    }
+}
+
+/// The hints of a function that are left; they are taken in order, so that one that no operator takes blocks those behind it.
+#[derive(Drop)]
+pub struct FunctionHints<'a> {
+    hints: Items<'a, Hint>,
+}
+
+impl<'a> Model for FunctionHints<'a> {
+    ghost use Rattle.std.specs.Prelude.{List};
+    ghost use Rattle.wasmprinter_spec.specs.Grammar.{Placed};
+    ghost use Rattle.wasmprinter_spec.specs.Customs.Hints.{Hint as HintValue};
+
+    ghost Value = { List (Placed HintValue) };
+
+    ghost view = { λ h. h.hints };
+}
+
+impl<'a> FunctionHints<'a> {
+    /// No hints.
+    pub fn none() -> Self
+        ensures { result ≡ [] }
+    {
+        FunctionHints {
+            hints: Items::none(&Cursor::new(0, &[])),
+        }
+    }
+
+    /// The hint of the operator that stands so far behind the body's first byte, if it is the next.
+    pub fn next_at(&mut self, offset: u64) -> Option<Hint>
+        ensures gives { result ≡ next_hint offset self.old }
+        ensures behind { self.new ≡ hint_behind offset self.old }
+    {
+        let mut behind = self.hints.iter();
+        match behind.next() {
+            Some(hint) if u64::from(hint.offset) == offset => {
+                self.hints = behind;
+                Some(hint)
+            }
+            _ => None,
+        }
+    }
+}
+
+/// The hints of a function.
+#[derive(Drop)]
+struct Entry<'a> {
+    function: u32,
+    hints: Items<'a, Hint>,
+}
+
+impl<'a> Model for Entry<'a> {
+    ghost use Rattle.wasmprinter_spec.specs.Customs.Hints.{FunctionHints as FunctionHintsValue};
+
+    ghost Value = { FunctionHintsValue };
+
+    ghost view = { λ e. record { function = e.function; hints = e.hints } };
+}
+
+impl<'a> ReadFrom for Entry<'a> {
+    type Source = Cursor<'a>;
+
+    ghost parse = { function_hints.parse };
+
+    fn read(cursor: &mut Cursor<'a>) -> Result<Entry<'a>, Malformed> {
+        let place = cursor.place();
+        let function = cursor.u32()?;
+        let hints = Items::read(cursor)?;
+        if hints.len() > MOST_HINTS {
+            return Err(Malformed { place });
+        }
+        Ok(Entry { function, hints })
+    }
+}
+
+/// Reads the entries that are all of a section.
+fn read_entries<'a>(section: Cursor<'a>) -> Option<ItemsIn<Entry<'a>>>
+    ensures { result ≡ hint_section.parse section.entry }
+{
+    let mut cursor = section;
+    match ItemsIn::<Entry>::read(&mut cursor) {
+        Ok(entries) if entries.len() <= MOST_FUNCTIONS && cursor.is_empty() => Some(entries),
+        _ => None,
+    }
+}
+
+/// The functions with hints that are left; they are taken in order, so that an entry that no function takes blocks those behind it.
+#[derive(Drop)]
+pub struct Hints<'a> {
+    entries: ItemsIn<Entry<'a>>,
+}
+
+impl<'a> Model for Hints<'a> {
+    ghost use Rattle.std.specs.Prelude.{List};
+    ghost use Rattle.wasmprinter_spec.specs.Customs.Hints.{FunctionHints as FunctionHintsValue};
+
+    ghost Value = { List FunctionHintsValue };
+
+    ghost view = { λ h. h.entries };
+}
+
+impl<'a> Hints<'a> {
+    /// No hints.
+    pub fn none() -> Self
+        ensures { result ≡ [] }
+    {
+        Hints {
+            entries: ItemsIn::none(Cursor::new(0, &[])),
+        }
+    }
+
+    /// The hints that a section gives: none where it has a fault. Its bytes behind the name begin at the place.
+    pub fn given(place: u64, bytes: &'a [u8]) -> Self
+        requires { place + length bytes.now < 2 ^ 64 }
+        ensures { result ≡ hints_given (record { place = place; value = bytes.now }) }
+    {
+        match read_entries(Cursor::new(place, bytes)) {
+            Some(entries) => Hints { entries },
+            None => Hints::none(),
+        }
+    }
+
+    /// The hints of the function with this number, if its entry is the next; else none.
+    pub fn next_function(&mut self, number: u64) -> FunctionHints<'a>
+        ensures gives { result ≡ next_hints number self.old }
+        ensures behind { self.new ≡ hints_behind number self.old }
+    {
+        let mut behind = self.entries.iter();
+        match behind.next() {
+            Some(entry) if u64::from(entry.function) == number => {
+                self.entries = behind;
+                FunctionHints { hints: entry.hints }
+            }
+            _ => FunctionHints::none(),
+        }
+    }
+}

@@ -1,0 +1,23 @@
+//! The custom sections that are known, read from their bytes without memory: `producers` and `dylink.0` (tool conventions), and branch
+//! hints (Code Metadata).
+#![tactic(auto)]
+
+mod dylink;
+mod flags;
+mod hints;
+mod items;
+mod names;
+mod producers;
+mod role;
+mod runs;
+
+pub use dylink::{Content, Dylink, ExportInfo, ImportInfo, MemInfo, Subsection};
+pub use flags::{FlagWords, SymbolFlags};
+pub use hints::{FunctionHints, Hint, Hints, is_hint_section};
+pub use items::{ItemsIn, ReadFrom, Source};
+pub use names::Names;
+pub use producers::{Field, Producers, Value, Values};
+pub use role::{CustomRole, custom_role};
+
+#[cfg(test)]
+mod tests;

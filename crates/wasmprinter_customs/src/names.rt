@@ -1,0 +1,82 @@
+//! Lists of names.
+ghost use Rattle.std.specs.Prelude.{◌≡◌};
+ghost use Rattle.wasmprinter_spec.specs.Name.{vec, name};
+ghost use Rattle.wasmprinter_bytes.specs.Reads.{Reads};
+
+use crate::items::{ItemsIn, ReadFrom};
+use std::marker::Model;
+use wasmprinter_bytes::bytes::Cursor;
+use wasmprinter_error::Malformed;
+
+/// A name.
+#[derive(Drop)]
+struct Name<'a> {
+    text: &'a str,
+}
+
+impl<'a> Model for Name<'a> {
+    ghost use Rattle.std.specs.Prelude.{ℕ, List};
+
+    ghost Value = { List ℕ };
+
+    ghost view = { λ n. n.text.now };
+}
+
+impl<'a> ReadFrom for Name<'a> {
+    type Source = Cursor<'a>;
+
+    ghost parse = { name.parse };
+
+    fn read(cursor: &mut Cursor<'a>) -> Result<Name<'a>, Malformed> {
+        let text = cursor.name()?;
+        Ok(Name { text })
+    }
+}
+
+/// Names, one after the other.
+#[derive(Drop)]
+pub struct Names<'a> {
+    names: ItemsIn<Name<'a>>,
+}
+
+impl<'a> Model for Names<'a> {
+    ghost use Rattle.std.specs.Prelude.{ℕ, List};
+
+    ghost Value = { List (List ℕ) };
+
+    ghost view = { λ n. n.names };
+}
+
+impl<'a> Names<'a> {
+    /// Reads a count and so many names.
+    pub(crate) fn read(cursor: &mut Cursor<'a>) -> Result<Self, Malformed>
+        ensures { Reads (λ n. n) (vec name).parse cursor.old result cursor.new }
+    {
+        let names = ItemsIn::read(cursor)?;
+        Ok(Names { names })
+    }
+
+    /// The names in order.
+    pub fn iter(&self) -> Names<'a>
+        ensures { result ≡ self.now }
+    {
+        Names {
+            names: self.names.iter(),
+        }
+    }
+}
+
+impl<'a> Iterator for Names<'a> {
+    ghost use Rattle.std.specs.Iterator.{YieldsFirstBy, item_count};
+
+    type Item = &'a str;
+
+    ghost next_gives = { YieldsFirstBy (λ name. name.now) (λ names. names) };
+
+    ghost remaining = { item_count (λ names. names) };
+
+    fn next(&mut self) -> Option<&'a str> {
+        let name = self.names.next()?;
+        Some(name.text)
+    }
+}

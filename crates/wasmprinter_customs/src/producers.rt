@@ -1,0 +1,139 @@
+//! The section `producers` (tool conventions, "Producers Section"): fields, each with the names and versions of its values.
+ghost use Rattle.std.specs.Prelude.{◌≡◌, option_map};
+ghost use Rattle.wasmprinter_spec.specs.Grammar.{placed};
+ghost use Rattle.wasmprinter_spec.specs.Customs.Producers.{value as value_grammar, field as field_grammar, producers, are_runs};
+
+use crate::items::{ItemsIn, ReadFrom};
+use crate::runs::is_run;
+use std::marker::Model;
+use wasmprinter_bytes::bytes::Cursor;
+use wasmprinter_error::Malformed;
+
+/// A value of a field: its place, a name and a version.
+#[derive(Drop)]
+pub struct Value<'a> {
+    place: u64,
+    name: &'a str,
+    version: &'a str,
+}
+
+impl<'a> Model for Value<'a> {
+    ghost use Rattle.wasmprinter_spec.specs.Grammar.{Placed};
+    ghost use Rattle.wasmprinter_spec.specs.Customs.Producers.{Value as ProducerValue};
+
+    ghost Value = { Placed ProducerValue };
+
+    ghost view = { λ v. record { place = v.place; value = record { name = v.name.now; version = v.version.now } } };
+}
+
+impl<'a> ReadFrom for Value<'a> {
+    type Source = Cursor<'a>;
+
+    ghost parse = { (placed value_grammar).parse };
+
+    fn read(cursor: &mut Cursor<'a>) -> Result<Value<'a>, Malformed> {
+        let place = cursor.place();
+        let name = cursor.name()?;
+        let version = cursor.name()?;
+        Ok(Value {
+            place,
+            name,
+            version,
+        })
+    }
+}
+
+impl<'a> Value<'a> {
+    /// The place of its first byte.
+    pub fn place(&self) -> u64
+        ensures { result ≡ self.now.place }
+    {
+        self.place
+    }
+
+    /// What the value says, as the name of a tool.
+    pub fn name(&self) -> &'a str
+        ensures { result.now ≡ self.now.value.name }
+    {
+        self.name
+    }
+
+    /// Its version, which may be empty.
+    pub fn version(&self) -> &'a str
+        ensures { result.now ≡ self.now.value.version }
+    {
+        self.version
+    }
+}
+
+/// The values of a field, one after the other.
+pub type Values<'a> = ItemsIn<Value<'a>>;
+
+/// A field: a name and values.
+#[derive(Drop)]
+pub struct Field<'a> {
+    name: &'a str,
+    values: Values<'a>,
+}
+
+impl<'a> Model for Field<'a> {
+    ghost use Rattle.wasmprinter_spec.specs.Customs.Producers.{Field as FieldValue};
+
+    ghost Value = { FieldValue };
+
+    ghost view = { λ f. record { name = f.name.now; values = f.values } };
+}
+
+impl<'a> ReadFrom for Field<'a> {
+    type Source = Cursor<'a>;
+
+    ghost parse = { field_grammar.parse };
+
+    fn read(cursor: &mut Cursor<'a>) -> Result<Field<'a>, Malformed> {
+        let name = cursor.name()?;
+        let values = Values::read(cursor)?;
+        Ok(Field { name, values })
+    }
+}
+
+impl<'a> Field<'a> {
+    /// Its name.
+    pub fn name(&self) -> &'a str
+        ensures { result.now ≡ self.now.name }
+    {
+        self.name
+    }
+
+    /// Its values in order.
+    pub fn values(&self) -> Values<'a>
+        ensures { result ≡ self.now.values }
+    {
+        self.values.iter()
+    }
+}
+
+/// The fields of a section, one after the other.
+pub type Producers<'a> = ItemsIn<Field<'a>>;
+
+/// Reads the fields that are all of a section.
+pub(crate) fn read_producers<'a>(section: Cursor<'a>) -> Option<Producers<'a>>
+    ensures { result ≡ producers.parse section.entry }
+{
+    let mut cursor = section;
+    match Producers::read(&mut cursor) {
+        Ok(fields) if cursor.is_empty() => Some(fields),
+        _ => None,
+    }
+}
+
+/// Whether the name of each field can head a group.
+pub(crate) fn are_runs(fields: Producers) -> bool
+    ensures { result ≡ are_runs fields.entry }
+{
+    for field in fields {
+        if !is_run(field.name()) {
+            return false;
+        }
+    }
+    true
+}

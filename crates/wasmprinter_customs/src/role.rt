@@ -1,0 +1,73 @@
+//! What a custom section is to the text.
+ghost use Rattle.std.specs.Prelude.{◌≡◌, ◌+◌, ◌<◌, ◌^◌, length};
+ghost use Rattle.wasmprinter_spec.specs.Placed.{custom_of};
+ghost use Rattle.wasmprinter_spec.specs.Customs.{role_of, producers_role, dylink_role};
+ghost use Rattle.wasmprinter_spec.specs.Customs.Producers.{producers};
+ghost use Rattle.wasmprinter_spec.specs.Customs.Dylink.{judged};
+ghost use Rattle.wasmprinter_customs.specs.Roles.{role_view};
+
+use crate::dylink::{Dylink, Judgement};
+use crate::hints::HINT_SECTION;
+use crate::producers::{Producers, are_runs, read_producers};
+use wasmprinter_bytes::bytes::Cursor;
+
+/// The name of sections that give names.
+const NAME_SECTION: &str = "name";
+
+/// The name of sections that say what made the module.
+const PRODUCERS_SECTION: &str = "producers";
+
+/// The name of sections for dynamic linking.
+const DYLINK_SECTION: &str = "dylink.0";
+
+/// What a custom section is to the text. (Match on a reference to it: its lists are given again by `iter`.)
+#[derive(Drop)]
+pub enum CustomRole<'a> {
+    /// Its names stand in the text, or its hints.
+    Silent,
+    /// The fields of `producers`.
+    Producers(Producers<'a>),
+    /// The subsections of `dylink.0`.
+    Dylink(Dylink<'a>),
+    /// A subsection of `dylink.0` has this id, which isn't known.
+    Refused(u8),
+    /// It stands in the text as it is.
+    Raw,
+    /// So it does, behind a line that tells of its fault.
+    Faulted,
+}
+
+/// The role of a section `producers`.
+fn producers_role(section: Cursor) -> CustomRole
+    ensures { role_view result ≡ producers_role (producers.parse section.entry) }
+{
+    match read_producers(section) {
+        Some(fields) if are_runs(fields.iter()) => CustomRole::Producers(fields),
+        Some(_) => CustomRole::Raw,
+        None => CustomRole::Faulted,
+    }
+}
+
+/// The role of a section `dylink.0`.
+fn dylink_role(section: Cursor) -> CustomRole
+    ensures { role_view result ≡ dylink_role (judged section.entry) }
+{
+    match Judgement::of(section) {
+        Judgement::Whole(subsections) => CustomRole::Dylink(subsections),
+        Judgement::Unknown(id) => CustomRole::Refused(id),
+        Judgement::Faulty => CustomRole::Faulted,
+    }
+}
+
+/// What the custom section of this name is to the text; its bytes behind the name begin at the place.
+pub fn custom_role<'a>(name: &str, place: u64, bytes: &'a [u8]) -> CustomRole<'a>
+    requires { place + length bytes.now < 2 ^ 64 }
+    ensures { role_view result ≡ role_of (custom_of name.now (record { place = place; value = bytes.now })) }
+{
+    match name {
+        NAME_SECTION | HINT_SECTION => CustomRole::Silent,
+        PRODUCERS_SECTION => producers_role(Cursor::new(place, bytes)),
+        DYLINK_SECTION => dylink_role(Cursor::new(place, bytes)),
+        _ => CustomRole::Raw,
+    }
+}

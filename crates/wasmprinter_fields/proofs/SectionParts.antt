@@ -1,0 +1,46 @@
+-- What was made of the section of a kind: its fields, and the custom sections behind it.
+use Rattle.std.specs.Prelude.{◌≡◌, List, ◌∷◌, Bool, true, false, ◌||◌, Result, Ok, Err, IsErrAnd, refl}
+use Rattle.std.proofs.Common.{sym, ap, ◌∙◌, subst}
+use Rattle.std.specs.declared.io.Error.{Error as IoError}
+use Rattle.wasmprinter_error.specs.declared.error.Error.{Error}
+use Rattle.wasmprinter_error.specs.declared.error.Error.TheVariants.{Printer}
+use Rattle.wasmprinter_spec.specs.Meaning.{Meaning}
+use Rattle.wasmprinter_spec.specs.Options.{Options}
+use Rattle.wasmprinter_spec.specs.Piece.{Piece}
+use Rattle.wasmprinter_spec.specs.Layout.Groups.{has_break}
+use Rattle.wasmprinter_spec.specs.Layout.Customs.{Part, Shown, laid_parts}
+use Rattle.wasmprinter_print.specs.Emits.{Through, AtCall}
+use Rattle.wasmprinter_print.specs.Prints.{Written}
+use Rattle.wasmprinter_print.specs.PrintsLaws.{both_pieces}
+use Rattle.wasmprinter_lines.proofs.Groups.{has_break-append}
+use Rattle.wasmprinter_annotations.specs.Lines.{PrintsPartLines}
+use Rattle.wasmprinter_annotations.proofs.Parts.{shown_then, shown_fails}
+
+either-way : (b c : Bool) → (b || c) ≡ (c || b)
+either-way true true = refl
+either-way true false = refl
+either-way false true = refl
+either-way false false = refl
+
+module _ {P : Type 0} (m : Meaning P) (o : Options) where
+  -- both went through
+  pub section_written : {a s t : P} {b f : Bool} {ps : List Piece} (parts : List Part) → Written m o a s Through ps → f ≡ has_break ps →
+      PrintsPartLines m o s t (Ok b) parts → PrintsPartLines m o a t (Ok (b || f)) (Shown ps ∷ parts)
+  section_written {b = b} {f} {ps} parts v breaks w = record {
+    prints = record { written = both_pieces m v w.prints.written; refused = w.prints.refused };
+    lines =
+        either-way b f ∙ ap (λ (x : Bool). x || b) breaks ∙ ap (λ (x : Bool). has_break ps || x) w.lines ∙ sym (has_break-append ps (laid_parts parts).pieces);
+  }
+
+  -- the custom sections ended
+  pub section_ended : {a s t : P} (r : Result Bool Error) {e : Error} {ps : List Piece} (parts : List Part) → IsErrAnd r (λ y. y ≡ e) →
+      Written m o a s Through ps → PrintsPartLines m o s t (Err e) parts → PrintsPartLines m o a t r (Shown ps ∷ parts)
+  section_ended (Ok x) parts f v w = absurd f
+  section_ended {a} {s} {t} (Err y) {ps = ps} parts f v w =
+      subst (λ (z : Error). PrintsPartLines m o a t (Err z) (Shown ps ∷ parts)) (sym f) (record { prints = shown_then m parts v w.prints; lines = tt })
+
+  -- a call failed amid the fields
+  pub section_failed : {a t : P} (r : Result Bool Error) {e : IoError} {ps : List Piece} (parts : List Part) → IsErrAnd r (λ y. y ≡ Printer e) →
+      Written m o a t (AtCall e) ps → PrintsPartLines m o a t r (Shown ps ∷ parts)
+  section_failed (Ok x) parts f v = absurd f
+  section_failed (Err y) parts f v = record { prints = shown_fails m (Err y) parts f v; lines = tt }

@@ -1,0 +1,79 @@
+-- What holds of all entries that bytes give, as far as they are read.
+use Rattle.std.proofs.Common.{◌≡◌, ℕ, zero, suc, List, [], ◌∷◌, ◌++◌, Bool, true, false, Option, Some, None, sym, subst, inl, inr}
+use Rattle.std.specs.Prelude.{MatchOption}
+use Rattle.std.specs.List.{AllByRecursion}
+use Rattle.wasmprinter_spec.specs.Grammar.{Input, input, Grammar}
+use Rattle.wasmprinter_spec.specs.Binary.{AreBytes}
+use Rattle.wasmprinter_spec.specs.Lenient.{Lenient, give, follow, repeat, Repeats, within, unless_ended, behind_part, by_test}
+use Rattle.wasmprinter_reading.proofs.AllSpelled.{AllSpelled, AllSpelled-any, split_bytes}
+
+pub all_append : {A : Type 0} (P : A → Type 0) (xs ys : List A) → AllByRecursion P xs → AllByRecursion P ys → AllByRecursion P (xs ++ ys)
+all_append P [] ys s t = t
+all_append P (x ∷ xs) ys s t = (s.0, all_append P xs ys s.1 t)
+
+-- bytes are left behind bytes
+abbrev pub Stays : Option Input → Type 0
+Stays end = MatchOption end (Unit {0}) (λ mid. AreBytes mid.bytes)
+
+-- Bytes give entries that have P.
+pub record AllGiven {E : Type 0} (P : E → Type 0) (l : Lenient E) : Type 0 where
+  pub has : (at : Input) (xs : List E) (end : Option Input) → AreBytes at.bytes → l.gives at xs end → AllByRecursion P xs × Stays end
+
+module _ {E : Type 0} (P : E → Type 0) where
+  pub AllGiven-give : (ys : List E) → AllByRecursion P ys → AllGiven P (give ys)
+  AllGiven-give ys h = record { has = λ at xs end b s. (subst (AllByRecursion P) (sym s.0) h, subst Stays (sym s.1) b) }
+
+  at_fault : (xs : List E) (end : Option Input) → xs ≡ [] → end ≡ None → AllByRecursion P xs × Stays end
+  at_fault xs end e f = (subst (AllByRecursion P) (sym e) tt, subst Stays (sym f) tt)
+
+  module _ {A : Type 0} {Q : A → Type 0} (g : Grammar A) (all : AllSpelled g Q) (h : A → Lenient E) (rest : (a : A) → Q a → AllGiven P (h a)) where
+    follow_has : (at : Input) (xs : List E) (end : Option Input) → AreBytes at.bytes → (follow g h).gives at xs end → AllByRecursion P xs × Stays end
+    follow_has at xs end b (inl s) =
+        let parts = split_bytes s.1.text s.0.1.bytes (subst AreBytes s.1.parts b) in
+        (rest s.0.0 (all.has at.place s.1.text s.0.0 parts.0 s.1.spelled)).has s.0.1 xs end parts.1 s.2
+    follow_has at xs end b (inr s) = at_fault xs end s.1 s.2
+
+    pub AllGiven-follow : AllGiven P (follow g h)
+    AllGiven-follow = record { has = follow_has }
+
+  -- whatever the value
+  pub AllGiven-follow_any : {A : Type 0} (g : Grammar A) (h : A → Lenient E) → ((a : A) → AllGiven P (h a)) → AllGiven P (follow g h)
+  AllGiven-follow_any g h f = AllGiven-follow g (AllSpelled-any g) h (λ a t. f a)
+
+  module _ (l : Lenient E) (f : AllGiven P l) where
+    repeat_has : (n : ℕ) (at : Input) (xs : List E) (end : Option Input) → AreBytes at.bytes → Repeats l n at xs end → AllByRecursion P xs × Stays end
+    repeat_has zero at xs end b s = (subst (AllByRecursion P) (sym s.0) tt, subst Stays (sym s.1) b)
+    repeat_has (suc n) at xs end b (inl s) =
+        let one_more = f.has at s.0 (Some s.2) b s.3 in
+        let others = repeat_has n s.2 s.1 end one_more.1 s.4 in
+        (subst (AllByRecursion P) (sym s.5) (all_append P s.0 s.1 one_more.0 others.0), others.1)
+    repeat_has (suc n) at xs end b (inr s) = ((f.has at xs None b s.0).0, subst Stays (sym s.1) tt)
+
+    pub AllGiven-repeat : (n : ℕ) → AllGiven P (repeat l n)
+    AllGiven-repeat n = record { has = repeat_has n }
+
+    behind_stays : (inner : Option Input) (after : Input) → AreBytes after.bytes → Stays (behind_part inner after)
+    behind_stays None after b = tt
+    behind_stays (Some x) after b = b
+
+    within_has : (n : ℕ) (at : Input) (xs : List E) (end : Option Input) → AreBytes at.bytes → (within l n).gives at xs end → AllByRecursion P xs × Stays end
+    within_has n at xs end b (inl s) =
+        let parts = split_bytes s.1.text s.0.1.bytes (subst AreBytes s.1.parts b) in (
+          (f.has (input at.place s.0.0) xs s.2 (subst AreBytes (sym s.1.spelled.1) parts.0) s.3).0,
+          subst Stays (sym s.4) (behind_stays s.2 s.0.1 parts.1),
+        )
+    within_has n at xs end b (inr s) = at_fault xs end s.1 s.2
+
+    pub AllGiven-within : (n : ℕ) → AllGiven P (within l n)
+    AllGiven-within n = record { has = within_has n }
+
+    ends_has : (at : Input) (xs : List E) (end : Option Input) → AreBytes at.bytes → (unless_ended l).gives at xs end → AllByRecursion P xs × Stays end
+    ends_has at xs end b (inl s) = (subst (AllByRecursion P) (sym s.1) tt, subst Stays (sym s.2) b)
+    ends_has at xs end b (inr s) = f.has at xs end b s.1
+
+    pub AllGiven-unless_ended : AllGiven P (unless_ended l)
+    AllGiven-unless_ended = record { has = ends_has }
+
+  pub AllGiven-by_test : (b : Bool) (l m : Lenient E) → AllGiven P l → AllGiven P m → AllGiven P (by_test b l m)
+  AllGiven-by_test true l m f g = f
+  AllGiven-by_test false l m f g = g

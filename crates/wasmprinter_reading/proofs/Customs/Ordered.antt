@@ -1,0 +1,76 @@
+-- Custom sections stand in the order of the sections in front of them.
+use Rattle.std.proofs.Common.{◌≡◌, ℕ, ◌≤◌, Bool, true, false, cond, List, [], ◌∷◌, Option, Some, None, refl, sym, ap, ◌∙◌, inl, inr, arith}
+use Rattle.std.proofs.lemmas.Bool.{and_parts, ltb-true}
+use Rattle.wasmprinter_spec.specs.Repeated.{some_or}
+use Rattle.wasmprinter_spec.specs.Kinds.{Kind, CustomSection, TypeSection, ImportSection, FunctionSection, TableSection, MemorySection, TagSection, GlobalSection, ExportSection, StartSection, ElementSection, DataCountSection, CodeSection, DataSection}
+use Rattle.wasmprinter_spec.specs.Placed.{CustomEntry}
+use Rattle.wasmprinter_spec.specs.Sections.{Section, holds, section_kind, content_of, rank, follows, rank_behind, are_above, is_place, place_behind, customs_behind}
+use Rattle.wasmprinter_spec.proofs.Ordered.{picks}
+
+-- how far behind a place stands
+abbrev pub place_rank : Option Kind → ℕ
+place_rank None = 0
+place_rank (Some kind) = some_or (rank kind) 0 (λ r. r)
+
+-- sections of the kind can hold something behind which others stand
+abbrev pub is_any_place : Option Kind → Bool
+is_any_place None = true
+is_any_place (Some CustomSection) = false
+is_any_place (Some DataCountSection) = false
+is_any_place (Some kind) = true
+
+-- each stands behind those in front of it, or with them, and all from this rank on
+abbrev pub AreInOrder : ℕ → List CustomEntry → Type 0
+AreInOrder low [] = Unit {0}
+AreInOrder low (c ∷ cs) = (low ≤ place_rank c.behind) × (is_any_place c.behind ≡ true) × AreInOrder (place_rank c.behind) cs
+
+earlier : (a b : ℕ) (cs : List CustomEntry) → a ≤ b → AreInOrder b cs → AreInOrder a cs
+earlier a b [] le h = tt
+earlier a b (c ∷ cs) le h = (omega (arith, h.0), h.1, h.2)
+
+-- what becomes of the last place at a section
+record Moves (low : ℕ) (last : Option Kind) (s : Section) : Type 0 where
+  any : is_any_place (place_behind last s) ≡ true
+  from : place_rank last ≤ place_rank (place_behind last s)
+  to : place_rank (place_behind last s) ≤ rank_behind low (rank (section_kind s))
+
+module _ (low : ℕ) (last : Option Kind) (any : is_any_place last ≡ true) (le : place_rank last ≤ low) where
+  -- a kind with a rank, which may be a place
+  moved : (kind : Kind) (r : ℕ) → rank kind ≡ Some r → is_any_place (Some kind) ≡ true → follows low (rank kind) ≡ true → (t : Bool) →
+      (is_any_place (cond t (Some kind) last) ≡ true) × (place_rank last ≤ place_rank (cond t (Some kind) last)) × (place_rank (cond t (Some kind) last) ≤ rank_behind low (rank kind))
+  moved kind r e is up true =
+      let lt = ltb-true low r (ap (follows low) (sym e) ∙ up) in
+      (is, rw e (omega (arith, le, lt)), rw e (omega arith))
+  moved kind r e is up false =
+      let lt = ltb-true low r (ap (follows low) (sym e) ∙ up) in
+      (any, omega arith, rw e (omega (arith, le, lt)))
+
+  moves : (s : Section) → follows low (rank (section_kind s)) ≡ true → Moves low last s
+  moves (holds CustomSection x) up = record { any = any; from = omega arith; to = le }
+  moves (holds DataCountSection x) up = let lt = ltb-true low 11 up in record { any = any; from = omega arith; to = omega (arith, le, lt) }
+  moves (holds TypeSection x) up = let m = moved TypeSection 1 refl refl up (is_place TypeSection x) in record { any = m.0; from = m.1; to = m.2 }
+  moves (holds ImportSection x) up = let m = moved ImportSection 2 refl refl up (is_place ImportSection x) in record { any = m.0; from = m.1; to = m.2 }
+  moves (holds FunctionSection x) up = let m = moved FunctionSection 3 refl refl up (is_place FunctionSection x) in record { any = m.0; from = m.1; to = m.2 }
+  moves (holds TableSection x) up = let m = moved TableSection 4 refl refl up (is_place TableSection x) in record { any = m.0; from = m.1; to = m.2 }
+  moves (holds MemorySection x) up = let m = moved MemorySection 5 refl refl up (is_place MemorySection x) in record { any = m.0; from = m.1; to = m.2 }
+  moves (holds TagSection x) up = let m = moved TagSection 6 refl refl up (is_place TagSection x) in record { any = m.0; from = m.1; to = m.2 }
+  moves (holds GlobalSection x) up = let m = moved GlobalSection 7 refl refl up (is_place GlobalSection x) in record { any = m.0; from = m.1; to = m.2 }
+  moves (holds ExportSection x) up = let m = moved ExportSection 8 refl refl up (is_place ExportSection x) in record { any = m.0; from = m.1; to = m.2 }
+  moves (holds StartSection x) up = let m = moved StartSection 9 refl refl up true in record { any = m.0; from = m.1; to = m.2 }
+  moves (holds ElementSection x) up = let m = moved ElementSection 10 refl refl up (is_place ElementSection x) in record { any = m.0; from = m.1; to = m.2 }
+  moves (holds CodeSection x) up = let m = moved CodeSection 12 refl refl up (is_place CodeSection x) in record { any = m.0; from = m.1; to = m.2 }
+  moves (holds DataSection x) up = let m = moved DataSection 13 refl refl up (is_place DataSection x) in record { any = m.0; from = m.1; to = m.2 }
+
+-- The custom sections among sections in order are in order.
+pub in_order : (low : ℕ) (last : Option Kind) (ss : List Section) → is_any_place last ≡ true → place_rank last ≤ low → are_above low ss ≡ true →
+    AreInOrder (place_rank last) (customs_behind last ss)
+in_order low last [] any le up = tt
+in_order low last (s ∷ ss) any le up =
+    let parts = and_parts (follows low (rank (section_kind s))) (are_above (rank_behind low (rank (section_kind s))) ss) up in
+    let m : Moves low last s = moves low last any le s parts.0 in
+    let rest = in_order (rank_behind low (rank (section_kind s))) (place_behind last s) ss m.any m.to parts.1 in
+    let behind = earlier (place_rank last) (place_rank (place_behind last s)) (customs_behind (place_behind last s) ss) m.from rest in
+    elim (picks CustomSection s) [
+      | inl other ↦ rw other behind
+      | inr own ↦ rw (ap (content_of CustomSection) own.1) (omega arith, any, behind)
+    ]

@@ -1,0 +1,43 @@
+-- Parts of a layout, up to the first refusal.
+use Rattle.std.proofs.Common.{◌≡◌, ℕ, List, [], ◌∷◌, ◌++◌, None, sym, subst, append_assoc}
+use Rattle.wasmprinter_spec.specs.Forest.{Forest, End, onto}
+use Rattle.wasmprinter_spec.specs.Piece.{Piece}
+use Rattle.wasmprinter_spec.specs.Layout.Customs.{Part, Shown, Stops, laid_parts}
+use Rattle.wasmprinter_lexical.proofs.Grown.{onto_assoc}
+use Rattle.wasmprinter_lexical.proofs.Pieces.{Bound}
+use Rattle.wasmprinter_lexical.proofs.Writes.{WritesNoted, IsWritten, written, both_write, nothing_writes}
+
+-- what parts write, if none is refused
+pub data PartsWrite : List Part → Forest → Forest → Type 0 where
+  no_parts : PartsWrite [] End End
+  shown : {ps : List Piece} {parts : List Part} {f g k h : Forest} → WritesNoted Bound ps Bound f k → PartsWrite parts g h →
+      PartsWrite (Shown ps ∷ parts) (onto f g) (onto k h)
+  stopped : {ps : List Piece} {id : ℕ} {parts : List Part} {g h : Forest} → WritesNoted Bound ps Bound End End → PartsWrite parts g h →
+      PartsWrite (Stops ps id ∷ parts) g h
+
+-- parts and others
+pub both_parts : {xs ys : List Part} {f g k h : Forest} → PartsWrite xs f k → PartsWrite ys g h → PartsWrite (xs ++ ys) (onto f g) (onto k h)
+both_parts no_parts w = w
+both_parts {ys = ys} {g = g'} {h = h'} (shown {ps} {parts} {f} {g} {k} {h} x rest) w =
+    subst (λ t. PartsWrite (Shown ps ∷ (parts ++ ys)) t (onto (onto k h) h')) (sym (onto_assoc f g g'))
+    (subst (PartsWrite (Shown ps ∷ (parts ++ ys)) (onto f (onto g g'))) (sym (onto_assoc k h h')) (shown x (both_parts rest w)))
+both_parts (stopped x rest) w = stopped x (both_parts rest w)
+
+-- parts before any others, and what they make of what those write
+pub record PartsBefore (xs : List Part) (without with : Forest → Forest) : Type 0 where
+  pub before : {ys : List Part} {g h : Forest} → PartsWrite ys g h → PartsWrite (xs ++ ys) (without g) (with h)
+
+pub parts_then : {xs zs : List Part} {f k g h : Forest → Forest} → PartsBefore xs f k → PartsBefore zs g h → PartsBefore (xs ++ zs) (λ x. f (g x)) (λ x. k (h x))
+parts_then {xs = xs} {zs = zs} {f = f} {k = k} {g = g} {h = h} v w = record {
+  before = λ {ys} {g = x} {h = y} u. subst (λ t. PartsWrite t (f (g x)) (k (h y))) (sym (append_assoc xs zs ys)) (v.before (w.before u));
+}
+
+pub parts_whole : {parts : List Part} {f k : Forest} → PartsWrite parts f k → (laid_parts parts).refused ≡ None → WritesNoted Bound (laid_parts parts).pieces Bound f k
+parts_whole no_parts e = nothing_writes
+parts_whole (shown x rest) e = both_write x (parts_whole rest e)
+parts_whole (stopped x rest) e = absurd cc
+
+pub parts_partly : {parts : List Part} {f k : Forest} → PartsWrite parts f k → IsWritten Bound (laid_parts parts).pieces Bound
+parts_partly no_parts = written nothing_writes
+parts_partly (shown x rest) = written (both_write x (parts_partly rest).writes)
+parts_partly (stopped x rest) = written x

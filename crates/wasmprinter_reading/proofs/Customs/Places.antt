@@ -1,0 +1,141 @@
+-- The custom sections at all places, one place behind the other, are all of them in their order.
+use Rattle.std.proofs.Common.{◌≡◌, ℕ, suc, ◌<◌, ◌≤◌, Bool, true, false, ◌&&◌, ◌||◌, leb, List, [], ◌∷◌, ◌++◌, Option, Some, None, refl, sym, ap, ◌∙◌, true≢false, arith}
+use Rattle.std.proofs.lemmas.Bool.{and_parts, leb-true}
+use Rattle.wasmprinter_spec.specs.Kinds.{Kind, CustomSection, TypeSection, ImportSection, FunctionSection, TableSection, MemorySection, TagSection, GlobalSection, ExportSection, StartSection, ElementSection, DataCountSection, CodeSection, DataSection, same_kind}
+use Rattle.wasmprinter_spec.specs.Placed.{CustomEntry}
+use Rattle.wasmprinter_spec.specs.Customs.{RawCustom, raw_customs}
+use Rattle.wasmprinter_spec.specs.Layout.Customs.{same_place}
+use Rattle.wasmprinter_reading.proofs.Customs.Ordered.{place_rank, is_any_place, AreInOrder}
+use Rattle.wasmprinter_reading.proofs.Customs.Notes.{at_place, raw_customs-append, AreAnywhere}
+
+-- all places, as the layout goes over them
+abbrev pub all_places : List (Option Kind)
+all_places =
+    None ∷ Some TypeSection ∷ Some ImportSection ∷ Some FunctionSection ∷ Some TableSection ∷ Some MemorySection ∷ Some TagSection ∷ Some GlobalSection
+    ∷ Some ExportSection ∷ Some StartSection ∷ Some ElementSection ∷ Some CodeSection ∷ Some DataSection ∷ []
+
+abbrev over : List (Option Kind) → List CustomEntry → List CustomEntry
+over [] cs = []
+over (p ∷ ps) cs = at_place p cs ++ over ps cs
+
+-- the raw ones
+abbrev pub raws_over : List (Option Kind) → List CustomEntry → List RawCustom
+raws_over [] cs = []
+raws_over (p ∷ ps) cs = raw_customs (at_place p cs) ++ raws_over ps cs
+
+-- places that rise, from this rank on
+abbrev rises : ℕ → List (Option Kind) → Bool
+rises low [] = true
+rises low (p ∷ ps) = leb low (place_rank p) && rises (suc (place_rank p)) ps
+
+abbrev is_among : Option Kind → List (Option Kind) → Bool
+is_among k [] = false
+is_among k (p ∷ ps) = same_place k p || is_among k ps
+
+-- ---- one place
+
+same_kind_is : (j k : Kind) → same_kind j k ≡ true → j ≡ k
+same_kind_is CustomSection CustomSection e = refl
+same_kind_is TypeSection TypeSection e = refl
+same_kind_is ImportSection ImportSection e = refl
+same_kind_is FunctionSection FunctionSection e = refl
+same_kind_is TableSection TableSection e = refl
+same_kind_is MemorySection MemorySection e = refl
+same_kind_is TagSection TagSection e = refl
+same_kind_is GlobalSection GlobalSection e = refl
+same_kind_is ExportSection ExportSection e = refl
+same_kind_is StartSection StartSection e = refl
+same_kind_is ElementSection ElementSection e = refl
+same_kind_is DataCountSection DataCountSection e = refl
+same_kind_is CodeSection CodeSection e = refl
+same_kind_is DataSection DataSection e = refl
+same_kind_is _ _ e = absurd cc
+
+same_rank : (a b : Option Kind) → same_place a b ≡ true → place_rank a ≡ place_rank b
+same_rank None None e = refl
+same_rank (Some j) (Some k) e = ap (λ x. place_rank (Some x)) (same_kind_is j k e)
+same_rank None (Some k) e = absurd cc
+same_rank (Some j) None e = absurd cc
+
+-- another rank is another place
+other_place : (a b : Option Kind) → (place_rank a ≡ place_rank b → ⊥) → same_place a b ≡ false
+other_place a b apart = by (same_place a b) refl
+  where
+    by : (t : Bool) → same_place a b ≡ t → t ≡ false
+    by true e = absurd (apart (same_rank a b e))
+    by false e = refl
+
+-- a place in front of all sections holds none
+none_at : (p : Option Kind) (low : ℕ) (cs : List CustomEntry) → place_rank p < low → AreInOrder low cs → at_place p cs ≡ []
+none_at p low [] lt h = refl
+none_at p low (c ∷ cs) lt h =
+    rw (other_place c.behind p (λ e. omega (arith, h.0, lt, e)), none_at p (place_rank c.behind) cs (omega (arith, h.0, lt)) h.2)
+
+-- ---- all places
+
+-- a section in front of these places is at none of them
+absent : (ps : List (Option Kind)) (low : ℕ) (c : CustomEntry) (cs : List CustomEntry) → rises low ps ≡ true → place_rank c.behind < low → over ps (c ∷ cs) ≡ over ps cs
+absent [] low c cs up lt = refl
+absent (p ∷ ps) low c cs up lt =
+    let parts = and_parts (leb low (place_rank p)) (rises (suc (place_rank p)) ps) up in
+    let le : low ≤ place_rank p = leb-true low (place_rank p) parts.0 in
+    rw (other_place c.behind p (λ e. omega (arith, le, lt, e)), absent ps (suc (place_rank p)) c cs parts.1 (omega (arith, le, lt)))
+
+-- it is at one of these places: then its rank is not below
+among_rank : (ps : List (Option Kind)) (low : ℕ) (k : Option Kind) → rises low ps ≡ true → is_among k ps ≡ true → low ≤ place_rank k
+among_rank [] low k up i = absurd (true≢false (sym i))
+among_rank (p ∷ ps) low k up i =
+    let parts = and_parts (leb low (place_rank p)) (rises (suc (place_rank p)) ps) up in
+    by (same_place k p) refl i (leb-true low (place_rank p) parts.0) (λ j. among_rank ps (suc (place_rank p)) k parts.1 j)
+  where
+    by : (t : Bool) → same_place k p ≡ t → (t || is_among k ps) ≡ true → low ≤ place_rank p → (is_among k ps ≡ true → suc (place_rank p) ≤ place_rank k) → low ≤ place_rank k
+    by true e j le more = omega (arith, le, same_rank k p e)
+    by false e j le more = omega (arith, le, more j)
+
+-- the first of sections in order comes first
+first_over : (ps : List (Option Kind)) (low : ℕ) (c : CustomEntry) (cs : List CustomEntry) → rises low ps ≡ true → is_among c.behind ps ≡ true →
+    AreInOrder (place_rank c.behind) cs → over ps (c ∷ cs) ≡ c ∷ over ps cs
+first_over [] low c cs up i h = absurd (true≢false (sym i))
+first_over (p ∷ ps) low c cs up i h =
+    let parts = and_parts (leb low (place_rank p)) (rises (suc (place_rank p)) ps) up in
+    by (same_place c.behind p) refl i parts.1 (λ j. first_over ps (suc (place_rank p)) c cs parts.1 j h)
+  where
+    by : (t : Bool) → same_place c.behind p ≡ t → (t || is_among c.behind ps) ≡ true → rises (suc (place_rank p)) ps ≡ true →
+        (is_among c.behind ps ≡ true → over ps (c ∷ cs) ≡ c ∷ over ps cs) → over (p ∷ ps) (c ∷ cs) ≡ c ∷ over (p ∷ ps) cs
+    by true e j higher more = rw (e, absent ps (suc (place_rank p)) c cs higher (omega (arith, same_rank c.behind p e)))
+    by false e j higher more =
+        let above : suc (place_rank p) ≤ place_rank c.behind = among_rank ps (suc (place_rank p)) c.behind higher j in
+        rw (e, none_at p (place_rank c.behind) cs (omega (arith, above)) h, more j)
+
+is_among_all : (k : Option Kind) → is_any_place k ≡ true → is_among k all_places ≡ true
+is_among_all None h = refl
+is_among_all (Some CustomSection) h = absurd cc
+is_among_all (Some DataCountSection) h = absurd cc
+is_among_all (Some TypeSection) h = refl
+is_among_all (Some ImportSection) h = refl
+is_among_all (Some FunctionSection) h = refl
+is_among_all (Some TableSection) h = refl
+is_among_all (Some MemorySection) h = refl
+is_among_all (Some TagSection) h = refl
+is_among_all (Some GlobalSection) h = refl
+is_among_all (Some ExportSection) h = refl
+is_among_all (Some StartSection) h = refl
+is_among_all (Some ElementSection) h = refl
+is_among_all (Some CodeSection) h = refl
+is_among_all (Some DataSection) h = refl
+
+over_all : (low : ℕ) (cs : List CustomEntry) → AreInOrder low cs → over all_places cs ≡ cs
+over_all low [] h = refl
+over_all low (c ∷ cs) h =
+    first_over all_places 0 c cs refl (is_among_all c.behind h.1) h.2 ∙ ap (λ t. c ∷ t) (over_all (place_rank c.behind) cs h.2)
+
+raws_over-over : (ps : List (Option Kind)) (cs : List CustomEntry) → raws_over ps cs ≡ raw_customs (over ps cs)
+raws_over-over [] cs = refl
+raws_over-over (p ∷ ps) cs = ap (λ t. raw_customs (at_place p cs) ++ t) (raws_over-over ps cs) ∙ sym (raw_customs-append (at_place p cs) (over ps cs))
+
+pub raws_over_all : (low : ℕ) (cs : List CustomEntry) → AreInOrder low cs → raws_over all_places cs ≡ raw_customs cs
+raws_over_all low cs h = raws_over-over all_places cs ∙ ap raw_customs (over_all low cs h)
+
+pub ordered_anywhere : (low : ℕ) (cs : List CustomEntry) → AreInOrder low cs → AreAnywhere cs
+ordered_anywhere low [] h = tt
+ordered_anywhere low (c ∷ cs) h = (h.1, ordered_anywhere (place_rank c.behind) cs h.2)

@@ -1,0 +1,149 @@
+-- What the sections `producers` and `dylink.0` of a module that bytes spell hold: names of UTF-8 and numbers of 32 bits.
+use Rattle.std.proofs.Common.{◌≡◌, ℕ, ◌<◌, ◌^◌, ◌==◌, Bool, true, false, cond, List, [], ◌∷◌, length, Option, Some, None, refl, sym, subst, bytes_eq}
+use Rattle.std.specs.Prelude.{IsUtf8}
+use Rattle.std.proofs.lemmas.Bool.{and_parts}
+use Rattle.std.specs.List.{AllByRecursion}
+use Rattle.wasmprinter_spec.specs.Character.{class}
+use Rattle.wasmprinter_spec.specs.Grammar.{Input, input, byte}
+use Rattle.wasmprinter_spec.specs.Quoted.{is_run}
+use Rattle.wasmprinter_spec.specs.Sized.{take_bytes}
+use Rattle.wasmprinter_spec.specs.Lenient.{Lenient, give, one, unless_ended}
+use Rattle.wasmprinter_spec.specs.Placed.{Custom}
+use Rattle.wasmprinter_spec.specs.Customs.{Role, Silent, Listed, Linked, Raw, Faulted, producers_role, dylink_role, role_of, name_section, hint_section, producers_section, dylink_section}
+use Rattle.wasmprinter_spec.specs.Customs.Producers.{Value, Field, value, field, producers, are_runs}
+use Rattle.wasmprinter_spec.specs.Customs.Dylink.{MemInfo, Content, Sizes, Needed, Exports, Imports, Paths, Other, Subsection, mem_info, export_info, import_info, known, is_known, content, subsection, subsections, first_other, judged_by, judged}
+use Rattle.wasmprinter_lexical.proofs.Printed.{is_remark}
+use Rattle.wasmprinter_reading.proofs.Bytes.{bytes_same}
+use Rattle.wasmprinter_reading.proofs.AllSpelled.{AllSpelled, AllSpelled-any, AllSpelled-seq, AllSpelled-map_value, AllSpelled-choose, AllSpelled-placed, AllSpelled-exactly}
+use Rattle.wasmprinter_reading.proofs.AllGiven.{AllGiven, AllGiven-give, AllGiven-follow, AllGiven-repeat, AllGiven-unless_ended}
+use Rattle.wasmprinter_reading.proofs.Vectors.{AllSpelled-u32, AllSpelled-vec}
+use Rattle.wasmprinter_reading.proofs.PartRanges.{AllSpelled-name}
+use Rattle.wasmprinter_reading.proofs.Ranged.{IsRangedCustom}
+
+-- ---- `producers`
+
+pub record IsRangedValue (v : Value) : Type 0 where
+  pub name : IsUtf8 v.name
+  pub version : IsUtf8 v.version
+
+abbrev pub AreRangedValues : Field → Type 0
+AreRangedValues f = AllByRecursion (λ v. IsRangedValue v.value) f.values
+
+-- its name can head a group
+abbrev pub IsRangedField : Field → Type 0
+IsRangedField f = (is_run f.name ≡ true) × AreRangedValues f
+
+AllSpelled-value : AllSpelled value IsRangedValue
+AllSpelled-value = AllSpelled-map_value (AllSpelled-seq AllSpelled-name (λ _. AllSpelled-name)) (λ x h. record { name = h.0; version = h.1 })
+
+AllSpelled-field : AllSpelled field AreRangedValues
+AllSpelled-field = AllSpelled-map_value (AllSpelled-seq AllSpelled-name (λ _. AllSpelled-vec (AllSpelled-placed AllSpelled-value))) (λ x h. h.1.each)
+
+fields_ranged : (fs : List Field) → AllByRecursion AreRangedValues fs → are_runs fs ≡ true → AllByRecursion IsRangedField fs
+fields_ranged [] h r = tt
+fields_ranged (f ∷ fs) h r = let parts = and_parts (is_run f.name) (are_runs fs) r in ((parts.0, h.0), fields_ranged fs h.1 parts.1)
+
+-- ---- `dylink.0`
+
+pub record IsRangedMemInfo (m : MemInfo) : Type 0 where
+  pub memory_size : m.memory_size < 2 ^ 32
+  pub memory_alignment : m.memory_alignment < 2 ^ 32
+  pub table_size : m.table_size < 2 ^ 32
+  pub table_alignment : m.table_alignment < 2 ^ 32
+
+abbrev pub IsRangedContent : Content → Type 0
+IsRangedContent (Sizes m) = IsRangedMemInfo m
+IsRangedContent (Needed ns) = AllByRecursion IsUtf8 ns
+IsRangedContent (Exports es) = AllByRecursion (λ e. IsUtf8 e.name) es
+IsRangedContent (Imports is) = AllByRecursion (λ i. IsUtf8 i.source × IsUtf8 i.name) is
+IsRangedContent (Paths ps) = AllByRecursion IsUtf8 ps
+IsRangedContent (Other id) = Unit {0}
+
+abbrev pub AreRangedSubsections : List Subsection → Type 0
+AreRangedSubsections ss = AllByRecursion (λ s. IsRangedContent s.value) ss
+
+AllSpelled-mem_info : AllSpelled mem_info IsRangedMemInfo
+AllSpelled-mem_info =
+    AllSpelled-map_value (AllSpelled-seq AllSpelled-u32 (λ _. AllSpelled-seq AllSpelled-u32 (λ _. AllSpelled-seq AllSpelled-u32 (λ _. AllSpelled-u32))))
+    (λ x h. record { memory_size = h.0; memory_alignment = h.1.0; table_size = h.1.1.0; table_alignment = h.1.1.1 })
+
+AllSpelled-known : (id : ℕ) → AllSpelled (known id) IsRangedContent
+AllSpelled-known id =
+    AllSpelled-choose (id == 1) (AllSpelled-map_value AllSpelled-mem_info (λ m h. h))
+    (AllSpelled-choose (id == 2) (AllSpelled-map_value (AllSpelled-vec AllSpelled-name) (λ ns h. h.each))
+    (AllSpelled-choose (id == 3) (AllSpelled-map_value (AllSpelled-vec AllSpelled-export_info) (λ es h. h.each))
+    (AllSpelled-choose (id == 4) (AllSpelled-map_value (AllSpelled-vec AllSpelled-import_info) (λ is h. h.each))
+    (AllSpelled-map_value (AllSpelled-vec AllSpelled-name) (λ ps h. h.each)))))
+  where
+    AllSpelled-export_info : AllSpelled export_info (λ e. IsUtf8 e.name)
+    AllSpelled-export_info = AllSpelled-map_value (AllSpelled-seq AllSpelled-name (λ _. AllSpelled-u32)) (λ x h. h.0)
+
+    AllSpelled-import_info : AllSpelled import_info (λ i. IsUtf8 i.source × IsUtf8 i.name)
+    AllSpelled-import_info = AllSpelled-map_value (AllSpelled-seq AllSpelled-name (λ _. AllSpelled-seq AllSpelled-name (λ _. AllSpelled-u32))) (λ x h. (h.0, h.1.0))
+
+AllSpelled-content : (id size : ℕ) → AllSpelled (content id size) IsRangedContent
+AllSpelled-content id size =
+    AllSpelled-choose (is_known id) (AllSpelled-exactly (AllSpelled-known id) size) (AllSpelled-map_value (AllSpelled-any (take_bytes size)) (λ _ h. tt))
+
+AllSpelled-subsection : AllSpelled subsection (λ s. IsRangedContent s.value)
+AllSpelled-subsection =
+    AllSpelled-placed (AllSpelled-map_value (AllSpelled-seq (AllSpelled-any byte) (λ id. AllSpelled-seq AllSpelled-u32 (λ size. AllSpelled-content id size)))
+    (λ x h. h.1.1))
+
+AllGiven-subsections : (n : ℕ) → AllGiven (λ s. IsRangedContent s.value) (subsections n)
+AllGiven-subsections n =
+    AllGiven-repeat is (unless_ended each) (AllGiven-unless_ended is each (AllGiven-follow is subsection AllSpelled-subsection (λ s. give (s ∷ [])) (λ s h. AllGiven-give is (s ∷ []) (h, tt)))) n
+  where
+    is : Subsection → Type 0
+    is s = IsRangedContent s.value
+
+    each : Lenient Subsection
+    each = one (λ s. s ∷ []) subsection
+
+-- ---- what a section is to the text
+
+-- a section with a fault has a name that may stand in a comment
+abbrev pub IsRangedRole : Custom → Role → Type 0
+IsRangedRole c (Listed fields) = AllByRecursion IsRangedField fields
+IsRangedRole c (Linked ss) = AreRangedSubsections ss
+IsRangedRole c Faulted = is_remark c.name ≡ true
+IsRangedRole c _ = Unit {0}
+
+module _ (c : Custom) (h : IsRangedCustom c) where
+  abbrev at : Input
+  at = input c.bytes.place c.bytes.value
+
+  producers_ranged : c.name ≡ producers_section → (o : Option (List Field)) → producers.parse at ≡ o → IsRangedRole c (producers_role o)
+  unfolding class
+  producers_ranged same None e = subst (λ n. is_remark n ≡ true) (sym same) refl
+  producers_ranged same (Some fields) e = by (are_runs fields) refl
+    where
+      values : AllByRecursion AreRangedValues fields
+      values = ((AllSpelled-vec AllSpelled-field).has c.bytes.place c.bytes.value fields h.bytes (producers.sound at fields e)).each
+
+      by : (t : Bool) → are_runs fields ≡ t → IsRangedRole c (cond t (Listed fields) Raw)
+      by true r = fields_ranged fields values r
+      by false r = tt
+
+  dylink_ranged : c.name ≡ dylink_section → IsRangedRole c (dylink_role (judged at))
+  unfolding class
+  dylink_ranged same =
+      let l = subsections (length at.bytes) in
+      let ss : List Subsection = (l.read at).0 in
+      by ss ((AllGiven-subsections (length at.bytes)).has at ss (l.read at).1 h.bytes (l.sound at)).0 (first_other ss) (l.read at).1
+    where
+      by : (ss : List Subsection) → AreRangedSubsections ss → (o : Option ℕ) (end : Option Input) → IsRangedRole c (dylink_role (judged_by ss o end))
+      by ss r (Some id) end = tt
+      by ss r None (Some behind) = r
+      by ss r None None = subst (λ n. is_remark n ≡ true) (sym same) refl
+
+  pub role_ranged : IsRangedRole c (role_of c)
+  role_ranged = by (bytes_eq c.name name_section) (bytes_eq c.name hint_section) (bytes_eq c.name producers_section) refl (bytes_eq c.name dylink_section) refl
+    where
+      by : (a b d : Bool) → bytes_eq c.name producers_section ≡ d → (e : Bool) → bytes_eq c.name dylink_section ≡ e →
+          IsRangedRole c (cond a Silent (cond b Silent (cond d (producers_role (producers.parse at)) (cond e (dylink_role (judged at)) Raw))))
+      by true b d p e q = tt
+      by false true d p e q = tt
+      by false false true p e q = producers_ranged (bytes_same c.name producers_section p) (producers.parse at) refl
+      by false false false p true q = dylink_ranged (bytes_same c.name dylink_section q)
+      by false false false p false q = tt

@@ -1,0 +1,5 @@
+-- The branch hints of a module stay in its text.
+pub mod Bodies
+pub mod Fields
+pub mod Taken
+pub mod Kept

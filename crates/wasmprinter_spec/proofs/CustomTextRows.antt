@@ -1,0 +1,349 @@
+-- Worked rows of custom sections and branch hints: the texts that modules give, the calls that ask for claims, and that the texts read as the same
+-- modules.
+use Rattle.std.specs.Prelude.{◌≡◌, ℕ, List, [], ◌∷◌, ◌++◌, length, true, false, ◌==◌, codes, Option, Some, None, option_map, refl}
+use Rattle.wasmprinter_spec.specs.Grammar.{◌>>=◌, input}
+use Rattle.wasmprinter_spec.specs.Placed.{PlacedModule}
+use Rattle.wasmprinter_spec.specs.Binary.{binary}
+use Rattle.wasmprinter_spec.specs.Module.{Module, module_of}
+use Rattle.wasmprinter_spec.specs.Call.{Call, Claim, text_of}
+use Rattle.wasmprinter_spec.specs.Options.{Options, defaults, Answers}
+use Rattle.wasmprinter_spec.specs.Layout.{layout, refusal}
+use Rattle.wasmprinter_spec.specs.Read.{read}
+use Rattle.wasmprinter_spec.specs.HintsOfModule.{operator_hint, module_hints}
+use Rattle.wasmprinter_spec.specs.Text.Hints.{text_hints}
+use Rattle.wasmprinter_spec.proofs.Samples.{head_bytes, lines}
+use Rattle.wasmprinter_spec.proofs.Computing.{composing, reading}
+
+abbrev decode : List ℕ → Option PlacedModule
+decode bytes = binary.parse (input 0 bytes)
+
+abbrev decoded : List ℕ → Option Module
+decoded bytes = option_map module_of (decode bytes)
+
+abbrev unclaimed : Answers
+unclaimed = λ n. false
+
+abbrev printed_by : Options → Answers → List ℕ → Option (List ℕ)
+printed_by o answers bytes = option_map (λ m. text_of (layout o answers m)) (decode bytes)
+
+abbrev printed : List ℕ → Option (List ℕ)
+printed bytes = printed_by defaults unclaimed bytes
+
+abbrev refused : List ℕ → Option ℕ
+refused bytes = decode bytes >>= λ m. refusal defaults unclaimed m
+
+-- the claims that are asked for
+abbrev claims : List Call → List Call
+claims [] = []
+claims (Claim name place bytes answer ∷ cs) = Claim name place bytes answer ∷ claims cs
+claims (c ∷ cs) = claims cs
+
+-- a section of fewer than 128 bytes
+abbrev section : ℕ → List ℕ → List ℕ
+section id bytes = id ∷ length bytes ∷ bytes
+
+abbrev custom : List ℕ → List ℕ → List ℕ
+custom name bytes = section 0x00 (length name ∷ (name ++ bytes))
+
+abbrev memory : List ℕ
+memory = section 0x05 (0x01 ∷ 0x00 ∷ 0x01 ∷ [])
+
+-- ---- raw sections
+
+-- one before all, an empty section that is no place, and one behind a memory
+abbrev raw : List ℕ
+raw = head_bytes ++ (section 0x01 (0x00 ∷ []) ++ (custom (codes "a") (0x01 ∷ []) ++ (memory ++ custom (codes "b") [])))
+
+abbrev raw_text : List ℕ
+raw_text = lines (
+    codes "(module"
+    ∷ codes "  (@custom \"a\" (before first) \"\\01\")"
+    ∷ codes "  (memory (;0;) 1)"
+    ∷ codes "  (@custom \"b\" (after memory) \"\")"
+    ∷ codes ")"
+    ∷ [])
+
+raw_prints : printed raw ≡ Some raw_text
+unfolding composing reading
+raw_prints = refl
+
+raw_reads : read raw_text ≡ decoded raw
+unfolding reading
+raw_reads = refl
+
+-- the second one is claimed: nothing of it is printed, and both are asked for with their places
+abbrev second : Answers
+second = λ n. n == 1
+
+claimed_prints : printed_by defaults second raw ≡ Some (lines (codes "(module" ∷ codes "  (@custom \"a\" (before first) \"\\01\")" ∷ codes "  (memory (;0;) 1)" ∷ codes ")" ∷ []))
+unfolding composing reading
+claimed_prints = refl
+
+claims_asked : option_map (λ m. claims (layout defaults second m)) (decode raw) ≡ Some (Claim (codes "a") 15 (0x01 ∷ []) false ∷ Claim (codes "b") 25 [] true ∷ [])
+unfolding composing reading
+claims_asked = refl
+
+-- of three in one place the one in the middle is claimed
+abbrev three : List ℕ
+three = head_bytes ++ (custom (codes "a") [] ++ (custom (codes "dylink.0") (0x09 ∷ 0x00 ∷ []) ++ custom (codes "b") []))
+
+middle_prints : printed_by defaults second three ≡ Some (lines (codes "(module" ∷ codes "  (@custom \"a\" (before first) \"\")" ∷ codes "  (@custom \"b\" (before first) \"\")" ∷ codes ")" ∷ []))
+unfolding composing reading
+middle_prints = refl
+
+middle_asked : option_map (λ m. claims (layout defaults second m)) (decode three)
+    ≡ Some (Claim (codes "a") 12 [] false ∷ Claim (codes "dylink.0") 23 (0x09 ∷ 0x00 ∷ []) true ∷ Claim (codes "b") 29 [] false ∷ [])
+unfolding composing reading
+middle_asked = refl
+
+-- not claimed, it is refused, and nothing is asked for behind it
+middle_refused : refused three ≡ Some 9
+unfolding composing reading
+middle_refused = refl
+
+asked_up_to : option_map (λ m. claims (layout defaults unclaimed m)) (decode three) ≡ Some (Claim (codes "a") 12 [] false ∷ Claim (codes "dylink.0") 23 (0x09 ∷ 0x00 ∷ []) false ∷ [])
+unfolding composing reading
+asked_up_to = refl
+
+-- the same section twice
+abbrev twice : List ℕ
+twice = head_bytes ++ (custom (codes "a") (0x01 ∷ []) ++ custom (codes "a") (0x01 ∷ []))
+
+abbrev twice_text : List ℕ
+twice_text = lines (codes "(module" ∷ codes "  (@custom \"a\" (before first) \"\\01\")" ∷ codes "  (@custom \"a\" (before first) \"\\01\")" ∷ codes ")" ∷ [])
+
+twice_prints : printed twice ≡ Some twice_text
+unfolding composing reading
+twice_prints = refl
+
+twice_reads : read twice_text ≡ decoded twice
+unfolding reading
+twice_reads = refl
+
+-- a name that is no UTF-8 is no name
+odd_name : decode (head_bytes ++ section 0x00 (0x01 ∷ 0xff ∷ [])) ≡ None
+unfolding reading
+odd_name = refl
+
+-- in a skeleton three points stand for the bytes
+skeleton_prints : printed_by (record defaults { skeleton = true }) unclaimed raw ≡ Some (lines (
+    codes "(module"
+    ∷ codes "  (@custom \"a\" (before first) ...)"
+    ∷ codes "  (memory (;0;) 1)"
+    ∷ codes "  (@custom \"b\" (after memory) ...)"
+    ∷ codes ")"
+    ∷ []))
+unfolding composing reading
+skeleton_prints = refl
+
+-- ---- `producers`
+
+abbrev with_producers : List ℕ → List ℕ
+with_producers bytes = head_bytes ++ custom (codes "producers") bytes
+
+abbrev rust : List ℕ
+rust = with_producers (0x01 ∷ 0x08 ∷ (codes "language" ++ (0x01 ∷ 0x04 ∷ (codes "Rust" ++ (0x00 ∷ [])))))
+
+abbrev rust_text : List ℕ
+rust_text = lines (codes "(module" ∷ codes "  (@producers" ∷ codes "    (language \"Rust\" \"\")" ∷ codes "  )" ∷ codes ")" ∷ [])
+
+rust_prints : printed rust ≡ Some rust_text
+unfolding composing reading
+rust_prints = refl
+
+rust_reads : read rust_text ≡ decoded rust
+unfolding reading
+rust_reads = refl
+
+-- fields that look like other tokens: `$`, `@`, and `@custom`, which is no custom section
+-- a field of one value
+abbrev sized : List ℕ → List ℕ
+sized t = length t ∷ t
+
+abbrev field : List ℕ → List ℕ → List ℕ → List ℕ
+field name value version = sized name ++ (0x01 ∷ (sized value ++ sized version))
+
+abbrev odd : List ℕ
+odd = with_producers (0x03 ∷ (field (codes "$") (codes "x") (codes "1") ++ (field (codes "@") (codes "y") (codes "2") ++ field (codes "@custom") (codes "z") (codes "3"))))
+
+abbrev odd_text : List ℕ
+odd_text = lines (
+    codes "(module"
+    ∷ codes "  (@producers"
+    ∷ codes "    ($ \"x\" \"1\")"
+    ∷ codes "    (@ \"y\" \"2\")"
+    ∷ codes "    (@custom \"z\" \"3\")"
+    ∷ codes "  )"
+    ∷ codes ")"
+    ∷ [])
+
+odd_prints : printed odd ≡ Some odd_text
+unfolding composing reading
+odd_prints = refl
+
+odd_reads : read odd_text ≡ decoded odd
+unfolding reading
+odd_reads = refl
+
+-- a field with a blank is no word, so the section stands as it is
+abbrev blank : List ℕ
+blank = with_producers (0x01 ∷ 0x03 ∷ (codes "a b" ++ (0x01 ∷ 0x01 ∷ (codes "x" ++ (0x01 ∷ codes "1")))))
+
+abbrev blank_text : List ℕ
+blank_text = lines (codes "(module" ∷ codes "  (@custom \"producers\" (before first) \"\\01\\03a b\\01\\01x\\011\")" ∷ codes ")" ∷ [])
+
+blank_prints : printed blank ≡ Some blank_text
+unfolding composing reading
+blank_prints = refl
+
+blank_reads : read blank_text ≡ decoded blank
+unfolding reading
+blank_reads = refl
+
+-- one of no bytes has a fault, one without fields hasn't
+faulted_producers : printed (with_producers []) ≡ Some (lines (codes "(module" ∷ codes "  ;; failed to parse custom section `producers`" ∷ codes "  (@custom \"producers\" (before first) \"\")" ∷ codes ")" ∷ []))
+unfolding composing reading
+faulted_producers = refl
+
+no_producers : printed (with_producers (0x00 ∷ [])) ≡ Some (lines (codes "(module" ∷ codes "  (@producers)" ∷ codes ")" ∷ []))
+unfolding composing reading
+no_producers = refl
+
+-- ---- `dylink.0`
+
+abbrev with_dylink : List ℕ → List ℕ
+with_dylink bytes = head_bytes ++ custom (codes "dylink.0") bytes
+
+abbrev dylink_text : List (List ℕ) → List ℕ
+dylink_text ls = lines (codes "(module" ∷ codes "  (@dylink.0" ∷ (ls ++ (codes "  )" ∷ (codes ")" ∷ []))))
+
+sizes_print : printed (with_dylink (0x01 ∷ 0x04 ∷ 0x10 ∷ 0x02 ∷ 0x00 ∷ 0x00 ∷ [])) ≡ Some (dylink_text (codes "    (mem-info (memory 16 2))" ∷ []))
+unfolding composing reading
+sizes_print = refl
+
+exports_print : printed (with_dylink (0x03 ∷ 0x04 ∷ 0x01 ∷ 0x01 ∷ 0x66 ∷ 0x21 ∷ [])) ≡ Some (dylink_text (codes "    (export-info \"f\" binding-weak exported)" ∷ []))
+unfolding composing reading
+exports_print = refl
+
+-- names, an import with a flag that has no word, and nothing to say of sizes
+others_print : printed (with_dylink (
+    0x02 ∷ 0x05 ∷ 0x02 ∷ 0x01 ∷ 0x61 ∷ 0x01 ∷ 0x62 ∷ 0x04 ∷ 0x07 ∷ 0x01 ∷ 0x01 ∷ 0x6d ∷ 0x01 ∷ 0x66 ∷ 0x88 ∷ 0x08
+    ∷ 0x05 ∷ 0x01 ∷ 0x00 ∷ 0x01 ∷ 0x04 ∷ 0x00 ∷ 0x00 ∷ 0x00 ∷ 0x00 ∷ [])) ≡ Some (dylink_text (
+    codes "    (needed \"a\" \"b\")"
+    ∷ codes "    (import-info \"m\" \"f\" 0x408)"
+    ∷ codes "    (runtime-path)"
+    ∷ codes "    (mem-info)"
+    ∷ []))
+unfolding composing reading
+others_print = refl
+
+-- an id that isn't known is refused, behind the claim; where it is claimed, or a fault stands in front, it isn't
+unknown_refused : refused (with_dylink (0x09 ∷ 0x00 ∷ [])) ≡ Some 9
+unfolding composing reading
+unknown_refused = refl
+
+unknown_stops : printed (with_dylink (0x09 ∷ 0x00 ∷ [])) ≡ Some (codes "(module")
+unfolding composing reading
+unknown_stops = refl
+
+claimed_not_judged : printed_by defaults (λ n. true) (with_dylink (0x09 ∷ 0x00 ∷ [])) ≡ Some (codes "(module)\n")
+unfolding composing reading
+claimed_not_judged = refl
+
+abbrev cut_dylink : List ℕ
+cut_dylink = with_dylink (0x01 ∷ 0x05 ∷ 0x10 ∷ [])
+
+abbrev cut_dylink_text : List ℕ
+cut_dylink_text = lines (
+    codes "(module"
+    ∷ codes "  ;; failed to parse custom section `dylink.0`"
+    ∷ codes "  (@custom \"dylink.0\" (before first) \"\\01\\05\\10\")"
+    ∷ codes ")"
+    ∷ [])
+
+cut_dylink_prints : printed cut_dylink ≡ Some cut_dylink_text
+unfolding composing reading
+cut_dylink_prints = refl
+
+cut_dylink_reads : read cut_dylink_text ≡ decoded cut_dylink
+unfolding reading
+cut_dylink_reads = refl
+
+-- bytes that are left over are a fault, in front of an id that isn't known
+left_over_first : refused (with_dylink (0x05 ∷ 0x02 ∷ 0x00 ∷ 0x00 ∷ 0x09 ∷ 0x00 ∷ [])) ≡ None
+unfolding composing reading
+left_over_first = refl
+
+-- ---- branch hints
+
+-- a function of one parameter with an `if`, and hints
+abbrev hinted : List ℕ → List ℕ
+hinted bytes =
+    head_bytes
+    ++ (section 0x01 (0x01 ∷ 0x60 ∷ 0x01 ∷ 0x7f ∷ 0x00 ∷ [])
+    ++ (section 0x03 (0x01 ∷ 0x00 ∷ [])
+    ++ (custom (codes "metadata.code.branch_hint") bytes
+    ++ section 0x0a (0x01 ∷ 0x07 ∷ 0x00 ∷ 0x20 ∷ 0x00 ∷ 0x04 ∷ 0x40 ∷ 0x0b ∷ 0x0b ∷ []))))
+
+abbrev hinted_text : List (List ℕ) → List ℕ
+hinted_text ls = lines (
+    codes "(module"
+    ∷ codes "  (type (;0;) (func (param i32)))"
+    ∷ codes "  (func (;0;) (type 0) (param i32)"
+    ∷ codes "    local.get 0"
+    ∷ (ls ++ (
+    codes "    if ;; label = @1"
+    ∷ (codes "    end"
+    ∷ (codes "  )"
+    ∷ (codes ")"
+    ∷ []))))))
+
+taken_prints : printed (hinted (0x01 ∷ 0x00 ∷ 0x01 ∷ 0x03 ∷ 0x01 ∷ 0x01 ∷ [])) ≡ Some (hinted_text (codes "    (@metadata.code.branch_hint \"\\01\")" ∷ []))
+unfolding composing reading
+taken_prints = refl
+
+taken_reads : read (hinted_text (codes "    (@metadata.code.branch_hint \"\\01\")" ∷ [])) ≡ decoded (hinted [])
+unfolding reading
+taken_reads = refl
+
+-- a flag that is none, and a hint for no operator in front of another
+other_flag : printed (hinted (0x01 ∷ 0x00 ∷ 0x01 ∷ 0x03 ∷ 0x01 ∷ 0x02 ∷ [])) ≡ Some (hinted_text [])
+unfolding composing reading
+other_flag = refl
+
+blocked : printed (hinted (0x01 ∷ 0x00 ∷ 0x02 ∷ 0x09 ∷ 0x01 ∷ 0x01 ∷ 0x03 ∷ 0x01 ∷ 0x01 ∷ [])) ≡ Some (hinted_text [])
+unfolding composing reading
+blocked = refl
+
+-- the second hint comes too late, and the second one for the same operator
+first_counts : printed (hinted (0x01 ∷ 0x00 ∷ 0x02 ∷ 0x03 ∷ 0x01 ∷ 0x01 ∷ 0x01 ∷ 0x01 ∷ 0x00 ∷ [])) ≡ Some (hinted_text (codes "    (@metadata.code.branch_hint \"\\01\")" ∷ []))
+unfolding composing reading
+first_counts = refl
+
+one_for_each : printed (hinted (0x01 ∷ 0x00 ∷ 0x02 ∷ 0x03 ∷ 0x01 ∷ 0x01 ∷ 0x03 ∷ 0x01 ∷ 0x00 ∷ [])) ≡ Some (hinted_text (codes "    (@metadata.code.branch_hint \"\\01\")" ∷ []))
+unfolding composing reading
+one_for_each = refl
+
+-- the hint of the module is that of its text
+hint_of_module : (decode (hinted (0x01 ∷ 0x00 ∷ 0x01 ∷ 0x03 ∷ 0x01 ∷ 0x01 ∷ [])) >>= module_hints) ≡ Some (operator_hint 0 1 true ∷ [])
+unfolding composing reading
+hint_of_module = refl
+
+hint_of_text : text_hints (hinted_text (codes "    (@metadata.code.branch_hint \"\\01\")" ∷ [])) ≡ Some (operator_hint 0 1 true ∷ [])
+unfolding reading
+hint_of_text = refl
+
+-- offsets that don't rise, and one that is no operator's
+other_hints : (decode (hinted (0x01 ∷ 0x00 ∷ 0x02 ∷ 0x03 ∷ 0x01 ∷ 0x01 ∷ 0x03 ∷ 0x01 ∷ 0x00 ∷ [])) >>= module_hints) ≡ None
+unfolding composing reading
+other_hints = refl
+
+hint_of_the_last_end : (decode (hinted (0x01 ∷ 0x00 ∷ 0x01 ∷ 0x06 ∷ 0x01 ∷ 0x01 ∷ [])) >>= module_hints) ≡ None
+unfolding composing reading
+hint_of_the_last_end = refl
+
+-- in a folded text a hint in front of a group is that of the group's operator; imported functions count
+hint_of_a_group : text_hints (codes "(module (import \"m\" \"f\" (func $f)) (func $g (@name \"g\") (param $x i32) (@metadata.code.branch_hint \"\\00\") (if (local.get $x) (then))))")
+    ≡ Some (operator_hint 1 1 false ∷ [])
+unfolding reading
+hint_of_a_group = refl

@@ -1,0 +1,95 @@
+-- The section `dylink.0` (tool conventions, "Dynamic Linking"): subsections, each an id, a size and so many bytes.
+use Rattle.std.specs.Prelude.{ℕ, List, [], ◌∷◌, Bool, ◌||◌, ◌==◌, length, Option, Some, None}
+use Rattle.wasmprinter_spec.specs.Grammar.{Input, Grammar, Placed, placed, byte, seq, map_value, choose}
+use Rattle.wasmprinter_spec.specs.Sized.{take_bytes, alone, exactly}
+use Rattle.wasmprinter_spec.specs.Name.{u32, vec, name}
+use Rattle.wasmprinter_spec.specs.Lenient.{Lenient, one, repeat, unless_ended}
+
+-- what a module wants of memory and of the table: sizes, and alignments as powers of two
+pub record MemInfo : Type 0 where
+  pub memory_size : ℕ
+  pub memory_alignment : ℕ
+  pub table_size : ℕ
+  pub table_alignment : ℕ
+
+pub record ExportInfo : Type 0 where
+  pub name : List ℕ
+  pub flags : ℕ
+
+pub record ImportInfo : Type 0 where
+  pub source : List ℕ
+  pub name : List ℕ
+  pub flags : ℕ
+
+pub data Content : Type 0 where
+  Sizes : MemInfo → Content
+  Needed : List (List ℕ) → Content
+  Exports : List ExportInfo → Content
+  Imports : List ImportInfo → Content
+  Paths : List (List ℕ) → Content
+  Other : ℕ → Content  -- of an id that isn't known
+
+abbrev pub Subsection : Type 0
+Subsection = Placed Content
+
+abbrev pub mem_info : Grammar MemInfo
+mem_info =
+    map_value (λ x. record { memory_size = x.0; memory_alignment = x.1.0; table_size = x.1.1.0; table_alignment = x.1.1.1 })
+    (seq u32 (λ _. seq u32 (λ _. seq u32 (λ _. u32))))
+
+abbrev pub export_info : Grammar ExportInfo
+export_info = map_value (λ x. record { name = x.0; flags = x.1 }) (seq name (λ _. u32))
+
+abbrev pub import_info : Grammar ImportInfo
+import_info = map_value (λ x. record { source = x.0; name = x.1.0; flags = x.1.1 }) (seq name (λ _. seq name (λ _. u32)))
+
+-- by the id; nothing else is known
+abbrev pub known : ℕ → Grammar Content
+known id =
+    choose (id == 1) (map_value Sizes mem_info)
+    (choose (id == 2) (map_value Needed (vec name))
+    (choose (id == 3) (map_value Exports (vec export_info))
+    (choose (id == 4) (map_value Imports (vec import_info))
+    (map_value Paths (vec name)))))
+
+abbrev pub is_known : ℕ → Bool
+is_known id = (id == 1) || (id == 2) || (id == 3) || (id == 4) || (id == 5)
+
+-- so many bytes: those of a known id hold just what it says, all others anything
+abbrev pub content : ℕ → ℕ → Grammar Content
+content id size = choose (is_known id) (exactly (alone (known id)) size) (map_value (λ _. Other id) (take_bytes size))
+
+abbrev pub subsection : Grammar Subsection
+subsection = placed (map_value (λ x. x.1.1) (seq byte (λ id. seq u32 (λ size. content id size))))
+
+-- subsections up to the end of the bytes, or to the first fault
+abbrev pub subsections : ℕ → Lenient Subsection
+subsections n = repeat (unless_ended (one (λ s. s ∷ []) subsection)) n
+
+-- what the section is: the first subsection that isn't known, or the first fault, decides
+pub data Judged : Type 0 where
+  Whole : List Subsection → Judged
+  Unknown : ℕ → Judged
+  Faulty : Judged
+
+abbrev pub other_of : Content → Option ℕ
+other_of (Other id) = Some id
+other_of _ = None
+
+abbrev pub first_some : Option ℕ → Option ℕ → Option ℕ
+first_some (Some id) later = Some id
+first_some None later = later
+
+abbrev pub first_other : List Subsection → Option ℕ
+first_other [] = None
+first_other (s ∷ ss) = first_some (other_of s.value) (first_other ss)
+
+abbrev pub judged_by : List Subsection → Option ℕ → Option Input → Judged
+judged_by ss (Some id) end = Unknown id
+judged_by ss None (Some behind) = Whole ss
+judged_by ss None None = Faulty
+
+abbrev pub judged : Input → Judged
+judged at =
+    let read : List Subsection × Option Input = (subsections (length at.bytes)).read at in
+    judged_by read.0 (first_other read.0) read.1

@@ -1,0 +1,82 @@
+-- Branch hints (Code Metadata, a document beside the standard; branch hinting proposal): for functions, which operators are likely to branch.
+use Rattle.std.specs.Prelude.{ℕ, List, [], ◌∷◌, Bool, true, false, ◌==◌, nat_le, codes, bytes_eq, length, Option, Some, None, if◌then◌else◌}
+use Rattle.wasmprinter_spec.specs.Grammar.{Grammar, Remainder, input, Placed, placed, byte, seq, map_value, try_map}
+use Rattle.wasmprinter_spec.specs.Sized.{alone}
+use Rattle.wasmprinter_spec.specs.FirstByte.{only}
+use Rattle.wasmprinter_spec.specs.Name.{u32, vec}
+use Rattle.wasmprinter_spec.specs.Placed.{Custom, CustomEntry}
+
+-- how far behind the body's first byte the operator stands, and whether it is likely to branch
+pub record Hint : Type 0 where
+  pub offset : ℕ
+  pub taken : Bool
+
+-- the hints of a function
+pub record FunctionHints : Type 0 where
+  pub function : ℕ
+  pub hints : List (Placed Hint)
+
+abbrev pub flag : ℕ → Option Bool
+flag b = if b == 0 then Some false else (if b == 1 then Some true else None)
+
+-- an offset, the byte 01, and a flag
+abbrev pub hint : Grammar Hint
+hint = map_value (λ x. record { offset = x.0; taken = x.1.1 }) (seq u32 (λ _. seq (only 1) (λ _. try_map flag byte)))
+
+-- more functions, or more hints in one, are taken for a fault
+abbrev pub most_functions : ℕ
+most_functions = 1000000
+
+abbrev pub most_hints : ℕ
+most_hints = 131071
+
+abbrev pub at_most : {A : Type 0} → ℕ → List A → Option (List A)
+at_most n xs = if nat_le (length xs) n then Some xs else None
+
+abbrev pub function_hints : Grammar FunctionHints
+function_hints = map_value (λ x. record { function = x.0; hints = x.1 }) (seq u32 (λ _. try_map (at_most most_hints) (vec (placed hint))))
+
+abbrev pub hint_section : Remainder (List FunctionHints)
+hint_section = alone (try_map (at_most most_functions) (vec function_hints))
+
+-- ---- the hints of a module
+
+abbrev pub or_none : {A : Type 0} → Option (List A) → List A
+or_none None = []
+or_none (Some xs) = xs
+
+-- what the data gives: nothing where it has a fault
+abbrev pub hints_given : Placed (List ℕ) → List FunctionHints
+hints_given d = or_none (hint_section.parse (input d.place d.value))
+
+-- the last section of this name counts
+abbrev pub last_named : List ℕ → Option Custom → List CustomEntry → Option Custom
+last_named n last [] = last
+last_named n last (c ∷ cs) = last_named n (if bytes_eq c.section.value.name n then Some c.section.value else last) cs
+
+abbrev pub hints_by : Option Custom → List FunctionHints
+hints_by None = []
+hints_by (Some c) = hints_given c.bytes
+
+abbrev pub hints_of : List CustomEntry → List FunctionHints
+hints_of cs = hints_by (last_named (codes "metadata.code.branch_hint") None cs)
+
+-- ---- which function and which operator takes which: each in order, so that one that none takes blocks those behind it
+
+-- the hints of the function with this number, if its entry is the next
+abbrev pub next_hints : ℕ → List FunctionHints → List (Placed Hint)
+next_hints i [] = []
+next_hints i (e ∷ es) = if e.function == i then e.hints else []
+
+abbrev pub hints_behind : ℕ → List FunctionHints → List FunctionHints
+hints_behind i [] = []
+hints_behind i (e ∷ es) = if e.function == i then es else e ∷ es
+
+-- the hint of the operator so far behind the body's first byte, if it is the next
+abbrev pub next_hint : ℕ → List (Placed Hint) → Option (Placed Hint)
+next_hint offset [] = None
+next_hint offset (h ∷ hs) = if h.value.offset == offset then Some h else None
+
+abbrev pub hint_behind : ℕ → List (Placed Hint) → List (Placed Hint)
+hint_behind offset [] = []
+hint_behind offset (h ∷ hs) = if h.value.offset == offset then hs else h ∷ hs

@@ -1,0 +1,29 @@
+-- The section `producers` (tool conventions, "Producers Section"): fields, each with the names and versions of its values.
+use Rattle.std.specs.Prelude.{ℕ, List, [], ◌∷◌, Bool, true, ◌&&◌}
+use Rattle.wasmprinter_spec.specs.Grammar.{Grammar, Remainder, Placed, placed, seq, map_value}
+use Rattle.wasmprinter_spec.specs.Sized.{alone}
+use Rattle.wasmprinter_spec.specs.Name.{vec, name}
+use Rattle.wasmprinter_spec.specs.Quoted.{is_run}
+
+pub record Value : Type 0 where
+  pub name : List ℕ
+  pub version : List ℕ
+
+pub record Field : Type 0 where
+  pub name : List ℕ
+  pub values : List (Placed Value)
+
+abbrev pub value : Grammar Value
+value = map_value (λ x. record { name = x.0; version = x.1 }) (seq name (λ _. name))
+
+abbrev pub field : Grammar Field
+field = map_value (λ x. record { name = x.0; values = x.1 }) (seq name (λ _. vec (placed value)))
+
+-- all bytes
+abbrev pub producers : Remainder (List Field)
+producers = alone (vec field)
+
+-- each field has a name of identifier characters, one at least: then it can head a group
+abbrev pub are_runs : List Field → Bool
+are_runs [] = true
+are_runs (f ∷ fs) = is_run f.name && are_runs fs

@@ -1,0 +1,54 @@
+-- The branch hints of a module, each with its operator.
+use Rattle.std.specs.Prelude.{ℕ, ◌+◌, ◌-◌, List, [], ◌∷◌, ◌++◌, Bool, true, ◌==◌, ◌&&◌, nat_lt, length, map, slice_get, Option, Some, None, if◌then◌else◌, option_map}
+use Rattle.wasmprinter_spec.specs.Grammar.{◌>>=◌, Placed}
+use Rattle.wasmprinter_spec.specs.Operator.{Operator}
+use Rattle.wasmprinter_spec.specs.Placed.{Body, PlacedFunction, PlacedModule}
+use Rattle.wasmprinter_spec.specs.Module.{without_places, imported, func_import}
+use Rattle.wasmprinter_spec.specs.Customs.Hints.{Hint, FunctionHints, hints_of}
+use Rattle.wasmprinter_spec.specs.Text.Items.{each}
+
+-- a hint of a module or of a text: the number of the function, imports first, the number of the operator in its body, and what it says
+pub record OperatorHint : Type 0 where
+  pub function : ℕ
+  pub operator : ℕ
+  pub taken : Bool
+
+abbrev pub operator_hint : ℕ → ℕ → Bool → OperatorHint
+operator_hint f k taken = record { function = f; operator = k; taken = taken }
+
+-- the number of the operator that begins at the place, from k on
+abbrev pub number_at : ℕ → ℕ → List (Placed Operator) → Option ℕ
+number_at place k [] = None
+number_at place k (o ∷ os) = if o.place == place then Some k else number_at place (k + 1) os
+
+abbrev pub hint_in : ℕ → Placed Body → Placed Hint → Option OperatorHint
+hint_in f b h = option_map (λ k. operator_hint f k h.value.taken) (number_at (b.place + h.value.offset) 0 b.value.operators)
+
+-- the body of the function with a number, of which so many are imported
+abbrev pub body_at : ℕ → List PlacedFunction → ℕ → Option (Placed Body)
+body_at imports fs f = if nat_lt f imports then None else option_map (λ x. x.body) (slice_get fs (f - imports))
+
+abbrev pub entry_hints : ℕ → List PlacedFunction → FunctionHints → Option (List OperatorHint)
+entry_hints imports fs e = body_at imports fs e.function >>= λ b. each (hint_in e.function b) e.hints
+
+-- the hints of entries, in order: none where an entry is of no function with a body, or a hint of no operator but the last `end`
+abbrev pub all_hints : ℕ → List PlacedFunction → List FunctionHints → Option (List OperatorHint)
+all_hints imports fs [] = Some []
+all_hints imports fs (e ∷ es) = entry_hints imports fs e >>= λ hs. all_hints imports fs es >>= λ rest. Some (hs ++ rest)
+
+-- numbers that rise
+abbrev pub rise : List ℕ → Bool
+rise [] = true
+rise (a ∷ []) = true
+rise (a ∷ b ∷ bs) = nat_lt a b && rise (b ∷ bs)
+
+abbrev pub offsets_rise : List FunctionHints → Bool
+offsets_rise [] = true
+offsets_rise (e ∷ es) = rise (map (λ h. h.value.offset) e.hints) && offsets_rise es
+
+-- The hints of a module whose last hint section is well formed: its functions are defined and rise, and in each its offsets are those of operators and
+-- rise.
+abbrev pub module_hints : PlacedModule → Option (List OperatorHint)
+module_hints m =
+    let es : List FunctionHints = hints_of m.customs in
+    if rise (map (λ e. e.function) es) && offsets_rise es then all_hints (length (imported func_import (without_places m.imports))) m.functions es else None

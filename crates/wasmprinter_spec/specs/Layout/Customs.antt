@@ -1,0 +1,183 @@
+-- The layout of custom sections: raw ones as annotations `(@custom ..)` (custom annotations, appendix of the standard), `producers` and `dylink.0` in
+-- lines of their own (tool conventions). Before each the printer is asked whether it takes the section itself.
+use Rattle.std.specs.Prelude.{ℕ, ◌+◌, ◌-◌, ◌/◌, ◌%◌, ◌==◌, ◌&&◌, List, [], ◌∷◌, ◌++◌, Bool, true, false, codes, chars, decimal, cond, Option, Some, None, if◌then◌else◌}
+use Rattle.std.specs.Fmt.{digits}
+use Rattle.wasmprinter_spec.specs.Grammar.{Placed}
+use Rattle.wasmprinter_spec.specs.Kinds.{Kind, TypeSection, ImportSection, FunctionSection, TableSection, MemorySection, TagSection, GlobalSection, ExportSection, StartSection, ElementSection, CodeSection, DataSection, same_kind}
+use Rattle.wasmprinter_spec.specs.Placed.{Custom, CustomEntry}
+use Rattle.wasmprinter_spec.specs.Customs.{Role, Silent, Listed, Linked, Refused, Raw, Faulted, role_of}
+use Rattle.wasmprinter_spec.specs.Customs.Producers.{Value, Field}
+use Rattle.wasmprinter_spec.specs.Customs.Dylink.{MemInfo, ExportInfo, ImportInfo, Content, Sizes, Needed, Exports, Imports, Paths, Other, Subsection}
+use Rattle.wasmprinter_spec.specs.Options.{Answers}
+use Rattle.wasmprinter_spec.specs.Piece.{Piece, Break, Gap, Open, OpenGap, OpenPlain, OpenNote, OpenNoteGap, OpenRun, Shut, Word, Quoted, PlainEnding, Claimed}
+use Rattle.wasmprinter_spec.specs.Layout.Groups.{close, has_break}
+use Rattle.wasmprinter_spec.specs.Layout.DataSegments.{shown_bytes}
+
+-- ---- raw sections
+
+abbrev pub place_word : Kind → List ℕ
+place_word TypeSection = codes "type"
+place_word ImportSection = codes "import"
+place_word FunctionSection = codes "func"
+place_word TableSection = codes "table"
+place_word MemorySection = codes "memory"
+place_word TagSection = codes "tag"
+place_word GlobalSection = codes "global"
+place_word ExportSection = codes "export"
+place_word StartSection = codes "start"
+place_word ElementSection = codes "elem"
+place_word CodeSection = codes "code"
+place_word DataSection = codes "data"
+place_word _ = []
+
+abbrev pub two_words : List ℕ → List ℕ → List Piece
+two_words v w = OpenPlain v ∷ (Gap ∷ (Word w ∷ (Shut ∷ [])))
+
+-- among the other sections
+unfoldable pub place_pieces : Option Kind → List Piece
+place_pieces None = two_words (codes "before") (codes "first")
+place_pieces (Some kind) = two_words (codes "after") (place_word kind)
+
+unfoldable pub raw_pieces : Bool → CustomEntry → List Piece
+raw_pieces skeleton c =
+    let s : Custom = c.section.value in
+    Break (Some c.section.place) 1
+    ∷ (OpenNoteGap (codes "custom") ∷ (Quoted (chars s.name) ∷ (Gap ∷ (place_pieces c.behind ++ (Gap ∷ (shown_bytes skeleton s.bytes.value ++ (Shut ∷ [])))))))
+
+-- the line that tells of a fault, and the section as it stands
+unfoldable pub faulted_pieces : Bool → CustomEntry → List Piece
+faulted_pieces skeleton c =
+    Break (Some c.section.value.bytes.place) 1
+    ∷ (PlainEnding (codes "failed to parse custom section `" ++ (c.section.value.name ++ codes "`")) ∷ raw_pieces skeleton c)
+
+-- ---- lines of an annotation
+
+-- an annotation whose lines are nested as those of a group
+abbrev pub note : List ℕ → List Piece → List Piece
+note w ps = OpenNote w ∷ (ps ++ close None 1 (has_break ps))
+
+-- a text behind a blank
+abbrev pub gap_quoted : List ℕ → List Piece
+gap_quoted s = Gap ∷ (Quoted (chars s) ∷ [])
+
+unfoldable pub gap_quoted_list : List (List ℕ) → List Piece
+gap_quoted_list [] = []
+gap_quoted_list (s ∷ ss) = gap_quoted s ++ gap_quoted_list ss
+
+-- ---- `producers`
+
+unfoldable pub values_pieces : List ℕ → List (Placed Value) → List Piece
+values_pieces field [] = []
+values_pieces field (v ∷ vs) =
+    Break (Some v.place) 2 ∷ (OpenRun field ∷ (gap_quoted v.value.name ++ (gap_quoted v.value.version ++ (Shut ∷ values_pieces field vs))))
+
+unfoldable pub fields_pieces : List Field → List Piece
+fields_pieces [] = []
+fields_pieces (f ∷ fs) = values_pieces f.name f.values ++ fields_pieces fs
+
+-- ---- `dylink.0`
+
+-- the words of flags, by their bits
+abbrev pub flag_words : List (ℕ × List ℕ)
+flag_words =
+    (0x1, codes "binding-weak") ∷ (0x2, codes "binding-local") ∷ (0x4, codes "visibility-hidden")
+    ∷ (0x10, codes "undefined") ∷ (0x20, codes "exported") ∷ (0x40, codes "explicit-name")
+    ∷ (0x80, codes "no-strip") ∷ (0x100, codes "tls") ∷ (0x200, codes "absolute") ∷ []
+
+-- the bit is set
+abbrev pub has_bit : ℕ → ℕ → Bool
+has_bit flags bit = ((flags / bit) % 2) == 1
+
+-- the words of the flags that are set, and then all other bits in hexadecimal, if there are any
+unfoldable pub flags_by : List (ℕ × List ℕ) → ℕ → List Piece
+flags_by [] rest = cond (rest == 0) [] (Gap ∷ (Word (codes "0x" ++ digits 16 false rest) ∷ []))
+flags_by (row ∷ rows) rest =
+    if has_bit rest row.0 then Gap ∷ (Word row.1 ∷ flags_by rows (rest - row.0)) else flags_by rows rest
+
+unfoldable pub flags_pieces : ℕ → List Piece
+flags_pieces flags = flags_by flag_words flags
+
+-- two numbers in a group behind a blank, unless both are 0
+unfoldable pub sizes_group : List ℕ → ℕ → ℕ → List Piece
+sizes_group w a b =
+    cond ((a == 0) && (b == 0)) [] (Gap ∷ (OpenPlain w ∷ (Gap ∷ (Word (decimal a) ∷ (Gap ∷ (Word (decimal b) ∷ (Shut ∷ [])))))))
+
+unfoldable pub sizes_pieces : ℕ → MemInfo → List Piece
+sizes_pieces place m =
+    Break (Some place) 2
+    ∷ (Open (codes "mem-info") ∷ (sizes_group (codes "memory") m.memory_size m.memory_alignment ++ (sizes_group (codes "table") m.table_size m.table_alignment ++ (Shut ∷ []))))
+
+unfoldable pub names_pieces : List ℕ → ℕ → List (List ℕ) → List Piece
+names_pieces w place ns = Break (Some place) 2 ∷ (Open w ∷ (gap_quoted_list ns ++ (Shut ∷ [])))
+
+unfoldable pub exports_pieces : ℕ → List ExportInfo → List Piece
+exports_pieces place [] = []
+exports_pieces place (e ∷ es) =
+    Break (Some place) 2 ∷ (OpenGap (codes "export-info") ∷ (Quoted (chars e.name) ∷ (flags_pieces e.flags ++ (Shut ∷ exports_pieces place es))))
+
+unfoldable pub import_infos_pieces : ℕ → List ImportInfo → List Piece
+import_infos_pieces place [] = []
+import_infos_pieces place (i ∷ is) =
+    Break (Some place) 2
+    ∷ (OpenGap (codes "import-info") ∷ (Quoted (chars i.source) ∷ (Gap ∷ (Quoted (chars i.name) ∷ (flags_pieces i.flags ++ (Shut ∷ import_infos_pieces place is))))))
+
+-- all lines of a subsection have the place of its id
+abbrev pub content_pieces : ℕ → Content → List Piece
+content_pieces place (Sizes m) = sizes_pieces place m
+content_pieces place (Needed ns) = names_pieces (codes "needed") place ns
+content_pieces place (Exports es) = exports_pieces place es
+content_pieces place (Imports is) = import_infos_pieces place is
+content_pieces place (Paths ps) = names_pieces (codes "runtime-path") place ps
+content_pieces place (Other id) = []
+
+unfoldable pub subsections_pieces : List Subsection → List Piece
+subsections_pieces [] = []
+subsections_pieces (s ∷ ss) = content_pieces s.place s.value ++ subsections_pieces ss
+
+-- ---- each section
+
+-- pieces, and perhaps the refusal of the section behind them
+pub data Part : Type 0 where
+  Shown : List Piece → Part
+  Stops : List Piece → ℕ → Part
+
+abbrev pub role_part : Bool → Piece → CustomEntry → Role → Part
+role_part skeleton claim c Silent = Shown (claim ∷ [])
+role_part skeleton claim c (Listed fields) = Shown (claim ∷ (Break (Some c.section.place) 1 ∷ note (codes "producers") (fields_pieces fields)))
+role_part skeleton claim c (Linked ss) = Shown (claim ∷ (Break (Some c.section.place) 1 ∷ note (codes "dylink.0") (subsections_pieces ss)))
+role_part skeleton claim c (Refused id) = Stops (claim ∷ []) id
+role_part skeleton claim c Raw = Shown (claim ∷ raw_pieces skeleton c)
+role_part skeleton claim c Faulted = Shown (claim ∷ faulted_pieces skeleton c)
+
+-- with the answer to its claim: nothing of a claimed section is printed or judged
+abbrev pub custom_part : Bool → Bool → CustomEntry → Part
+custom_part skeleton answer c =
+    let s : Custom = c.section.value in
+    let claim : Piece = Claimed s.name s.bytes.place s.bytes.value answer in
+    if answer then Shown (claim ∷ []) else role_part skeleton claim c (role_of s)
+
+abbrev pub same_place : Option Kind → Option Kind → Bool
+same_place None None = true
+same_place (Some j) (Some k) = same_kind j k
+same_place _ _ = false
+
+-- the sections at one place among the others, with the answers by their numbers among all, from n on
+abbrev pub parts_at : Bool → Answers → Option Kind → ℕ → List CustomEntry → List Part
+parts_at skeleton answers place n [] = []
+parts_at skeleton answers place n (c ∷ cs) =
+    if same_place c.behind place then custom_part skeleton (answers n) c ∷ parts_at skeleton answers place (n + 1) cs
+    else parts_at skeleton answers place (n + 1) cs
+
+-- ---- up to a refusal
+
+pub record Laid : Type 0 where
+  pub pieces : List Piece
+  pub refused : Option ℕ
+
+abbrev pub before_laid : List Piece → Laid → Laid
+before_laid ps l = record l { pieces = ps ++ l.pieces }
+
+abbrev pub laid_parts : List Part → Laid
+laid_parts [] = record { pieces = []; refused = None }
+laid_parts (Shown ps ∷ parts) = before_laid ps (laid_parts parts)
+laid_parts (Stops ps id ∷ parts) = record { pieces = ps; refused = Some id }

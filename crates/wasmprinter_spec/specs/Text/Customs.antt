@@ -1,0 +1,34 @@
+-- Custom sections in the text format (custom annotations, appendix of the standard): `(@custom "name" (before first) "bytes")`, or `(after ..)` one of
+-- the other sections. An annotation without a place, or with another one, is an abbreviation that is not read.
+use Rattle.std.specs.Prelude.{ℕ, List, [], ◌∷◌, codes, bytes_eq, Option, Some, None, if◌then◌else◌, option_map}
+use Rattle.std.specs.Str.{is_utf8}
+use Rattle.wasmprinter_spec.specs.Grammar.{◌>>=◌}
+use Rattle.wasmprinter_spec.specs.Forest.{Forest, Word, String, Group}
+use Rattle.wasmprinter_spec.specs.Kinds.{Kind, TypeSection, ImportSection, FunctionSection, TableSection, MemorySection, TagSection, GlobalSection, ExportSection, StartSection, ElementSection, CodeSection, DataSection}
+use Rattle.wasmprinter_spec.specs.Customs.{RawCustom}
+use Rattle.wasmprinter_spec.specs.Text.Items.{lookup, one_word}
+use Rattle.wasmprinter_spec.specs.Text.DataSegments.{strings}
+
+unfoldable pub section_of_word : List ℕ → Option Kind
+section_of_word w =
+    lookup (
+    (codes "type", TypeSection) ∷ (codes "import", ImportSection) ∷ (codes "func", FunctionSection) ∷ (codes "table", TableSection)
+    ∷ (codes "memory", MemorySection) ∷ (codes "tag", TagSection) ∷ (codes "global", GlobalSection) ∷ (codes "export", ExportSection)
+    ∷ (codes "start", StartSection) ∷ (codes "elem", ElementSection) ∷ (codes "code", CodeSection) ∷ (codes "data", DataSection) ∷ []) w
+
+abbrev pub first_word : List ℕ → Option (Option Kind)
+first_word w = if bytes_eq w (codes "first") then Some None else None
+
+abbrev pub kind_word : List ℕ → Option (Option Kind)
+kind_word w = option_map Some (section_of_word w)
+
+-- where the section stands among the others
+abbrev pub custom_place : Forest → Option (Option Kind)
+custom_place (Word w f) =
+    if bytes_eq w (codes "before") then one_word first_word f else (if bytes_eq w (codes "after") then one_word kind_word f else None)
+custom_place f = None
+
+abbrev pub read_custom : Forest → Option RawCustom
+read_custom (String n (Group p f)) =
+    if is_utf8 n then (custom_place p >>= λ k. strings f >>= λ bs. Some (record { behind = k; name = n; bytes = bs })) else None
+read_custom f = None

@@ -1,0 +1,58 @@
+-- The branch hints of a text (Code Metadata, a document beside the standard): each belongs to the operator or group directly behind it.
+use Rattle.std.specs.Prelude.{ℕ, ◌+◌, List, [], ◌∷◌, ◌++◌, Bool, false, ◌&&◌, codes, bytes_eq, Option, Some, None, if◌then◌else◌, map}
+use Rattle.std.specs.List.{list_any}
+use Rattle.wasmprinter_spec.specs.Grammar.{◌>>=◌}
+use Rattle.wasmprinter_spec.specs.Forest.{Forest, End, Word, Name, String, Group, Note, forest}
+use Rattle.wasmprinter_spec.specs.Code.{Chunk, is_hint, unfolded}
+use Rattle.wasmprinter_spec.specs.Customs.Hints.{flag}
+use Rattle.wasmprinter_spec.specs.HintsOfModule.{OperatorHint, operator_hint}
+use Rattle.wasmprinter_spec.specs.Text.Items.{each}
+
+-- what stands in front of the operators of a function: its identifier, its type, parameters, results and locals, and annotations
+abbrev pub header_words : List (List ℕ)
+header_words = codes "type" ∷ codes "param" ∷ codes "result" ∷ codes "local" ∷ []
+
+abbrev pub body_of : Forest → Forest
+body_of (Name s f) = body_of f
+body_of (Note id g f) = if is_hint id then Note id g f else body_of f
+body_of (Group (Word w g) f) = if list_any (λ v. bytes_eq v w) header_words then body_of f else Group (Word w g) f
+body_of f = f
+
+-- one byte, which is a flag
+abbrev pub hint_flag : Forest → Option Bool
+hint_flag (String (b ∷ []) End) = flag b
+hint_flag _ = None
+
+-- the hints in front of each operator, of which the first has this number
+abbrev pub chunk_hints : ℕ → ℕ → List Chunk → Option (List OperatorHint)
+chunk_hints function n [] = Some []
+chunk_hints function n (k ∷ ks) = do
+  flags ← each hint_flag k.hints
+  rest ← chunk_hints function (n + 1) ks
+  Some (map (λ taken. operator_hint function n taken) flags ++ rest)
+
+abbrev pub function_hints_in : ℕ → Forest → Option (List OperatorHint)
+function_hints_in function f = unfolded (body_of f) >>= chunk_hints function 0
+
+-- the fields of a module: imports of functions, of which each has a number too, and functions
+abbrev pub imports_function : Forest → Bool
+imports_function (String m (String n (Group (Word w f) End))) = bytes_eq w (codes "func")
+imports_function _ = false
+
+-- behind so many functions
+abbrev pub field_hints : ℕ → Forest → Option (List OperatorHint)
+field_hints i End = Some []
+field_hints i (Group (Word w f) g) =
+    if bytes_eq w (codes "func") then (function_hints_in i f >>= λ hs. field_hints (i + 1) g >>= λ rest. Some (hs ++ rest)) else
+    (if bytes_eq w (codes "import") && imports_function f then field_hints (i + 1) g else field_hints i g)
+field_hints i (Name s g) = field_hints i g
+field_hints i (Note id f g) = field_hints i g
+field_hints i _ = None
+
+abbrev pub forest_hints : Forest → Option (List OperatorHint)
+forest_hints (Group (Word w f) End) = if bytes_eq w (codes "module") then field_hints 0 f else None
+forest_hints _ = None
+
+-- the hints of a text, in order
+abbrev pub text_hints : List ℕ → Option (List OperatorHint)
+text_hints text = forest text >>= forest_hints
