@@ -50,7 +50,7 @@ impl Config {
         self
     }
 
-    /// Whether bodies, items of element segments and bytes of data segments are left out. Takes no memory.
+    /// Whether bodies, items of element segments, and bytes of data segments and custom sections are left out. Takes no memory.
     pub fn print_skeleton(&mut self, print: bool) -> &mut Self
         ensures itself { result.ghost_name ≡ self.entry.ghost_name }
         ensures options { result.now ≡ record self.old { skeleton = print } }

@@ -10,6 +10,3 @@ mod quoted;
 mod raw;
 
 pub use customs::{write_custom, write_customs};
-
-#[cfg(test)]
-mod tests;

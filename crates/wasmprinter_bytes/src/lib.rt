@@ -3,5 +3,3 @@
 
 pub mod bytes;
 pub mod lists;
-#[cfg(test)]
-mod tests;

@@ -18,6 +18,3 @@ pub use items::{ItemsIn, ReadFrom, Source};
 pub use names::Names;
 pub use producers::{Field, Producers, Value, Values};
 pub use role::{CustomRole, custom_role};
-
-#[cfg(test)]
-mod tests;

@@ -4,6 +4,3 @@
 mod error;
 
 pub use error::{Error, Malformed};
-
-#[cfg(test)]
-mod tests;

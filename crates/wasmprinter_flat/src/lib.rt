@@ -1,4 +1,4 @@
-//! Operators as flat text (section 6.5 of the WebAssembly Core Specification), over any printer.
+//! Operators as flat text (section 6.5 of the WebAssembly Core Specification), with their branch hints, over any printer.
 #![tactic(auto)]
 
 mod blocks;
@@ -10,6 +10,4 @@ mod labels;
 mod memory;
 pub mod operators;
 mod references;
-#[cfg(test)]
-mod tests;
 mod vectors;

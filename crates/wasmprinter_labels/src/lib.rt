@@ -6,6 +6,3 @@ mod numbers;
 mod open;
 
 pub use open::{Meant, OpenLabels};
-
-#[cfg(test)]
-mod tests;

@@ -12,7 +12,7 @@ enum Indent {
 pub struct PrintOptions {
     /// Each line begins with the place of what stands on it.
     pub offsets: bool,
-    /// Bodies, the items of element segments and the bytes of data segments are left out.
+    /// Bodies, the items of element segments, and the bytes of data segments and custom sections are left out.
     pub skeleton: bool,
     /// Items without a name have identifiers made up for them.
     pub invents: bool,

@@ -12,6 +12,3 @@ pub use identifiers::{Identifier, Identifiers};
 pub use read::read_names;
 pub use space::Space;
 pub use store::{LabelName, Name, Names, NamesBuilder};
-
-#[cfg(test)]
-mod tests;

@@ -9,6 +9,4 @@ pub mod opcode;
 pub mod operands;
 pub mod operator;
 mod tables;
-#[cfg(test)]
-mod tests;
 pub mod types;

@@ -1,4 +1,4 @@
-//! Types (section 6.4 of the WebAssembly Core Specification) and indices with their identifiers, over any printer.
+//! Types (section 6.4 of the WebAssembly Core Specification), indices with their identifiers, and bytes, over any printer.
 #![tactic(auto)]
 
 pub mod data;

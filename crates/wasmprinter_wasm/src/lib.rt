@@ -27,14 +27,3 @@ pub use wasmprinter_segments::data::{Data, DataMode};
 pub use wasmprinter_segments::elements::{Element, ElementItems, ElementMode};
 pub use wasmprinter_segments::globals::Global;
 pub use wasmprinter_segments::tables::Table;
-
-#[cfg(test)]
-mod custom_tests;
-#[cfg(test)]
-mod fault_tests;
-#[cfg(test)]
-mod place_tests;
-#[cfg(test)]
-mod segment_tests;
-#[cfg(test)]
-mod tests;

@@ -1,0 +1,120 @@
+//! Opcodes, their words, shapes and roles. What is expected is typed by hand.
+use wasmprinter_ops::opcode::{Opcode, Role, Shape, Space};
+
+#[test]
+fn opcodes_have_words_and_shapes(rt: HostRuntime) {
+    let rows = [
+        (0, 0x00, "unreachable", Shape::None),
+        (0, 0x02, "block", Shape::Block),
+        (0, 0x07, "catch", Shape::Index(Space::Tag)),
+        (0, 0x0d, "br_if", Shape::Index(Space::Label)),
+        (0, 0x0e, "br_table", Shape::BranchTable),
+        (0, 0x10, "call", Shape::Index(Space::Func)),
+        (0, 0x11, "call_indirect", Shape::Call),
+        (0, 0x14, "call_ref", Shape::Index(Space::Types)),
+        (0, 0x1c, "select", Shape::Select),
+        (0, 0x1f, "try_table", Shape::TryTable),
+        (0, 0x20, "local.get", Shape::Index(Space::Local)),
+        (0, 0x24, "global.set", Shape::Index(Space::Global)),
+        (0, 0x25, "table.get", Shape::Index(Space::Table)),
+        (0, 0x29, "i64.load", Shape::Memory(3)),
+        (0, 0x40, "memory.grow", Shape::DefaultIndex(Space::Memory)),
+        (0, 0x41, "i32.const", Shape::I32),
+        (0, 0x42, "i64.const", Shape::I64),
+        (0, 0x43, "f32.const", Shape::F32),
+        (0, 0x44, "f64.const", Shape::F64),
+        (0, 0xd0, "ref.null", Shape::Heap),
+        (0, 0xd6, "br_on_non_null", Shape::Index(Space::Label)),
+        (0xfb, 2, "struct.get", Shape::Field),
+        (0xfb, 8, "array.new_fixed", Shape::Count),
+        (
+            0xfb,
+            10,
+            "array.new_elem",
+            Shape::Pair(Space::Types, Space::Elem),
+        ),
+        (0xfb, 21, "ref.test", Shape::Ref(true)),
+        (0xfb, 25, "br_on_cast_fail", Shape::Cast),
+        (0xfb, 30, "i31.get_u", Shape::None),
+        (
+            0xfc,
+            8,
+            "memory.init",
+            Shape::Segment(Space::Data, Space::Memory),
+        ),
+        (0xfc, 14, "table.copy", Shape::Copy(Space::Table)),
+        (0xfc, 22, "i64.mul_wide_u", Shape::None),
+        (0xfd, 0, "v128.load", Shape::Memory(4)),
+        (0xfd, 12, "v128.const", Shape::Vector),
+        (0xfd, 13, "i8x16.shuffle", Shape::Lanes),
+        (0xfd, 34, "f64x2.replace_lane", Shape::Lane),
+        (0xfd, 91, "v128.store64_lane", Shape::MemoryLane(3)),
+        (
+            0xfd,
+            275,
+            "i32x4.relaxed_dot_i8x16_i7x16_add_s",
+            Shape::None,
+        ),
+        (0xfe, 0x03, "atomic.fence", Shape::Fence),
+        (0xfe, 0x4e, "i64.atomic.rmw32.cmpxchg_u", Shape::Memory(2)),
+    ];
+    for (prefix, number, word, shape) in rows {
+        let opcode = Opcode { prefix, number };
+        assert_eq!(rt; opcode.word(), word);
+        assert_eq!(rt; opcode.shape(), Some(shape));
+    }
+}
+
+#[test]
+fn other_opcodes_have_none(rt: HostRuntime) {
+    let rows = [
+        (0, 0x16),
+        (0, 0x27),
+        (0, 0xcf),
+        (0, 0xd7),
+        (0, 0xff),
+        (0, 0x100),
+        (0xfa, 0),
+        (0xfb, 31),
+        (0xfc, 18),
+        (0xfc, 23),
+        (0xfd, 154),
+        (0xfd, 276),
+        (0xfe, 0x04),
+        (0xfe, 0x4f),
+        (0xff, 0),
+    ];
+    for (prefix, number) in rows {
+        let opcode = Opcode { prefix, number };
+        assert_eq!(rt; opcode.word(), "");
+        assert_eq!(rt; opcode.shape(), None);
+        assert_eq!(rt; opcode.role(), Role::Plain);
+    }
+}
+
+#[test]
+fn opcodes_have_roles(rt: HostRuntime) {
+    let rows = [
+        (0x01, Role::Plain),
+        (0x02, Role::Opens),
+        (0x03, Role::Opens),
+        (0x04, Role::OpensIf),
+        (0x05, Role::Turns),
+        (0x06, Role::OpensTry),
+        (0x07, Role::Catches),
+        (0x0b, Role::Ends),
+        (0x18, Role::Delegates),
+        (0x19, Role::CatchesAll),
+        (0x1f, Role::Opens),
+        (0xff, Role::Plain),
+        (0x100, Role::Plain),
+    ];
+    for (number, role) in rows {
+        assert_eq!(rt; Opcode { prefix: 0, number }.role(), role);
+    }
+    let other = Opcode {
+        prefix: 0xfc,
+        number: 0x02,
+    };
+    assert_eq!(rt; other.role(), Role::Plain);
+}

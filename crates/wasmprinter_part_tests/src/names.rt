@@ -1,0 +1,269 @@
+//! Names of a few name sections. The bytes and what is expected are typed by hand.
+
+use std::alloc::Global;
+use std::test::Fail;
+use wasmprinter_bytes::bytes::Cursor;
+use wasmprinter_error::Error;
+use wasmprinter_names::{
+    Identifier, Identifiers, LabelName, Name, Names, NamesBuilder, Space, read_names,
+};
+
+/// The names by these sections.
+fn names_of<'a>(alloc: Global, sections: &[&'a [u8]]) -> Result<Names<'a>, Error> {
+    let mut builder = NamesBuilder::new(alloc);
+    for section in sections {
+        read_names(alloc, &mut builder, Cursor::new(0, *section))?;
+    }
+    Ok(builder.finish())
+}
+
+#[test]
+fn names_are_marked(rt: HostRuntime) -> Result<(), Fail> {
+    // functions: 0 `a`, 1 `a`, 2 empty, 3 `#x`, 0 again, now `b`, 4 `a`; a byte is left over
+    let bytes = b"\x01\x14\x06\x00\x01a\x01\x01a\x02\x00\x03\x02#x\x00\x01b\x04\x01a\x07";
+    let names = names_of(rt.alloc(), &[bytes])?;
+    let identifiers = [
+        Some("b"),
+        Some("#func1 a"),
+        Some("#func2 "),
+        Some("#func3 #x"),
+        Some("#func4 a"),
+        None,
+    ];
+    for (index, identifier) in (0..).zip(identifiers) {
+        assert_eq!(rt; names.identifier(Space::Func, 0, index), identifier);
+    }
+    assert_eq!(rt;
+        names.name(Space::Func, 0, 1),
+        Some(Name {
+            given: "a",
+            content: "#func1 a",
+        })
+    );
+    // the outer number means nothing here
+    assert_eq!(rt; names.identifier(Space::Func, 7, 0), Some("b"));
+    assert_eq!(rt; names.identifier(Space::Table, 0, 0), None);
+    assert_eq!(rt; names.module(), None);
+    Ok(())
+}
+
+#[test]
+fn a_local_has_a_name(rt: HostRuntime) -> Result<(), Fail> {
+    let names = names_of(rt.alloc(), &[b"\x02\x06\x01\x00\x01\x00\x01x"])?;
+    assert_eq!(rt; names.identifier(Space::Local, 0, 0), Some("x"));
+    assert_eq!(rt; names.identifier(Space::Func, 0, 0), None);
+    assert_eq!(rt; names.module(), None);
+    Ok(())
+}
+
+#[test]
+fn a_cut_name_is_none(rt: HostRuntime) -> Result<(), Fail> {
+    let names = names_of(rt.alloc(), &[b"\x01\x04\x01\x00\x05a"])?;
+    assert_eq!(rt; names.name(Space::Func, 0, 0), None);
+    Ok(())
+}
+
+#[test]
+fn reading_stops_at_the_first_fault(rt: HostRuntime) -> Result<(), Fail> {
+    // the module is `m`; an unknown subsection; locals of function 1: 0 `x`, then a cut name; functions that aren't reached
+    let first =
+        b"\x00\x02\x01m\x0c\x01\xff\x02\x09\x01\x01\x02\x00\x01x\x01\x05y\x01\x04\x01\x00\x01z";
+    // a second section: function 0 `f`, 1 `f`
+    let second = b"\x01\x07\x02\x00\x01f\x01\x01f";
+    let names = names_of(rt.alloc(), &[first, second])?;
+    assert_eq!(rt; names.module(), Some("m"));
+    assert_eq!(rt; names.identifier(Space::Local, 1, 0), Some("x"));
+    assert_eq!(rt; names.identifier(Space::Local, 0, 0), None);
+    assert_eq!(rt; names.identifier(Space::Local, 1, 1), None);
+    assert_eq!(rt; names.identifier(Space::Func, 0, 0), Some("f"));
+    assert_eq!(rt; names.identifier(Space::Func, 0, 1), Some("#func1 f"));
+    Ok(())
+}
+
+#[test]
+fn names_count_in_their_space(rt: HostRuntime) -> Result<(), Fail> {
+    // item 0 and item 1 of each space are `a`, in one function or type
+    let groups = [
+        (Space::Func, 1, "#func1 a"),
+        (Space::Local, 2, "#local1 a"),
+        (Space::Types, 4, "#type1 a"),
+        (Space::Table, 5, "#table1 a"),
+        (Space::Memory, 6, "#memory1 a"),
+        (Space::Global, 7, "#global1 a"),
+        (Space::Elem, 8, "#elem1 a"),
+        (Space::Data, 9, "#data1 a"),
+        (Space::Field, 10, "#field1 a"),
+        (Space::Tag, 11, "#tag1 a"),
+    ];
+    for (space, id, second) in groups {
+        let direct = [id, 7, 2, 0, 1, b'a', 1, 1, b'a'];
+        let indirect = [id, 9, 1, 5, 2, 0, 1, b'a', 1, 1, b'a'];
+        let is_indirect = matches!(space, Space::Local | Space::Field);
+        let bytes: &[u8] = if is_indirect { &indirect } else { &direct };
+        let names = names_of(rt.alloc(), &[bytes])?;
+        assert_eq!(rt; names.identifier(space, 5, 0), Some("a"));
+        assert_eq!(rt; names.identifier(space, 5, 1), Some(second));
+        let elsewhere = names.identifier(space, 4, 0);
+        assert_eq!(rt; elsewhere.is_none(), is_indirect);
+    }
+    Ok(())
+}
+
+#[test]
+fn names_of_labels_and_the_module_never_count(rt: HostRuntime) -> Result<(), Fail> {
+    // labels 0 and 1 of function 0 are `a`, label 2 is empty; the module is `m`, and again `m`
+    let labels = b"\x03\x0b\x01\x00\x03\x00\x01a\x01\x01a\x02\x00";
+    let module = b"\x00\x02\x01m\x00\x02\x01m";
+    let names = names_of(rt.alloc(), &[labels, module])?;
+    assert_eq!(rt; names.identifier(Space::Label, 0, 0), Some("a"));
+    assert_eq!(rt; names.identifier(Space::Label, 0, 1), Some("a"));
+    assert_eq!(rt; names.identifier(Space::Label, 0, 2), Some("#label2 "));
+    assert_eq!(rt;
+        names.module_name(),
+        Some(Name {
+            given: "m",
+            content: "m",
+        })
+    );
+    let nameless = names_of(rt.alloc(), &[b"\x00\x01\x00"])?;
+    assert_eq!(rt;
+        nameless.module_name(),
+        Some(Name {
+            given: "",
+            content: "#module0 ",
+        })
+    );
+    Ok(())
+}
+
+#[test]
+fn identifiers_are_given_or_made_up(rt: HostRuntime) -> Result<(), Fail> {
+    // the module is `m`; function 0 is called `f`
+    let names = names_of(rt.alloc(), &[b"\x00\x02\x01m\x01\x04\x01\x00\x01f"])?;
+    let given = Identifiers {
+        names: &names,
+        invents: false,
+    };
+    let all = Identifiers {
+        names: &names,
+        invents: true,
+    };
+    let name = Name {
+        given: "f",
+        content: "f",
+    };
+    assert_eq!(rt;
+        given.item(Space::Func, 0, 0),
+        Some(Identifier::Given(name))
+    );
+    assert_eq!(rt; given.item(Space::Func, 0, 1), None);
+    assert_eq!(rt; all.item(Space::Func, 0, 0), Some(Identifier::Given(name)));
+    assert_eq!(rt;
+        all.item(Space::Local, 3, 5_000_000_000),
+        Some(Identifier::Invented {
+            space: Space::Local,
+            number: 5_000_000_000,
+        })
+    );
+    assert_eq!(rt; given.module().is_some(), true);
+    assert_eq!(rt; Space::Types.word(), "type");
+    assert_eq!(rt; Space::Data.word(), "data");
+    Ok(())
+}
+
+#[test]
+fn no_identifier_is_made_up_for_a_module(rt: HostRuntime) -> Result<(), Fail> {
+    let names = names_of(rt.alloc(), &[])?;
+    let all = Identifiers {
+        names: &names,
+        invents: true,
+    };
+    assert_eq!(rt; all.module(), None);
+    Ok(())
+}
+
+#[test]
+fn labels_are_listed_by_function_and_number(rt: HostRuntime) -> Result<(), Fail> {
+    // labels of function 2: 1 `b`, 0 `a`; of function 0: 7 `c`; a local and a function have names too
+    let labels = b"\x03\x0e\x02\x02\x02\x01\x01b\x00\x01a\x00\x01\x07\x01c";
+    let others = b"\x02\x06\x01\x00\x01\x00\x01x\x01\x04\x01\x00\x01f";
+    let names = names_of(rt.alloc(), &[labels, others])?;
+    let listed = names.labels(rt.alloc())?;
+    let expected = [(0, 7, "c"), (2, 0, "a"), (2, 1, "b")];
+    assert_eq!(rt; listed.len(), expected.len());
+    for (label, (function, number, name)) in listed.iter().zip(expected) {
+        let name = Name {
+            given: name,
+            content: name,
+        };
+        let expected = LabelName {
+            function,
+            number,
+            name,
+        };
+        assert_eq!(rt; *label, expected);
+    }
+    Ok(())
+}
+
+/// A number of fewer than 14 bits in two bytes, as the binary format may spell it.
+fn two_bytes(n: u16) -> [u8; 2] {
+    [(n & 0x7f) as u8 | 0x80, (n >> 7) as u8]
+}
+
+/// A name map in which as many items, the first ones, are called `a`.
+fn map_of(alloc: Global, count: u16) -> Result<Vec<u8>, Error> {
+    let mut map = Vec::from_slice(alloc, &two_bytes(count))?;
+    for index in 0..count {
+        map.extend_from_slice(&two_bytes(index))?;
+        map.extend_from_slice(b"\x01a")?;
+    }
+    Ok(map)
+}
+
+/// A subsection that holds this.
+fn subsection_of(alloc: Global, id: u8, content: &[u8]) -> Result<Vec<u8>, Error> {
+    let mut subsection = Vec::from_slice(alloc, &[id])?;
+    subsection.extend_from_slice(&two_bytes(content.len() as u16))?;
+    subsection.extend_from_slice(content)?;
+    Ok(subsection)
+}
+
+#[test]
+fn many_names_are_kept(rt: HostRuntime) -> Result<(), Fail> {
+    let alloc = rt.alloc();
+    let map = map_of(alloc, 300)?;
+    for id in [1, 4, 5, 6, 7, 8, 9, 11] {
+        let bytes = subsection_of(alloc, id, &map)?;
+        let names = names_of(alloc, &[&bytes])?;
+        assert_eq!(rt; names.module(), None);
+    }
+    let bytes = subsection_of(alloc, 1, &map)?;
+    let names = names_of(alloc, &[&bytes])?;
+    assert_eq!(rt; names.identifier(Space::Func, 0, 0), Some("a"));
+    assert_eq!(rt; names.identifier(Space::Func, 0, 299), Some("#func299 a"));
+    assert_eq!(rt; names.identifier(Space::Func, 0, 300), None);
+    Ok(())
+}
+
+#[test]
+fn many_names_of_many_functions_are_kept(rt: HostRuntime) -> Result<(), Fail> {
+    let alloc = rt.alloc();
+    let map = map_of(alloc, 20)?;
+    let mut maps = Vec::from_slice(alloc, &[40])?;
+    for outer in 0..40 {
+        maps.push(outer)?;
+        maps.extend_from_slice(&map)?;
+    }
+    for id in [2, 3, 10] {
+        let bytes = subsection_of(alloc, id, &maps)?;
+        let names = names_of(alloc, &[&bytes])?;
+        assert_eq!(rt; names.module(), None);
+    }
+    let bytes = subsection_of(alloc, 2, &maps)?;
+    let names = names_of(alloc, &[&bytes])?;
+    assert_eq!(rt; names.identifier(Space::Local, 39, 0), Some("a"));
+    assert_eq!(rt; names.identifier(Space::Local, 39, 19), Some("#local19 a"));
+    assert_eq!(rt; names.identifier(Space::Local, 40, 0), None);
+    Ok(())
+}

@@ -1,0 +1,224 @@
+//! Expressions in one line, and over lines with hints. What is expected is typed by hand.
+ghost use Rattle.std.specs.Prelude.{None};
+
+use std::alloc::Global;
+use std::test::Fail;
+use wasmprinter_bytes::bytes::Cursor;
+use wasmprinter_customs::{FunctionHints, Hints};
+use wasmprinter_flat::operators::{Form, Setting, write_operators};
+use wasmprinter_labels::OpenLabels;
+use wasmprinter_lines::options::PrintOptions;
+use wasmprinter_names::{Identifiers, NamesBuilder, read_names};
+use wasmprinter_ops::expression::Expression;
+use wasmprinter_ops::types::composite::FuncType;
+use wasmprinter_print::PrintFmtWrite;
+use wasmprinter_text::signature::Signatures;
+
+/// No types.
+#[derive(Drop)]
+struct NoTypes;
+
+impl Signatures for NoTypes {
+    ghost signature_at = { λ _ _. None };
+
+    fn signature(&self, _index: u32) -> Option<FuncType<'_>> {
+        None
+    }
+}
+
+/// The place of a body's first byte.
+const BODY: u64 = 0x10;
+
+/// The place of its first operator, behind the count of its locals.
+const OPERATORS: u64 = 0x11;
+
+/// The setting of function 0.
+fn setting(form: Form, nesting: u64) -> Setting<'static, NoTypes> {
+    Setting {
+        form,
+        types: &NoTypes,
+        nesting,
+        function: 0,
+        body: BODY,
+    }
+}
+
+/// The operators of an expression of function 0, printed in a module with the names of this section.
+fn printed(
+    alloc: Global,
+    section: &[u8],
+    invents: bool,
+    setting: &Setting<'_, NoTypes>,
+    hints: FunctionHints<'_>,
+    bytes: &[u8],
+) -> Result<String, Fail> {
+    let mut builder = NamesBuilder::new(alloc);
+    read_names(alloc, &mut builder, Cursor::new(0, section))?;
+    let names = builder.finish();
+    let identifiers = Identifiers {
+        names: &names,
+        invents,
+    };
+    let mut labels = OpenLabels::new(alloc, identifiers)?;
+    let expression = Expression::read(alloc, &mut Cursor::new(OPERATORS, bytes))?;
+    let mut printer = PrintFmtWrite(String::new(alloc));
+    write_operators(
+        &mut printer,
+        &PrintOptions::new(),
+        setting,
+        &mut labels,
+        hints,
+        &expression,
+    )?;
+    Ok(printer.0)
+}
+
+/// The operators in one line, in a module with the names of this section.
+fn with_names(alloc: Global, section: &[u8], invents: bool, bytes: &[u8]) -> Result<String, Fail> {
+    printed(
+        alloc,
+        section,
+        invents,
+        &setting(Form::InLine, 0),
+        FunctionHints::none(),
+        bytes,
+    )
+}
+
+/// The operators over lines, with the hints of this section.
+fn with_hints(alloc: Global, section: &[u8], bytes: &[u8]) -> Result<String, Fail> {
+    let mut hints = Hints::given(0, section);
+    printed(
+        alloc,
+        &[],
+        false,
+        &setting(Form::OverLines, 2),
+        hints.next_function(0),
+        bytes,
+    )
+}
+
+/// The same without names.
+fn in_line(alloc: Global, bytes: &[u8]) -> Result<String, Fail> {
+    with_names(alloc, &[], false, bytes)
+}
+
+#[test]
+fn operators_stand_one_blank_apart(rt: HostRuntime) -> Result<(), Fail> {
+    let empty = in_line(rt.alloc(), &[0x0b])?;
+    assert_eq!(rt; empty.as_str(), "");
+    let one = in_line(rt.alloc(), &[0x23, 0x02, 0x0b])?;
+    assert_eq!(rt; one.as_str(), "global.get 2");
+    let sum = in_line(rt.alloc(), &[0x41, 0x01, 0x41, 0x7b, 0x6a, 0x0b])?;
+    assert_eq!(rt; sum.as_str(), "i32.const 1 i32.const -5 i32.add");
+    Ok(())
+}
+
+#[test]
+fn blocks_stand_in_the_line(rt: HostRuntime) -> Result<(), Fail> {
+    let one = in_line(
+        rt.alloc(),
+        &[0x02, 0x7f, 0x41, 0x07, 0x0c, 0x00, 0x0b, 0x1a, 0x0b],
+    )?;
+    assert_eq!(rt;
+        one.as_str(),
+        "block (result i32)  (; label = @1 ;) i32.const 7 br 0 (;@1;) end drop"
+    );
+    let two = in_line(
+        rt.alloc(),
+        &[
+            0x02, 0x40, 0x41, 0x01, 0x04, 0x40, 0x0c, 0x01, 0x05, 0x0c, 0x00, 0x0b, 0x0b, 0x0b,
+        ],
+    )?;
+    assert_eq!(rt;
+        two.as_str(),
+        "block  (; label = @1 ;) i32.const 1 if  (; label = @2 ;) br 1 (;@1;) else br 0 (;@2;) end end"
+    );
+    Ok(())
+}
+
+#[test]
+fn names_stand_for_indices(rt: HostRuntime) -> Result<(), Fail> {
+    // local 0 of function 0 is `x`, labels 0 and 1 of it are `a`; memory 0 is `m`, global 0 is `g`
+    let section =
+        b"\x02\x06\x01\x00\x01\x00\x01x\x03\x09\x01\x00\x02\x00\x01a\x01\x01a\x06\x04\x01\x00\x01m\x07\x04\x01\x00\x01g";
+    let plain = with_names(
+        rt.alloc(),
+        section,
+        false,
+        &[
+            0x20, 0x00, 0x20, 0x01, 0x23, 0x00, 0x28, 0x02, 0x00, 0xfc, 0x0a, 0x00, 0x01, 0x0b,
+        ],
+    )?;
+    assert_eq!(rt;
+        plain.as_str(),
+        "local.get $x local.get 1 global.get $g i32.load memory.copy $m 1"
+    );
+    // the inner `a` hides the outer one, and the third block has no name
+    let blocks = with_names(
+        rt.alloc(),
+        section,
+        false,
+        &[
+            0x02, 0x40, 0x02, 0x40, 0x0c, 0x00, 0x0c, 0x01, 0x0c, 0x02, 0x0b, 0x02, 0x40, 0x0c,
+            0x00, 0x0c, 0x01, 0x0b, 0x0b, 0x0b,
+        ],
+    )?;
+    assert_eq!(rt;
+        blocks.as_str(),
+        "block $a block $a br $a br 1 br 2 end block  (; label = @2 ;) br 0 (;@2;) br $a end end"
+    );
+    Ok(())
+}
+
+#[test]
+fn identifiers_are_made_up(rt: HostRuntime) -> Result<(), Fail> {
+    let plain = with_names(
+        rt.alloc(),
+        &[],
+        true,
+        &[0x20, 0x02, 0x10, 0x05, 0xfb, 0x02, 0x03, 0x01, 0x0b],
+    )?;
+    assert_eq!(rt;
+        plain.as_str(),
+        "local.get $#local2 call $#func5 struct.get $#type3 $#field1"
+    );
+    let blocks = with_names(
+        rt.alloc(),
+        &[],
+        true,
+        &[
+            0x02, 0x40, 0x06, 0x40, 0x18, 0x00, 0x0c, 0x00, 0x0c, 0x01, 0x0b, 0x0b,
+        ],
+    )?;
+    assert_eq!(rt;
+        blocks.as_str(),
+        "block $#label0 try $#label1 delegate $#label0 br $#label0 br 1 end"
+    );
+    Ok(())
+}
+
+#[test]
+fn hints_stand_before_their_operators(rt: HostRuntime) -> Result<(), Fail> {
+    // `br_if` stands 5 bytes behind the body's first byte, `if` 10
+    let text = with_hints(
+        rt.alloc(),
+        &[0x01, 0x00, 0x02, 0x05, 0x01, 0x01, 0x0a, 0x01, 0x00],
+        &[
+            0x02, 0x40, 0x20, 0x00, 0x0d, 0x00, 0x0b, 0x20, 0x00, 0x04, 0x40, 0x0b, 0x0b,
+        ],
+    )?;
+    assert_eq!(rt;
+        text.as_str(),
+        "\n    block ;; label = @1\
+         \n      local.get 0\
+         \n      (@metadata.code.branch_hint \"\\01\")\
+         \n      br_if 0 (;@1;)\
+         \n    end\
+         \n    local.get 0\
+         \n    (@metadata.code.branch_hint \"\\00\")\
+         \n    if ;; label = @1\
+         \n    end"
+    );
+    Ok(())
+}

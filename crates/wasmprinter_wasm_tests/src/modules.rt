@@ -1,0 +1,570 @@
+//! Modules that are decoded and modules that are refused. What is expected is typed by hand.
+
+use std::alloc::{AllocError, Global};
+use std::test::Fail;
+use wasmprinter_entries::exports::ExternKind;
+use wasmprinter_entries::limits::Limits;
+use wasmprinter_entries::memories::MemoryType;
+use wasmprinter_error::Error;
+use wasmprinter_ops::types::ValType;
+use wasmprinter_wasm::decode;
+
+/// The magic and the version.
+const PREAMBLE: [u8; 8] = [0x00, 0x61, 0x73, 0x6d, 0x01, 0x00, 0x00, 0x00];
+
+/// One function of type i32 to i32 that gives its parameter, given out as `f`.
+const IDENTITY: [u8; 35] = [
+    0x00, 0x61, 0x73, 0x6d, 0x01, 0x00, 0x00, 0x00, 0x01, 0x06, 0x01, 0x60, 0x01, 0x7f, 0x01, 0x7f,
+    0x03, 0x02, 0x01, 0x00, 0x07, 0x05, 0x01, 0x01, 0x66, 0x00, 0x00, 0x0a, 0x06, 0x01, 0x04, 0x00,
+    0x20, 0x00, 0x0b,
+];
+
+/// A type section with the one type of no parameters and no results.
+pub(crate) const TYPES: [u8; 6] = [0x01, 0x04, 0x01, 0x60, 0x00, 0x00];
+
+/// A function section with one function.
+pub(crate) const FUNCTIONS: [u8; 4] = [0x03, 0x02, 0x01, 0x00];
+
+/// A code section with one body without locals and operators.
+pub(crate) const CODE: [u8; 6] = [0x0a, 0x04, 0x01, 0x02, 0x00, 0x0b];
+
+/// A preamble, and the sections behind it.
+pub(crate) fn module(alloc: Global, sections: &[&[u8]]) -> Result<Vec<u8>, AllocError> {
+    let mut bytes = Vec::new(alloc);
+    bytes.extend_from_slice(&PREAMBLE)?;
+    for section in sections {
+        bytes.extend_from_slice(section)?;
+    }
+    Ok(bytes)
+}
+
+/// Whether the bytes are accepted.
+pub(crate) fn is_accepted(alloc: Global, bytes: &[u8]) -> bool {
+    decode(alloc, bytes).is_ok()
+}
+
+/// Whether the bytes are refused as malformed.
+pub(crate) fn is_malformed(alloc: Global, bytes: &[u8]) -> bool {
+    matches!(decode(alloc, bytes), Err(Error::Malformed { .. }))
+}
+
+#[test]
+fn beginnings_are_accepted_behind_sections_alone(rt: HostRuntime) {
+    for len in 0..IDENTITY.len() {
+        let beginning = &IDENTITY[..len];
+        if len == 8 || len == 16 {
+            assert!(rt; is_accepted(rt.alloc(), beginning), "at {len}");
+        } else {
+            assert!(rt; is_malformed(rt.alloc(), beginning), "at {len}");
+        }
+    }
+    assert!(rt; is_accepted(rt.alloc(), &IDENTITY));
+}
+
+#[test]
+fn sizes_may_be_longer_than_minimal(rt: HostRuntime) -> Result<(), Fail> {
+    let content = [0x01, 0x60, 0x01, 0x7f, 0x01, 0x7f];
+    let longer = module(rt.alloc(), &[&[0x01, 0x86, 0x00], &content])?;
+    assert!(rt; is_accepted(rt.alloc(), &longer));
+    let overlong = module(
+        rt.alloc(),
+        &[&[0x01, 0x86, 0x80, 0x80, 0x80, 0x80, 0x00], &content],
+    )?;
+    assert!(rt; is_malformed(rt.alloc(), &overlong));
+    Ok(())
+}
+
+#[test]
+fn locals_are_limited(rt: HostRuntime) -> Result<(), Fail> {
+    let most = [0x0a, 0x08, 0x01, 0x06, 0x01, 0xd0, 0x86, 0x03, 0x7f, 0x0b];
+    let accepted = module(rt.alloc(), &[&TYPES, &FUNCTIONS, &most])?;
+    assert!(rt; is_accepted(rt.alloc(), &accepted));
+    let more = [0x0a, 0x08, 0x01, 0x06, 0x01, 0xd1, 0x86, 0x03, 0x7f, 0x0b];
+    let refused = module(rt.alloc(), &[&TYPES, &FUNCTIONS, &more])?;
+    assert!(rt;
+        matches!(
+            decode(rt.alloc(), &refused),
+            Err(Error::TooManyLocals { place: 0x16 })
+        )
+    );
+    Ok(())
+}
+
+#[test]
+fn functions_are_limited(rt: HostRuntime) -> Result<(), Fail> {
+    let mut bytes = module(
+        rt.alloc(),
+        &[&TYPES, &[0x03, 0xc4, 0x84, 0x3d, 0xc1, 0x84, 0x3d]],
+    )?;
+    for _ in 0..1000001 {
+        bytes.push(0x00)?;
+    }
+    assert!(rt;
+        matches!(
+            decode(rt.alloc(), &bytes),
+            Err(Error::TooManyFunctions { count: 1000001 })
+        )
+    );
+    Ok(())
+}
+
+#[test]
+fn malformed_modules_are_refused(rt: HostRuntime) -> Result<(), Fail> {
+    let alloc = rt.alloc();
+    let two_functions: [u8; 5] = [0x03, 0x03, 0x02, 0x00, 0x00];
+    let behind_end: [u8; 7] = [0x0a, 0x05, 0x01, 0x03, 0x00, 0x0b, 0x0b];
+    let ends_early: [u8; 6] = [0x0a, 0x04, 0x01, 0x02, 0x00, 0x1a];
+    let past_the_end: [u8; 4] = [0x01, 0x7f, 0x01, 0x60];
+    let not_utf8: [u8; 7] = [0x07, 0x05, 0x01, 0x01, 0xff, 0x00, 0x00];
+    let many: [u8; 7] = [0x01, 0x05, 0xff, 0xff, 0xff, 0xff, 0x0f];
+    let unknown: [u8; 3] = [0x0e, 0x01, 0x00];
+    assert!(rt; is_accepted(alloc, &module(alloc, &[&TYPES, &FUNCTIONS, &CODE])?));
+    assert!(rt; is_malformed(alloc, &module(alloc, &[&TYPES, &two_functions, &CODE])?));
+    assert!(rt; is_malformed(alloc, &module(alloc, &[&TYPES, &TYPES])?));
+    assert!(rt; is_malformed(alloc, &module(alloc, &[&FUNCTIONS, &TYPES, &CODE])?));
+    assert!(rt; is_malformed(alloc, &module(alloc, &[&TYPES, &FUNCTIONS, &behind_end])?));
+    assert!(rt; is_malformed(alloc, &module(alloc, &[&TYPES, &FUNCTIONS, &ends_early])?));
+    assert!(rt; is_malformed(alloc, &module(alloc, &[&past_the_end])?));
+    assert!(rt;
+        is_malformed(
+            alloc,
+            &module(alloc, &[&TYPES, &FUNCTIONS, &not_utf8, &CODE])?
+        )
+    );
+    assert!(rt; is_malformed(alloc, &module(alloc, &[&many])?));
+    assert!(rt; is_malformed(alloc, &module(alloc, &[&unknown])?));
+    assert!(rt; is_malformed(alloc, &PREAMBLE[..7]));
+    Ok(())
+}
+
+/// A module with one function, whose code section this is.
+fn with_code(alloc: Global, code: &[u8]) -> Result<Vec<u8>, AllocError> {
+    module(alloc, &[&TYPES, &FUNCTIONS, code])
+}
+
+#[test]
+fn bodies_end_at_the_end_that_closes_them(rt: HostRuntime) -> Result<(), Fail> {
+    let alloc = rt.alloc();
+    // block end end
+    let closed = [0x0a, 0x07, 0x01, 0x05, 0x00, 0x02, 0x40, 0x0b, 0x0b];
+    assert!(rt; is_accepted(alloc, &with_code(alloc, &closed)?));
+    // block end
+    let in_a_block = [0x0a, 0x06, 0x01, 0x04, 0x00, 0x02, 0x40, 0x0b];
+    assert!(rt; is_malformed(alloc, &with_code(alloc, &in_a_block)?));
+    // block end end end
+    let behind_the_last = [0x0a, 0x08, 0x01, 0x06, 0x00, 0x02, 0x40, 0x0b, 0x0b, 0x0b];
+    assert!(rt; is_malformed(alloc, &with_code(alloc, &behind_the_last)?));
+    // if else else end end
+    let two_elses = [
+        0x0a, 0x09, 0x01, 0x07, 0x00, 0x04, 0x40, 0x05, 0x05, 0x0b, 0x0b,
+    ];
+    assert!(rt; is_malformed(alloc, &with_code(alloc, &two_elses)?));
+    Ok(())
+}
+
+#[test]
+fn blocks_nest_deep(rt: HostRuntime) -> Result<(), Fail> {
+    // a section of 300006 bytes with one body of 300002
+    let head = [0x0a, 0xe6, 0xa7, 0x12, 0x01, 0xe2, 0xa7, 0x12, 0x00];
+    let mut bytes = with_code(rt.alloc(), &head)?;
+    for _ in 0..100_000 {
+        bytes.extend_from_slice(&[0x02, 0x40])?;
+    }
+    for _ in 0..100_001 {
+        bytes.push(0x0b)?;
+    }
+    let decoded = decode(rt.alloc(), &bytes)?;
+    let body = decoded.body(0).ok_or("no body")?;
+    let mut reader = body.operators();
+    for number in 0..200_000 {
+        assert!(rt; reader.next().is_some(), "operator {number}");
+    }
+    assert!(rt; reader.next().is_none());
+    Ok(())
+}
+
+#[test]
+fn components_are_refused(rt: HostRuntime) {
+    let component = [0x00, 0x61, 0x73, 0x6d, 0x0d, 0x00, 0x01, 0x00];
+    assert!(rt; matches!(decode(rt.alloc(), &component), Err(Error::Component)));
+}
+
+#[test]
+fn operators_have_their_places(rt: HostRuntime) -> Result<(), Fail> {
+    let types = [0x01, 0x05, 0x01, 0x60, 0x00, 0x01, 0x7e];
+    let code = [
+        0x0a, 0x0c, 0x01, 0x0a, 0x01, 0x01, 0x7e, 0x42, 0x7f, 0x21, 0x00, 0x20, 0x00, 0x0b,
+    ];
+    let bytes = module(rt.alloc(), &[&types, &FUNCTIONS, &code])?;
+    let Ok(decoded) = decode(rt.alloc(), &bytes) else {
+        assert!(rt; false);
+        return Ok(());
+    };
+    assert_eq!(rt; decoded.function_count(), 1);
+    assert!(rt; decoded.body(1).is_none());
+    let Some(body) = decoded.body(0) else {
+        assert!(rt; false);
+        return Ok(());
+    };
+    let wanted = [
+        (0x1a, "i64.const"),
+        (0x1c, "local.set"),
+        (0x1e, "local.get"),
+    ];
+    let mut reader = body.operators();
+    for (wanted_place, word) in wanted {
+        let Some((place, operator)) = reader.next() else {
+            assert!(rt; false, "no operator at {wanted_place}");
+            return Ok(());
+        };
+        assert_eq!(rt; place, wanted_place);
+        assert_eq!(rt; operator.opcode.word(), word);
+    }
+    assert!(rt; reader.next().is_none());
+    Ok(())
+}
+
+/// Whether a module with this type section alone is accepted.
+fn is_type_section(alloc: Global, section: &[u8]) -> Result<bool, AllocError> {
+    Ok(is_accepted(alloc, &module(alloc, &[section])?))
+}
+
+#[test]
+fn type_sections_hold_groups(rt: HostRuntime) -> Result<(), Fail> {
+    let alloc = rt.alloc();
+    let group = [0x01, 0x06, 0x01, 0x4e, 0x01, 0x60, 0x00, 0x00];
+    let structure = [0x01, 0x07, 0x01, 0x5f, 0x02, 0x78, 0x01, 0x7f, 0x00];
+    let open = [0x01, 0x06, 0x01, 0x50, 0x00, 0x5e, 0x7f, 0x00];
+    let below = [0x01, 0x07, 0x01, 0x4f, 0x01, 0x00, 0x60, 0x00, 0x00];
+    let empty = [0x01, 0x03, 0x01, 0x4e, 0x00];
+    assert!(rt; is_type_section(alloc, &group)?);
+    assert!(rt; is_type_section(alloc, &structure)?);
+    assert!(rt; is_type_section(alloc, &open)?);
+    assert!(rt; is_type_section(alloc, &below)?);
+    assert!(rt; is_type_section(alloc, &empty)?);
+    let nested = [0x01, 0x05, 0x01, 0x4e, 0x01, 0x4e, 0x00];
+    let other_storage = [0x01, 0x04, 0x01, 0x5e, 0x79, 0x00];
+    let other_mutability = [0x01, 0x04, 0x01, 0x5e, 0x7f, 0x02];
+    let other_type = [0x01, 0x02, 0x01, 0x5d];
+    assert!(rt; !is_type_section(alloc, &nested)?);
+    assert!(rt; !is_type_section(alloc, &other_storage)?);
+    assert!(rt; !is_type_section(alloc, &other_mutability)?);
+    assert!(rt; !is_type_section(alloc, &other_type)?);
+    Ok(())
+}
+
+#[test]
+fn type_indices_count_the_types_of_all_groups(rt: HostRuntime) -> Result<(), Fail> {
+    let section = [
+        0x01, 0x13, 0x04, 0x4e, 0x00, 0x5f, 0x00, 0x4e, 0x02, 0x60, 0x01, 0x7d, 0x00, 0x50, 0x00,
+        0x60, 0x00, 0x00, 0x5e, 0x78, 0x01,
+    ];
+    let bytes = module(rt.alloc(), &[&section])?;
+    let Ok(decoded) = decode(rt.alloc(), &bytes) else {
+        assert!(rt; false);
+        return Ok(());
+    };
+    let wanted = [
+        (0x0b, true, 0),
+        (0x0d, false, 1),
+        (0x0f, true, 2),
+        (0x1a, false, 1),
+    ];
+    assert_eq!(rt; decoded.types().len(), wanted.len());
+    for (group, (place, is_written, len)) in decoded.types().iter().zip(wanted.iter().copied()) {
+        assert_eq!(rt; group.place(), place);
+        assert_eq!(rt; group.is_written(), is_written);
+        assert_eq!(rt; group.types().len(), len);
+    }
+    assert!(rt; decoded.signature(0).is_none());
+    let Some(signature) = decoded.signature(1) else {
+        assert!(rt; false);
+        return Ok(());
+    };
+    assert_eq!(rt; signature.params().next(), Some(ValType::F32));
+    assert_eq!(rt; signature.results().len(), 0);
+    assert!(rt; decoded.signature(2).is_some());
+    assert!(rt; decoded.signature(3).is_none());
+    assert!(rt; decoded.signature(4).is_none());
+    Ok(())
+}
+
+/// A memory section with one memory.
+pub(crate) const MEMORIES: [u8; 5] = [0x05, 0x03, 0x01, 0x00, 0x01];
+
+/// A tag section with one tag.
+pub(crate) const TAGS: [u8; 5] = [0x0d, 0x03, 0x01, 0x00, 0x00];
+
+/// An export section that gives the first function out without a name.
+pub(crate) const EXPORTS: [u8; 6] = [0x07, 0x04, 0x01, 0x00, 0x00, 0x00];
+
+/// A start section with the first function.
+pub(crate) const START: [u8; 3] = [0x08, 0x01, 0x00];
+
+/// Sections in order, and sections that are not: one is too early, or comes again.
+const ORDERS: [(&[&[u8]], bool); 13] = [
+    (
+        &[
+            &TYPES, &FUNCTIONS, &MEMORIES, &TAGS, &EXPORTS, &START, &CODE,
+        ],
+        true,
+    ),
+    (&[&MEMORIES, &TAGS, &EXPORTS, &START], true),
+    (&[&MEMORIES, &TYPES], false),
+    (&[&TAGS, &MEMORIES], false),
+    (&[&EXPORTS, &MEMORIES], false),
+    (&[&EXPORTS, &TAGS], false),
+    (&[&START, &EXPORTS], false),
+    (&[&TYPES, &MEMORIES, &FUNCTIONS, &CODE], false),
+    (&[&TYPES, &FUNCTIONS, &CODE, &START], false),
+    (&[&MEMORIES, &MEMORIES], false),
+    (&[&TAGS, &TAGS], false),
+    (&[&EXPORTS, &EXPORTS], false),
+    (&[&START, &START], false),
+];
+
+#[test]
+fn sections_of_a_kind_stand_in_their_place_once(rt: HostRuntime) -> Result<(), Fail> {
+    for (sections, accepted) in ORDERS {
+        let bytes = module(rt.alloc(), sections)?;
+        assert_eq!(rt; is_accepted(rt.alloc(), &bytes), accepted);
+    }
+    Ok(())
+}
+
+/// Sections that may stand alone: without items, or with lengthened numbers.
+const ACCEPTED_SECTIONS: [&[u8]; 8] = [
+    &[0x05, 0x01, 0x00],
+    &[0x07, 0x01, 0x00],
+    &[0x0d, 0x01, 0x00],
+    &[0x05, 0x82, 0x00, 0x80, 0x00],
+    &[0x0d, 0x05, 0x81, 0x00, 0x00, 0x82, 0x00],
+    &[0x07, 0x04, 0x01, 0x00, 0x04, 0x00],
+    &[0x08, 0x01, 0x7f],
+    &[0x08, 0x05, 0xff, 0xff, 0xff, 0xff, 0x0f],
+];
+
+/// Sections that are refused.
+const REFUSED_SECTIONS: [&[u8]; 43] = [
+    // no count
+    &[0x05, 0x00],
+    &[0x07, 0x00],
+    &[0x0d, 0x00],
+    // a count that no item follows
+    &[0x05, 0x01, 0x01],
+    &[0x07, 0x01, 0x01],
+    &[0x0d, 0x01, 0x01],
+    &[0x05, 0x05, 0xff, 0xff, 0xff, 0xff, 0x0f],
+    &[0x07, 0x05, 0xff, 0xff, 0xff, 0xff, 0x0f],
+    &[0x0d, 0x05, 0xff, 0xff, 0xff, 0xff, 0x0f],
+    // one item more or less than the count says
+    &[0x05, 0x03, 0x00, 0x00, 0x01],
+    &[0x05, 0x03, 0x02, 0x00, 0x01],
+    &[0x0d, 0x03, 0x00, 0x00, 0x00],
+    &[0x0d, 0x03, 0x02, 0x00, 0x00],
+    // a tag behind another byte, behind 00 in two bytes, and without an index
+    &[0x0d, 0x03, 0x01, 0x01, 0x00],
+    &[0x0d, 0x04, 0x01, 0x80, 0x00, 0x00],
+    &[0x0d, 0x02, 0x01, 0x00],
+    // an export of a kind that there is not, of one in two bytes, and without an index
+    &[0x07, 0x04, 0x01, 0x00, 0x05, 0x00],
+    &[0x07, 0x05, 0x01, 0x00, 0x84, 0x00, 0x00],
+    &[0x07, 0x03, 0x01, 0x00, 0x04],
+    // no start function, two, one that doesn't end, and ones of six bytes and of 33 bits
+    &[0x08, 0x00],
+    &[0x08, 0x02, 0x00, 0x00],
+    &[0x08, 0x01, 0x80],
+    &[0x08, 0x06, 0x80, 0x80, 0x80, 0x80, 0x80, 0x00],
+    &[0x08, 0x05, 0xff, 0xff, 0xff, 0xff, 0x1f],
+    // a memory with flags that mean nothing, and with the flag 00 in two bytes
+    &[0x05, 0x03, 0x01, 0x10, 0x01],
+    &[0x05, 0x04, 0x01, 0x11, 0x01, 0x02],
+    &[0x05, 0x04, 0x01, 0x18, 0x01, 0x03],
+    &[0x05, 0x05, 0x01, 0x1f, 0x01, 0x02, 0x03],
+    &[0x05, 0x03, 0x01, 0x20, 0x01],
+    &[0x05, 0x03, 0x01, 0x40, 0x01],
+    &[0x05, 0x03, 0x01, 0x80, 0x01],
+    &[0x05, 0x05, 0x01, 0xff, 0x01, 0x02, 0x03],
+    &[0x05, 0x04, 0x01, 0x80, 0x00, 0x01],
+    // a memory without flags, a size or its greatest size, and with one that no flag tells of
+    &[0x05, 0x01, 0x01],
+    &[0x05, 0x02, 0x01, 0x00],
+    &[0x05, 0x03, 0x01, 0x01, 0x01],
+    &[0x05, 0x04, 0x01, 0x00, 0x01, 0x02],
+    // a memory with a size of 65 bits, and with one in eleven bytes
+    &[
+        0x05, 0x0c, 0x01, 0x00, 0xff, 0xff, 0xff, 0xff, 0xff, 0xff, 0xff, 0xff, 0xff, 0x02,
+    ],
+    &[
+        0x05, 0x0d, 0x01, 0x00, 0x86, 0x80, 0x80, 0x80, 0x80, 0x80, 0x80, 0x80, 0x80, 0x80, 0x00,
+    ],
+    // a memory with pages without an exponent, with one of 64, of 128, and of 16 in six bytes
+    &[0x05, 0x03, 0x01, 0x08, 0x01],
+    &[0x05, 0x04, 0x01, 0x08, 0x01, 0x40],
+    &[0x05, 0x05, 0x01, 0x08, 0x01, 0x80, 0x01],
+    &[
+        0x05, 0x09, 0x01, 0x08, 0x01, 0x90, 0x80, 0x80, 0x80, 0x80, 0x00,
+    ],
+];
+
+#[test]
+fn sections_hold_what_they_say(rt: HostRuntime) -> Result<(), Fail> {
+    for section in ACCEPTED_SECTIONS {
+        let bytes = module(rt.alloc(), &[section])?;
+        assert!(rt; is_accepted(rt.alloc(), &bytes), "{section:?}");
+    }
+    for section in REFUSED_SECTIONS {
+        let bytes = module(rt.alloc(), &[section])?;
+        assert!(rt; is_malformed(rt.alloc(), &bytes), "{section:?}");
+    }
+    Ok(())
+}
+
+/// A module with one memory, the bytes of whose type these are.
+fn with_memory(alloc: Global, memory_type: &[u8]) -> Result<Vec<u8>, AllocError> {
+    let size = u8::try_from(memory_type.len() + 1).unwrap_or(0);
+    module(alloc, &[&[0x05, size, 0x01], memory_type])
+}
+
+/// The type of the only memory of a module.
+fn only_memory(alloc: Global, bytes: &[u8]) -> Option<MemoryType> {
+    let decoded = decode(alloc, bytes).ok()?;
+    match decoded.memories() {
+        [memory] => Some(memory.ty()),
+        _ => None,
+    }
+}
+
+/// Types of memories with a least size of 1: whether addresses have 64 bits, whether the memory is
+/// shared, its greatest size, and the exponent of the size of a page.
+const MEMORY_TYPES: [(&[u8], bool, bool, Option<u64>, Option<u32>); 22] = [
+    (&[0x00, 0x01], false, false, None, None),
+    (&[0x01, 0x01, 0x02], false, false, Some(2), None),
+    (&[0x02, 0x01], false, true, None, None),
+    (&[0x03, 0x01, 0x02], false, true, Some(2), None),
+    (&[0x04, 0x01], true, false, None, None),
+    (&[0x05, 0x01, 0x02], true, false, Some(2), None),
+    (&[0x06, 0x01], true, true, None, None),
+    (&[0x07, 0x01, 0x02], true, true, Some(2), None),
+    (&[0x08, 0x01, 0x03], false, false, None, Some(3)),
+    (&[0x09, 0x01, 0x02, 0x03], false, false, Some(2), Some(3)),
+    (&[0x0a, 0x01, 0x03], false, true, None, Some(3)),
+    (&[0x0b, 0x01, 0x02, 0x03], false, true, Some(2), Some(3)),
+    (&[0x0c, 0x01, 0x03], true, false, None, Some(3)),
+    (&[0x0d, 0x01, 0x02, 0x03], true, false, Some(2), Some(3)),
+    (&[0x0e, 0x01, 0x03], true, true, None, Some(3)),
+    (&[0x0f, 0x01, 0x02, 0x03], true, true, Some(2), Some(3)),
+    // the greatest size of all, which takes ten bytes, and 6 in ten bytes
+    (
+        &[
+            0x01, 0x01, 0xff, 0xff, 0xff, 0xff, 0xff, 0xff, 0xff, 0xff, 0xff, 0x01,
+        ],
+        false,
+        false,
+        Some(0xffff_ffff_ffff_ffff),
+        None,
+    ),
+    (
+        &[
+            0x01, 0x81, 0x00, 0x86, 0x80, 0x80, 0x80, 0x80, 0x80, 0x80, 0x80, 0x80, 0x00,
+        ],
+        false,
+        false,
+        Some(6),
+        None,
+    ),
+    // pages of one byte, of the usual size, and of the greatest, also in five bytes
+    (&[0x08, 0x01, 0x00], false, false, None, Some(0)),
+    (&[0x08, 0x01, 0x10], false, false, None, Some(16)),
+    (&[0x08, 0x01, 0x3f], false, false, None, Some(63)),
+    (
+        &[0x08, 0x01, 0xbf, 0x80, 0x80, 0x80, 0x00],
+        false,
+        false,
+        None,
+        Some(63),
+    ),
+];
+
+#[test]
+fn flags_say_what_a_memory_is(rt: HostRuntime) -> Result<(), Fail> {
+    for (bytes, wide, shared, max, page) in MEMORY_TYPES {
+        let wanted = MemoryType {
+            wide,
+            shared,
+            limits: Limits { min: 1, max },
+            page,
+        };
+        let found = only_memory(rt.alloc(), &with_memory(rt.alloc(), bytes)?);
+        assert_eq!(rt; found, Some(wanted));
+    }
+    Ok(())
+}
+
+#[test]
+fn memories_have_their_places(rt: HostRuntime) -> Result<(), Fail> {
+    let section = [0x05, 0x06, 0x02, 0x01, 0x01, 0x02, 0x04, 0x07];
+    let bytes = module(rt.alloc(), &[&section])?;
+    let decoded = decode(rt.alloc(), &bytes)?;
+    let wanted = [(0x0b, 1), (0x0e, 7)];
+    assert_eq!(rt; decoded.memories().len(), wanted.len());
+    for (memory, (place, min)) in decoded.memories().iter().zip(wanted.iter().copied()) {
+        assert_eq!(rt; memory.place(), place);
+        assert_eq!(rt; memory.ty().limits.min, min);
+    }
+    Ok(())
+}
+
+#[test]
+fn tags_have_types_and_places(rt: HostRuntime) -> Result<(), Fail> {
+    let section = [0x0d, 0x08, 0x03, 0x00, 0x07, 0x00, 0x81, 0x00, 0x00, 0x02];
+    let bytes = module(rt.alloc(), &[&section])?;
+    let decoded = decode(rt.alloc(), &bytes)?;
+    let wanted = [(0x0b, 7), (0x0d, 1), (0x10, 2)];
+    assert_eq!(rt; decoded.tags().len(), wanted.len());
+    for (tag, (place, type_index)) in decoded.tags().iter().zip(wanted.iter().copied()) {
+        assert_eq!(rt; tag.place(), place);
+        assert_eq!(rt; tag.type_index(), type_index);
+    }
+    Ok(())
+}
+
+#[test]
+fn exports_have_kinds(rt: HostRuntime) -> Result<(), Fail> {
+    let section = [
+        0x07, 0x15, 0x05, 0x01, 0x61, 0x00, 0x05, 0x01, 0x62, 0x01, 0x06, 0x01, 0x63, 0x02, 0x87,
+        0x00, 0x00, 0x03, 0x08, 0x01, 0x65, 0x04, 0x09,
+    ];
+    let bytes = module(rt.alloc(), &[&section])?;
+    let decoded = decode(rt.alloc(), &bytes)?;
+    let wanted = [
+        (0x0b, "a", ExternKind::Func, 5),
+        (0x0f, "b", ExternKind::Table, 6),
+        (0x13, "c", ExternKind::Memory, 7),
+        (0x18, "", ExternKind::Global, 8),
+        (0x1b, "e", ExternKind::Tag, 9),
+    ];
+    assert_eq!(rt; decoded.exports().len(), wanted.len());
+    for (export, (place, name, kind, index)) in decoded
+        .exports()
+        .iter()
+        .zip(wanted.iter().copied())
+    {
+        assert_eq!(rt; export.place(), place);
+        assert_eq!(rt; export.name(), name);
+        assert_eq!(rt; export.kind(), kind);
+        assert_eq!(rt; export.index(), index);
+    }
+    Ok(())
+}
+
+#[test]
+fn start_functions_have_places(rt: HostRuntime) -> Result<(), Fail> {
+    let bytes = module(rt.alloc(), &[&TYPES, &[0x08, 0x02, 0x87, 0x00]])?;
+    let decoded = decode(rt.alloc(), &bytes)?;
+    let start = decoded.start().ok_or("no start function")?;
+    assert_eq!(rt; start.place(), 0x10);
+    assert_eq!(rt; start.function(), 7);
+    assert!(rt; decode(rt.alloc(), &IDENTITY)?.start().is_none());
+    Ok(())
+}
