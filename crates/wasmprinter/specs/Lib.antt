@@ -1,2 +1,3 @@
+pub mod OfFile
 pub mod Outcome
 pub mod Printed

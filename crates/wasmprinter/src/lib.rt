@@ -5,12 +5,14 @@
 #![tactic(auto)]
 
 mod config;
+mod files;
 mod in_memory;
 pub mod print;
 pub mod text;
 pub mod wasm;
 
 pub use config::Config;
+pub use files::print_file;
 pub use in_memory::print_bytes;
 pub use print::{Print, PrintFmtWrite, PrintIoWrite, PrintTermcolor};
 pub use wasmprinter_error::Error;

@@ -1,8 +1,9 @@
 -- The text of an indent.
-use Rattle.std.specs.Prelude.{ℕ, List, codes}
+use Rattle.std.specs.Prelude.{ℕ, List, codes, string_bytes}
 use Rattle.wasmprinter_lines.specs.declared.options.Indent.{Indent}
-use Rattle.wasmprinter_lines.specs.declared.options.Indent.TheVariants.{TwoBlanks}
+use Rattle.wasmprinter_lines.specs.declared.options.Indent.TheVariants.{TwoBlanks, Text}
 
 -- the text of an indent
 abbrev pub indent_text : Indent → List ℕ
 indent_text TwoBlanks = codes "  "
+indent_text (Text text) = string_bytes text

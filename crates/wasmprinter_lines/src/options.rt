@@ -5,6 +5,7 @@ use std::marker::Model;
 #[derive(Debug, Drop)]
 enum Indent {
     TwoBlanks,
+    Text(String),
 }
 
 /// How a module is printed: what each part of its layout sees.
@@ -30,7 +31,7 @@ impl Model for PrintOptions {
 }
 
 impl PrintOptions {
-    ghost use Rattle.std.specs.Prelude.{◌≡◌};
+    ghost use Rattle.std.specs.Prelude.{◌≡◌, string_bytes};
     ghost use Rattle.wasmprinter_spec.specs.Options.{defaults};
 
     /// No places in front of lines, bodies in full, no identifiers made up, and an indent of two blanks. Takes no memory.
@@ -45,12 +46,20 @@ impl PrintOptions {
         }
     }
 
+    /// Sets the text that stands once for each level of nesting. Takes no memory.
+    pub fn set_indent(&mut self, text: String)
+        ensures { self.new ≡ record self.old { indent = string_bytes text } }
+    {
+        self.indent = Indent::Text(text);
+    }
+
     /// The text that stands once for each level of nesting.
     pub fn indent(&self) -> &str
         ensures { result.now ≡ self.now.indent }
     {
         match &self.indent {
             Indent::TwoBlanks => "  ",
+            Indent::Text(text) => text.as_str(),
         }
     }
 }

@@ -14,6 +14,8 @@ mod decoding;
 #[cfg(test)]
 mod example;
 #[cfg(test)]
+mod files;
+#[cfg(test)]
 mod floats;
 #[cfg(test)]
 mod hints;

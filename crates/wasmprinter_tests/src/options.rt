@@ -174,6 +174,46 @@ fn prints_fields_of_a_skeleton(rt: HostRuntime) -> Result<(), Fail> {
 }
 
 #[test]
+fn indents_by_another_text(rt: HostRuntime) -> Result<(), Fail> {
+    let cases = [
+        (
+            "\t",
+            "(module\n\t(type (;0;) (func (param i32) (result i32)))\n\t(export \"f\" (func 0))\n\t(func (;0;) (type 0) (param i32) (result i32)\n\t\tlocal.get 0\n\t)\n)\n",
+        ),
+        (
+            "",
+            "(module\n(type (;0;) (func (param i32) (result i32)))\n(export \"f\" (func 0))\n(func (;0;) (type 0) (param i32) (result i32)\nlocal.get 0\n)\n)\n",
+        ),
+        (
+            "-λ",
+            "(module\n-λ(type (;0;) (func (param i32) (result i32)))\n-λ(export \"f\" (func 0))\n-λ(func (;0;) (type 0) (param i32) (result i32)\n-λ-λlocal.get 0\n-λ)\n)\n",
+        ),
+    ];
+    for (indent, expected) in cases {
+        let mut config = Config::new();
+        config.indent_text(String::from_str(rt.alloc(), indent)?);
+        let text = config.print_to_string(rt.alloc(), &IDENTITY)?;
+        assert_eq!(rt; text.as_str(), expected);
+    }
+    Ok(())
+}
+
+#[test]
+fn indents_behind_places(rt: HostRuntime) -> Result<(), Fail> {
+    let mut config = Config::new();
+    config.indent_text(String::from_str(rt.alloc(), " ")?);
+    config
+        .indent_text(String::from_str(rt.alloc(), "\t")?)
+        .print_offsets(true);
+    let text = config.print_to_string(rt.alloc(), &IDENTITY)?;
+    assert_eq!(rt;
+        text.as_str(),
+        "(module\n(;@b     ;)\t(type (;0;) (func (param i32) (result i32)))\n(;@17    ;)\t(export \"f\" (func 0))\n(;@1f    ;)\t(func (;0;) (type 0) (param i32) (result i32)\n(;@20    ;)\t\tlocal.get 0\n(;@22    ;)\t)\n(;@23    ;))\n"
+    );
+    Ok(())
+}
+
+#[test]
 fn chains_setters(rt: HostRuntime) -> Result<(), Fail> {
     let mut config = Config::new();
     config.print_offsets(true).print_skeleton(true);
