@@ -14,7 +14,7 @@ use Rattle.wasmprinter_spec.specs.Layout.Groups.{close, has_break, group_at}
 use Rattle.wasmprinter_spec.specs.Layout.Identifiers.{leading_mark_pieces}
 use Rattle.wasmprinter_spec.specs.Layout.Customs.{Part, Shown, Stops, Laid, laid_parts, custom_part, same_place, parts_at}
 use Rattle.wasmprinter_print.specs.PrintsLaws.{all_calls-append}
-use Rattle.wasmprinter_fields.specs.FieldGroups.{fields_of, first_scope, section_parts}
+use Rattle.wasmprinter_sections.specs.Sections.{fields_of, first_scope, section_parts}
 use Rattle.wasmprinter.specs.Printed.{unclaimed, IsUnclaimed}
 
 -- ---- of two lists

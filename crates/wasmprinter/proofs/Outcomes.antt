@@ -19,7 +19,7 @@ use Rattle.wasmprinter_error.specs.declared.error.Error.TheVariants.{Malformed, 
 use Rattle.std.specs.declared.io.Error.{Error as IoError}
 use Rattle.wasmprinter_wasm.specs.Decoding.{IsRefusal}
 use Rattle.wasmprinter_annotations.specs.Parts.{PrintsLaid}
-use Rattle.wasmprinter_fields.specs.FieldGroups.{module_laid}
+use Rattle.wasmprinter_sections.specs.Sections.{module_laid}
 use Rattle.wasmprinter.specs.Printed.{Printed}
 use Rattle.wasmprinter.specs.Outcome.{HasCause, HasTextCause, IsTrueOf, IsTrueOfText, AnyIsUnknown, MadeUpTo, Leaves, as_growth}
 use Rattle.wasmprinter_spec.specs.Names.Content.{name_of}

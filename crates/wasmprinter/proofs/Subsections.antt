@@ -10,7 +10,7 @@ use Rattle.wasmprinter_spec.specs.Piece.{Piece}
 use Rattle.wasmprinter_spec.specs.Customs.{Role, Silent, Listed, Linked, Refused, Raw, Faulted, role_of}
 use Rattle.wasmprinter_spec.specs.Layout.{module_parts, refusal}
 use Rattle.wasmprinter_spec.specs.Layout.Customs.{Part, Shown, Stops, laid_parts, role_part, custom_part, same_place, parts_at}
-use Rattle.wasmprinter_fields.specs.FieldGroups.{first_scope, section_parts}
+use Rattle.wasmprinter_sections.specs.Sections.{first_scope, section_parts}
 use Rattle.wasmprinter.specs.Outcome.{AnyIsUnknown}
 
 abbrev Stop : List Part → ℕ → Type 0

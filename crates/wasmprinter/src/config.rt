@@ -8,11 +8,11 @@ use crate::in_memory::without_printer;
 use std::alloc::Global;
 use std::marker::Model;
 use wasmprinter_error::Error;
-use wasmprinter_fields::modules::write_module;
 use wasmprinter_labels::OpenLabels;
 use wasmprinter_lines::options::PrintOptions;
 use wasmprinter_names::Identifiers;
 use wasmprinter_print::{Print, PrintFmtWrite};
+use wasmprinter_sections::modules::write_module;
 use wasmprinter_wasm::decode;
 
 /// What is printed of a module, and how.

@@ -1,14 +1,6 @@
-pub mod Outlines
 pub mod Numbering
-pub mod LocalLines
 pub mod TypeFields
 pub mod LineGroups
 pub mod Constants
 pub mod ImportLines
 pub mod Declared
-pub mod Walking
-pub mod Breaking
-pub mod SectionParts
-pub mod SectionWalk
-pub mod ModuleParts
-pub mod WholeModule

@@ -1,5 +1,2 @@
 pub mod Parts
-pub mod Scopes
-pub mod LocalWalk
 pub mod TypeLines
-pub mod FieldGroups

@@ -1,18 +1,15 @@
 -- What stands in the groups of a module's fields.
-use Rattle.std.specs.Prelude.{ℕ, ◌^◌, Bool, true, false, List, [], ◌∷◌, ◌++◌, codes, chars, Some, None}
+use Rattle.std.specs.Prelude.{ℕ, ◌^◌, Bool, false, List, [], ◌∷◌, ◌++◌, codes, chars, Some, None}
 use Rattle.std.specs.Fmt.{digits}
 use Rattle.wasmprinter_spec.specs.Grammar.{Placed}
-use Rattle.wasmprinter_spec.specs.Types.{SubType, MemoryType, TableType, GlobalType, ExternType, FuncExtern, TableExtern, MemoryExtern, GlobalExtern, TagExtern, all_types, signature_at}
+use Rattle.wasmprinter_spec.specs.Types.{MemoryType, TableType, GlobalType, ExternType, FuncExtern, TableExtern, MemoryExtern, GlobalExtern, TagExtern}
 use Rattle.wasmprinter_spec.specs.Row as row
-use Rattle.wasmprinter_spec.specs.Indexed.{parameter_count}
-use Rattle.wasmprinter_spec.specs.Customs.Hints.{Hint}
 use Rattle.wasmprinter_spec.specs.Operator.{Operator}
-use Rattle.wasmprinter_spec.specs.Placed.{Import, Table, Global, Export, ElementEntry, Data, PlacedFunction, PlacedModule}
-use Rattle.wasmprinter_spec.specs.Module.{groups_of}
+use Rattle.wasmprinter_spec.specs.Placed.{Import, Table, Global, Export, ElementEntry, Data}
 use Rattle.wasmprinter_spec.specs.Piece.{Piece, Break, Gap, Word, Quoted}
 use Rattle.wasmprinter_spec.specs.Layout.Groups.{line_group_gap}
 use Rattle.wasmprinter_spec.specs.Layout.Declarations.{Scope, item_declaration}
-use Rattle.wasmprinter_spec.specs.Layout.Functions.{header_pieces, inner_pieces}
+use Rattle.wasmprinter_spec.specs.Layout.Functions.{header_pieces}
 use Rattle.wasmprinter_spec.specs.Layout.Imports.{extern_pieces}
 use Rattle.wasmprinter_spec.specs.Layout.Tables.{table_type_pieces, init_pieces}
 use Rattle.wasmprinter_spec.specs.Layout.Memories.{memory_type_pieces}
@@ -21,14 +18,6 @@ use Rattle.wasmprinter_spec.specs.Layout.Expressions.{constant_pieces}
 use Rattle.wasmprinter_spec.specs.Layout.Exports.{kind_word, extern_index_pieces}
 use Rattle.wasmprinter_spec.specs.Layout.Elements.{mode_pieces, shown_items}
 use Rattle.wasmprinter_spec.specs.Layout.DataSegments.{data_mode_pieces, shown_bytes}
-
--- the types of a module, by their indices
-abbrev pub types_of : PlacedModule → List SubType
-types_of m = all_types (groups_of m.types)
-
--- the same types and identifiers, for the locals and labels of a function
-abbrev pub within : Scope → ℕ → Scope
-within s f = record s { function = f }
 
 -- a field that is a group on one line, with its number
 abbrev pub field_line : {A : Type 0} → List ℕ → (A → ℕ) → (ℕ → A → List Piece) → ℕ → A → List Piece
@@ -79,27 +68,6 @@ element_parts skeleton s i e =
 abbrev pub data_parts : Bool → Scope → ℕ → Data (Placed Operator) → List Piece
 data_parts skeleton s i d = item_declaration s row.Data i ++ (Gap ∷ (data_mode_pieces s d.mode ++ shown_bytes skeleton d.bytes))
 
--- whether a list has exactly one item
-abbrev pub is_one : {A : Type 0} → List A → Bool
-is_one (x ∷ []) = true
-is_one _ = false
-
 -- the name of an export, and what it gives out
 abbrev pub export_parts : Scope → Export → List Piece
 export_parts s e = Quoted (chars e.name) ∷ (Gap ∷ line_group_gap (kind_word e.kind) (extern_index_pieces s e.kind e.index))
-
--- how many parameters a type has, 0 unless it is a function type
-abbrev pub parameter_count_of : List SubType → ℕ → ℕ
-parameter_count_of ts i = parameter_count (signature_at ts i)
-
--- the head of a function: its declaration and its type
-abbrev pub function_header : Scope → PlacedFunction → List Piece
-function_header s f = header_pieces s row.Func (Some s.function) s.function f.type_index
-
--- a function without its body
-abbrev pub outline_parts : Scope → PlacedFunction → List Piece
-outline_parts s f = function_header s f ++ (Gap ∷ (Word (codes "...") ∷ []))
-
--- a function with its body, its operators with these hints
-abbrev pub definition_parts : Scope → List (Placed Hint) → PlacedFunction → List Piece
-definition_parts s hs f = function_header s f ++ inner_pieces s hs f

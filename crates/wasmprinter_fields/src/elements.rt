@@ -9,18 +9,20 @@ ghost use Rattle.wasmprinter_spec.specs.Layout.Elements.{named_table, mode_piece
 ghost use Rattle.wasmprinter_spec.specs.Layout.Elements.{items_pieces, shown_items};
 ghost use Rattle.wasmprinter_print.specs.Prints.{Prints};
 ghost use Rattle.wasmprinter_segments.specs.Segments.{element_mode_view, element_items_view, constants_of};
+ghost use Rattle.wasmprinter_scope.specs.Scopes.{scope_view};
 ghost use Rattle.wasmprinter_fields.specs.Parts.{element_parts};
-ghost use Rattle.wasmprinter_fields.specs.Scopes.{scope_view};
 
-use crate::expressions::write_constant_group;
 use crate::fields::Field;
-use crate::scope::{Scope, write_declaration, write_index, write_index_group, write_ref_type};
 use std::io;
 use wasmprinter_bytes::lists::Items;
 use wasmprinter_lines::options::PrintOptions;
 use wasmprinter_names::Space;
 use wasmprinter_ops::expression::Expression;
 use wasmprinter_print::Print;
+use wasmprinter_scope::expressions::write_constant_group;
+use wasmprinter_scope::scope::{
+    Scope, write_declaration, write_index, write_index_group, write_ref_type,
+};
 use wasmprinter_wasm::{Element, ElementItems, ElementMode};
 use wasmprinter_words::words::{gap, word};
 

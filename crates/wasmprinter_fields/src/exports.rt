@@ -7,15 +7,15 @@ ghost use Rattle.wasmprinter_spec.specs.Layout.Groups.{line_group_gap};
 ghost use Rattle.wasmprinter_print.specs.Prints.{Prints};
 ghost use Rattle.wasmprinter_entries.specs.Externs.{kind_view};
 ghost use Rattle.wasmprinter_labels.specs.Scan.{Scan, names_of};
+ghost use Rattle.wasmprinter_scope.specs.Scopes.{scope_view, item_in};
 ghost use Rattle.wasmprinter_fields.specs.Parts.{export_parts};
-ghost use Rattle.wasmprinter_fields.specs.Scopes.{scope_view, item_in};
 
 use crate::fields::Field;
-use crate::scope::{Scope, write_index};
 use std::io;
 use wasmprinter_lines::options::PrintOptions;
 use wasmprinter_names::Space;
 use wasmprinter_print::Print;
+use wasmprinter_scope::scope::{Scope, write_index};
 use wasmprinter_wasm::{Export, ExternKind};
 use wasmprinter_words::numbers::number_word;
 use wasmprinter_words::strings::write_string;

@@ -3,22 +3,19 @@ ghost use Rattle.std.specs.Prelude.{◌≡◌, ◌+◌, ◌<◌, ◌^◌, length
 ghost use Rattle.wasmprinter_spec.specs.Layout.Groups.{numbered};
 ghost use Rattle.wasmprinter_print.specs.Prints.{Prints};
 ghost use Rattle.wasmprinter_entries.specs.Externs.{kind_view, imported_count};
+ghost use Rattle.wasmprinter_scope.specs.Scopes.{scope_view};
 ghost use Rattle.wasmprinter_fields.specs.Parts.{field_line};
-ghost use Rattle.wasmprinter_fields.specs.Scopes.{scope_view};
 
-use crate::scope::Scope;
 use std::io;
 use wasmprinter_lines::lines::break_line;
 use wasmprinter_lines::options::PrintOptions;
 use wasmprinter_print::Print;
+use wasmprinter_scope::scope::{FIELD_NESTING, Scope};
 use wasmprinter_wasm::{ExternKind, Module};
 use wasmprinter_words::words::{open_gap, shut};
 
-/// How deep the fields of a module are nested.
-pub(crate) const FIELD_NESTING: u64 = 1;
-
 /// A field of a module that is a group on one line.
-pub(crate) trait Field {
+pub trait Field {
     ghost use Rattle.std.specs.Prelude.{ℕ, List};
     ghost use Rattle.wasmprinter_spec.specs.Piece.{Piece};
     ghost use Rattle.wasmprinter_spec.specs.Options.{Options};
@@ -72,7 +69,7 @@ pub(crate) fn write_field<P: Print, F: Field>(
 }
 
 /// Writes the fields of one kind, in order, the first of which has the number.
-pub(crate) fn write_each<P: Print, F: Field>(
+pub fn write_each<P: Print, F: Field>(
     p: &mut P,
     options: &PrintOptions,
     scope: &mut Scope<'_, '_>,
@@ -91,7 +88,7 @@ pub(crate) fn write_each<P: Print, F: Field>(
 }
 
 /// The number of the first field of the kind that the module defines: those that are imported come before.
-pub(crate) fn first_number(module: &Module<'_>, kind: ExternKind) -> u64
+pub fn first_number(module: &Module<'_>, kind: ExternKind) -> u64
     ensures is { result ≡ imported_count (kind_view kind) module.now.imports }
     ensures few { result < 2 ^ 32 }
 {

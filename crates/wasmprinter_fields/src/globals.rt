@@ -5,16 +5,16 @@ ghost use Rattle.wasmprinter_spec.specs.Layout.Globals.{global_type_pieces};
 ghost use Rattle.wasmprinter_print.specs.Prints.{Prints};
 ghost use Rattle.wasmprinter_entries.specs.Externs.{global_type_view};
 ghost use Rattle.wasmprinter_labels.specs.Scan.{names_of};
+ghost use Rattle.wasmprinter_scope.specs.Scopes.{scope_view};
 ghost use Rattle.wasmprinter_fields.specs.Parts.{declared_global, global_parts};
-ghost use Rattle.wasmprinter_fields.specs.Scopes.{scope_view};
 
-use crate::expressions::write_constant;
 use crate::fields::Field;
-use crate::scope::{Scope, write_declaration, write_val_type};
 use std::io;
 use wasmprinter_lines::options::PrintOptions;
 use wasmprinter_names::Space;
 use wasmprinter_print::Print;
+use wasmprinter_scope::expressions::write_constant;
+use wasmprinter_scope::scope::{Scope, write_declaration, write_val_type};
 use wasmprinter_wasm::{Global, GlobalType};
 use wasmprinter_words::words::{gap, open_type_gap, shut};
 

@@ -5,20 +5,20 @@ ghost use Rattle.wasmprinter_spec.specs.Layout.Imports.{number_of, numbers_behin
 ghost use Rattle.wasmprinter_spec.specs.Layout.Imports.{extern_pieces, imports_pieces};
 ghost use Rattle.wasmprinter_print.specs.Prints.{Prints};
 ghost use Rattle.wasmprinter_entries.specs.Externs.{extern_view, HasPage};
+ghost use Rattle.wasmprinter_scope.specs.Scopes.{scope_view};
 ghost use Rattle.wasmprinter_fields.specs.Parts.{extern_parts, import_parts};
-ghost use Rattle.wasmprinter_fields.specs.Scopes.{scope_view};
 
 use crate::exports::kind_word;
 use crate::fields::{Field, write_field};
 use crate::globals::write_declared_global;
-use crate::headers::{write_function_header, write_tag_header};
 use crate::memories::write_declared_memory;
-use crate::scope::Scope;
 use crate::tables::write_declared_table;
 use std::io;
 use std::marker::Model;
 use wasmprinter_lines::options::PrintOptions;
 use wasmprinter_print::Print;
+use wasmprinter_scope::headers::{write_function_header, write_tag_header};
+use wasmprinter_scope::scope::Scope;
 use wasmprinter_wasm::{ExternType, Import};
 use wasmprinter_words::strings::write_string;
 use wasmprinter_words::words::{gap, open_gap, shut};
@@ -156,7 +156,7 @@ impl<'a> Field for Import<'a> {
 }
 
 /// Writes the imports; each kind is numbered apart.
-pub(crate) fn write_imports<P: Print>(
+pub fn write_imports<P: Print>(
     p: &mut P,
     options: &PrintOptions,
     scope: &mut Scope<'_, '_>,

@@ -6,16 +6,16 @@ ghost use Rattle.wasmprinter_spec.specs.Layout.Groups.{line_group_gap};
 ghost use Rattle.wasmprinter_spec.specs.Layout.Memories.{shared_pieces, page_pieces, memory_type_pieces};
 ghost use Rattle.wasmprinter_print.specs.Prints.{Prints};
 ghost use Rattle.wasmprinter_entries.specs.Externs.{memory_type_view, IsPage};
-ghost use Rattle.wasmprinter_fields.specs.Scopes.{scope_view};
+ghost use Rattle.wasmprinter_scope.specs.Scopes.{scope_view};
 ghost use Rattle.wasmprinter_fields.specs.Parts.{page_parts, declared_memory};
 
 use crate::fields::Field;
 use crate::limits::{write_sizes, write_wide};
-use crate::scope::{Scope, write_declaration};
 use std::io;
 use wasmprinter_lines::options::PrintOptions;
 use wasmprinter_names::Space;
 use wasmprinter_print::Print;
+use wasmprinter_scope::scope::{Scope, write_declaration};
 use wasmprinter_wasm::{Memory, MemoryType};
 use wasmprinter_words::limits::page_size;
 use wasmprinter_words::words::{gap, gap_type_word, open_gap, shut};

@@ -4,14 +4,14 @@ ghost use Rattle.wasmprinter_spec.specs.Row as row;
 ghost use Rattle.wasmprinter_spec.specs.Layout.{start_pieces};
 ghost use Rattle.wasmprinter_spec.specs.Layout.Declarations.{item_index};
 ghost use Rattle.wasmprinter_print.specs.Prints.{Prints};
-ghost use Rattle.wasmprinter_fields.specs.Scopes.{scope_view};
+ghost use Rattle.wasmprinter_scope.specs.Scopes.{scope_view};
 
 use crate::fields::{Field, write_field};
-use crate::scope::{Scope, write_index};
 use std::io;
 use wasmprinter_lines::options::PrintOptions;
 use wasmprinter_names::Space;
 use wasmprinter_print::Print;
+use wasmprinter_scope::scope::{Scope, write_index};
 use wasmprinter_wasm::Start;
 
 impl Field for Start {
@@ -42,7 +42,7 @@ impl Field for Start {
 
 /// Writes the start function, if there is one.
 #[tactic(auto, unfolding(wasmprinter_spec::specs::Layout::start_pieces))]
-pub(crate) fn write_start<P: Print>(
+pub fn write_start<P: Print>(
     p: &mut P,
     options: &PrintOptions,
     scope: &mut Scope<'_, '_>,

@@ -5,17 +5,17 @@ ghost use Rattle.wasmprinter_spec.specs.Layout.Tables.{table_type_pieces, init_p
 ghost use Rattle.wasmprinter_print.specs.Prints.{Prints};
 ghost use Rattle.wasmprinter_entries.specs.Externs.{table_type_view};
 ghost use Rattle.wasmprinter_labels.specs.Scan.{names_of};
+ghost use Rattle.wasmprinter_scope.specs.Scopes.{scope_view};
 ghost use Rattle.wasmprinter_fields.specs.Parts.{declared_table, table_parts};
-ghost use Rattle.wasmprinter_fields.specs.Scopes.{scope_view};
 
-use crate::expressions::write_constant;
 use crate::fields::Field;
 use crate::limits::{write_sizes, write_wide};
-use crate::scope::{Scope, write_declaration, write_ref_type};
 use std::io;
 use wasmprinter_lines::options::PrintOptions;
 use wasmprinter_names::Space;
 use wasmprinter_print::Print;
+use wasmprinter_scope::expressions::write_constant;
+use wasmprinter_scope::scope::{Scope, write_declaration, write_ref_type};
 use wasmprinter_wasm::{Table, TableType};
 use wasmprinter_words::words::gap;
 

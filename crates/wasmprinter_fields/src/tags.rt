@@ -4,11 +4,11 @@ ghost use Rattle.wasmprinter_spec.specs.Row as row;
 ghost use Rattle.wasmprinter_spec.specs.Layout.Functions.{header_pieces};
 
 use crate::fields::Field;
-use crate::headers::write_tag_header;
-use crate::scope::Scope;
 use std::io;
 use wasmprinter_lines::options::PrintOptions;
 use wasmprinter_print::Print;
+use wasmprinter_scope::headers::write_tag_header;
+use wasmprinter_scope::scope::Scope;
 use wasmprinter_wasm::Tag;
 
 impl Field for Tag {

@@ -10,13 +10,12 @@ ghost use Rattle.wasmprinter_print.specs.Prints.{Prints};
 ghost use Rattle.wasmprinter_labels.specs.Scan.{names_of};
 ghost use Rattle.wasmprinter_fields.specs.TypeLines.{listed_pieces};
 
-use crate::fields::FIELD_NESTING;
-use crate::scope::{Scope, write_type};
 use std::io;
 use wasmprinter_lines::lines::break_line;
 use wasmprinter_lines::options::PrintOptions;
 use wasmprinter_ops::types::composite::SubType;
 use wasmprinter_print::Print;
+use wasmprinter_scope::scope::{FIELD_NESTING, Scope, write_type};
 use wasmprinter_wasm::TypeGroup;
 use wasmprinter_words::words::{open, shut};
 
@@ -154,7 +153,7 @@ fn write_group<P: Print>(
 }
 
 /// Writes groups of types, which are numbered over all of them.
-pub(crate) fn write_type_groups<P: Print>(
+pub fn write_type_groups<P: Print>(
     p: &mut P,
     options: &PrintOptions,
     scope: &Scope<'_, '_>,

@@ -1,6 +1,6 @@
 use Rattle.std.proofs.Common.{◌∙◌}
 use Rattle.wasmprinter_print.specs.PrintsLaws.{lacks_none, next_written, next_fails}
-use Rattle.wasmprinter_fields.specs.Scopes.{scope_view}
+use Rattle.wasmprinter_scope.specs.Scopes.{scope_view}
 use Rattle.wasmprinter_fields.proofs.Constants.{expressions-none, expressions-next}
 use Rattle.wasmprinter_fields.proofs.elements.write_expression_items.Goals as goal
 

@@ -2,7 +2,7 @@ use Rattle.std.specs.Prelude.{◌≡◌, drop}
 use Rattle.wasmprinter_spec.specs.Layout.Elements.{expression_items}
 use Rattle.wasmprinter_print.specs.Prints.{Lacks}
 use Rattle.wasmprinter_segments.specs.Segments.{constants_of}
-use Rattle.wasmprinter_fields.specs.Scopes.{scope_view}
+use Rattle.wasmprinter_scope.specs.Scopes.{scope_view}
 use Rattle.wasmprinter_fields.proofs.elements.write_expression_items.Given as goal
 
 abbrev pub invariant-loop-expression : goal.invariant-loop-expression

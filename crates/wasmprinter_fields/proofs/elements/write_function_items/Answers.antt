@@ -1,5 +1,5 @@
 use Rattle.wasmprinter_print.specs.PrintsLaws.{lacks_none, next_written, next_fails}
-use Rattle.wasmprinter_fields.specs.Scopes.{scope_view}
+use Rattle.wasmprinter_scope.specs.Scopes.{scope_view}
 use Rattle.wasmprinter_fields.proofs.Constants.{functions-none, functions-next}
 use Rattle.wasmprinter_fields.proofs.elements.write_function_items.Goals as goal
 

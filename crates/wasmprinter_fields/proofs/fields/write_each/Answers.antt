@@ -1,7 +1,7 @@
 use Rattle.std.proofs.Common.{◌+◌, ◌∙◌}
 use Rattle.wasmprinter_print.specs.PrintsLaws.{lacks_none, next_written, next_fails}
+use Rattle.wasmprinter_scope.specs.Scopes.{scope_view}
 use Rattle.wasmprinter_fields.specs.Parts.{field_line}
-use Rattle.wasmprinter_fields.specs.Scopes.{scope_view}
 use Rattle.wasmprinter_fields.proofs.Numbering.{numbered-next, numbered-none}
 use Rattle.wasmprinter_fields.proofs.fields.write_each.Goals as goal
 

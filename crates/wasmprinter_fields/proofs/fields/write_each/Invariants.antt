@@ -1,8 +1,8 @@
 use Rattle.std.specs.Prelude.{◌≡◌, ◌+◌, drop}
 use Rattle.wasmprinter_spec.specs.Layout.Groups.{numbered}
 use Rattle.wasmprinter_print.specs.Prints.{Lacks}
+use Rattle.wasmprinter_scope.specs.Scopes.{scope_view}
 use Rattle.wasmprinter_fields.specs.Parts.{field_line}
-use Rattle.wasmprinter_fields.specs.Scopes.{scope_view}
 use Rattle.wasmprinter_fields.proofs.fields.write_each.Given as goal
 
 abbrev pub invariant-loop-index : goal.invariant-loop-index

@@ -1,7 +1,7 @@
 use Rattle.std.proofs.Common.{◌≡◌, ap, ◌∙◌}
 use Rattle.wasmprinter_spec.specs.Layout.Exports.{kind_word}
 use Rattle.wasmprinter_entries.specs.Externs.{extern_view, kind_of_type}
-use Rattle.wasmprinter_fields.specs.Scopes.{scope_view}
+use Rattle.wasmprinter_scope.specs.Scopes.{scope_view}
 use Rattle.wasmprinter_fields.proofs.ImportLines.{extern-group}
 use Rattle.wasmprinter_fields.proofs.LineGroups.{group_fails, group_breaks, group_closes}
 use Rattle.wasmprinter_fields.proofs.imports.write_extern_type.Goals as goal

@@ -3,7 +3,7 @@ use Rattle.std.proofs.Common.{arith, ap, ◌∙◌}
 use Rattle.wasmprinter_spec.specs.Layout.Imports.{number_of, numbers_behind}
 use Rattle.wasmprinter_print.specs.PrintsLaws.{no_piece, lacks_none, next_written, next_fails}
 use Rattle.wasmprinter_entries.specs.Externs.{extern_view}
-use Rattle.wasmprinter_fields.specs.Scopes.{scope_view}
+use Rattle.wasmprinter_scope.specs.Scopes.{scope_view}
 use Rattle.wasmprinter_fields.proofs.ImportLines.{imports-none, imports-next, total, total-behind, number-total}
 use Rattle.wasmprinter_fields.proofs.imports.write_imports.Goals as goal
 

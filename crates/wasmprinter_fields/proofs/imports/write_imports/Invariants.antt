@@ -1,7 +1,7 @@
 use Rattle.std.specs.Prelude.{◌≡◌, drop}
 use Rattle.wasmprinter_spec.specs.Layout.Imports.{no_numbers, imports_pieces}
 use Rattle.wasmprinter_print.specs.Prints.{Lacks}
-use Rattle.wasmprinter_fields.specs.Scopes.{scope_view}
+use Rattle.wasmprinter_scope.specs.Scopes.{scope_view}
 use Rattle.wasmprinter_fields.proofs.ImportLines.{total}
 use Rattle.wasmprinter_fields.proofs.imports.write_imports.Given as goal
 

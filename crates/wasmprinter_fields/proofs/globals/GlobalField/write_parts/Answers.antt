@@ -1,6 +1,6 @@
 use Rattle.std.proofs.Common.{refl}
 use Rattle.wasmprinter_print.specs.PrintsLaws.{both_pieces, pieces_end}
-use Rattle.wasmprinter_fields.specs.Scopes.{scope_view}
+use Rattle.wasmprinter_scope.specs.Scopes.{scope_view}
 use Rattle.wasmprinter_fields.proofs.Declared.{global-parts}
 use Rattle.wasmprinter_fields.proofs.globals.GlobalField.write_parts.Goals as goal
 

@@ -1,6 +1,6 @@
 use Rattle.std.proofs.Common.{refl}
 use Rattle.wasmprinter_print.specs.PrintsLaws.{both_pieces, pieces_end}
-use Rattle.wasmprinter_fields.specs.Scopes.{scope_view}
+use Rattle.wasmprinter_scope.specs.Scopes.{scope_view}
 use Rattle.wasmprinter_fields.proofs.Declared.{table-parts}
 use Rattle.wasmprinter_fields.proofs.tables.TableField.write_parts.Goals as goal
 

@@ -1,0 +1,133 @@
+-- The layout of locals, entry by entry.
+use Rattle.std.specs.Prelude.{◌≡◌, ℕ, zero, suc, ◌+◌, ◌-◌, ◌<◌, ◌≤◌, ◌==◌, List, [], ◌∷◌, ◌++◌, Bool, true, false, cond, Option, Some, None, is_some, codes, replicate, refl}
+use Rattle.std.proofs.Common.{sym, ap, ap₂, ◌∙◌, append_assoc, arith}
+use Rattle.std.proofs.lemmas.Bool.{eqb-true, eqb-false}
+use Rattle.wasmprinter_spec.specs.Grammar.{Placed}
+use Rattle.wasmprinter_spec.specs.Types.{ValType}
+use Rattle.wasmprinter_spec.specs.Labels.{Named}
+use Rattle.wasmprinter_spec.specs.Names.{Names}
+use Rattle.wasmprinter_spec.specs.Placed.{LocalEntry}
+use Rattle.wasmprinter_spec.specs.Module.{locals_of}
+use Rattle.wasmprinter_spec.specs.Piece.{Piece, Break}
+use Rattle.wasmprinter_spec.specs.Layout.Functions.{locals_place, local_line, local_pieces}
+use Rattle.wasmprinter_spec.specs.Layout.Groups.{has_break}
+use Rattle.wasmprinter_spec.specs.Layout.Variables.{grouped}
+use Rattle.wasmprinter_text.specs.declared.types.variables.Before.TheVariants as before
+use Rattle.wasmprinter_text.specs.Variables.{end_pieces, walk_pieces}
+use Rattle.wasmprinter_text.proofs.Walks.{walk-line}
+use Rattle.wasmprinter_bodies.specs.declared.locals.Position.{Position}
+use Rattle.wasmprinter_bodies.specs.LocalWalk.{behind_one, behind_all, local_parts, locals_parts}
+
+-- ---- one after the other
+
+-- a walk over locals of the function f, from a position on
+abbrev pub walk_from : Names → ℕ → Position → List ValType → List Piece
+walk_from names f x ts = walk_pieces names (codes "local") (names.locals f) x.before x.number ts
+
+module _ (names : Names) (f : ℕ) where
+  -- some locals, and the others
+  walk-append : (x : Position) (ts us : List ValType) →
+      walk_from names f x (ts ++ us) ≡ locals_parts names f x ts ++ walk_from names f (behind_all (names.locals f) x ts) us
+  walk-append x [] us = refl
+  walk-append x (t ∷ ts) us =
+      ap (λ ps. local_parts names f x t ++ ps) (walk-append (behind_one (names.locals f) x) ts us)
+      ∙ sym (append_assoc (local_parts names f x t) (locals_parts names f (behind_one (names.locals f) x) ts) (walk_from names f (behind_all (names.locals f) x (t ∷ ts)) us))
+
+  -- the locals of the next entry, and those of the others
+  pub entries-next : (x : Position) (es rest : List (Placed LocalEntry)) (e : Placed LocalEntry) → es ≡ e ∷ rest →
+      walk_from names f x (locals_of es) ≡ locals_parts names f x (replicate e.value.count e.value.type)
+      ++ walk_from names f (behind_all (names.locals f) x (replicate e.value.count e.value.type)) (locals_of rest)
+  entries-next x es rest e p =
+      ap (λ xs. walk_from names f x (locals_of xs)) p ∙ walk-append x (replicate e.value.count e.value.type) (locals_of rest)
+
+  -- no entry is left
+  pub entries-none : (x : Position) (es : List (Placed LocalEntry)) → es ≡ [] → walk_from names f x (locals_of es) ≡ end_pieces x.before
+  entries-none x es p = ap (λ xs. walk_from names f x (locals_of xs)) p
+
+  -- what is left of a local so many times: the next time, and the others
+  pub times-next : (x : Position) (n i : ℕ) (t : ValType) → i < n →
+      locals_parts names f x (replicate (n - i) t) ≡ local_parts names f x t ++ locals_parts names f (behind_one (names.locals f) x) (replicate (n - (i + 1)) t)
+  times-next x n i t h = let e : n - i ≡ suc (n - (i + 1)) = omega arith in ap (λ m. locals_parts names f x (replicate m t)) e
+
+  -- nothing is left
+  pub times-none : (x : Position) (n i : ℕ) (t : ValType) → n ≤ i → locals_parts names f x (replicate (n - i) t) ≡ []
+  times-none x n i t h = let e : n - i ≡ 0 = omega arith in ap (λ m. locals_parts names f x (replicate m t)) e
+
+module _ (named : ℕ → Option Named) where
+  -- behind what is left of a local so many times
+  pub behind_times-next : (x : Position) (n i : ℕ) (t : ValType) → i < n →
+      behind_all named x (replicate (n - i) t) ≡ behind_all named (behind_one named x) (replicate (n - (i + 1)) t)
+  behind_times-next x n i t h = let e : n - i ≡ suc (n - (i + 1)) = omega arith in ap (λ m. behind_all named x (replicate m t)) e
+
+  pub behind_times-none : (x : Position) (n i : ℕ) (t : ValType) → n ≤ i → behind_all named x (replicate (n - i) t) ≡ x
+  behind_times-none x n i t h = let e : n - i ≡ 0 = omega arith in ap (λ m. behind_all named x (replicate m t)) e
+
+  -- the number behind so many locals
+  pub behind_times-number : (x : Position) (n : ℕ) (t : ValType) → (behind_all named x (replicate n t)).number ≡ x.number + n
+  behind_times-number x zero t = omega arith
+  behind_times-number x (suc n) t = let others = behind_times-number (behind_one named x) n t in omega (arith, others)
+
+-- ---- their line
+
+-- where no entry declares a local there is none
+pub declares-none : (es : List (Placed LocalEntry)) → locals_place es ≡ None → locals_of es ≡ []
+declares-none [] h = refl
+declares-none (e ∷ es) h = by (e.value.count == 0) refl h (declares-none es)
+  where
+    by : (b : Bool) → (e.value.count == 0) ≡ b → cond b (locals_place es) (Some e.place) ≡ None → (locals_place es ≡ None → locals_of es ≡ []) → locals_of (e ∷ es) ≡ []
+    by true z g others = ap (λ n. replicate n e.value.type ++ locals_of es) (eqb-true e.value.count 0 z) ∙ others g
+    by false z g others = absurd cc
+
+-- there are locals
+pub record HasLocals (es : List (Placed LocalEntry)) : Type 0 where
+  pub first : ValType
+  pub others : List ValType
+  pub types : locals_of es ≡ first ∷ others
+
+some_here : (e : Placed LocalEntry) (es : List (Placed LocalEntry)) (n : ℕ) → (e.value.count == 0) ≡ false → e.value.count ≡ n → HasLocals (e ∷ es)
+some_here e es zero z c = absurd (omega (arith, eqb-false e.value.count 0 z))
+some_here e es (suc k) z c = record {
+  first = e.value.type;
+  others = replicate k e.value.type ++ locals_of es;
+  types = ap (λ m. replicate m e.value.type ++ locals_of es) c;
+}
+
+later : (e : Placed LocalEntry) (es : List (Placed LocalEntry)) → (e.value.count == 0) ≡ true → HasLocals es → HasLocals (e ∷ es)
+later e es z d = record {
+  first = d.first;
+  others = d.others;
+  types = ap (λ m. replicate m e.value.type ++ locals_of es) (eqb-true e.value.count 0 z) ∙ d.types;
+}
+
+-- where an entry declares a local
+pub declares-some : (es : List (Placed LocalEntry)) (place : ℕ) → locals_place es ≡ Some place → HasLocals es
+declares-some [] place h = absurd cc
+declares-some (e ∷ es) place h = by (e.value.count == 0) refl h (declares-some es place)
+  where
+    by : (b : Bool) → (e.value.count == 0) ≡ b → cond b (locals_place es) (Some e.place) ≡ Some place → (locals_place es ≡ Some place → HasLocals es) → HasLocals (e ∷ es)
+    by true z g others = later e es z (others g)
+    by false z g others = some_here e es e.value.count z refl
+
+module _ (names : Names) (f count : ℕ) where
+  -- no line of locals
+  pub locals-none : (es : List (Placed LocalEntry)) → locals_place es ≡ None → local_pieces names f count es ≡ []
+  unfolding local_pieces local_line
+  locals-none es h = ap (λ ts. local_line names (locals_place es) (grouped (names.locals f) count ts)) (declares-none es h)
+
+  -- the line of locals, written out
+  pub locals-some : (es : List (Placed LocalEntry)) (place : ℕ) → locals_place es ≡ Some place →
+      local_pieces names f count es ≡ Break (Some place) 2 ∷ walk_pieces names (codes "local") (names.locals f) before.Line count (locals_of es)
+  unfolding local_pieces
+  locals-some es place h =
+      let d = declares-some es place h in
+      ap₂ (λ p ts. local_line names p (grouped (names.locals f) count ts)) h d.types
+      ∙ sym (walk-line names (Some place) (names.locals f) count d.first d.others)
+      ∙ sym (ap (λ ts. Break (Some place) 2 ∷ walk_pieces names (codes "local") (names.locals f) before.Line count ts) d.types)
+
+  -- whether the line changes for locals
+  pub locals-break : (es : List (Placed LocalEntry)) → has_break (local_pieces names f count es) ≡ is_some (locals_place es)
+  locals-break es = by (locals_place es) refl
+    where
+      by : (o : Option ℕ) → locals_place es ≡ o → has_break (local_pieces names f count es) ≡ is_some o
+      by None h = ap has_break (locals-none es h)
+      by (Some place) h = ap has_break (locals-some es place h)

@@ -1,0 +1,52 @@
+-- The layouts of functions by their groups.
+use Rattle.std.specs.Prelude.{◌≡◌, ℕ, List, ◌∷◌, Bool, true, false, ◌||◌, codes, Option, Some, refl}
+use Rattle.std.proofs.Common.{ap, ◌∙◌}
+use Rattle.wasmprinter_spec.specs.Types.{signature_at}
+use Rattle.wasmprinter_spec.specs.Row.{Space, Func}
+use Rattle.wasmprinter_spec.specs.Grammar.{Placed}
+use Rattle.wasmprinter_spec.specs.Customs.Hints.{Hint}
+use Rattle.wasmprinter_spec.specs.Placed.{PlacedFunction}
+use Rattle.wasmprinter_spec.specs.Piece.{Piece, Gap}
+use Rattle.wasmprinter_spec.specs.Layout.Declarations.{Scope, item_declaration, type_use}
+use Rattle.wasmprinter_spec.specs.Layout.Functions.{header_pieces, local_pieces, body_pieces, inner_pieces, function_group}
+use Rattle.wasmprinter_spec.specs.Layout.Groups.{has_break, group_gap_at, line_group_gap}
+use Rattle.wasmprinter_lines.proofs.Groups.{has_break-append, line-append}
+use Rattle.wasmprinter_text.proofs.Signatures.{declaration-line, type_use-line}
+use Rattle.wasmprinter_bodies.specs.Functions.{parameter_count_of, function_header, outline_parts, definition_parts}
+
+-- the head of a function or a tag stands on one line
+header-line : (s : Scope) (space : Space) (f : Option ℕ) (i n : ℕ) → has_break (header_pieces s space f i n) ≡ false
+unfolding header_pieces
+header-line s space f i n =
+    line-append (item_declaration s space i) (Gap ∷ type_use s f n) (declaration-line (s.names.items space i) i)
+    (type_use-line s.names f n (signature_at s.types n))
+
+-- a function without its body stands on one line
+outline-out : (offsets : Bool) (s : Scope) (hs : List (Placed Hint)) (f : PlacedFunction) → function_group true offsets s hs f ≡ line_group_gap (codes "func") (outline_parts s f)
+unfolding function_group
+outline-out offsets s hs f = refl
+
+definition-out : (offsets : Bool) (s : Scope) (hs : List (Placed Hint)) (f : PlacedFunction) →
+    function_group false offsets s hs f ≡ group_gap_at offsets f.body.value.end 1 (codes "func") (definition_parts s hs f)
+unfolding function_group
+definition-out offsets s hs f = refl
+
+-- a function in a skeleton
+pub skeleton-group : (skeleton offsets : Bool) (s : Scope) (hs : List (Placed Hint)) (f : PlacedFunction) → skeleton ≡ true →
+    function_group skeleton offsets s hs f ≡ line_group_gap (codes "func") (outline_parts s f)
+skeleton-group skeleton offsets s hs f e = ap (λ b. function_group b offsets s hs f) e ∙ outline-out offsets s hs f
+
+-- a function elsewhere
+pub whole-group : (skeleton offsets : Bool) (s : Scope) (hs : List (Placed Hint)) (f : PlacedFunction) → skeleton ≡ false →
+    function_group skeleton offsets s hs f ≡ group_gap_at offsets f.body.value.end 1 (codes "func") (definition_parts s hs f)
+whole-group skeleton offsets s hs f e = ap (λ b. function_group b offsets s hs f) e ∙ definition-out offsets s hs f
+
+-- whether lines change for a function
+pub definition-break : (s : Scope) (hs : List (Placed Hint)) (f : PlacedFunction) → has_break (definition_parts s hs f)
+    ≡ (has_break (local_pieces s.names s.function (parameter_count_of s.types f.type_index) f.body.value.locals) || has_break (body_pieces s hs f.body))
+unfolding inner_pieces
+definition-break s hs f =
+    let head : List Piece = function_header s f in
+    let inner : List Piece = inner_pieces s hs f in
+    has_break-append head inner ∙ ap (λ b. b || has_break inner) (header-line s Func (Some s.function) s.function f.type_index)
+    ∙ has_break-append (local_pieces s.names s.function (parameter_count_of s.types f.type_index) f.body.value.locals) (body_pieces s hs f.body)

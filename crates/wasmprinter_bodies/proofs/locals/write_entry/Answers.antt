@@ -1,0 +1,59 @@
+use Rattle.std.proofs.Common.{◌≡◌, ◌-◌, ◌<◌, ◌≤◌, sym, ap, ◌∙◌, [], arith, replicate}
+use Rattle.wasmprinter_print.specs.PrintsLaws.{no_piece, lacks_none, next_written, next_fails}
+use Rattle.wasmprinter_labels.specs.Scan.{names_of}
+use Rattle.wasmprinter_bodies.specs.LocalWalk.{behind_one, behind_all, locals_parts}
+use Rattle.wasmprinter_bodies.proofs.LocalLines.{times-next, times-none, behind_times-next, behind_times-none}
+use Rattle.wasmprinter_bodies.proofs.locals.write_entry.Goals as goal
+
+pub loop-init : goal.loop-init
+loop-init g c =
+    let names = names_of c.args.scope.now.labels in
+    let entry = c.args.entry.now.value in
+    let all : entry.count ≡ entry.count - 0 = omega arith in
+    record {
+      lacks = λ o. record {
+        front = [];
+        written = no_piece g.P.Print.meaning o c.args.p.now;
+        joined = sym (ap (λ n. locals_parts names c.args.function c.args.start (replicate n entry.type)) all);
+      };
+      behind = sym (ap (λ n. behind_all (names.locals c.args.function) c.args.start (replicate n entry.type)) all);
+      number = omega arith;
+    }
+
+pub write_local-requires : goal.write_local-requires
+write_local-requires g c = omega (arith, c.loop.invariant.number, c.loop-test.true, c.count-end.ensures, c.requires)
+
+pub returns-in_err-position-clause-pieces : goal.returns-in_err-position-clause-pieces
+returns-in_err-position-clause-pieces g c o =
+    let entry = c.args.entry.now.value in
+    let left : c.loop.counter < entry.count = omega (arith, c.loop-test.true, c.count-end.ensures) in
+    let step = times-next (names_of c.args.scope.now.labels) c.args.function c.loop.position entry.count c.loop.counter entry.type left in
+    next_fails g.P.Print.meaning _ _ c.from_residual.result (rw step at (c.loop.invariant.lacks o)) (rw c.val_type.ensures at (c.in_err-position.ensures.pieces o)) c.from_residual.ensures.1
+
+pub loop-preserved : goal.loop-preserved
+loop-preserved g c =
+    let names = names_of c.args.scope.now.labels in
+    let entry = c.args.entry.now.value in
+    let left : c.loop.counter < entry.count = omega (arith, c.loop-test.true, c.count-end.ensures) in
+    let step = times-next names c.args.function c.loop.position entry.count c.loop.counter entry.type left in
+    let behind_step = behind_times-next (names.locals c.args.function) c.loop.position entry.count c.loop.counter entry.type left in
+    let behind : c.in_ok-position.position ≡ behind_one (names.locals c.args.function) c.loop.position = c.in_ok-position.ensures.behind in
+    rw behind (record {
+      lacks = λ o. next_written g.P.Print.meaning _ _ (rw step at (c.loop.invariant.lacks o)) (rw c.val_type.ensures at (c.in_ok-position.ensures.pieces o));
+      behind = sym behind_step ∙ c.loop.invariant.behind;
+      number = omega (arith, c.loop.invariant.number);
+    })
+
+pub returns-clause-pieces : goal.returns-clause-pieces
+returns-clause-pieces g c o =
+    let entry = c.args.entry.now.value in
+    let past : entry.count ≤ c.loop.counter = omega (arith, c.loop-test.false, c.count-end.ensures) in
+    let none = times-none (names_of c.args.scope.now.labels) c.args.function c.loop.position entry.count c.loop.counter entry.type past in
+    lacks_none g.P.Print.meaning _ (rw none at (c.loop.invariant.lacks o))
+
+pub returns-clause-behind : goal.returns-clause-behind
+returns-clause-behind g c =
+    let entry = c.args.entry.now.value in
+    let past : entry.count ≤ c.loop.counter = omega (arith, c.loop-test.false, c.count-end.ensures) in
+    sym (behind_times-none ((names_of c.args.scope.now.labels).locals c.args.function) c.loop.position entry.count c.loop.counter entry.type past)
+    ∙ c.loop.invariant.behind

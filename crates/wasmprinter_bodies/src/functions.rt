@@ -1,0 +1,205 @@
+//! Functions (section 6.6 of the WebAssembly Core Specification, "Functions").
+ghost use Rattle.std.specs.Prelude.{◌≡◌, List, codes};
+ghost use Rattle.wasmprinter_spec.specs.Grammar.{Placed};
+ghost use Rattle.wasmprinter_spec.specs.Customs.Hints.{Hint};
+ghost use Rattle.wasmprinter_spec.specs.Options.{Options};
+ghost use Rattle.wasmprinter_spec.specs.Layout.Declarations.{Scope as FieldScope};
+ghost use Rattle.wasmprinter_spec.specs.Layout.Functions.{body_pieces, inner_pieces, function_group, function_pieces};
+ghost use Rattle.wasmprinter_spec.specs.Layout.Groups.{has_break, line_group_gap, group_gap_at};
+ghost use Rattle.wasmprinter_print.specs.Prints.{Prints};
+ghost use Rattle.wasmprinter_scope.specs.Scopes.{scope_view, within};
+ghost use Rattle.wasmprinter_bodies.specs.Functions.{parameter_count_of, outline_parts, definition_parts};
+
+use crate::locals::{has_locals, write_locals};
+use std::io;
+use wasmprinter_customs::FunctionHints;
+use wasmprinter_flat::operators::{Form, Setting, has_operators, write_operators};
+use wasmprinter_lines::lines::{break_line, close_at};
+use wasmprinter_lines::options::PrintOptions;
+use wasmprinter_print::Print;
+use wasmprinter_scope::headers::write_function_header;
+use wasmprinter_scope::scope::{FIELD_NESTING, Scope};
+use wasmprinter_text::signature::Signatures;
+use wasmprinter_wasm::{Body, Function};
+use wasmprinter_words::words::{gap, open_gap, shut, word};
+
+/// How deep the operators of a body are nested.
+const BODY_NESTING: u64 = 2;
+
+/// Writes what stands for a function without its body.
+#[tactic(auto, unfolding(wasmprinter_spec::specs::Layout::Functions::header_pieces))]
+fn write_outline<P: Print>(
+    p: &mut P,
+    scope: &Scope<'_, '_>,
+    number: u64,
+    function: &Function<'_>,
+) -> io::Result<()>
+    ensures { (o : Options) → Prints P.meaning o p.old p.new result
+        (outline_parts (within (scope_view scope.now) number) function.now) }
+{
+    write_function_header(p, scope, number, function.type_index())?;
+    gap(p)?;
+    word(p, "...")
+}
+
+/// Writes a function without its body, as a group.
+#[tactic(auto, unfolding(wasmprinter_spec::specs::Layout::Groups::line_group_gap))]
+fn write_outline_group<P: Print>(
+    p: &mut P,
+    scope: &Scope<'_, '_>,
+    number: u64,
+    function: &Function<'_>,
+) -> io::Result<()>
+    ensures { (o : Options) → Prints P.meaning o p.old p.new result
+        (line_group_gap (codes "func") (outline_parts (within (scope_view scope.now) number) function.now)) }
+{
+    open_gap(p, "func")?;
+    write_outline(p, scope, number, function)?;
+    shut(p)
+}
+
+/// Whether a function has locals or operators, which begin lines.
+fn has_lines(function: &Function<'_>) -> bool
+    ensures { (s : FieldScope) (hints : List (Placed Hint)) → result ≡ has_break (definition_parts s hints function.now) }
+{
+    let body = function.body();
+    has_locals(&body.locals()) || has_operators(body.expression())
+}
+
+/// How many parameters a function of the type has: none unless it is a function type.
+fn parameter_count(scope: &Scope<'_, '_>, type_index: u32) -> u32
+    ensures { result ≡ parameter_count_of (scope_view scope.now).types type_index }
+{
+    match scope.types.signature(type_index) {
+        Some(signature) => signature.params().len(),
+        None => 0,
+    }
+}
+
+/// Writes the operators of a body, each on a line of its own, behind its hint if it has one.
+#[tactic(auto, unfolding(wasmprinter_spec::specs::Layout::Functions::body_pieces))]
+fn write_body<P: Print>(
+    p: &mut P,
+    options: &PrintOptions,
+    scope: &mut Scope<'_, '_>,
+    number: u64,
+    hints: FunctionHints<'_>,
+    body: &Body<'_>,
+) -> io::Result<()>
+    ensures pieces { Prints P.meaning options.now p.old p.new result
+        (body_pieces (within (scope_view scope.old) number) hints.entry body.now) }
+    ensures scope { scope_view scope.new ≡ scope_view scope.old }
+{
+    let setting = Setting {
+        form: Form::OverLines,
+        types: &scope.types,
+        nesting: BODY_NESTING,
+        function: number,
+        body: body.place(),
+    };
+    write_operators(
+        p,
+        options,
+        &setting,
+        &mut scope.labels,
+        hints,
+        body.expression(),
+    )
+}
+
+/// Writes what a function holds behind its type.
+#[tactic(auto, unfolding(wasmprinter_spec::specs::Layout::Functions::inner_pieces))]
+fn write_inner<P: Print>(
+    p: &mut P,
+    options: &PrintOptions,
+    scope: &mut Scope<'_, '_>,
+    number: u64,
+    hints: FunctionHints<'_>,
+    function: &Function<'_>,
+) -> io::Result<()>
+    ensures pieces { Prints P.meaning options.now p.old p.new result
+        (inner_pieces (within (scope_view scope.old) number) hints.entry function.now) }
+    ensures scope { scope_view scope.new ≡ scope_view scope.old }
+{
+    let parameters = parameter_count(scope, function.type_index());
+    let body = function.body();
+    write_locals(p, options, scope, number, parameters, &body.locals())?;
+    write_body(p, options, scope, number, hints, body)
+}
+
+/// Writes what stands for a function with its body.
+#[tactic(auto, unfolding(wasmprinter_spec::specs::Layout::Functions::header_pieces))]
+fn write_definition<P: Print>(
+    p: &mut P,
+    options: &PrintOptions,
+    scope: &mut Scope<'_, '_>,
+    number: u64,
+    hints: FunctionHints<'_>,
+    function: &Function<'_>,
+) -> io::Result<()>
+    ensures pieces { Prints P.meaning options.now p.old p.new result
+        (definition_parts (within (scope_view scope.old) number) hints.entry function.now) }
+    ensures scope { scope_view scope.new ≡ scope_view scope.old }
+{
+    write_function_header(p, scope, number, function.type_index())?;
+    write_inner(p, options, scope, number, hints, function)
+}
+
+/// Writes a function with its body, as a group.
+#[tactic(auto, unfolding(wasmprinter_spec::specs::Layout::Groups::group_gap_at))]
+fn write_definition_group<P: Print>(
+    p: &mut P,
+    options: &PrintOptions,
+    scope: &mut Scope<'_, '_>,
+    number: u64,
+    hints: FunctionHints<'_>,
+    function: &Function<'_>,
+) -> io::Result<()>
+    ensures pieces { Prints P.meaning options.now p.old p.new result
+        (group_gap_at options.now.offsets function.now.body.value.end 1 (codes "func")
+        (definition_parts (within (scope_view scope.old) number) hints.entry function.now)) }
+    ensures scope { scope_view scope.new ≡ scope_view scope.old }
+{
+    let end = function.body().end();
+    open_gap(p, "func")?;
+    write_definition(p, options, scope, number, hints, function)?;
+    close_at(p, options, end, FIELD_NESTING, has_lines(function))
+}
+
+/// Writes a function as a group, in a skeleton without its body.
+fn write_function_group<P: Print>(
+    p: &mut P,
+    options: &PrintOptions,
+    scope: &mut Scope<'_, '_>,
+    number: u64,
+    hints: FunctionHints<'_>,
+    function: &Function<'_>,
+) -> io::Result<()>
+    ensures pieces { Prints P.meaning options.now p.old p.new result
+        (function_group options.now.skeleton options.now.offsets (within (scope_view scope.old) number) hints.entry function.now) }
+    ensures scope { scope_view scope.new ≡ scope_view scope.old }
+{
+    if options.skeleton {
+        write_outline_group(p, scope, number, function)
+    } else {
+        write_definition_group(p, options, scope, number, hints, function)
+    }
+}
+
+/// Writes the function with the number, its operators with these hints.
+#[tactic(auto, unfolding(wasmprinter_spec::specs::Layout::Functions::function_pieces))]
+pub fn write_function<P: Print>(
+    p: &mut P,
+    options: &PrintOptions,
+    scope: &mut Scope<'_, '_>,
+    number: u64,
+    hints: FunctionHints<'_>,
+    function: &Function<'_>,
+) -> io::Result<()>
+    ensures pieces { Prints P.meaning options.now p.old p.new result
+        (function_pieces options.now (scope_view scope.old) number hints.entry function.now) }
+    ensures scope { scope_view scope.new ≡ scope_view scope.old }
+{
+    break_line(p, options, Some(function.body().place()), FIELD_NESTING)?;
+    write_function_group(p, options, scope, number, hints, function)
+}

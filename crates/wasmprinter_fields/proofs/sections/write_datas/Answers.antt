@@ -1,6 +1,0 @@
-use Rattle.wasmprinter_spec.specs.Layout.DataSegments.{data_pieces}
-use Rattle.wasmprinter_fields.proofs.sections.write_datas.Goals as goal
-
-pub returns-clause-pieces : goal.returns-clause-pieces
-unfolding data_pieces
-returns-clause-pieces g c = rw (c.datas.ensures, c.from.ensures, c.function_count.ensures, c.first_number.ensures.is) at c.write_each-written.ensures.pieces

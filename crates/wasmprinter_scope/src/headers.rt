@@ -1,0 +1,43 @@
+//! What stands at the head of a function and of a tag: where it is declared, and its type (section 6.6 of the WebAssembly Core
+//! Specification, "Type Uses").
+ghost use Rattle.std.specs.Prelude.{Some, None};
+ghost use Rattle.wasmprinter_spec.specs.Row as row;
+ghost use Rattle.wasmprinter_spec.specs.Options.{Options};
+ghost use Rattle.wasmprinter_spec.specs.Layout.Functions.{header_pieces};
+ghost use Rattle.wasmprinter_print.specs.Prints.{Prints};
+ghost use Rattle.wasmprinter_scope.specs.Scopes.{scope_view};
+
+use crate::scope::{Scope, write_declaration, write_type_use};
+use std::io;
+use wasmprinter_names::Space;
+use wasmprinter_print::Print;
+
+/// Writes the head of a function, whose parameters have identifiers.
+#[tactic(auto, unfolding(wasmprinter_spec::specs::Layout::Functions::header_pieces))]
+pub fn write_function_header<P: Print>(
+    p: &mut P,
+    scope: &Scope<'_, '_>,
+    number: u64,
+    type_index: u32,
+) -> io::Result<()>
+    ensures { (o : Options) → Prints P.meaning o p.old p.new result
+        (header_pieces (scope_view scope.now) row.Func (Some number) number type_index) }
+{
+    write_declaration(p, scope, Space::Func, number)?;
+    write_type_use(p, scope, Some(number), type_index)
+}
+
+/// Writes the head of a tag.
+#[tactic(auto, unfolding(wasmprinter_spec::specs::Layout::Functions::header_pieces))]
+pub fn write_tag_header<P: Print>(
+    p: &mut P,
+    scope: &Scope<'_, '_>,
+    number: u64,
+    type_index: u32,
+) -> io::Result<()>
+    ensures { (o : Options) → Prints P.meaning o p.old p.new result
+        (header_pieces (scope_view scope.now) row.Tag None number type_index) }
+{
+    write_declaration(p, scope, Space::Tag, number)?;
+    write_type_use(p, scope, None, type_index)
+}

@@ -1,0 +1,159 @@
+//! What the fields of a module are printed by, and what is printed by it: items where they are declared and used, and types.
+ghost use Rattle.std.specs.Prelude.{◌≡◌, ◌∷◌, ℕ};
+ghost use Rattle.wasmprinter_spec.specs.Options.{Options};
+ghost use Rattle.wasmprinter_spec.specs.Piece.{Gap};
+ghost use Rattle.wasmprinter_spec.specs.Layout.Groups.{line_group_gap};
+ghost use Rattle.wasmprinter_spec.specs.Layout.Declarations.{type_use};
+ghost use Rattle.wasmprinter_spec.specs.Layout.Identifiers.{declaration_pieces, index_pieces};
+ghost use Rattle.wasmprinter_spec.specs.Layout.ValTypes.{ref_pieces, val_pieces};
+ghost use Rattle.wasmprinter_spec.specs.Layout.Types.{type_pieces};
+ghost use Rattle.wasmprinter_print.specs.Prints.{Prints};
+ghost use Rattle.wasmprinter_names.specs.Shown.{shown};
+ghost use Rattle.wasmprinter_text.specs.Items.{item_of};
+ghost use Rattle.wasmprinter_ops.specs.ValTypes.{ref_view, type_view};
+ghost use Rattle.wasmprinter_labels.specs.Scan.{names_of};
+ghost use Rattle.wasmprinter_scope.specs.Scopes.{scope_view, item_in};
+
+use std::io;
+use wasmprinter_labels::OpenLabels;
+use wasmprinter_names::{Identifiers, Space};
+use wasmprinter_ops::types::composite::{FuncType, SubType};
+use wasmprinter_ops::types::{RefType, ValType};
+use wasmprinter_print::Print;
+use wasmprinter_text::indices::{self, write_declaration_of, write_index_of};
+use wasmprinter_text::signature::{self, Signatures};
+use wasmprinter_text::types;
+use wasmprinter_text::types::composite::type_field;
+use wasmprinter_wasm::Module;
+
+/// How deep the fields of a module are nested.
+pub const FIELD_NESTING: u64 = 1;
+
+/// The types of a module, as blocks name them.
+#[derive(Clone, Copy)]
+pub struct ModuleTypes<'m, 'a> {
+    /// The module.
+    pub module: &'m Module<'a>,
+}
+
+impl<'m, 'a> Signatures for ModuleTypes<'m, 'a> {
+    ghost use Rattle.wasmprinter_spec.specs.Types.{all_types, signature_at as signature_of_type};
+    ghost use Rattle.wasmprinter_spec.specs.Module.{groups_of};
+
+    ghost signature_at = { λ s n. signature_of_type (all_types (groups_of s.module.now.types)) n };
+
+    fn signature(&self, index: u32) -> Option<FuncType<'_>> {
+        self.module.signature(index)
+    }
+}
+
+/// What the fields of a module are printed by.
+#[derive(Drop)]
+pub struct Scope<'s, 'a> {
+    /// The types of the module.
+    pub types: ModuleTypes<'s, 'a>,
+    /// The labels of open blocks, with the identifiers of the module.
+    pub labels: OpenLabels<'s, 'a>,
+    /// The function whose locals and labels an expression means.
+    pub function: u64,
+}
+
+impl<'s, 'a> Scope<'s, 'a> {
+    /// The identifiers of the module.
+    pub fn identifiers(&self) -> Identifiers<'s, 'a>
+        ensures all { shown result ≡ names_of self.now.labels }
+        ensures items { (space : Space) (n : ℕ) → item_of result space 0 n ≡ item_in self.now.labels space n }
+    {
+        self.labels.identifiers()
+    }
+}
+
+/// Writes an item of the module where it is declared.
+pub fn write_declaration<P: Print>(
+    p: &mut P,
+    scope: &Scope<'_, '_>,
+    space: Space,
+    number: u64,
+) -> io::Result<()>
+    ensures { (o : Options) → Prints P.meaning o p.old p.new result
+        (declaration_pieces (item_in scope.now.labels space number) number) }
+{
+    write_declaration_of(p, &scope.identifiers(), space, 0, number)
+}
+
+/// Writes an index of an item of the module.
+pub fn write_index<P: Print>(
+    p: &mut P,
+    scope: &Scope<'_, '_>,
+    space: Space,
+    index: u32,
+) -> io::Result<()>
+    ensures { (o : Options) → Prints P.meaning o p.old p.new result
+        (index_pieces (item_in scope.now.labels space index) index) }
+{
+    write_index_of(p, &scope.identifiers(), space, 0, u64::from(index))
+}
+
+/// Writes an index of an item of the module as a group behind a keyword.
+pub fn write_index_group<P: Print>(
+    p: &mut P,
+    scope: &Scope<'_, '_>,
+    keyword: &str,
+    space: Space,
+    index: u32,
+) -> io::Result<()>
+    ensures { (o : Options) → Prints P.meaning o p.old p.new result
+        (line_group_gap keyword.now (index_pieces (item_in scope.now.labels space index) index)) }
+{
+    indices::write_index_group(p, &scope.identifiers(), keyword, space, index)
+}
+
+/// Writes a blank, the index of a type, and its signature where it is a function type. `owner` is the function that has the type.
+pub fn write_type_use<P: Print>(
+    p: &mut P,
+    scope: &Scope<'_, '_>,
+    owner: Option<u64>,
+    index: u32,
+) -> io::Result<()>
+    ensures { (o : Options) → Prints P.meaning o p.old p.new result
+        (Gap ∷ type_use (scope_view scope.now) owner index) }
+{
+    signature::write_type_use(p, &scope.identifiers(), owner, &scope.types, index)
+}
+
+/// Writes a reference type.
+pub fn write_ref_type<P: Print>(
+    p: &mut P,
+    scope: &Scope<'_, '_>,
+    ref_type: RefType,
+) -> io::Result<()>
+    ensures { (o : Options) → Prints P.meaning o p.old p.new result
+        (ref_pieces (names_of scope.now.labels) (ref_view ref_type)) }
+{
+    types::write_ref_type(p, &scope.identifiers(), ref_type)
+}
+
+/// Writes a value type.
+pub fn write_val_type<P: Print>(
+    p: &mut P,
+    scope: &Scope<'_, '_>,
+    value_type: ValType,
+) -> io::Result<()>
+    ensures { (o : Options) → Prints P.meaning o p.old p.new result
+        (val_pieces (names_of scope.now.labels) (type_view value_type)) }
+{
+    types::write_val_type(p, &scope.identifiers(), value_type)
+}
+
+/// Writes a type with its number.
+pub fn write_type<P: Print>(
+    p: &mut P,
+    scope: &Scope<'_, '_>,
+    number: u64,
+    sub_type: &SubType<'_>,
+) -> io::Result<()>
+    ensures { (o : Options) → Prints P.meaning o p.old p.new result
+        (type_pieces (names_of scope.now.labels) number sub_type.now) }
+{
+    type_field(p, &scope.identifiers(), number, sub_type)
+}

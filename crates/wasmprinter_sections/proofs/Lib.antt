@@ -1,0 +1,6 @@
+pub mod Walking
+pub mod Breaking
+pub mod SectionParts
+pub mod SectionWalk
+pub mod ModuleParts
+pub mod WholeModule

@@ -1,0 +1,115 @@
+-- Sections one after the other, each with its custom sections.
+use Rattle.std.specs.Prelude.{◌≡◌, ℕ, zero, suc, ◌+◌, ◌<◌, ◌-◌, List, [], ◌∷◌, ◌++◌, Bool, false, ◌||◌, length, take, drop, replicate, Option, Some, None, Result, Ok, Err, IsErrAnd, slice_get, refl}
+use Rattle.std.proofs.Common.{sym, ap, ◌∙◌, subst, append_assoc, append-nil, length-append, add-one, get_or, option_map, arith}
+use Rattle.std.proofs.lemmas.List.{length-replicate}
+use Rattle.std.proofs.lemmas.Option.{slice_get-map, slice_get-get_or}
+use Rattle.wasmprinter_error.specs.declared.error.Error.{Error}
+use Rattle.wasmprinter_spec.specs.Kinds.{Kind}
+use Rattle.wasmprinter_spec.specs.Meaning.{Meaning}
+use Rattle.wasmprinter_spec.specs.Placed.{PlacedModule}
+use Rattle.wasmprinter_spec.specs.Options.{Options, Answers}
+use Rattle.wasmprinter_spec.specs.Layout.Declarations.{Scope}
+use Rattle.wasmprinter_spec.specs.Layout.Customs.{Part, parts_at}
+use Rattle.wasmprinter_entries.specs.Places.{section_kind_view}
+use Rattle.wasmprinter_entries.specs.declared.places.SectionKind.{SectionKind}
+use Rattle.wasmprinter_entries.specs.declared.places.SectionKind.TheVariants as k
+use Rattle.wasmprinter_annotations.specs.Lines.{PrintsPartLines}
+use Rattle.wasmprinter_annotations.proofs.Parts.{part_lines_then, part_lines_end}
+use Rattle.wasmprinter_sections.specs.Sections.{section_parts, sections_parts, kinds}
+
+module _ (o : Options) (s : Scope) (m : PlacedModule) where
+  -- some sections, one more, and others behind it
+  pub sections-split : (xs : List Answers) (a : Answers) (bs : List Answers) (ks : List Kind) (k : Kind) → slice_get ks (length xs) ≡ Some k →
+      sections_parts o s m (xs ++ (a ∷ bs)) ks
+      ≡ sections_parts o s m xs (take (length xs) ks) ++ (section_parts o s m a k ++ sections_parts o s m bs (drop (suc (length xs)) ks))
+  sections-split [] a bs [] k e = absurd cc
+  sections-split [] a bs (x ∷ ks) k e = ap (λ (y : Kind). section_parts o s m a y ++ sections_parts o s m bs ks) cc
+  sections-split (x ∷ xs) a bs [] k e = absurd cc
+  sections-split (x ∷ xs) a bs (y ∷ ks) k e =
+      ap (λ (ps : List Part). section_parts o s m x y ++ ps) (sections-split xs a bs ks k e)
+      ∙ sym (append_assoc (section_parts o s m x y) (sections_parts o s m xs (take (length xs) ks)) (section_parts o s m a k ++ sections_parts o s m bs (drop (suc (length xs)) ks)))
+
+-- the program's kinds are those of the definitions
+abbrev pub program_kinds : List SectionKind
+program_kinds = k.Type ∷ k.Import ∷ k.Function ∷ k.Table ∷ k.Memory ∷ k.Tag ∷ k.Global ∷ k.Export ∷ k.Start ∷ k.Element ∷ k.Code ∷ k.Data ∷ []
+
+pub kind_at : (i : ℕ) → i < length kinds → slice_get kinds i ≡ Some (section_kind_view (get_or program_kinds i k.Type))
+kind_at i h = slice_get-map section_kind_view program_kinds i ∙ ap (option_map section_kind_view) (slice_get-get_or program_kinds i k.Type h)
+
+-- i sections have been written, with the custom sections in front of them and behind them
+pub record Walked {P : Type 0} (n : Meaning P) (o : Options) (s : Scope) (m : PlacedModule) (old new : P) (i : ℕ) (lines : Bool) : Type 0 where
+  pub first : Answers
+  pub answers : List Answers
+  pub many : length answers ≡ i
+  pub written : PrintsPartLines n o old new (Ok lines) (parts_at o.skeleton first None 0 m.customs ++ sections_parts o s m answers (take i kinds))
+
+-- all of them have, up to the end that is answered
+abbrev pub WalkEnds : {P : Type 0} → Meaning P → Options → Scope → PlacedModule → P → P → Result Bool Error → Type 0
+WalkEnds n o s m old new r = (first : Answers) × (answers : List Answers) × (length answers ≡ length kinds)
+    × PrintsPartLines n o old new r (parts_at o.skeleton first None 0 m.customs ++ sections_parts o s m answers kinds)
+
+module _ {P : Type 0} (n : Meaning P) (o : Options) (s : Scope) (m : PlacedModule) where
+  -- before the first
+  pub walk_starts : {a t : P} {lines : Bool} (first : Answers) → PrintsPartLines n o a t (Ok lines) (parts_at o.skeleton first None 0 m.customs) → Walked n o s m a t 0 lines
+  walk_starts {a} {t} {lines} first w = record {
+    first = first;
+    answers = [];
+    many = refl;
+    written = subst (λ (ps : List Part). PrintsPartLines n o a t (Ok lines) ps) (sym (append-nil (parts_at o.skeleton first None 0 m.customs))) w;
+  }
+
+  take-some : (ks : List Kind) (i : ℕ) (k : Kind) → slice_get ks i ≡ Some k → (xs : List Answers) (a : Answers) → length xs ≡ i →
+      sections_parts o s m (xs ++ (a ∷ [])) (take (suc i) ks) ≡ sections_parts o s m xs (take i ks) ++ section_parts o s m a k
+  take-some [] i k e [] a l = absurd cc
+  take-some [] i k e (x ∷ xs) a l = absurd cc
+  take-some (y ∷ ks) zero k e [] a l = append-nil (section_parts o s m a y) ∙ ap (λ (z : Kind). section_parts o s m a z) cc
+  take-some (y ∷ ks) (suc i) k e [] a l = absurd cc
+  take-some (y ∷ ks) zero k e (x ∷ xs) a l = absurd cc
+  take-some (y ∷ ks) (suc i) k e (x ∷ xs) a l =
+      ap (λ (ps : List Part). section_parts o s m x y ++ ps) (take-some ks i k e xs a cc)
+      ∙ sym (append_assoc (section_parts o s m x y) (sections_parts o s m xs (take i ks)) (section_parts o s m a k))
+
+  -- one more, and the custom sections behind it
+  pub walk_writes : {a b t : P} {i : ℕ} {lines more : Bool} (k : Kind) → slice_get kinds i ≡ Some k → Walked n o s m a b i lines →
+      (answers : Answers) → PrintsPartLines n o b t (Ok more) (section_parts o s m answers k) → Walked n o s m a t (i + 1) (lines || more)
+  walk_writes {a} {t = t} {i} {lines} {more} k e w answers v =
+      let front : List Part = parts_at o.skeleton w.first None 0 m.customs in
+      let done : List Part = sections_parts o s m w.answers (take i kinds) in
+      let joined : (front ++ done) ++ section_parts o s m answers k ≡ front ++ sections_parts o s m (w.answers ++ (answers ∷ [])) (take (suc i) kinds) =
+      append_assoc front done (section_parts o s m answers k) ∙ ap (λ (ps : List Part). front ++ ps) (sym (take-some kinds i k e w.answers answers w.many)) in
+      record {
+        first = w.first;
+        answers = w.answers ++ (answers ∷ []);
+        many = length-append w.answers (answers ∷ []) ∙ ap (λ (j : ℕ). j + 1) w.many;
+        written = rw (add-one) (subst (λ (ps : List Part). PrintsPartLines n o a t (Ok (lines || more)) ps) joined (part_lines_then n w.written v));
+      }
+
+  -- it ended amid one
+  pub walk_fails : {a b t : P} {i : ℕ} {lines : Bool} (r : Result Bool Error) {e : Error} (k : Kind) → i < length kinds → slice_get kinds i ≡ Some k → Walked n o s m a b i lines →
+      (answers : Answers) → PrintsPartLines n o b t (Err e) (section_parts o s m answers k) → IsErrAnd r (λ y. y ≡ e) → WalkEnds n o s m a t r
+  walk_fails {a} {t = t} {i} r k h e w answers v f =
+      let front : List Part = parts_at o.skeleton w.first None 0 m.customs in
+      let done : List Part = sections_parts o s m w.answers (take i kinds) in
+      let rest : List Answers = replicate (length kinds - (i + 1)) (λ x. false) in
+      let behind : List Part = sections_parts o s m rest (drop (suc i) kinds) in
+      let split : sections_parts o s m (w.answers ++ (answers ∷ rest)) kinds ≡ done ++ (section_parts o s m answers k ++ behind) =
+      rw w.many at (sections-split o s m w.answers answers rest kinds k (ap (slice_get kinds) w.many ∙ e)) in
+      let all : (front ++ done) ++ (section_parts o s m answers k ++ behind) ≡ front ++ sections_parts o s m (w.answers ++ (answers ∷ rest)) kinds =
+      append_assoc front done (section_parts o s m answers k ++ behind) ∙ ap (λ (ps : List Part). front ++ ps) (sym split) in
+      let rests : length rest ≡ length kinds - (i + 1) = length-replicate (length kinds - (i + 1)) (λ x. false) in
+      let long : length (w.answers ++ (answers ∷ rest)) ≡ length kinds = length-append w.answers (answers ∷ rest) ∙ omega (arith, w.many, rests, h) in (
+        w.first,
+        w.answers ++ (answers ∷ rest),
+        long,
+        subst (λ (ps : List Part). PrintsPartLines n o a t r ps) all (part_lines_end n r behind f w.written v),
+      )
+
+  -- all are written
+  pub walk_ends : {a t : P} {i : ℕ} {lines : Bool} → i ≡ length kinds → Walked n o s m a t i lines → WalkEnds n o s m a t (Ok lines)
+  walk_ends {a} {t} {i} {lines} e w =
+      let front : List Part = parts_at o.skeleton w.first None 0 m.customs in (
+        w.first,
+        w.answers,
+        w.many ∙ e,
+        subst (λ (j : ℕ). PrintsPartLines n o a t (Ok lines) (front ++ sections_parts o s m w.answers (take j kinds))) e w.written,
+      )

@@ -1,0 +1,106 @@
+-- A module is its parts, in a group that ends the text unless a part ends it.
+use Rattle.std.specs.Prelude.{◌≡◌, ℕ, List, [], ◌∷◌, ◌++◌, ◌||◌, Bool, codes, Option, Some, None, Result, Ok, Err, IsErrAnd, refl}
+use Rattle.std.proofs.Common.{sym, ap, ◌∙◌, subst, append_assoc, append-nil}
+use Rattle.std.specs.declared.io.Error.{Error as IoError}
+use Rattle.wasmprinter_error.specs.declared.error.Error.{Error}
+use Rattle.wasmprinter_error.specs.declared.error.Error.TheVariants.{Printer}
+use Rattle.wasmprinter_spec.specs.Meaning.{Meaning}
+use Rattle.wasmprinter_spec.specs.Names.{Names}
+use Rattle.wasmprinter_spec.specs.Placed.{PlacedModule}
+use Rattle.wasmprinter_spec.specs.Options.{Options, Answers}
+use Rattle.wasmprinter_spec.specs.Piece.{Piece, Begin, Feed, Open}
+use Rattle.wasmprinter_spec.specs.Layout.{module_parts, module_pieces_of, module_pieces_with}
+use Rattle.wasmprinter_spec.specs.Layout.Groups.{close, has_break, group_at}
+use Rattle.wasmprinter_spec.specs.Layout.Identifiers.{leading_mark_pieces}
+use Rattle.wasmprinter_spec.specs.Layout.Customs.{Part, Shown, Laid, before_laid, laid_parts}
+use Rattle.wasmprinter_print.specs.Emits.{Through, AtCall}
+use Rattle.wasmprinter_print.specs.Prints.{Written}
+use Rattle.wasmprinter_annotations.specs.Parts.{PrintsLaid, PrintsParts}
+use Rattle.wasmprinter_annotations.specs.Lines.{PrintsPartLines}
+use Rattle.wasmprinter_annotations.proofs.Parts.{laid_behind, joined-append, no_parts, shown_then, shown_fails, parts_then, parts_end}
+use Rattle.wasmprinter_sections.specs.Sections.{module_laid}
+
+-- in front of the parts
+abbrev pub opening : List Piece
+opening = Begin 0 ∷ (Open (codes "module") ∷ [])
+
+-- behind them, where they have this layout
+abbrev pub closing : Options → ℕ → Bool → List Piece
+closing o size lines = close (Some size) 0 (o.offsets || lines) ++ (Feed ∷ [])
+
+-- what stands in the group
+abbrev pub inner_parts : Options → Answers → Names → PlacedModule → List Part
+inner_parts o answers names m = Shown (leading_mark_pieces names.module_name) ∷ module_parts o answers names m
+
+-- all of it
+abbrev pub whole_parts : Options → Answers → Names → PlacedModule → List Part
+whole_parts o answers names m =
+    let inner : List Part = inner_parts o answers names m in
+    Shown opening ∷ (inner ++ (Shown (closing o m.size (has_break (laid_parts inner).pieces)) ∷ []))
+
+module _ (o : Options) (names : Names) (size : ℕ) where
+  -- where no part ends it, and where one does
+  either_laid : (ps : List Piece) (refused : Option ℕ) →
+      let inner : List Piece = leading_mark_pieces names.module_name ++ ps in
+      record { pieces = module_pieces_of o names size ps refused; refused = refused }
+      ≡ before_laid opening (laid_behind inner refused (before_laid (closing o size (has_break inner)) (record { pieces = []; refused = None })))
+  unfolding group_at
+  either_laid ps None =
+      let inner : List Piece = leading_mark_pieces names.module_name ++ ps in
+      let shut : List Piece = close (Some size) 0 (o.offsets || has_break inner) in
+      ap (λ (xs : List Piece). record { pieces = Begin 0 ∷ (Open (codes "module") ∷ xs); refused = None })
+      (append_assoc inner shut (Feed ∷ []) ∙ ap (λ (xs : List Piece). inner ++ xs) (sym (append-nil (shut ++ (Feed ∷ [])))))
+  either_laid ps (Some id) = refl
+
+pub module-whole : (o : Options) (answers : Answers) (names : Names) (m : PlacedModule) → laid_parts (whole_parts o answers names m) ≡ module_laid o answers names m
+unfolding module_pieces_with
+module-whole o answers names m =
+    let laid : Laid = laid_parts (module_parts o answers names m) in
+    let inner : List Part = inner_parts o answers names m in
+    let last : List Part = Shown (closing o m.size (has_break (laid_parts inner).pieces)) ∷ [] in
+    ap (before_laid opening) (joined-append inner last) ∙ sym (either_laid o names m.size laid.pieces laid.refused)
+
+-- ---- what was made of it
+
+-- a call that failed
+abbrev pub failed : IoError → Result (Unit {0}) IoError
+failed e = Err e
+
+module _ {P : Type 0} (n : Meaning P) (o : Options) (answers : Answers) (names : Names) (m : PlacedModule) where
+  as_module : {a t : P} {r : Result (Unit {0}) Error} → PrintsParts n o a t r (whole_parts o answers names m) → PrintsLaid n o a t r (module_laid o answers names m)
+  as_module {a} {t} {r} v = subst (λ (l : Laid). PrintsLaid n o a t r l) (module-whole o answers names m) v
+
+  abbrev last_parts : Bool → List Part
+  last_parts lines = Shown (closing o m.size lines) ∷ []
+
+  -- a call failed amid the opening
+  pub opening_fails : {a t : P} (r : Result (Unit {0}) Error) {e : IoError} → IsErrAnd r (λ y. y ≡ Printer e) → Written n o a t (AtCall e) opening →
+      PrintsLaid n o a t r (module_laid o answers names m)
+  opening_fails r f v =
+      let inner : List Part = inner_parts o answers names m in
+      as_module (shown_fails n r (inner ++ last_parts (has_break (laid_parts inner).pieces)) f v)
+
+  -- the parts ended
+  pub inner_ends : {a s t : P} (r : Result (Unit {0}) Error) {e : Error} → IsErrAnd r (λ y. y ≡ e) → Written n o a s Through opening →
+      PrintsPartLines n o s t (Err e) (inner_parts o answers names m) → PrintsLaid n o a t r (module_laid o answers names m)
+  inner_ends r f v w =
+      let inner : List Part = inner_parts o answers names m in
+      let last : List Part = last_parts (has_break (laid_parts inner).pieces) in
+      as_module (shown_then n (inner ++ last) v (parts_end n r inner last f w.prints))
+
+  -- a call failed amid the closing
+  pub closing_fails : {a s u t : P} {lines : Bool} (r : Result (Unit {0}) Error) {e : IoError} → IsErrAnd r (λ y. y ≡ Printer e) →
+      Written n o a s Through opening → PrintsPartLines n o s u (Ok lines) (inner_parts o answers names m) → Written n o u t (AtCall e) (closing o m.size lines) →
+      PrintsLaid n o a t r (module_laid o answers names m)
+  closing_fails r f v w x =
+      let inner : List Part = inner_parts o answers names m in
+      let last : List Part = last_parts (has_break (laid_parts inner).pieces) in
+      as_module (shown_then n (inner ++ last) v (parts_then n inner last w.prints (shown_fails n r [] f (rw w.lines at x))))
+
+  -- all was written
+  pub module_written : {a s u t : P} {lines : Bool} {x : Unit {0}} → Written n o a s Through opening → PrintsPartLines n o s u (Ok lines) (inner_parts o answers names m) →
+      Written n o u t Through (closing o m.size lines) → PrintsLaid n o a t (Ok x) (module_laid o answers names m)
+  module_written v w y =
+      let inner : List Part = inner_parts o answers names m in
+      let last : List Part = last_parts (has_break (laid_parts inner).pieces) in
+      as_module (shown_then n (inner ++ last) v (parts_then n inner last w.prints (shown_then n [] (rw w.lines at y) (no_parts n))))

@@ -1,0 +1,31 @@
+use Rattle.wasmprinter_spec.specs.Layout.{tag_pieces}
+use Rattle.wasmprinter_spec.specs.Layout.Tables.{table_pieces}
+use Rattle.wasmprinter_spec.specs.Layout.Memories.{memory_pieces}
+use Rattle.wasmprinter_spec.specs.Layout.Globals.{global_pieces}
+use Rattle.wasmprinter_spec.specs.Layout.Exports.{export_pieces}
+use Rattle.wasmprinter_spec.specs.Layout.Elements.{element_pieces}
+use Rattle.wasmprinter_sections.proofs.sections.write_fields_of.Goals as goal
+
+pub returns-in-Table-clause-pieces : goal.returns-in-Table-clause-pieces
+unfolding table_pieces
+returns-in-Table-clause-pieces g c = rw c.in-Table.is (rw c.tables.ensures.all at c.write_defined.ensures.pieces)
+
+pub returns-in-Memory-clause-pieces : goal.returns-in-Memory-clause-pieces
+unfolding memory_pieces
+returns-in-Memory-clause-pieces g c = rw c.in-Memory.is (rw c.memories.ensures.all at c.write_defined-in-Memory.ensures.pieces)
+
+pub returns-in-Tag-clause-pieces : goal.returns-in-Tag-clause-pieces
+unfolding tag_pieces
+returns-in-Tag-clause-pieces g c = rw c.in-Tag.is (rw c.tags.ensures.all at c.write_defined-in-Tag.ensures.pieces)
+
+pub returns-in-Global-clause-pieces : goal.returns-in-Global-clause-pieces
+unfolding global_pieces
+returns-in-Global-clause-pieces g c = rw c.in-Global.is (rw c.globals.ensures.all at c.write_defined-in-Global.ensures.pieces)
+
+pub returns-in-Export-clause-pieces : goal.returns-in-Export-clause-pieces
+unfolding export_pieces
+returns-in-Export-clause-pieces g c = rw c.in-Export.is (rw c.exports.ensures at c.write_each.ensures.pieces)
+
+pub returns-in-Element-clause-pieces : goal.returns-in-Element-clause-pieces
+unfolding element_pieces
+returns-in-Element-clause-pieces g c = rw c.in-Element.is (rw c.elements.ensures at c.write_each-in-Element.ensures.pieces)

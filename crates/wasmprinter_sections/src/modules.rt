@@ -1,0 +1,121 @@
+//! Modules (section 6.6 of the WebAssembly Core Specification, "Modules"): the fields of each section, and behind them the custom sections
+//! that stand there.
+ghost use Rattle.std.specs.Prelude.{◌≡◌, ◌∷◌, ◌++◌, List, None, length};
+ghost use Rattle.wasmprinter_spec.specs.Options.{Answers};
+ghost use Rattle.wasmprinter_spec.specs.Layout.{module_parts};
+ghost use Rattle.wasmprinter_spec.specs.Layout.Customs.{Shown, parts_at};
+ghost use Rattle.wasmprinter_spec.specs.Layout.Identifiers.{leading_mark_pieces};
+ghost use Rattle.wasmprinter_entries.specs.Places.{section_kind_view};
+ghost use Rattle.wasmprinter_labels.specs.Scan.{names_of};
+ghost use Rattle.wasmprinter_annotations.specs.Parts.{PrintsLaid};
+ghost use Rattle.wasmprinter_annotations.specs.Lines.{PrintsPartLines};
+ghost use Rattle.wasmprinter_scope.specs.Scopes.{scope_view};
+ghost use Rattle.wasmprinter_sections.specs.Sections.{section_parts, sections_parts, kinds, module_laid};
+
+use crate::sections::{has_fields, write_fields_of};
+use wasmprinter_annotations::write_customs;
+use wasmprinter_error::Error;
+use wasmprinter_fields::fields::first_number;
+use wasmprinter_labels::OpenLabels;
+use wasmprinter_lines::lines::{begin, close_at, end};
+use wasmprinter_lines::options::PrintOptions;
+use wasmprinter_print::Print;
+use wasmprinter_scope::scope::{ModuleTypes, Scope};
+use wasmprinter_text::indices::write_leading_mark;
+use wasmprinter_wasm::{ExternKind, Module, SectionKind};
+use wasmprinter_words::words::open;
+
+/// The kinds of sections, in the order of the sections.
+const KINDS: [SectionKind; 12] = [
+    SectionKind::Type,
+    SectionKind::Import,
+    SectionKind::Function,
+    SectionKind::Table,
+    SectionKind::Memory,
+    SectionKind::Tag,
+    SectionKind::Global,
+    SectionKind::Export,
+    SectionKind::Start,
+    SectionKind::Element,
+    SectionKind::Code,
+    SectionKind::Data,
+];
+
+/// Writes the fields of the section of a kind, and the custom sections behind it. Answers whether lines were written.
+fn write_section<P: Print>(
+    p: &mut P,
+    options: &PrintOptions,
+    module: &Module<'_>,
+    scope: &mut Scope<'_, '_>,
+    kind: SectionKind,
+) -> Result<bool, Error>
+    ensures parts { (answers : Answers) × PrintsPartLines P.meaning options.now p.old p.new result
+        (section_parts options.now (scope_view scope.old) module.now answers (section_kind_view kind)) }
+    ensures scope { scope_view scope.new ≡ scope_view scope.old }
+{
+    write_fields_of(p, options, module, scope, kind)?;
+    let lines = write_customs(p, options, module.customs(), Some(kind))?;
+    Ok(lines | has_fields(module, kind))
+}
+
+/// Writes the fields of all sections, and the custom sections at their places among them. Answers whether lines were written.
+fn write_sections<P: Print>(
+    p: &mut P,
+    options: &PrintOptions,
+    module: &Module<'_>,
+    scope: &mut Scope<'_, '_>,
+) -> Result<bool, Error>
+    ensures { (first : Answers) × (answers : List Answers) × (length answers ≡ length kinds)
+        × PrintsPartLines P.meaning options.now p.old p.new result
+        (parts_at options.now.skeleton first None 0 module.now.customs
+        ++ sections_parts options.now (scope_view scope.old) module.now answers kinds) }
+{
+    let mut lines = write_customs(p, options, module.customs(), None)?;
+    for kind in &KINDS {
+        lines |= write_section(p, options, module, scope, *kind)?;
+    }
+    Ok(lines)
+}
+
+/// Writes what stands in the module's group: its identifier, if it has one, its fields and its custom sections. Answers whether lines were
+/// written.
+fn write_parts<'s, 'a, P: Print>(
+    p: &mut P,
+    options: &PrintOptions,
+    module: &'s Module<'a>,
+    labels: OpenLabels<'s, 'a>,
+) -> Result<bool, Error>
+    ensures { (answers : Answers) × PrintsPartLines P.meaning options.now p.old p.new result
+        (Shown (leading_mark_pieces (names_of labels.entry).module_name) ∷ module_parts options.now answers (names_of labels.entry) module.now) }
+{
+    write_leading_mark(p, labels.identifiers().module())?;
+    let mut scope = Scope {
+        types: ModuleTypes { module },
+        labels,
+        function: first_number(module, ExternKind::Func),
+    };
+    write_sections(p, options, module, &mut scope)
+}
+
+/// Writes a module, with the identifiers that the labels have.
+///
+/// # Errors
+///
+/// `DylinkSubsection` for a custom section `dylink.0` with a subsection that isn't known, which the printer doesn't take: what stands in
+/// front of it was written. `Printer` where a call on the printer failed, with that call's error. No other.
+pub fn write_module<'s, 'a, P: Print>(
+    p: &mut P,
+    options: &PrintOptions,
+    module: &'s Module<'a>,
+    labels: OpenLabels<'s, 'a>,
+) -> Result<(), Error>
+    ensures { (answers : Answers) × PrintsLaid P.meaning options.now p.old p.new result
+        (module_laid options.now answers (names_of labels.entry) module.now) }
+{
+    begin(p, 0)?;
+    open(p, "module")?;
+    let lines = write_parts(p, options, module, labels)?;
+    close_at(p, options, module.size(), 0, lines)?;
+    end(p)?;
+    Ok(())
+}

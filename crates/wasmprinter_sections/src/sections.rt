@@ -1,0 +1,164 @@
+//! The fields of sections by their kinds (section 6.6 of the WebAssembly Core Specification, "Modules").
+ghost use Rattle.std.specs.Prelude.{◌≡◌, ◌+◌, ◌<◌, ◌^◌, length};
+ghost use Rattle.wasmprinter_spec.specs.Types.{FuncKind};
+ghost use Rattle.wasmprinter_spec.specs.Customs.Hints.{hints_of};
+ghost use Rattle.wasmprinter_spec.specs.Options.{Options};
+ghost use Rattle.wasmprinter_spec.specs.Layout.Declarations.{Scope as FieldScope};
+ghost use Rattle.wasmprinter_spec.specs.Layout.DataSegments.{data_pieces};
+ghost use Rattle.wasmprinter_spec.specs.Layout.Functions.{functions_pieces};
+ghost use Rattle.wasmprinter_spec.specs.Layout.Groups.{has_break, numbered};
+ghost use Rattle.wasmprinter_print.specs.Prints.{Prints};
+ghost use Rattle.wasmprinter_entries.specs.Externs.{kind_view, imported_count};
+ghost use Rattle.wasmprinter_entries.specs.Places.{section_kind_view};
+ghost use Rattle.wasmprinter_scope.specs.Scopes.{scope_view, within};
+ghost use Rattle.wasmprinter_fields.specs.Parts.{field_line};
+ghost use Rattle.wasmprinter_sections.specs.Sections.{fields_of};
+
+use std::io;
+use wasmprinter_bodies::functions::write_function;
+use wasmprinter_customs::{Hints, is_hint_section};
+use wasmprinter_fields::fields::{Field, first_number, write_each};
+use wasmprinter_fields::imports::write_imports;
+use wasmprinter_fields::start::write_start;
+use wasmprinter_fields::types::write_type_groups;
+use wasmprinter_lines::options::PrintOptions;
+use wasmprinter_print::Print;
+use wasmprinter_scope::scope::Scope;
+use wasmprinter_wasm::{CustomEntry, ExternKind, Module, SectionKind};
+
+/// The branch hints that custom sections give: those of the last section that has some.
+fn hints_of<'a>(customs: &[CustomEntry<'a>]) -> Hints<'a>
+    ensures { result ≡ hints_of customs.now }
+{
+    let mut last = None;
+    for entry in customs {
+        if is_hint_section(entry.section.name()) {
+            last = Some(&entry.section);
+        }
+    }
+    match last {
+        Some(section) => {
+            let content = section.cursor();
+            prove!(content.end() <= u64::MAX);
+            Hints::given(content.place(), content.rest())
+        }
+        None => Hints::none(),
+    }
+}
+
+/// Writes the functions that the module defines, with their branch hints; their numbers begin behind the imported ones.
+fn write_functions<P: Print>(
+    p: &mut P,
+    options: &PrintOptions,
+    module: &Module<'_>,
+    scope: &mut Scope<'_, '_>,
+) -> io::Result<()>
+    ensures pieces { Prints P.meaning options.now p.old p.new result
+        (functions_pieces options.now (scope_view scope.old) (hints_of module.now.customs) (imported_count FuncKind module.now.imports)
+        module.now.functions) }
+    ensures scope { scope_view scope.new ≡ scope_view scope.old }
+{
+    let first = first_number(module, ExternKind::Func);
+    let mut hints = hints_of(module.customs());
+    for index in 0..module.function_count() {
+        let function = module.function(index);
+        let number = first + u64::from(index);
+        write_function(
+            p,
+            options,
+            scope,
+            number,
+            hints.next_function(number),
+            &function,
+        )?;
+    }
+    Ok(())
+}
+
+/// Writes the data segments. Their expressions stand for the function that would be next.
+fn write_datas<P: Print>(
+    p: &mut P,
+    options: &PrintOptions,
+    module: &Module<'_>,
+    scope: &mut Scope<'_, '_>,
+) -> io::Result<()>
+    ensures pieces { Prints P.meaning options.now p.old p.new result
+        (numbered (data_pieces options.now.skeleton
+        (within (scope_view scope.old) (imported_count FuncKind module.now.imports + length module.now.functions))) 0 module.now.datas) }
+    ensures scope { scope_view scope.new ≡ scope_view scope.old }
+{
+    let function = scope.function;
+    scope.function = first_number(module, ExternKind::Func) + u64::from(module.function_count());
+    let written = write_each(p, options, scope, 0, module.datas());
+    scope.function = function;
+    written
+}
+
+/// Writes what the module defines of a kind; the numbers begin behind what is imported.
+fn write_defined<P: Print, F: Field>(
+    p: &mut P,
+    options: &PrintOptions,
+    module: &Module<'_>,
+    scope: &mut Scope<'_, '_>,
+    kind: ExternKind,
+    fields: &[F],
+) -> io::Result<()>
+    requires { length fields.now < 2 ^ 32 }
+    ensures pieces { Prints P.meaning options.now p.old p.new result
+        (numbered (field_line F.keyword F.line_place (F.parts options.now (scope_view scope.old)))
+        (imported_count (kind_view kind) module.now.imports) fields.now) }
+    ensures scope { scope_view scope.new ≡ scope_view scope.old }
+{
+    write_each(p, options, scope, first_number(module, kind), fields)
+}
+
+/// Writes the fields of the section of a kind.
+pub(crate) fn write_fields_of<P: Print>(
+    p: &mut P,
+    options: &PrintOptions,
+    module: &Module<'_>,
+    scope: &mut Scope<'_, '_>,
+    kind: SectionKind,
+) -> io::Result<()>
+    ensures pieces { Prints P.meaning options.now p.old p.new result
+        (fields_of options.now (scope_view scope.old) module.now (section_kind_view kind)) }
+    ensures scope { scope_view scope.new ≡ scope_view scope.old }
+{
+    use ExternKind as Extern;
+    use SectionKind as Kind;
+
+    match kind {
+        Kind::Type => write_type_groups(p, options, scope, module.types()),
+        Kind::Import => write_imports(p, options, scope, module.imports()),
+        Kind::Function => Ok(()),
+        Kind::Table => write_defined(p, options, module, scope, Extern::Table, module.tables()),
+        Kind::Memory => write_defined(p, options, module, scope, Extern::Memory, module.memories()),
+        Kind::Tag => write_defined(p, options, module, scope, Extern::Tag, module.tags()),
+        Kind::Global => write_defined(p, options, module, scope, Extern::Global, module.globals()),
+        Kind::Export => write_each(p, options, scope, 0, module.exports()),
+        Kind::Start => write_start(p, options, scope, module.start()),
+        Kind::Element => write_each(p, options, scope, 0, module.elements()),
+        Kind::Code => write_functions(p, options, module, scope),
+        Kind::Data => write_datas(p, options, module, scope),
+    }
+}
+
+/// Whether the section of a kind has fields, each of which begins a line.
+pub(crate) fn has_fields(module: &Module<'_>, kind: SectionKind) -> bool
+    ensures { (o : Options) (s : FieldScope) → result ≡ has_break (fields_of o s module.now (section_kind_view kind)) }
+{
+    match kind {
+        SectionKind::Type => !module.types().is_empty(),
+        SectionKind::Import => !module.imports().is_empty(),
+        SectionKind::Function => false,
+        SectionKind::Table => !module.tables().is_empty(),
+        SectionKind::Memory => !module.memories().is_empty(),
+        SectionKind::Tag => !module.tags().is_empty(),
+        SectionKind::Global => !module.globals().is_empty(),
+        SectionKind::Export => !module.exports().is_empty(),
+        SectionKind::Start => module.start().is_some(),
+        SectionKind::Element => !module.elements().is_empty(),
+        SectionKind::Code => module.function_count() != 0,
+        SectionKind::Data => !module.datas().is_empty(),
+    }
+}
