@@ -2,22 +2,29 @@
 # Refuses each request for memory of the program `refusals` in turn, and judges how it takes that. Each run has to end with status 1, with one
 # module `out of memory` and all others `printed`. Ends with another status than 0 where a run doesn't, or faults or hangs.
 #
-# tools/refusals.sh [LAST]: one build serves all runs. The request with the number LAST is refused in each, and each makes requests of its own
+# tools/refusals.sh [LAST]: the request with the number LAST is refused in each run, and each makes requests of its own
 # first, so many that another one of the library's comes to be that request. LAST has to be greater than the number of the
-# library's requests; the runs past them show that nothing was refused.
+# library's requests; the runs past them show that nothing was refused. The runs are dealt out to as many builds as there are processors.
 set -eu
 cd "$(dirname "$0")/../crates/refusals"
 last=${1:-280}
+hands=$(nproc)
 began=$(date +%s)
 work=$(mktemp -d)
 trap 'rm -rf "$work"' EXIT
-mkdir "$work/cases"
 run=1
 while [ "$run" -le "$last" ]; do
-    echo $((last - run)) >"$work/cases/$run"
+    mkdir -p "$work/cases$((run % hands))"
+    echo $((last - run)) >"$work/cases$((run % hands))/$run"
     run=$((run + 1))
 done
-if ! rt try --fail-alloc "$last" --cases "$work/cases" >"$work/out" 2>"$work/err"; then
+for cases in "$work"/cases*; do
+    rt try --fail-alloc "$last" --cases "$cases" >"$cases.out" 2>"$cases.err" || touch "$cases.failed" &
+done
+wait
+cat "$work"/cases*.out >"$work/out"
+cat "$work"/cases*.err >"$work/err"
+if ls "$work"/cases*.failed >"$work/failed" 2>&1; then
     cat "$work/err"
     echo "refusals: a run faulted, hung, or differed between the two ways in which it is run"
     exit 1
