@@ -1,5 +1,6 @@
 pub mod FlagPieces
 mod FlagRows
 mod FoundSteps
+mod NextEntry
 mod RunBytes
 mod Subsections

@@ -1,4 +1,5 @@
 pub mod Contents
+pub mod Entries
 pub mod FlagPieces
 pub mod Flags
 pub mod Judgements

@@ -195,16 +195,19 @@ fn read_entries<'a>(section: Cursor<'a>) -> Option<ItemsIn<Entry<'a>>>
 /// The functions with hints that are left; they are taken in order, so that an entry that no function takes blocks those behind it.
 #[derive(Drop)]
 pub struct Hints<'a> {
-    entries: ItemsIn<Entry<'a>>,
+    /// The next entry, which is read once however many functions don't take it.
+    next: Option<Entry<'a>>,
+    behind: ItemsIn<Entry<'a>>,
 }
 
 impl<'a> Model for Hints<'a> {
     ghost use Rattle.std.specs.Prelude.{List};
     ghost use Rattle.wasmprinter_spec.specs.Customs.Hints.{FunctionHints as FunctionHintsValue};
+    ghost use Rattle.wasmprinter_customs.specs.Entries.{entries_left};
 
     ghost Value = { List FunctionHintsValue };
 
-    ghost view = { λ h. h.entries };
+    ghost view = { λ h. entries_left h.next h.behind };
 }
 
 impl<'a> Hints<'a> {
@@ -213,8 +216,19 @@ impl<'a> Hints<'a> {
         ensures { result ≡ [] }
     {
         Hints {
-            entries: ItemsIn::none(Cursor::new(0, &[])),
+            next: None,
+            behind: ItemsIn::none(Cursor::new(0, &[])),
         }
+    }
+
+    /// The hints of these entries.
+    #[tactic(auto, using(crate::proofs::NextEntry::next_is_first))]
+    fn of(entries: ItemsIn<Entry<'a>>) -> Self
+        ensures { result ≡ entries.entry }
+    {
+        let mut behind = entries;
+        let next = behind.next();
+        Hints { next, behind }
     }
 
     /// The hints that a section gives: none where it has a fault. Its bytes behind the name begin at the place.
@@ -223,21 +237,22 @@ impl<'a> Hints<'a> {
         ensures { result ≡ hints_given (record { place = place; value = bytes.now }) }
     {
         match read_entries(Cursor::new(place, bytes)) {
-            Some(entries) => Hints { entries },
+            Some(entries) => Hints::of(entries),
             None => Hints::none(),
         }
     }
 
     /// The hints of the function with this number, if its entry is the next; else none.
+    #[tactic(auto, using(crate::proofs::NextEntry::next_is_first))]
     pub fn next_function(&mut self, number: u64) -> FunctionHints<'a>
         ensures gives { result ≡ next_hints number self.old }
         ensures behind { self.new ≡ hints_behind number self.old }
     {
-        let mut behind = self.entries.iter();
-        match behind.next() {
+        match &self.next {
             Some(entry) if u64::from(entry.function) == number => {
-                self.entries = behind;
-                FunctionHints { hints: entry.hints }
+                let hints = entry.hints.iter();
+                self.next = self.behind.next();
+                FunctionHints { hints }
             }
             _ => FunctionHints::none(),
         }
