@@ -192,6 +192,22 @@ fn refuses_too_many_locals(rt: HostRuntime) -> Result<(), Fail> {
 }
 
 #[test]
+fn refuses_an_unknown_subsection(rt: HostRuntime) -> Result<(), Fail> {
+    let refused = run_over(
+        &rt,
+        "dylink.wasm",
+        b"\0asm\x01\0\0\0\0\x0b\x08dylink.0\x09\0",
+    )?;
+    assert_eq!(rt; refused.status, 1);
+    assert_eq!(rt; refused.out.len(), 0);
+    assert_eq!(rt;
+        refused.err.as_slice(),
+        b"error: unknown dylink.0 subsection 9\n".as_slice()
+    );
+    Ok(())
+}
+
+#[test]
 fn refuses_a_component(rt: HostRuntime) -> Result<(), Fail> {
     let component = [0x00, 0x61, 0x73, 0x6d, 0x0d, 0x00, 0x01, 0x00];
     let refused = run_over(&rt, "component.wasm", &component)?;

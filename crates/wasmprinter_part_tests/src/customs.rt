@@ -1,6 +1,7 @@
 //! What sections hold. The bytes and what is expected are typed by hand.
 
 use bitflags::Flags;
+use std::alloc::{AllocError, Global};
 use std::test::Fail;
 use wasmprinter_customs::{
     Content, CustomRole, Dylink, Hint, Hints, Producers, SymbolFlags, custom_role, is_hint_section,
@@ -242,8 +243,7 @@ fn hints_are_taken_in_order(rt: HostRuntime) {
 
 #[test]
 fn a_fault_gives_no_hints(rt: HostRuntime) {
-    let faults: [&[u8]; 5] = [
-        b"",
+    let faults: [&[u8]; 4] = [
         b"\x01\x01\x01\x03\x01\x02",
         b"\x01\x01\x01\x03\x02\x01",
         b"\x01\x01\x01\x03\x01\x01\x00",
@@ -253,4 +253,36 @@ fn a_fault_gives_no_hints(rt: HostRuntime) {
         let mut hints = Hints::given(0, bytes);
         assert_eq!(rt; shown(hints.next_function(1).next_at(3)), None);
     }
+}
+
+/// A section with so many hints of function 100,000, all of the operator at the body's first byte. The count stands in these bytes.
+fn many_hints(alloc: Global, count: u32, count_bytes: [u8; 3]) -> Result<Vec<u8>, AllocError> {
+    let mut bytes = Vec::from_slice(alloc, &[0x01, 0xa0, 0x8d, 0x06])?;
+    bytes.extend_from_slice(&count_bytes)?;
+    for _ in 0..count {
+        bytes.extend_from_slice(&[0x00, 0x01, 0x01])?;
+    }
+    Ok(bytes)
+}
+
+// Were the hints read again for each of the functions in front of theirs, this would take minutes.
+#[test]
+fn hints_are_read_once(rt: HostRuntime) -> Result<(), Fail> {
+    let bytes = many_hints(rt.alloc(), 131_071, [0xff, 0xff, 0x07])?;
+    let mut hints = Hints::given(0, &bytes);
+    for number in 0..100_000 {
+        assert_eq!(rt; shown(hints.next_function(number).next_at(0)), None);
+    }
+    let mut function = hints.next_function(100_000);
+    assert_eq!(rt; shown(function.next_at(0)), Some((7, true)));
+    assert_eq!(rt; shown(function.next_at(0)), Some((10, true)));
+    Ok(())
+}
+
+#[test]
+fn a_hint_too_many_is_a_fault(rt: HostRuntime) -> Result<(), Fail> {
+    let bytes = many_hints(rt.alloc(), 131_072, [0x80, 0x80, 0x08])?;
+    let mut hints = Hints::given(0, &bytes);
+    assert_eq!(rt; shown(hints.next_function(100_000).next_at(0)), None);
+    Ok(())
 }

@@ -164,3 +164,71 @@ fn makes_the_calls_of_a_hint(rt: HostRuntime) -> Result<(), Fail> {
     }
     Ok(())
 }
+
+/// A module that imports a function and defines two, each of which tests its parameter in an `if`, with a hint for each of these.
+fn doubly_hinted(alloc: Global) -> Result<Vec<u8>, AllocError> {
+    let mut wasm = Vec::from_slice(alloc, &PREAMBLE)?;
+    add_section(&mut wasm, 1, &[0x01, 0x60, 0x01, 0x7f, 0x00])?;
+    add_section(&mut wasm, 2, &[0x01, 0x01, b'a', 0x01, b'f', 0x00, 0x00])?;
+    add_section(&mut wasm, 3, &[0x02, 0x00, 0x00])?;
+    // of function 1, not taken; of function 2, taken
+    let data = [
+        0x02, 0x01, 0x01, 0x03, 0x01, 0x00, 0x02, 0x01, 0x03, 0x01, 0x01,
+    ];
+    add_custom(alloc, &mut wasm, HINTS, &data)?;
+    add_section(
+        &mut wasm,
+        10,
+        &[
+            0x02, 0x07, 0x00, 0x20, 0x00, 0x04, 0x40, 0x0b, 0x0b, 0x07, 0x00, 0x20, 0x00, 0x04,
+            0x40, 0x0b, 0x0b,
+        ],
+    )?;
+    Ok(wasm)
+}
+
+#[test]
+fn numbers_functions_behind_the_imported_ones(rt: HostRuntime) -> Result<(), Fail> {
+    let wasm = doubly_hinted(rt.alloc())?;
+    let text = print_bytes(rt.alloc(), &wasm)?;
+    assert_eq!(rt;
+        text.as_str(),
+        r#"(module
+  (type (;0;) (func (param i32)))
+  (import "a" "f" (func (;0;) (type 0) (param i32)))
+  (func (;1;) (type 0) (param i32)
+    local.get 0
+    (@metadata.code.branch_hint "\00")
+    if ;; label = @1
+    end
+  )
+  (func (;2;) (type 0) (param i32)
+    local.get 0
+    (@metadata.code.branch_hint "\01")
+    if ;; label = @1
+    end
+  )
+)
+"#
+    );
+    Ok(())
+}
+
+#[test]
+fn leaves_hints_out_with_bodies(rt: HostRuntime) -> Result<(), Fail> {
+    let wasm = doubly_hinted(rt.alloc())?;
+    let mut config = Config::new();
+    config.print_skeleton(true);
+    let text = config.print_to_string(rt.alloc(), &wasm)?;
+    assert_eq!(rt;
+        text.as_str(),
+        r#"(module
+  (type (;0;) (func (param i32)))
+  (import "a" "f" (func (;0;) (type 0) (param i32)))
+  (func (;1;) (type 0) (param i32) ...)
+  (func (;2;) (type 0) (param i32) ...)
+)
+"#
+    );
+    Ok(())
+}

@@ -194,3 +194,14 @@ fn all_name_sections_give_names(rt: HostRuntime) -> Result<(), Fail> {
     }
     Ok(())
 }
+
+#[test]
+fn hundreds_of_custom_sections_are_kept(rt: HostRuntime) -> Result<(), Fail> {
+    let mut bytes = module(rt.alloc(), &[])?;
+    for _ in 0..300 {
+        bytes.extend_from_slice(b"\x00\x02\x01n")?;
+    }
+    let decoded = decode(rt.alloc(), &bytes)?;
+    assert_eq!(rt; decoded.customs().len(), 300);
+    Ok(())
+}
