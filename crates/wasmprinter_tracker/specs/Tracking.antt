@@ -28,12 +28,12 @@ WantsMemory (Text bytes) = Unit {0}
 WantsMemory Newline = Unit {0}
 WantsMemory _ = ⊥
 
--- the meaning of a tracker: a call that fails wants memory, and leaves the text as it was
+-- the meaning of a tracker: a call that fails wants memory, and leaves the text and its lines as they were
 abbrev pub tracked_meaning : Meaning Tracked
 tracked_meaning = record {
   after = λ old call new. (new ≡ after old call) × KeepsAll call new;
   may_fail = λ old call. WantsMemory call;
-  partly = λ old call error new. (error_kind error ≡ OutOfMemory) × (new.text ≡ old.text);
+  partly = λ old call error new. (error_kind error ≡ OutOfMemory) × (new.text ≡ old.text) × (new.lines ≡ old.lines);
   faults = λ t. None;
 }
 

@@ -11,7 +11,7 @@ use wasmprinter_print::Print;
 /// A printer that appends to a text of its own, and keeps where the lines begin that are printed to it.
 ///
 /// It leaves no trace of styles and takes no custom section itself. A call that writes text fails where memory is refused, with an error
-/// of the kind `OutOfMemory`, and then leaves the text as it was. The beginning of a line takes no memory: it waits for its entry
+/// of the kind `OutOfMemory`, and then leaves the text and its lines as they were. The beginning of a line takes no memory: it waits for its entry
 /// until the next call that may fail. A line that begins before then is lost, and from there on those calls fail as if memory were refused.
 #[derive(Drop)]
 pub struct Tracker {
@@ -56,7 +56,7 @@ impl Tracker {
     fn enter(&mut self) -> Result<(), AllocError>
         ensures ok { OnOk result (self.new ≡ record self.old { new_line = false }) }
         ensures kept { OnOk result (self.new.lost ≡ false) }
-        ensures err { OnErr result (self.new.text ≡ self.old.text) }
+        ensures err { OnErr result (self.new ≡ self.old) }
     {
         if self.lost {
             return Err(AllocError);
@@ -73,7 +73,8 @@ impl Tracker {
     fn push_str(&mut self, piece: &str) -> Result<(), AllocError>
         ensures ok { OnOk result (self.new ≡ with_text self.old piece.now) }
         ensures kept { OnOk result (self.new.lost ≡ false) }
-        ensures err { OnErr result (self.new.text ≡ self.old.text) }
+        ensures text { OnErr result (self.new.text ≡ self.old.text) }
+        ensures lines { OnErr result (self.new.lines ≡ self.old.lines) }
     {
         self.enter()?;
         self.text.push_str(piece)?;
