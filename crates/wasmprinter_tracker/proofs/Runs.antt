@@ -7,7 +7,7 @@ use Rattle.wasmprinter_spec.specs.Call.{Call, Text, Newline, Line, Start, Claim,
 use Rattle.wasmprinter_spec.specs.Lines.{TextLine, lines_of}
 use Rattle.wasmprinter_spec.specs.Meaning.{Run}
 use Rattle.wasmprinter_print.specs.Emits.{Broken}
-use Rattle.wasmprinter_tracker.specs.Tracked.{Tracked, fresh, extend_last, with_line_if}
+use Rattle.wasmprinter_tracker.specs.Tracked.{Tracked, without_lines, extend_last, with_line_if}
 use Rattle.wasmprinter_tracker.specs.Tracking.{after, tracked_meaning, BeginsWith, IsUnclaimed, Tracks}
 use Rattle.wasmprinter_tracker.proofs.LineLaws.{text_of-append, lines_of-text, lines_of-line}
 
@@ -71,9 +71,9 @@ tracks_more base k (c ∷ cs) s t h r =
     subst (λ (l : List Call). Tracks base l t) (append_assoc k (c ∷ []) cs) (tracks_more base (k ++ c ∷ []) cs r.0 t more r.2)
 
 -- A tracker in which no line had begun has the text of the calls behind its old text, and their lines, unless one was lost.
-pub run_tracks : (base : List ℕ) (calls : List Call) (t : Tracked) → Run tracked_meaning (fresh base) calls t → Tracks base calls t
+pub run_tracks : (base : List ℕ) (calls : List Call) (t : Tracked) → Run tracked_meaning (without_lines base) calls t → Tracks base calls t
 run_tracks base calls t r =
-    tracks_more base [] calls (fresh base) t (record { text = sym (append-nil base); lines = λ kept. refl }) r
+    tracks_more base [] calls (without_lines base) t (record { text = sym (append-nil base); lines = λ kept. refl }) r
 
 -- the text of a tracker grows by that of the calls
 pub run_text : (s : Tracked) (calls : List Call) (t : Tracked) → Run tracked_meaning s calls t → t.text ≡ s.text ++ text_of calls

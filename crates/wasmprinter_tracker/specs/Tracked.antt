@@ -12,8 +12,8 @@ pub record Tracked : Type 0 where
   pub lost : Bool
 
 -- a text in which no line has begun
-abbrev pub fresh : List ℕ → Tracked
-fresh text = record { text = text; lines = []; new_line = false; lost = false }
+abbrev pub without_lines : List ℕ → Tracked
+without_lines text = record { text = text; lines = []; new_line = false; lost = false }
 
 -- the line that waits, as an entry
 abbrev pub waiting_start : Option (Option ℕ) → ℕ → List Start

@@ -37,12 +37,12 @@ impl Model for Tracker {
 impl Tracker {
     ghost use Rattle.std.specs.Prelude.{◌≡◌, false, OnOk, OnErr, IfOk};
     ghost use Rattle.std.specs.String.{string_bytes};
-    ghost use Rattle.wasmprinter_tracker.specs.Tracked.{fresh, with_text};
+    ghost use Rattle.wasmprinter_tracker.specs.Tracked.{without_lines, with_text};
     ghost use Rattle.wasmprinter_tracker.specs.Cuts.{cut, IsCuttable};
 
     /// A tracker that appends to `text`, in which no line has begun. Takes no memory.
     pub fn new(alloc: Global, text: String) -> Tracker
-        ensures { result ≡ fresh (string_bytes text) }
+        ensures { result ≡ without_lines (string_bytes text) }
     {
         Tracker {
             text,
