@@ -6,6 +6,7 @@ pub mod BinaryRows
 pub mod TypeRows
 pub mod TypeTextRows
 pub mod LayoutRows
+pub mod LineRows
 pub mod ColourRows
 pub mod PlainRows
 pub mod MeaningRows

@@ -1,0 +1,107 @@
+-- What a run of calls makes of a tracker: its text and its lines are those of the calls.
+use Rattle.std.proofs.Common.{◌≡◌, ℕ, List, [], ◌∷◌, ◌++◌, refl, sym, ap, ◌∙◌, subst, append_assoc, append-nil, true≢false}
+use Rattle.std.specs.Prelude.{Option, Bool, true, false}
+use Rattle.std.specs.List.{AllByRecursion}
+use Rattle.std.specs.declared.io.Error.{Error as IoError}
+use Rattle.wasmprinter_spec.specs.Call.{Call, Text, Newline, Line, Start, Claim, call_text, text_of}
+use Rattle.wasmprinter_spec.specs.Lines.{TextLine, lines_of}
+use Rattle.wasmprinter_spec.specs.Meaning.{Run}
+use Rattle.wasmprinter_print.specs.Emits.{Broken}
+use Rattle.wasmprinter_tracker.specs.Tracked.{Tracked, without_lines, extend_last, with_line_if}
+use Rattle.wasmprinter_tracker.specs.Tracking.{after, tracked_meaning, BeginsWith, IsUnclaimed, Tracks}
+use Rattle.wasmprinter_tracker.proofs.LineLaws.{text_of-append, lines_of-text, lines_of-line}
+
+-- a line that begins adds no text, and is there unless it is lost
+line-text : (b : Bool) (t : Tracked) (p : Option ℕ) → (with_line_if b t p).text ≡ t.text
+line-text true t p = refl
+line-text false t p = refl
+
+line-lines : (b : Bool) (t : Tracked) (p : Option ℕ) → (with_line_if b t p).lost ≡ false →
+    (t.lost ≡ false) × ((with_line_if b t p).lines ≡ t.lines ++ (p, []) ∷ [])
+line-lines true t p e = absurd (true≢false e)
+line-lines false t p e = (e, refl)
+
+-- no text added to the last line
+extend_last-nil : (lines : List TextLine) → extend_last lines [] ≡ lines
+extend_last-nil [] = refl
+extend_last-nil (x ∷ []) = ap (λ (t : List ℕ). (x.0, t) ∷ []) (append-nil x.1)
+extend_last-nil (x ∷ y ∷ lines) = ap (λ (l : List TextLine). x ∷ l) (extend_last-nil (y ∷ lines))
+
+-- ---- a call
+
+after-text : (t : Tracked) (c : Call) → (after t c).text ≡ t.text ++ call_text c
+after-text t (Text s) = refl
+after-text t Newline = refl
+after-text t (Line p) = line-text t.new_line t p ∙ sym (append-nil t.text)
+after-text t (Start style) = sym (append-nil t.text)
+after-text t (Claim name place bytes answer) = sym (append-nil t.text)
+
+-- no text more
+idle-lines : (k : List Call) (c : Call) (lines : List TextLine) → lines ≡ lines_of k → lines_of (k ++ c ∷ []) ≡ extend_last (lines_of k) [] →
+    lines ≡ lines_of (k ++ c ∷ [])
+idle-lines k c lines e more = e ∙ sym (extend_last-nil (lines_of k)) ∙ sym more
+
+after-lines : (k : List Call) (c : Call) (t : Tracked) → (t.lost ≡ false → t.lines ≡ lines_of k) → (after t c).lost ≡ false →
+    (after t c).lines ≡ lines_of (k ++ c ∷ [])
+after-lines k (Text s) t h kept =
+    ap (λ x. extend_last x s) (h kept) ∙ ap (λ x. extend_last (lines_of k) x) (sym (append-nil s)) ∙ sym (lines_of-text k (Text s ∷ []) refl)
+after-lines k Newline t h kept = ap (λ x. extend_last x (10 ∷ [])) (h kept) ∙ sym (lines_of-text k (Newline ∷ []) refl)
+after-lines k (Line p) t h kept =
+    let there = line-lines t.new_line t p kept in
+    there.1 ∙ ap (λ x. x ++ (p, []) ∷ []) (h there.0) ∙ sym (lines_of-line k p)
+after-lines k (Start style) t h kept = idle-lines k (Start style) t.lines (h kept) (lines_of-text k (Start style ∷ []) refl)
+after-lines k (Claim name place bytes answer) t h kept =
+    idle-lines k (Claim name place bytes answer) t.lines (h kept) (lines_of-text k (Claim name place bytes answer ∷ []) refl)
+
+-- a call more
+Tracks-after : (base : List ℕ) (k : List Call) (c : Call) (t : Tracked) → Tracks base k t → Tracks base (k ++ c ∷ []) (after t c)
+Tracks-after base k c t h = record {
+  text = after-text t c ∙ ap (λ x. x ++ call_text c) h.text ∙ append_assoc base (text_of k) (call_text c)
+      ∙ ap (λ x. base ++ (text_of k ++ x)) (sym (append-nil (call_text c))) ∙ ap (λ x. base ++ x) (sym (text_of-append k (c ∷ [])));
+  lines = λ kept. after-lines k c t h.lines kept;
+}
+
+-- ---- a run
+
+tracks_more : (base : List ℕ) (k cs : List Call) (s t : Tracked) → Tracks base k s → Run tracked_meaning s cs t → Tracks base (k ++ cs) t
+tracks_more base k [] s t h r =
+    subst (λ (u : Tracked). Tracks base (k ++ []) u) r (subst (λ (l : List Call). Tracks base l s) (sym (append-nil k)) h)
+tracks_more base k (c ∷ cs) s t h r =
+    let more : Tracks base (k ++ c ∷ []) r.0 = subst (λ (u : Tracked). Tracks base (k ++ c ∷ []) u) (sym r.1.step.0) (Tracks-after base k c s h) in
+    subst (λ (l : List Call). Tracks base l t) (append_assoc k (c ∷ []) cs) (tracks_more base (k ++ c ∷ []) cs r.0 t more r.2)
+
+-- A tracker in which no line had begun has the text of the calls behind its old text, and their lines, unless one was lost.
+pub run_tracks : (base : List ℕ) (calls : List Call) (t : Tracked) → Run tracked_meaning (without_lines base) calls t → Tracks base calls t
+run_tracks base calls t r =
+    tracks_more base [] calls (without_lines base) t (record { text = sym (append-nil base); lines = λ kept. refl }) r
+
+-- the text of a tracker grows by that of the calls
+pub run_text : (s : Tracked) (calls : List Call) (t : Tracked) → Run tracked_meaning s calls t → t.text ≡ s.text ++ text_of calls
+run_text s [] t r = sym (ap (λ (u : Tracked). u.text) r) ∙ sym (append-nil s.text)
+run_text s (c ∷ cs) t r =
+    run_text r.0 cs t r.2 ∙ ap (λ (u : Tracked). u.text ++ text_of cs) r.1.step.0 ∙ ap (λ x. x ++ text_of cs) (after-text s c)
+    ∙ append_assoc s.text (call_text c) (text_of cs)
+
+claims_never : (s : Tracked) (c : Call) (t : Tracked) → tracked_meaning.after s c t → IsUnclaimed c
+claims_never s (Text bytes) t h = tt
+claims_never s Newline t h = tt
+claims_never s (Line place) t h = tt
+claims_never s (Start style) t h = tt
+claims_never s (Claim name place bytes answer) t h = h.1
+
+-- a tracker takes no custom section
+pub run_unclaimed : (s : Tracked) (calls : List Call) (t : Tracked) → Run tracked_meaning s calls t → AllByRecursion IsUnclaimed calls
+run_unclaimed s [] t r = tt
+run_unclaimed s (c ∷ cs) t r = (claims_never s c r.0 r.1.step, run_unclaimed r.0 cs t r.2)
+
+-- ---- what stays of the old text
+
+pub run_keeps : (s : Tracked) (calls : List Call) (t : Tracked) → Run tracked_meaning s calls t → BeginsWith s.text t.text
+run_keeps s calls t r = (text_of calls, run_text s calls t r)
+
+-- Where a call failed, the old text is there with that of the calls before it.
+pub broken_text : (s t : Tracked) (e : IoError) (layout : List Call) (b : Broken tracked_meaning s t e layout) → t.text ≡ s.text ++ text_of b.calls
+broken_text s t e layout b = b.failed.left.1 ∙ run_text s b.calls b.before b.run
+
+pub broken_keeps : (s t : Tracked) (e : IoError) (layout : List Call) → Broken tracked_meaning s t e layout → BeginsWith s.text t.text
+broken_keeps s t e layout b = (text_of b.calls, broken_text s t e layout b)

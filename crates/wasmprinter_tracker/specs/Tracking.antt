@@ -1,0 +1,52 @@
+-- What the calls on a tracker make of it.
+use Rattle.std.specs.Prelude.{◌≡◌, ℕ, List, [], ◌∷◌, ◌++◌, false, None}
+use Rattle.std.specs.IoError.{error_kind}
+use Rattle.std.specs.declared.io.ErrorKind.TheVariants.{OutOfMemory}
+use Rattle.wasmprinter_spec.specs.Call.{Call, Text, Newline, Line, Start, Claim, text_of}
+use Rattle.wasmprinter_spec.specs.Lines.{lines_of}
+use Rattle.wasmprinter_spec.specs.Meaning.{Meaning}
+use Rattle.wasmprinter_tracker.specs.Tracked.{Tracked, with_text, with_line}
+
+-- what a call makes of a tracker
+abbrev pub after : Tracked → Call → Tracked
+after t (Text bytes) = with_text t bytes
+after t Newline = with_text t (10 ∷ [])
+after t (Line place) = with_line t place
+after t (Start style) = t
+after t (Claim name place bytes answer) = t
+
+-- what a call that succeeded promises besides: where text was written no line was lost, and no custom section is taken
+abbrev pub KeepsAll : Call → Tracked → Type 0
+KeepsAll (Text bytes) new = new.lost ≡ false
+KeepsAll Newline new = new.lost ≡ false
+KeepsAll (Claim name place bytes answer) new = answer ≡ false
+KeepsAll _ new = Unit {0}
+
+-- only what writes text can fail
+abbrev pub WantsMemory : Call → Type 0
+WantsMemory (Text bytes) = Unit {0}
+WantsMemory Newline = Unit {0}
+WantsMemory _ = ⊥
+
+-- the meaning of a tracker: a call that fails wants memory, and leaves the text and its lines as they were
+abbrev pub tracked_meaning : Meaning Tracked
+tracked_meaning = record {
+  after = λ old call new. (new ≡ after old call) × KeepsAll call new;
+  may_fail = λ old call. WantsMemory call;
+  partly = λ old call error new. (error_kind error ≡ OutOfMemory) × (new.text ≡ old.text) × (new.lines ≡ old.lines);
+  faults = λ t. None;
+}
+
+-- new begins with old
+abbrev pub BeginsWith : List ℕ → List ℕ → Type 0
+BeginsWith old new = (more : List ℕ) × (new ≡ old ++ more)
+
+-- no custom section was taken
+abbrev pub IsUnclaimed : Call → Type 0
+IsUnclaimed (Claim name place bytes answer) = answer ≡ false
+IsUnclaimed _ = Unit {0}
+
+-- a tracker has the text and the lines of these calls, behind the text that stood there, unless a line was lost
+pub record Tracks (base : List ℕ) (calls : List Call) (t : Tracked) : Type 0 where
+  pub text : t.text ≡ base ++ text_of calls
+  pub lines : t.lost ≡ false → t.lines ≡ lines_of calls

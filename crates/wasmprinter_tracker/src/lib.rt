@@ -1,0 +1,8 @@
+//! A printer that keeps its text and where the lines of it begin, and the iterator over these lines.
+#![tactic(auto)]
+
+mod lines;
+mod tracker;
+
+pub use lines::{OffsetsAndLines, Start};
+pub use tracker::Tracker;

@@ -1,0 +1,74 @@
+//! The lines of a printed text, each with its place in the module.
+ghost use Rattle.std.specs.Prelude.{◌≡◌};
+
+use std::marker::Model;
+
+/// Where a line begins.
+#[derive(Clone, Copy)]
+pub struct Start {
+    /// The place of what stands on the line, as a byte offset from the module's start, if it stands for anything.
+    pub place: Option<u64>,
+    /// The line's first byte, as a byte offset from the text's start.
+    pub at: usize,
+}
+
+/// An iterator over the lines of a printed text.
+///
+/// Each line comes with the place of what stands on it, as a byte offset from the module's start, or `None` where it stands for nothing
+/// in the module. Its text has the line feed at its end. No line comes of text in front of the first place where a line begins.
+#[derive(Drop)]
+pub struct OffsetsAndLines<'a> {
+    text: &'a str,
+    starts: Vec<Start>,
+    next: usize,
+}
+
+impl<'a> Model for OffsetsAndLines<'a> {
+    ghost use Rattle.std.specs.Prelude.{drop};
+    ghost use Rattle.wasmprinter_tracker.specs.Lined.{Lined};
+
+    ghost Value = { Lined };
+
+    ghost use Rattle.wasmprinter_tracker.specs.Cuts.{cut, IsCuttable};
+
+    ghost view = { λ it. record { storage = it.text.now; lines = cut (drop it.next it.starts.items) it.text.now } };
+
+    ghost invariant = { λ it. IsCuttable (drop it.next it.starts.items) it.text.now };
+}
+
+impl<'a> OffsetsAndLines<'a> {
+    ghost use Rattle.std.specs.Prelude.{◌≡◌};
+    ghost use Rattle.wasmprinter_tracker.specs.Cuts.{cut, IsCuttable};
+
+    /// The lines of `text` that begin at `starts`. Takes no memory.
+    pub fn new(text: &'a str, starts: Vec<Start>) -> OffsetsAndLines<'a>
+        requires { IsCuttable starts.items text.now }
+        ensures { result ≡ record { storage = text.now; lines = cut starts.items text.now } }
+    {
+        OffsetsAndLines {
+            text,
+            starts,
+            next: 0,
+        }
+    }
+}
+
+impl<'a> Iterator for OffsetsAndLines<'a> {
+    ghost use Rattle.std.specs.Iterator.{YieldsFirstBy, item_count};
+
+    type Item = (Option<u64>, &'a str);
+
+    ghost next_gives = { YieldsFirstBy (λ line. (line.0, line.1.now)) (λ it. it.lines) };
+
+    ghost remaining = { item_count (λ it. it.lines) };
+
+    fn next(&mut self) -> Option<(Option<u64>, &'a str)> {
+        let start = *self.starts.get(self.next)?;
+        let end = match self.starts.get(self.next + 1) {
+            Some(following) => following.at,
+            None => self.text.len(),
+        };
+        self.next += 1;
+        Some((start.place, &self.text[start.at..end]))
+    }
+}

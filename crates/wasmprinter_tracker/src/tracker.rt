@@ -1,0 +1,164 @@
+//! A printer that keeps its text and where its lines begin.
+ghost use Rattle.std.specs.Prelude.{◌≡◌};
+ghost use Rattle.wasmprinter_tracker.specs.Tracking.{tracked_meaning};
+
+use crate::lines::Start;
+use std::alloc::{AllocError, Global};
+use std::io;
+use std::marker::Model;
+use wasmprinter_print::Print;
+
+/// A printer that appends to a text of its own, and keeps where the lines begin that are printed to it.
+///
+/// It leaves no trace of styles and takes no custom section itself. A call that writes text fails where memory is refused, with an error
+/// of the kind `OutOfMemory`, and then leaves the text and its lines as they were. The beginning of a line takes no memory: it waits for its entry
+/// until the next call that may fail. A line that begins before then is lost, and from there on those calls fail as if memory were refused.
+#[derive(Drop)]
+pub struct Tracker {
+    text: String,
+    starts: Vec<Start>,
+    waiting: Option<Option<u64>>,
+    lost: bool,
+}
+
+impl Model for Tracker {
+    ghost use Rattle.std.specs.String.{string_bytes};
+    ghost use Rattle.std.specs.Prelude.{◌++◌, length};
+    ghost use Rattle.wasmprinter_tracker.specs.Tracked.{Tracked, waiting_start, shown};
+    ghost use Rattle.wasmprinter_tracker.specs.Cuts.{IsCuttable};
+
+    ghost Value = { Tracked };
+
+    ghost view = { λ t. shown (string_bytes t.text) t.starts.items t.waiting t.lost };
+
+    ghost invariant = { λ t. IsCuttable (t.starts.items ++ waiting_start t.waiting (length (string_bytes t.text))) (string_bytes t.text) };
+}
+
+impl Tracker {
+    ghost use Rattle.std.specs.Prelude.{◌≡◌, false, OnOk, OnErr, IfOk};
+    ghost use Rattle.std.specs.String.{string_bytes};
+    ghost use Rattle.wasmprinter_tracker.specs.Tracked.{without_lines, with_text};
+    ghost use Rattle.wasmprinter_tracker.specs.Cuts.{cut, IsCuttable};
+
+    /// A tracker that appends to `text`, in which no line has begun. Takes no memory.
+    pub fn new(alloc: Global, text: String) -> Tracker
+        ensures { result ≡ without_lines (string_bytes text) }
+    {
+        Tracker {
+            text,
+            starts: Vec::new(alloc),
+            waiting: None,
+            lost: false,
+        }
+    }
+
+    // Gives the line that waits its entry.
+    fn enter(&mut self) -> Result<(), AllocError>
+        ensures ok { OnOk result (self.new ≡ record self.old { new_line = false }) }
+        ensures kept { OnOk result (self.new.lost ≡ false) }
+        ensures err { OnErr result (self.new ≡ self.old) }
+    {
+        if self.lost {
+            return Err(AllocError);
+        }
+        if let Some(place) = self.waiting {
+            let at = self.text.len();
+            self.starts.push(Start { place, at })?;
+            self.waiting = None;
+        }
+        Ok(())
+    }
+
+    // Appends a piece of text.
+    fn push_str(&mut self, piece: &str) -> Result<(), AllocError>
+        ensures ok { OnOk result (self.new ≡ with_text self.old piece.now) }
+        ensures kept { OnOk result (self.new.lost ≡ false) }
+        ensures text { OnErr result (self.new.text ≡ self.old.text) }
+        ensures lines { OnErr result (self.new.lines ≡ self.old.lines) }
+    {
+        self.enter()?;
+        self.text.push_str(piece)?;
+        Ok(())
+    }
+
+    /// The text, and where its lines begin.
+    ///
+    /// # Errors
+    ///
+    /// Where memory is refused to the last beginning of a line, or a line was lost before. The text is given back all the same.
+    pub fn finish(mut self) -> (String, Result<Vec<Start>, AllocError>)
+        ensures text { string_bytes result.0 ≡ self.text }
+        ensures lines { IfOk result.1 (λ starts. cut starts.items self.text ≡ self.lines) }
+        ensures cuttable { IfOk result.1 (λ starts. IsCuttable starts.items self.text) }
+        ensures kept { OnOk result.1 (self.lost ≡ false) }
+    {
+        let entered = self.enter();
+        let Tracker {
+            text,
+            starts,
+            waiting: _,
+            lost: _,
+        } = self;
+        match entered {
+            Ok(()) => (text, Ok(starts)),
+            Err(e) => (text, Err(e)),
+        }
+    }
+}
+
+impl Print for Tracker {
+    ghost meaning = { tracked_meaning };
+
+    ghost colors = { λ _. ⊥ };
+
+    fn write_str(&mut self, s: &str) -> io::Result<()> {
+        self.push_str(s)?;
+        Ok(())
+    }
+
+    fn newline(&mut self) -> io::Result<()> {
+        self.push_str("\n")?;
+        Ok(())
+    }
+
+    fn start_line(&mut self, binary_offset: Option<u64>) {
+        if self.waiting.is_some() {
+            self.lost = true;
+        } else {
+            self.waiting = Some(binary_offset);
+        }
+    }
+
+    fn print_custom_section(
+        &mut self,
+        _name: &str,
+        _binary_offset: u64,
+        _bytes: &[u8],
+    ) -> io::Result<bool> {
+        Ok(false)
+    }
+
+    fn start_literal(&mut self) -> io::Result<()> {
+        Ok(())
+    }
+
+    fn start_name(&mut self) -> io::Result<()> {
+        Ok(())
+    }
+
+    fn start_keyword(&mut self) -> io::Result<()> {
+        Ok(())
+    }
+
+    fn start_type(&mut self) -> io::Result<()> {
+        Ok(())
+    }
+
+    fn start_comment(&mut self) -> io::Result<()> {
+        Ok(())
+    }
+
+    fn reset_color(&mut self) -> io::Result<()> {
+        Ok(())
+    }
+}
