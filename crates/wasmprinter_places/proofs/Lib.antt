@@ -1,0 +1,4 @@
+pub mod Order
+pub mod Lies
+pub mod Starts
+pub mod Indexes

@@ -1,0 +1,4 @@
+use Rattle.wasmprinter_places.proofs.functions_have_lines.Goals as goal
+
+pub returns : goal.returns
+returns c = ?
