@@ -1,4 +1,10 @@
 pub mod Order
 pub mod Lies
+pub mod Bodies
+pub mod CustomData
+pub mod Sections
+pub mod CodeSection
 pub mod Starts
 pub mod Indexes
+pub mod Kept
+pub mod OneLine

@@ -1,10 +1,13 @@
 -- The places of the lines that a list of pieces begins, and that how text is cut changes no line.
 use Rattle.std.proofs.Common.{◌≡◌, ℕ, List, [], ◌∷◌, ◌++◌, Bool, true, false, Option, Some, None, map, refl, sym, ap, ◌∙◌, append_assoc}
+use Rattle.std.specs.Prelude.{◌/◌, ◌%◌, ◌^◌, ◌-◌, ◌==◌, nat_lt, if◌then◌else◌, codes}
 use Rattle.std.specs.List.{flat_map}
 use Rattle.std.proofs.lemmas.List.Concat.{flat_map-append}
 use Rattle.wasmprinter_spec.specs.Call.{Call, Text, Newline, Line, call_text, atoms, text_of}
 use Rattle.wasmprinter_spec.specs.Options.{Options}
-use Rattle.wasmprinter_spec.specs.Piece.{Piece, Begin, Break, place_calls, calls, all_calls}
+use Rattle.wasmprinter_spec.specs.Float.{Width, sign_bit, greatest_exponent}
+use Rattle.wasmprinter_spec.specs.FloatText.{special_calls, finite_calls, unsigned_calls, float_calls}
+use Rattle.wasmprinter_spec.specs.Piece.{Piece, Begin, Break, Float, Remark, place_calls, calls, all_calls}
 use Rattle.wasmprinter_spec.specs.Lines.{TextLine, text_before_line, lines_of, line_places}
 use Rattle.wasmprinter_spec.specs.Names.{Names}
 use Rattle.wasmprinter_spec.specs.ModuleNames.{module_names}
@@ -38,9 +41,29 @@ break_begins : (offsets : Bool) (place : Option ℕ) (indent : List ℕ) → fla
 break_begins offsets place indent =
     ap (λ (ps : List (Option ℕ)). place ∷ ps) (flat_map-append begun (place_calls offsets place) (Text indent ∷ []) ∙ ap (λ (ps : List (Option ℕ)). ps ++ []) (place_begins_none offsets place))
 
+-- a float stays on its line
+if_begins : (b : Bool) (ks ls : List Call) → flat_map begun ks ≡ [] → flat_map begun ls ≡ [] → flat_map begun (if b then ks else ls) ≡ []
+if_begins true ks ls e f = e
+if_begins false ks ls e f = f
+
+unsigned_begins : (w : Width) (negative : Bool) (exponent fraction : ℕ) → flat_map begun (unsigned_calls w negative exponent fraction) ≡ []
+unfolding unsigned_calls
+unsigned_begins w negative exponent fraction =
+    if_begins (exponent == greatest_exponent w) (special_calls w negative fraction) (finite_calls w exponent fraction) refl refl
+
+float_begins : (w : Width) (bits : ℕ) → flat_map begun (float_calls w bits) ≡ []
+unfolding float_calls
+float_begins w bits =
+    if_begins (nat_lt bits (sign_bit w)) (unsigned_calls w false (bits / 2 ^ w.fraction) (bits % 2 ^ w.fraction)) (Text (codes "-") ∷ unsigned_calls w true ((bits - sign_bit w) / 2 ^ w.fraction) ((bits - sign_bit w) % 2 ^ w.fraction))
+    (unsigned_begins w false (bits / 2 ^ w.fraction) (bits % 2 ^ w.fraction))
+    (unsigned_begins w true ((bits - sign_bit w) / 2 ^ w.fraction) ((bits - sign_bit w) % 2 ^ w.fraction))
+
 piece_begins : (o : Options) (p : Piece) → flat_map begun (calls o p) ≡ starts p
 piece_begins o (Break place nesting) = break_begins o.offsets place _
 piece_begins o (Begin place) = refl
+piece_begins o (Float w bits) = float_begins w bits
+piece_begins o (Remark true s) = refl
+piece_begins o (Remark false s) = refl
 piece_begins o _ = refl
 
 pieces_begin : (o : Options) (ps : List Piece) → flat_map begun (all_calls o ps) ≡ flat_map starts ps
