@@ -8,3 +8,4 @@ pub mod Starts
 pub mod Indexes
 pub mod Kept
 pub mod OneLine
+pub mod OperatorLines
