@@ -9,3 +9,5 @@ pub mod Indexes
 pub mod Kept
 pub mod OneLine
 pub mod OperatorLines
+pub mod FieldLines
+pub mod CustomLines
