@@ -11,3 +11,5 @@ pub mod OneLine
 pub mod OperatorLines
 pub mod FieldLines
 pub mod CustomLines
+pub mod HintLines
+pub mod BodyLines
