@@ -173,10 +173,10 @@ all_rising P p q (x ∷ xs) have h =
     (have x h.0 (omega (arith, rises_ends (x + 1) q xs h.1)), all_rising P (x + 1) q xs (λ y above below. have y (omega (arith, h.0, above)) below) h.1)
 
 module _ (ps : List ℕ) where
-  abbrev IsHint : Option ℕ → Type 0
+  abbrev pub IsHint : Option ℕ → Type 0
   IsHint x = is_among ps x ≡ true
 
-  abbrev IsKept : ℕ → Type 0
+  abbrev pub IsKept : ℕ → Type 0
   IsKept p = is_among ps (Some p) ≡ false
 
   all_out : (xs : List (Option ℕ)) → AllByRecursion IsHint xs → kept ps xs ≡ []

@@ -13,3 +13,5 @@ pub mod FieldLines
 pub mod CustomLines
 pub mod HintLines
 pub mod BodyLines
+pub mod ModuleLines
+pub mod FunctionLines
