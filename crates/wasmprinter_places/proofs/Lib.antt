@@ -15,3 +15,4 @@ pub mod HintLines
 pub mod BodyLines
 pub mod ModuleLines
 pub mod FunctionLines
+pub mod Finding

@@ -41,3 +41,4 @@ pub mod NamedTextRows
 pub mod CustomTextRows
 pub mod NameSections
 pub mod NameLabels
+pub mod LinesRows
