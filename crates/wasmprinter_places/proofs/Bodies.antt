@@ -1,5 +1,5 @@
 -- Where the places of bodies lie: they rise.
-use Rattle.std.proofs.Common.{ℕ, ◌+◌, ◌≤◌, ◌==◌, List, [], ◌∷◌, ◌++◌, length, Bool, true, false, cond, Option, Some, None, refl, arith}
+use Rattle.std.proofs.Common.{ℕ, ◌+◌, ◌≤◌, ◌==◌, List, [], ◌∷◌, ◌++◌, length, Bool, true, false, cond, Option, Some, refl, arith}
 use Rattle.std.specs.List.{flat_map}
 use Rattle.wasmprinter_spec.specs.Grammar.{Placed, placed}
 use Rattle.wasmprinter_spec.specs.Name.{vec}

@@ -1,5 +1,5 @@
 -- The lines of one function: they follow the places of its body, and what is kept of them where those of hints are left out.
-use Rattle.std.proofs.Common.{◌≡◌, ℕ, zero, suc, ◌+◌, ◌-◌, ◌<◌, ◌≤◌, ◌==◌, ◌||◌, List, [], ◌∷◌, ◌++◌, Bool, true, false, cond, Option, Some, None, map, refl, sym, ap, ap₂, subst, ◌∙◌, inl, inr, codes, append_assoc, arith}
+use Rattle.std.proofs.Common.{◌≡◌, ℕ, zero, suc, ◌+◌, ◌-◌, ◌<◌, ◌≤◌, ◌==◌, ◌||◌, List, [], ◌∷◌, ◌++◌, Bool, true, false, cond, Option, Some, None, map, refl, ap, ap₂, ◌∙◌, codes, append_assoc, arith}
 use Rattle.std.specs.Prelude.{replicate}
 use Rattle.std.specs.List.{AllByRecursion, flat_map}
 use Rattle.std.proofs.lemmas.Bool.{ne_eqb}
@@ -12,7 +12,7 @@ use Rattle.wasmprinter_spec.specs.Names.{Names}
 use Rattle.wasmprinter_spec.specs.Indexed.{parameter_count}
 use Rattle.wasmprinter_spec.specs.Operator.{Operator}
 use Rattle.wasmprinter_spec.specs.Customs.Hints.{Hint, next_hint, hint_behind}
-use Rattle.wasmprinter_spec.specs.Placed.{LocalEntry, Body, PlacedFunction}
+use Rattle.wasmprinter_spec.specs.Placed.{LocalEntry, PlacedFunction}
 use Rattle.wasmprinter_spec.specs.Module.{locals_of}
 use Rattle.wasmprinter_spec.specs.Options.{Options}
 use Rattle.wasmprinter_spec.specs.Piece.{Piece}
@@ -22,11 +22,11 @@ use Rattle.wasmprinter_spec.specs.Layout.Declarations.{Scope}
 use Rattle.wasmprinter_spec.specs.Layout.Operators.{OverLines, Setting}
 use Rattle.wasmprinter_spec.specs.Layout.Functions.{locals_place, local_line, local_pieces, header_pieces, body_pieces, inner_pieces, function_group, function_pieces}
 use Rattle.wasmprinter_spec.specs.Lines.{places, is_among, kept}
-use Rattle.wasmprinter_spec.specs.Apart.{Rises, IsOutside, place_if_any, locals_places, body_places}
+use Rattle.wasmprinter_spec.specs.Apart.{Rises, place_if_any, locals_places, body_places}
 use Rattle.wasmprinter_places.proofs.Order.{rises_ends}
 use Rattle.wasmprinter_places.proofs.Starts.{starts}
-use Rattle.wasmprinter_places.proofs.Indexes.{IsElsewhere, AreElsewhere, Follows, follows_none, follows_one, follows_skip, follows_elsewhere, follows_both}
-use Rattle.wasmprinter_places.proofs.Kept.{kept_out, kept_in, kept-append, AreNone, all_kept}
+use Rattle.wasmprinter_places.proofs.Indexes.{IsElsewhere, Follows, follows_none, follows_one, follows_skip, follows_elsewhere, follows_both}
+use Rattle.wasmprinter_places.proofs.Kept.{kept_out, kept_in, kept-append}
 use Rattle.wasmprinter_places.proofs.CodeSection.{all_parts}
 use Rattle.wasmprinter_places.proofs.OneLine.{IsOneLine, both_stay, variables_stay, groups_stay}
 use Rattle.wasmprinter_places.proofs.OperatorLines.{hint_lines, operator_lines, operators_begin}

@@ -1,8 +1,7 @@
 -- The code section lies in an interval of its own: what other sections show lies outside of it.
-use Rattle.std.proofs.Common.{◌≡◌, ℕ, ◌+◌, ◌<◌, ◌≤◌, ◌⊎◌, inl, inr, List, [], ◌∷◌, ◌++◌, length, Bool, true, false, ◌&&◌, Option, Some, None, refl, sym, ap, ◌∙◌, subst, arith}
+use Rattle.std.proofs.Common.{◌≡◌, ℕ, ◌+◌, ◌<◌, ◌≤◌, inl, inr, List, [], ◌∷◌, ◌++◌, length, Bool, true, false, ◌&&◌, Option, Some, None, sym, ap, ◌∙◌, subst, arith}
 use Rattle.std.specs.Prelude.{bytes_eq, codes, if◌then◌else◌}
 use Rattle.std.specs.List.{AllByRecursion, flat_map}
-use Rattle.std.proofs.lemmas.Bool.{ltb-true}
 use Rattle.std.proofs.lemmas.List.{length-append}
 use Rattle.wasmprinter_spec.specs.Choices.{tested}
 use Rattle.wasmprinter_spec.specs.Grammar.{Placed, ◌>>=◌, bind_some, some_is}
@@ -11,12 +10,12 @@ use Rattle.wasmprinter_spec.specs.Placed.{Body, Custom, CustomEntry, PlacedFunct
 use Rattle.wasmprinter_spec.specs.Kinds.{Kind}
 use Rattle.wasmprinter_spec.specs.Sections.{CustomSection, TypeSection, ImportSection, TableSection, MemorySection, TagSection, GlobalSection, ExportSection, StartSection, ElementSection, CodeSection, DataSection, Section, holds, section, are_above, content_of, content_in, place_behind, customs_behind}
 use Rattle.wasmprinter_spec.specs.Customs.{role_of}
-use Rattle.wasmprinter_spec.specs.Customs.Hints.{hints_given, hints_by, last_named, hints_of}
+use Rattle.wasmprinter_spec.specs.Customs.Hints.{hints_given, hints_by, last_named}
 use Rattle.wasmprinter_spec.specs.Binary.{type_indices_in, bodies_in, data_count_in, datas_in, customs_in, counts_data, function_pairs, module_from, module_of_sections}
-use Rattle.wasmprinter_spec.specs.Lines.{places_of_hints, hint_places}
+use Rattle.wasmprinter_spec.specs.Lines.{places_of_hints}
 use Rattle.wasmprinter_spec.specs.Apart.{Rises, IsOutside, role_places, custom_places, body_places, IsApart}
 use Rattle.wasmprinter_spec.specs.PlaceLaws.{BodiesLieApart}
-use Rattle.wasmprinter_spec.proofs.Ordered.{picks, picked_own, held_each}
+use Rattle.wasmprinter_spec.proofs.Ordered.{picks, held_each}
 use Rattle.wasmprinter_places.proofs.Order.{Inside}
 use Rattle.wasmprinter_places.proofs.Sections.{given_places, other_places, Lies-other_section, Lies-code_section}
 

@@ -1,15 +1,15 @@
 -- Where the places lie that are read from the data of a custom section: within it.
-use Rattle.std.proofs.Common.{◌≡◌, ℕ, suc, zero, ◌+◌, ◌≤◌, List, [], ◌∷◌, ◌++◌, length, Bool, true, false, Option, Some, None, refl, sym, ap, ◌∙◌, subst, inl, inr, arith}
+use Rattle.std.proofs.Common.{◌≡◌, ℕ, suc, zero, ◌+◌, ◌≤◌, List, [], ◌∷◌, ◌++◌, length, Bool, true, false, Option, Some, None, refl, sym, ap, subst, inl, inr, arith}
 use Rattle.std.specs.Prelude.{nat_le, bytes_eq, if◌then◌else◌}
 use Rattle.std.specs.List.{flat_map}
 use Rattle.std.proofs.lemmas.List.{length-append}
 use Rattle.std.proofs.lemmas.List.Concat.{flat_map-append}
 use Rattle.wasmprinter_spec.specs.Choices.{tested}
-use Rattle.wasmprinter_spec.specs.Grammar.{Input, input, Spans, Grammar, some_is, Placed, placed}
+use Rattle.wasmprinter_spec.specs.Grammar.{Input, input, Grammar, some_is, Placed, placed}
 use Rattle.wasmprinter_spec.specs.Name.{u32, vec, name}
 use Rattle.wasmprinter_spec.specs.Lenient.{Lenient, one, repeat, unless_ended}
 use Rattle.wasmprinter_spec.specs.Placed.{Custom}
-use Rattle.wasmprinter_spec.specs.Customs.{Role, Silent, Listed, Linked, Refused, Raw, Faulted, name_section, hint_section, producers_section, dylink_section, producers_role, dylink_role, role_of}
+use Rattle.wasmprinter_spec.specs.Customs.{Role, Silent, Listed, Raw, name_section, hint_section, producers_section, dylink_section, producers_role, dylink_role, role_of}
 use Rattle.wasmprinter_spec.specs.Customs.Producers as p
 use Rattle.wasmprinter_spec.specs.Customs.Producers.{Field, are_runs}
 use Rattle.wasmprinter_spec.specs.Customs.Dylink.{Subsection, subsection, subsections, judged, judged_by, first_other}

@@ -1,9 +1,7 @@
 -- The lines of custom sections begin elsewhere than the bodies.
-use Rattle.std.proofs.Common.{◌≡◌, ℕ, ◌+◌, ◌-◌, ◌==◌, ◌&&◌, List, [], ◌∷◌, ◌++◌, Bool, true, false, cond, Option, Some, None, refl, subst, sym, codes}
-use Rattle.std.specs.Prelude.{chars, decimal, if◌then◌else◌}
-use Rattle.std.specs.Fmt.{digits}
+use Rattle.std.proofs.Common.{ℕ, ◌+◌, ◌-◌, ◌==◌, ◌&&◌, List, [], ◌∷◌, Bool, true, false, Option, Some, None, refl, codes}
+use Rattle.std.specs.Prelude.{if◌then◌else◌}
 use Rattle.std.specs.List.{AllByRecursion, flat_map}
-use Rattle.std.proofs.lemmas.List.Concat.{flat_map-append}
 use Rattle.wasmprinter_spec.specs.Grammar.{Placed}
 use Rattle.wasmprinter_spec.specs.Kinds.{Kind}
 use Rattle.wasmprinter_spec.specs.Placed.{Custom, CustomEntry}
@@ -11,9 +9,8 @@ use Rattle.wasmprinter_spec.specs.Customs.{Role, Silent, Listed, Linked, Refused
 use Rattle.wasmprinter_spec.specs.Customs.Producers.{Value, Field}
 use Rattle.wasmprinter_spec.specs.Customs.Dylink.{MemInfo, ExportInfo, ImportInfo, Content, Sizes, Needed, Exports, Imports, Paths, Other, Subsection}
 use Rattle.wasmprinter_spec.specs.Options.{Answers}
-use Rattle.wasmprinter_spec.specs.Piece.{Piece, Break, Claimed, PlainEnding}
+use Rattle.wasmprinter_spec.specs.Piece.{Piece, Claimed}
 use Rattle.wasmprinter_spec.specs.Layout.Groups.{close, has_break}
-use Rattle.wasmprinter_spec.specs.Layout.DataSegments.{shown_bytes}
 use Rattle.wasmprinter_spec.specs.Layout.Customs.{place_pieces, raw_pieces, faulted_pieces, note, gap_quoted_list, values_pieces, fields_pieces, has_bit, flag_words, flags_by, flags_pieces, sizes_group, sizes_pieces, names_pieces, exports_pieces, import_infos_pieces, content_pieces, subsections_pieces, Part, Shown, Stops, role_part, custom_part, same_place, parts_at}
 use Rattle.wasmprinter_spec.specs.Lines.{places}
 use Rattle.wasmprinter_spec.specs.Apart.{IsOutside, role_places, custom_places}

@@ -1,6 +1,5 @@
 -- The lines that fields begin: one each, but for written groups of types.
-use Rattle.std.proofs.Common.{◌≡◌, ℕ, ◌+◌, ◌==◌, List, [], ◌∷◌, ◌++◌, Bool, true, false, cond, Option, Some, None, map, refl, ap, ap₂, subst, sym, ◌∙◌, codes, length}
-use Rattle.std.specs.Prelude.{chars}
+use Rattle.std.proofs.Common.{◌≡◌, ℕ, ◌+◌, ◌==◌, List, [], ◌∷◌, ◌++◌, Bool, true, false, Option, Some, None, map, refl, ap, ap₂, subst, sym, ◌∙◌, codes, length}
 use Rattle.std.specs.List.{AllByRecursion, flat_map}
 use Rattle.std.proofs.lemmas.List.Concat.{flat_map-append}
 use Rattle.wasmprinter_spec.specs.Grammar.{Placed}
@@ -11,8 +10,8 @@ use Rattle.wasmprinter_spec.specs.Names.{Names}
 use Rattle.wasmprinter_spec.specs.Operator.{Operator}
 use Rattle.wasmprinter_spec.specs.Indexed.{space_of}
 use Rattle.wasmprinter_spec.specs.Placed.{TypeGroup, Import, Table, Global, Mode, Passive, Declared, Active, Items, Functions, Expressions, ElementEntry, DataMode, PassiveData, ActiveData, Data, Export}
-use Rattle.wasmprinter_spec.specs.Piece.{Piece, Break, Gap, Word}
-use Rattle.wasmprinter_spec.specs.Layout.Groups.{has_break, close, group, line_group_gap, numbered}
+use Rattle.wasmprinter_spec.specs.Piece.{Piece, Break}
+use Rattle.wasmprinter_spec.specs.Layout.Groups.{has_break, close, group, numbered}
 use Rattle.wasmprinter_spec.specs.Layout.Declarations.{Scope, item_declaration, item_index}
 use Rattle.wasmprinter_spec.specs.Layout.Types.{type_pieces, member_pieces, group_pieces_by, type_group_pieces, type_section_pieces}
 use Rattle.wasmprinter_spec.specs.Layout.Functions.{header_pieces}
@@ -31,7 +30,7 @@ use Rattle.wasmprinter_spec.specs.Apart.{IsOutside, member_places, group_places,
 use Rattle.wasmprinter_places.proofs.Starts.{starts}
 use Rattle.wasmprinter_places.proofs.Indexes.{AreElsewhere}
 use Rattle.wasmprinter_places.proofs.CodeSection.{all_parts}
-use Rattle.wasmprinter_places.proofs.OneLine.{IsOneLine, nothing_stays, both_stay, then_stay, alone_stays, cond_stays, line_group_stays, line_group_gap_stays, declaration_stays, index_stays, ref_stays, val_stays, type_use_stays, type_stays}
+use Rattle.wasmprinter_places.proofs.OneLine.{IsOneLine, nothing_stays, both_stay, then_stay, alone_stays, cond_stays, line_group_gap_stays, declaration_stays, index_stays, ref_stays, val_stays, type_use_stays, type_stays}
 use Rattle.wasmprinter_places.proofs.OperatorLines.{expression_stays}
 
 -- ---- lines that begin elsewhere

@@ -1,20 +1,20 @@
 -- Each function has its lines.
-use Rattle.std.proofs.Common.{◌≡◌, ℕ, suc, ◌+◌, ◌<◌, ◌≤◌, inl, inr, List, [], ◌∷◌, ◌++◌, length, Bool, Option, Some, None, map, refl, sym, ap, ◌∙◌, subst, arith}
+use Rattle.std.proofs.Common.{◌≡◌, ℕ, suc, ◌+◌, ◌<◌, ◌≤◌, inl, inr, List, [], ◌∷◌, ◌++◌, length, Option, Some, None, refl, sym, ap, ◌∙◌, subst, arith}
 use Rattle.std.specs.Prelude.{slice_get, option_map}
-use Rattle.std.specs.List.{AllByRecursion, flat_map}
+use Rattle.std.specs.List.{AllByRecursion}
 use Rattle.std.proofs.lemmas.Option.{slice_get-map}
 use Rattle.wasmprinter_spec.specs.Grammar.{Placed}
 use Rattle.wasmprinter_spec.specs.Operator.{Operator}
-use Rattle.wasmprinter_spec.specs.Placed.{PlacedFunction, PlacedModule}
+use Rattle.wasmprinter_spec.specs.Placed.{PlacedFunction}
 use Rattle.wasmprinter_spec.specs.Piece.{all_calls}
 use Rattle.wasmprinter_spec.specs.Layout.Functions.{locals_place}
 use Rattle.wasmprinter_spec.specs.Layout.{module_pieces, layout}
-use Rattle.wasmprinter_spec.specs.Lines.{lines_of, line_places, places, hint_places, is_among, kept, lines_for, IsItsLine}
+use Rattle.wasmprinter_spec.specs.Lines.{lines_of, line_places, places, hint_places, kept, lines_for, IsItsLine}
 use Rattle.wasmprinter_spec.specs.Apart.{Rises, IsOutside, place_if_any, locals_places, body_places, IsApart}
 use Rattle.wasmprinter_spec.specs.PlaceLaws.{FunctionsHaveLines}
 use Rattle.wasmprinter_places.proofs.Order.{rises_ends, rises_from}
 use Rattle.wasmprinter_places.proofs.CodeSection.{apart}
-use Rattle.wasmprinter_places.proofs.Starts.{starts, places_of_pieces}
+use Rattle.wasmprinter_places.proofs.Starts.{places_of_pieces}
 use Rattle.wasmprinter_places.proofs.Indexes.{get_left, get_right, RisesAmong, once, rises_kept, rises_left, rises_right, rises_each}
 use Rattle.wasmprinter_places.proofs.Kept.{there, none_among}
 use Rattle.wasmprinter_places.proofs.FieldLines.{placed_lines}

@@ -1,11 +1,11 @@
 -- What is so of the places of hints is so of those that functions and operators take.
-use Rattle.std.proofs.Common.{◌≡◌, ℕ, ◌==◌, List, [], ◌∷◌, ◌++◌, Bool, true, false, Option, Some, None}
+use Rattle.std.proofs.Common.{ℕ, ◌==◌, List, [], ◌∷◌, Bool, true, false, Option, Some, None}
 use Rattle.std.specs.Prelude.{if◌then◌else◌}
-use Rattle.std.specs.List.{AllByRecursion, flat_map}
+use Rattle.std.specs.List.{AllByRecursion}
 use Rattle.wasmprinter_spec.specs.Grammar.{Placed}
 use Rattle.wasmprinter_spec.specs.Customs.Hints.{Hint, FunctionHints, next_hints, hints_behind, next_hint, hint_behind}
 use Rattle.wasmprinter_spec.specs.Lines.{places, places_of_hints}
-use Rattle.wasmprinter_places.proofs.CodeSection.{all_parts, all_both}
+use Rattle.wasmprinter_places.proofs.CodeSection.{all_parts}
 use Rattle.wasmprinter_places.proofs.OperatorLines.{hint_lines}
 
 module _ (Q : Option ℕ → Type 0) where

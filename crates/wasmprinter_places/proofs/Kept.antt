@@ -1,5 +1,5 @@
 -- Lists of which the lines with some places are left out.
-use Rattle.std.proofs.Common.{◌≡◌, ℕ, zero, suc, List, [], ◌∷◌, ◌++◌, Bool, true, false, ◌||◌, cond, ◌==◌, Option, Some, None, refl, sym, ap, ◌∙◌, subst}
+use Rattle.std.proofs.Common.{◌≡◌, ℕ, zero, suc, List, [], ◌∷◌, ◌++◌, Bool, true, false, ◌||◌, cond, ◌==◌, Option, Some, refl, sym, ap, ◌∙◌, subst}
 use Rattle.std.specs.Prelude.{slice_get}
 use Rattle.std.specs.List.{AllByRecursion}
 use Rattle.std.proofs.lemmas.Bool.{eq-eqb, ne_eqb}
@@ -69,6 +69,6 @@ none_among P x not (p ∷ ps) h =
 pub each_among : (ps : List ℕ) → AllByRecursion (λ p. is_among ps (Some p) ≡ true) ps
 each_among [] = tt
 each_among (p ∷ ps) = (
-    or_first (p == p) (is_among ps (Some p)) (eq-eqb p p refl),
-    all_map (λ x. is_among ps (Some x) ≡ true) (λ x. is_among (p ∷ ps) (Some x) ≡ true) (λ x e. or_second (x == p) (is_among ps (Some x)) e) ps (each_among ps),
+  or_first (p == p) (is_among ps (Some p)) (eq-eqb p p refl),
+  all_map (λ x. is_among ps (Some x) ≡ true) (λ x. is_among (p ∷ ps) (Some x) ≡ true) (λ x e. or_second (x == p) (is_among ps (Some x)) e) ps (each_among ps),
 )

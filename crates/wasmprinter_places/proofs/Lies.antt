@@ -1,5 +1,5 @@
 -- Where the places lie that a spelled value shows: the judgement goes through each combinator of grammars from the parts to the whole.
-use Rattle.std.proofs.Common.{◌≡◌, ℕ, ◌+◌, ◌≤◌, List, [], ◌∷◌, ◌++◌, length, Bool, true, false, Option, Some, subst, sym, ap, arith}
+use Rattle.std.proofs.Common.{◌≡◌, ℕ, ◌+◌, ◌≤◌, List, [], ◌∷◌, ◌++◌, length, Option, Some, subst, sym, ap, arith}
 use Rattle.std.specs.List.{flat_map}
 use Rattle.std.proofs.lemmas.List.{length-append}
 use Rattle.wasmprinter_spec.specs.Grammar.{Grammar, Remainder, some_is, byte, seq, try_map, map_value, Placed, placed}
@@ -8,7 +8,7 @@ use Rattle.wasmprinter_spec.specs.Name.{u32, vec}
 use Rattle.wasmprinter_spec.specs.Repeated.{Items, times, Entries}
 use Rattle.wasmprinter_spec.specs.Sized.{alone, exactly}
 use Rattle.wasmprinter_spec.specs.Operator.{Operator}
-use Rattle.wasmprinter_spec.specs.Instructions.{Closed, end_byte, operator, expression}
+use Rattle.wasmprinter_spec.specs.Instructions.{end_byte, operator, expression}
 use Rattle.wasmprinter_places.proofs.Order.{Order, wider}
 
 -- The places of a value lie within its bytes, behind the first n of them.

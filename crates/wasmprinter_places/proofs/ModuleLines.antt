@@ -1,5 +1,5 @@
 -- The lines of all functions among those of the module.
-use Rattle.std.proofs.Common.{◌≡◌, ℕ, zero, suc, ◌+◌, ◌<◌, ◌≤◌, ◌||◌, List, [], ◌∷◌, ◌++◌, Bool, true, false, Option, Some, None, length, refl, sym, ap, ap₂, subst, ◌∙◌, inl, inr, codes, append-nil, arith}
+use Rattle.std.proofs.Common.{◌≡◌, ℕ, zero, suc, ◌+◌, ◌||◌, List, [], ◌∷◌, ◌++◌, Bool, true, false, Option, Some, None, length, refl, sym, ap, ap₂, subst, ◌∙◌, inl, inr, append-nil, arith}
 use Rattle.std.specs.Prelude.{slice_get}
 use Rattle.std.specs.List.{AllByRecursion, flat_map}
 use Rattle.std.proofs.lemmas.List.Concat.{flat_map-append}
@@ -30,7 +30,7 @@ use Rattle.wasmprinter_spec.specs.Lines.{hint_places, kept}
 use Rattle.wasmprinter_spec.specs.Apart.{Rises, IsOutside, body_places, IsApart}
 use Rattle.wasmprinter_places.proofs.Starts.{starts}
 use Rattle.wasmprinter_places.proofs.Indexes.{StandsAt, stands_left, stands_right, IsElsewhere, AreElsewhere, RisesAmong, elsewhere_first, elsewhere_last, Follows, follows_none, follows_both}
-use Rattle.wasmprinter_places.proofs.Kept.{kept-append, kept_in, each_among}
+use Rattle.wasmprinter_places.proofs.Kept.{kept-append, each_among}
 use Rattle.wasmprinter_places.proofs.OneLine.{leading_mark_stays}
 use Rattle.wasmprinter_places.proofs.FieldLines.{elsewhere_both, numbered_begin, placed_lines, placed_elsewhere, types_elsewhere, table_begins, memory_begins, tag_begins, global_begins, imports_begin, export_begins, start_elsewhere, element_begins, data_begins}
 use Rattle.wasmprinter_places.proofs.CustomLines.{part_starts, part_lines, customs_elsewhere}

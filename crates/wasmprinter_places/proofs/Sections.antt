@@ -1,5 +1,5 @@
 -- Where the places of each kind of section lie.
-use Rattle.std.proofs.Common.{◌≡◌, ℕ, ◌+◌, ◌≤◌, ◌==◌, List, [], ◌∷◌, ◌++◌, length, Bool, true, false, Option, Some, None, refl, sym, ap, subst, ◌∙◌, arith, map}
+use Rattle.std.proofs.Common.{◌≡◌, ℕ, ◌+◌, ◌≤◌, ◌==◌, List, [], ◌∷◌, ◌++◌, length, Bool, true, false, refl, sym, ap, subst, ◌∙◌, arith, map}
 use Rattle.std.specs.List.{flat_map}
 use Rattle.std.proofs.lemmas.List.{length-append}
 use Rattle.wasmprinter_spec.specs.Grammar.{Remainder, Placed, placed, choose, map_value, some_is}
@@ -8,7 +8,7 @@ use Rattle.wasmprinter_spec.specs.Types.{SubType}
 use Rattle.wasmprinter_spec.specs.Placed.{TypeGroup, type_group, Custom, custom_of}
 use Rattle.wasmprinter_spec.specs.Customs.{role_of}
 use Rattle.wasmprinter_spec.specs.Customs.Hints.{hints_given}
-use Rattle.wasmprinter_spec.specs.Binary.Types.{subtype, sub_type_behind, group_behind, group}
+use Rattle.wasmprinter_spec.specs.Binary.Types.{subtype, sub_type_behind, group}
 use Rattle.wasmprinter_spec.specs.Binary.Imports.{import}
 use Rattle.wasmprinter_spec.specs.Binary.Tables.{table}
 use Rattle.wasmprinter_spec.specs.Binary.Memories.{memory_type}

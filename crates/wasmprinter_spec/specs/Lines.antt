@@ -6,7 +6,7 @@ use Rattle.wasmprinter_spec.specs.Grammar.{Placed, ◌>>=◌}
 use Rattle.wasmprinter_spec.specs.Operator.{Operator}
 use Rattle.wasmprinter_spec.specs.Placed.{PlacedFunction, PlacedModule}
 use Rattle.wasmprinter_spec.specs.Customs.Hints.{FunctionHints, hints_of}
-use Rattle.wasmprinter_spec.specs.Call.{Call, Text, Newline, Line, Start, Claim, call_text}
+use Rattle.wasmprinter_spec.specs.Call.{Call, Line, call_text}
 use Rattle.wasmprinter_spec.specs.Layout.Functions.{locals_place}
 
 -- a line: its place, if it has one, and its bytes with the line feed behind them
