@@ -42,3 +42,4 @@ pub mod NamedTextRows
 pub mod CustomTextRows
 pub mod NameSections
 pub mod NameLabels
+pub mod PlaceRows

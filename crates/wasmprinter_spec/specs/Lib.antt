@@ -45,5 +45,8 @@ pub mod IndexSpaces
 pub mod Code
 pub mod HintsOfModule
 pub mod Text
+pub mod Lines
+pub mod Apart
 pub mod Read
 pub mod Laws
+pub mod PlaceLaws

@@ -1,0 +1,80 @@
+-- What is found for an operator.
+use Rattle.std.proofs.Common.{◌≡◌, ℕ, zero, suc, ◌+◌, cond, inl, inr, List, [], ◌∷◌, Bool, true, Option, Some, None, refl, sym, ap, ◌∙◌, subst, arith}
+use Rattle.std.specs.Prelude.{slice_get}
+use Rattle.std.proofs.lemmas.Bool.{eqb-true, eq-eqb, cases_Bool}
+use Rattle.wasmprinter_spec.specs.Choices.{chosen}
+use Rattle.wasmprinter_spec.specs.Grammar.{Placed, ◌>>=◌, bind_some, some_is}
+use Rattle.wasmprinter_spec.specs.Operator.{Operator}
+use Rattle.wasmprinter_spec.specs.Placed.{PlacedModule}
+use Rattle.wasmprinter_spec.specs.Layout.{layout}
+use Rattle.wasmprinter_spec.specs.Lines.{TextLine, lines_of, line_places, IsOnlyLine, has_place, line_from, operator_at, place_of}
+use Rattle.wasmprinter_spec.specs.PlaceLaws.{FindsPlace, FindsLine}
+use Rattle.wasmprinter_places.proofs.FunctionLines.{function_lines}
+
+has_place_true : (place : ℕ) (x : Option ℕ) → has_place place x ≡ true → x ≡ Some place
+has_place_true place None e = absurd cc
+has_place_true place (Some p) e = ap (λ (q : ℕ). Some q) (eqb-true p place e)
+
+-- The line found has the place.
+line_has : (lines : List TextLine) (number place k : ℕ) → line_from number place lines ≡ Some k → (j : ℕ) × (k ≡ number + j) × (slice_get (line_places lines) j ≡ Some (Some place))
+line_has [] number place k e = absurd cc
+line_has (line ∷ lines) number place k e =
+    elim (chosen (has_place place line.0) (Some number) (line_from (number + 1) place lines) (Some k) e) [
+      | inl here ↦ (0, omega (arith, some_is number k here.1), ap (λ (x : Option ℕ). Some x) (has_place_true place line.0 here.0))
+      | inr on ↦ let rest = line_has lines (number + 1) place k on.1 in (suc rest.0, omega (arith, rest.1), rest.2)
+    ]
+
+-- A line with the place is found.
+line_found : (lines : List TextLine) (number place j : ℕ) → slice_get (line_places lines) j ≡ Some (Some place) → (k : ℕ) × (line_from number place lines ≡ Some k)
+line_found [] number place j e = absurd cc
+line_found (line ∷ lines) number place zero e =
+    let test : has_place place line.0 ≡ true = ap (has_place place) (some_is line.0 (Some place) e) ∙ eq-eqb place place refl in
+    (number, ap (λ (b : Bool). cond b (Some number) (line_from (number + 1) place lines)) test)
+line_found (line ∷ lines) number place (suc j) e =
+    elim (cases_Bool (has_place place line.0)) [
+      | inl here ↦ (number, ap (λ (b : Bool). cond b (Some number) (line_from (number + 1) place lines)) here)
+      | inr on ↦
+          let rest = line_found lines (number + 1) place j e in
+          (rest.0, ap (λ (b : Bool). cond b (Some number) (line_from (number + 1) place lines)) on ∙ rest.1)
+    ]
+
+-- Whatever the lines are.
+pub finds_place : FindsPlace
+finds_place m lines i j number place e =
+    let o = bind_some (operator_at m i j) (λ o. line_from 0 o.place lines >>= λ k. Some (k, o.place)) (number, place) e in
+    let k = bind_some (line_from 0 o.0.place lines) (λ k. Some (k, o.0.place)) (number, place) o.2 in
+    let same = some_is (k.0, o.0.place) (number, place) k.2 in
+    let n : k.0 ≡ number = ap (λ (x : ℕ × ℕ). x.0) same in
+    let p : o.0.place ≡ place = ap (λ (x : ℕ × ℕ). x.1) same in
+    let has = line_has lines 0 o.0.place k.0 k.1 in
+    let index : has.0 ≡ number = omega (arith, has.1, n) in (
+      o.0,
+      o.1,
+      sym p,
+      subst (λ (x : ℕ). slice_get (line_places lines) x ≡ Some (Some place)) index
+          (subst (λ (q : ℕ). slice_get (line_places lines) has.0 ≡ Some (Some q)) p has.2),
+    )
+
+-- the only line with the place is found
+only_found : (m : PlacedModule) (lines : List TextLine) (i j number : ℕ) (a : Placed Operator) → operator_at m i j ≡ Some a → IsOnlyLine (line_places lines) a.place number →
+    (n : ℕ) × (place_of m lines i j ≡ Some (n, a.place)) × IsOnlyLine (line_places lines) a.place n
+only_found m lines i j number a e only =
+    let found = line_found lines 0 a.place number only.has in
+    let has = line_has lines 0 a.place found.0 found.1 in
+    let same : number ≡ found.0 = omega (arith, has.1, only.only has.0 has.2) in (
+      found.0,
+      ap (λ (x : Option (Placed Operator)). x >>= λ o. line_from 0 o.place lines >>= λ k. Some (k, o.place)) e
+          ∙ ap (λ (x : Option ℕ). x >>= λ k. Some (k, a.place)) found.1,
+      subst (IsOnlyLine (line_places lines) a.place) same only,
+    )
+
+pub finds_line : FindsLine
+finds_line bytes m o answers spelled whole laid i j =
+    let lines : List TextLine = lines_of (layout o answers m) in (
+      λ a e.
+          let f = bind_some (slice_get m.functions i) (λ f. slice_get f.body.value.operators j) a e in
+          let has = function_lines bytes m o answers spelled whole laid i f.0 f.1 in
+          let line = (has.at_operator j a f.2).among_all in
+          only_found m lines i j line.0 a e line.1,
+      λ e. ap (λ (x : Option (Placed Operator)). x >>= λ o. line_from 0 o.place lines >>= λ k. Some (k, o.place)) e,
+    )

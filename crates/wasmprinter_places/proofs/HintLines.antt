@@ -1,0 +1,49 @@
+-- What is so of the places of hints is so of those that functions and operators take.
+use Rattle.std.proofs.Common.{ℕ, ◌==◌, List, [], ◌∷◌, Bool, true, false, Option, Some, None}
+use Rattle.std.specs.Prelude.{if◌then◌else◌}
+use Rattle.std.specs.List.{AllByRecursion}
+use Rattle.wasmprinter_spec.specs.Grammar.{Placed}
+use Rattle.wasmprinter_spec.specs.Customs.Hints.{Hint, FunctionHints, next_hints, hints_behind, next_hint, hint_behind}
+use Rattle.wasmprinter_spec.specs.Lines.{places, places_of_hints}
+use Rattle.wasmprinter_places.proofs.CodeSection.{all_parts}
+use Rattle.wasmprinter_places.proofs.OperatorLines.{hint_lines}
+
+module _ (Q : Option ℕ → Type 0) where
+  -- of the places of hints
+  abbrev pub OfHints : List (Placed Hint) → Type 0
+  OfHints hs = AllByRecursion (λ p. Q (Some p)) (places hs)
+
+  abbrev pub OfEntries : List FunctionHints → Type 0
+  OfEntries es = AllByRecursion (λ p. Q (Some p)) (places_of_hints es)
+
+  if_next : (b : Bool) (h : Placed Hint) → Q (Some h.place) → AllByRecursion Q (hint_lines (if b then Some h else None))
+  if_next true h q = (q, tt)
+  if_next false h q = tt
+
+  if_behind : (b : Bool) (h : Placed Hint) (hs : List (Placed Hint)) → OfHints (h ∷ hs) → OfHints (if b then hs else h ∷ hs)
+  if_behind true h hs all = all.1
+  if_behind false h hs all = all
+
+  pub of_next_hint : (offset : ℕ) (hs : List (Placed Hint)) → OfHints hs → AllByRecursion Q (hint_lines (next_hint offset hs))
+  of_next_hint offset [] all = tt
+  of_next_hint offset (h ∷ hs) all = if_next (h.value.offset == offset) h all.0
+
+  pub of_hint_behind : (offset : ℕ) (hs : List (Placed Hint)) → OfHints hs → OfHints (hint_behind offset hs)
+  of_hint_behind offset [] all = tt
+  of_hint_behind offset (h ∷ hs) all = if_behind (h.value.offset == offset) h hs all
+
+  if_hints : (b : Bool) (hs : List (Placed Hint)) → OfHints hs → OfHints (if b then hs else [])
+  if_hints true hs all = all
+  if_hints false hs all = tt
+
+  if_entries : (b : Bool) (e : FunctionHints) (es : List FunctionHints) → OfEntries (e ∷ es) → OfEntries es → OfEntries (if b then es else e ∷ es)
+  if_entries true e es all rest = rest
+  if_entries false e es all rest = all
+
+  pub of_next_hints : (i : ℕ) (es : List FunctionHints) → OfEntries es → OfHints (next_hints i es)
+  of_next_hints i [] all = tt
+  of_next_hints i (e ∷ es) all = if_hints (e.function == i) e.hints (all_parts (λ p. Q (Some p)) (places e.hints) (places_of_hints es) all).0
+
+  pub of_hints_behind : (i : ℕ) (es : List FunctionHints) → OfEntries es → OfEntries (hints_behind i es)
+  of_hints_behind i [] all = tt
+  of_hints_behind i (e ∷ es) all = if_entries (e.function == i) e es all (all_parts (λ p. Q (Some p)) (places e.hints) (places_of_hints es) all).1

@@ -1,0 +1,74 @@
+-- Lists of which the lines with some places are left out.
+use Rattle.std.proofs.Common.{◌≡◌, ℕ, zero, suc, List, [], ◌∷◌, ◌++◌, Bool, true, false, ◌||◌, cond, ◌==◌, Option, Some, refl, sym, ap, ◌∙◌, subst}
+use Rattle.std.specs.Prelude.{slice_get}
+use Rattle.std.specs.List.{AllByRecursion}
+use Rattle.std.proofs.lemmas.Bool.{eq-eqb, ne_eqb}
+use Rattle.wasmprinter_spec.specs.Lines.{is_among, kept}
+
+-- a line in front is left out, or kept
+pub kept_out : (ps : List ℕ) (x : Option ℕ) (xs : List (Option ℕ)) → is_among ps x ≡ true → kept ps (x ∷ xs) ≡ kept ps xs
+kept_out ps x xs e = ap (λ (b : Bool). cond b (kept ps xs) (x ∷ kept ps xs)) e
+
+pub kept_in : (ps : List ℕ) (x : Option ℕ) (xs : List (Option ℕ)) → is_among ps x ≡ false → kept ps (x ∷ xs) ≡ x ∷ kept ps xs
+kept_in ps x xs e = ap (λ (b : Bool). cond b (kept ps xs) (x ∷ kept ps xs)) e
+
+step : (b : Bool) (x : Option ℕ) (xs ys zs : List (Option ℕ)) → zs ≡ xs ++ ys → cond b zs (x ∷ zs) ≡ cond b xs (x ∷ xs) ++ ys
+step true x xs ys zs e = e
+step false x xs ys zs e = ap (λ (ls : List (Option ℕ)). x ∷ ls) e
+
+-- Lines are left out of each part.
+pub kept-append : (ps : List ℕ) (xs ys : List (Option ℕ)) → kept ps (xs ++ ys) ≡ kept ps xs ++ kept ps ys
+kept-append ps [] ys = refl
+kept-append ps (x ∷ xs) ys = step (is_among ps x) x (kept ps xs) (kept ps ys) (kept ps (xs ++ ys)) (kept-append ps xs ys)
+
+-- none of these places
+abbrev pub AreNone : List ℕ → List (Option ℕ) → Type 0
+AreNone ps xs = AllByRecursion (λ x. is_among ps x ≡ false) xs
+
+-- Where no line is left out, all are kept.
+pub all_kept : (ps : List ℕ) (xs : List (Option ℕ)) → AreNone ps xs → kept ps xs ≡ xs
+all_kept ps [] h = refl
+all_kept ps (x ∷ xs) h = kept_in ps x xs h.0 ∙ ap (λ (ls : List (Option ℕ)). x ∷ ls) (all_kept ps xs h.1)
+
+-- A line that is kept is there.
+there_of : (b : Bool) (x : Option ℕ) (xs ys : List (Option ℕ)) (n : ℕ) (y : Option ℕ) → ((k : ℕ) → slice_get ys k ≡ Some y → (j : ℕ) × (slice_get xs j ≡ Some y)) →
+    slice_get (cond b ys (x ∷ ys)) n ≡ Some y → (j : ℕ) × (slice_get (x ∷ xs) j ≡ Some y)
+there_of true x xs ys n y rest e = let r = rest n e in (suc r.0, r.1)
+there_of false x xs ys zero y rest e = (0, e)
+there_of false x xs ys (suc n) y rest e = let r = rest n e in (suc r.0, r.1)
+
+pub there : (ps : List ℕ) (xs : List (Option ℕ)) (n : ℕ) (y : Option ℕ) → slice_get (kept ps xs) n ≡ Some y → (j : ℕ) × (slice_get xs j ≡ Some y)
+there ps [] n y e = absurd cc
+there ps (x ∷ xs) n y e = there_of (is_among ps x) x xs (kept ps xs) n y (λ k f. there ps xs k y f) e
+
+-- ---- which places are among others
+
+or_second : (a b : Bool) → b ≡ true → (a || b) ≡ true
+or_second true b e = refl
+or_second false b e = e
+
+or_first : (a b : Bool) → a ≡ true → (a || b) ≡ true
+or_first true b e = refl
+or_first false b e = absurd cc
+
+or_neither : (a b : Bool) → a ≡ false → b ≡ false → (a || b) ≡ false
+or_neither true b e f = absurd cc
+or_neither false b e f = f
+
+pub all_map : {A : Type 0} (P Q : A → Type 0) → ((x : A) → P x → Q x) → (xs : List A) → AllByRecursion P xs → AllByRecursion Q xs
+all_map P Q f [] h = tt
+all_map P Q f (x ∷ xs) h = (f x h.0, all_map P Q f xs h.1)
+
+-- a place of which the others have a property is none of them, if it has not
+pub none_among : (P : ℕ → Type 0) (x : ℕ) → (P x → ⊥) → (ps : List ℕ) → AllByRecursion P ps → is_among ps (Some x) ≡ false
+none_among P x not [] h = refl
+none_among P x not (p ∷ ps) h =
+    or_neither (x == p) (is_among ps (Some x)) (ne_eqb x p (λ e. not (subst P (sym e) h.0))) (none_among P x not ps h.1)
+
+-- each place is among all
+pub each_among : (ps : List ℕ) → AllByRecursion (λ p. is_among ps (Some p) ≡ true) ps
+each_among [] = tt
+each_among (p ∷ ps) = (
+  or_first (p == p) (is_among ps (Some p)) (eq-eqb p p refl),
+  all_map (λ x. is_among ps (Some x) ≡ true) (λ x. is_among (p ∷ ps) (Some x) ≡ true) (λ x e. or_second (x == p) (is_among ps (Some x)) e) ps (each_among ps),
+)

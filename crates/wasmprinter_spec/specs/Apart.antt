@@ -1,0 +1,76 @@
+-- Where the things lie that lines begin with: those of the code section lie in an interval of their own, and rise there.
+use Rattle.std.specs.Prelude.{ℕ, ◌+◌, ◌<◌, ◌≤◌, ◌⊎◌, List, [], ◌∷◌, ◌++◌, Bool, true, false, map, Option, Some, None}
+use Rattle.std.specs.List.{AllByRecursion, flat_map}
+use Rattle.wasmprinter_spec.specs.Grammar.{Placed}
+use Rattle.wasmprinter_spec.specs.Types.{SubType}
+use Rattle.wasmprinter_spec.specs.Placed.{TypeGroup, LocalEntry, Body, CustomEntry, PlacedModule}
+use Rattle.wasmprinter_spec.specs.Customs.{Role, Listed, Linked, role_of}
+use Rattle.wasmprinter_spec.specs.Layout.Functions.{locals_place}
+use Rattle.wasmprinter_spec.specs.Lines.{places, hint_places}
+
+-- the places rise, from the first number on and below the last one
+abbrev pub Rises : ℕ → List ℕ → ℕ → Type 0
+Rises low [] high = low ≤ high
+Rises low (p ∷ ps) high = (low ≤ p) × Rises (p + 1) ps high
+
+abbrev pub IsOutside : ℕ → ℕ → ℕ → Type 0
+IsOutside low high p = (p < low) ⊎ (high ≤ p)
+
+-- ---- bodies
+
+abbrev pub place_if_any : Option ℕ → List ℕ
+place_if_any None = []
+place_if_any (Some place) = place ∷ []
+
+-- the place of the line of locals, if there are any
+abbrev pub locals_places : List (Placed LocalEntry) → List ℕ
+locals_places es = place_if_any (locals_place es)
+
+-- the places of a body: its first byte, its locals, its operators, its last byte
+abbrev pub body_places : Placed Body → List ℕ
+body_places b = b.place ∷ (locals_places b.value.locals ++ (places b.value.operators ++ (b.value.end ∷ [])))
+
+-- ---- all else
+
+-- all types of a written group have one place
+abbrev pub member_places : Bool → ℕ → List SubType → List ℕ
+member_places true place ts = map (λ t. place + 2) ts
+member_places false place ts = []
+
+abbrev pub group_places : Placed TypeGroup → List ℕ
+group_places g = g.place ∷ member_places g.value.written g.place g.value.types
+
+abbrev pub start_places : Option (Placed ℕ) → List ℕ
+start_places None = []
+start_places (Some start) = start.place ∷ []
+
+-- values of `producers`, subsections of `dylink.0`
+abbrev pub role_places : Role → List ℕ
+role_places (Listed fields) = flat_map (λ f. places f.values) fields
+role_places (Linked subsections) = places subsections
+role_places _ = []
+
+-- a custom section, its data, and the lines within it
+abbrev pub custom_places : CustomEntry → List ℕ
+custom_places c = c.section.place ∷ (c.section.value.bytes.place ∷ role_places (role_of c.section.value))
+
+-- The bodies lie one after the other in an interval, each with its places rising; whatever else begins a line lies outside of it, the
+-- module's first byte and the end of its bytes too.
+pub record IsApart (m : PlacedModule) : Type 0 where
+  pub low : ℕ
+  pub high : ℕ
+  pub first : 0 < low
+  pub last : high ≤ m.size
+  pub bodies : Rises low (flat_map (λ f. body_places f.body) m.functions) high
+  pub types : AllByRecursion (IsOutside low high) (flat_map group_places m.types)
+  pub imports : AllByRecursion (IsOutside low high) (places m.imports)
+  pub tables : AllByRecursion (IsOutside low high) (places m.tables)
+  pub memories : AllByRecursion (IsOutside low high) (places m.memories)
+  pub tags : AllByRecursion (IsOutside low high) (places m.tags)
+  pub globals : AllByRecursion (IsOutside low high) (places m.globals)
+  pub exports : AllByRecursion (IsOutside low high) (places m.exports)
+  pub start : AllByRecursion (IsOutside low high) (start_places m.start)
+  pub elements : AllByRecursion (IsOutside low high) (places m.elements)
+  pub datas : AllByRecursion (IsOutside low high) (places m.datas)
+  pub customs : AllByRecursion (IsOutside low high) (flat_map custom_places m.customs)
+  pub hints : AllByRecursion (IsOutside low high) (hint_places m)

@@ -1,0 +1,47 @@
+-- The laws of lines and of the places that they begin with. Functions of the crate `wasmprinter_places` have them as their contracts.
+use Rattle.std.specs.Prelude.{◌≡◌, ℕ, List, false, Some, None, slice_get}
+use Rattle.wasmprinter_spec.specs.Binary.{Spells}
+use Rattle.wasmprinter_spec.specs.Grammar.{Placed}
+use Rattle.wasmprinter_spec.specs.Operator.{Operator}
+use Rattle.wasmprinter_spec.specs.Placed.{PlacedFunction, PlacedModule}
+use Rattle.wasmprinter_spec.specs.Call.{Call, atoms, text_of}
+use Rattle.wasmprinter_spec.specs.Options.{Options, Answers}
+use Rattle.wasmprinter_spec.specs.Layout.{layout, refusal}
+use Rattle.wasmprinter_spec.specs.Apart.{IsApart}
+use Rattle.wasmprinter_spec.specs.Lines.{TextLine, lines_of, joined_lines, line_places, hint_places, IsOnlyLine, HasFunctionLines, operator_at, place_of}
+
+-- Lists of calls that differ only in how text is cut have the same lines.
+abbrev pub AlikeHaveSameLines : Type 0
+AlikeHaveSameLines = (k l : List Call) → atoms k ≡ atoms l → lines_of k ≡ lines_of l
+
+-- The lines of a module joined are its text, up to a refusal too.
+abbrev pub LinesJoin : Type 0
+LinesJoin = (o : Options) (answers : Answers) (m : PlacedModule) → joined_lines (lines_of (layout o answers m)) ≡ text_of (layout o answers m)
+
+-- The bodies of a module that bytes spell lie apart from all else that begins a line.
+abbrev pub BodiesLieApart : Type 0
+BodiesLieApart = (bytes : List ℕ) (m : PlacedModule) → Spells bytes m → IsApart m
+
+-- Where bodies are printed and no `dylink.0` section is refused, each function has its lines, and each of its operators one of its own.
+abbrev pub FunctionsHaveLines : Type 0
+FunctionsHaveLines =
+    (bytes : List ℕ) (m : PlacedModule) (o : Options) (answers : Answers) →
+    Spells bytes m → o.skeleton ≡ false → refusal o answers m ≡ None →
+    (i : ℕ) (f : PlacedFunction) → slice_get m.functions i ≡ Some f →
+    HasFunctionLines (hint_places m) (line_places (lines_of (layout o answers m))) f
+
+-- What is found for an operator, in any lines: there is such an operator, the place is its, and the line begins with that place.
+abbrev pub FindsPlace : Type 0
+FindsPlace =
+    (m : PlacedModule) (lines : List TextLine) (i j number place : ℕ) → place_of m lines i j ≡ Some (number, place) →
+    (o : Placed Operator) × (operator_at m i j ≡ Some o) × (place ≡ o.place) × (slice_get (line_places lines) number ≡ Some (Some place))
+
+-- In the lines of a module where bodies are printed and no `dylink.0` section is refused, each operator's line is found, the only one with its
+-- place, and for no operator none.
+abbrev pub FindsLine : Type 0
+FindsLine =
+    (bytes : List ℕ) (m : PlacedModule) (o : Options) (answers : Answers) →
+    Spells bytes m → o.skeleton ≡ false → refusal o answers m ≡ None → (i j : ℕ) →
+    let lines = lines_of (layout o answers m) in
+    ((a : Placed Operator) → operator_at m i j ≡ Some a → (number : ℕ) × (place_of m lines i j ≡ Some (number, a.place)) × IsOnlyLine (line_places lines) a.place number)
+    × (operator_at m i j ≡ None → place_of m lines i j ≡ None)
