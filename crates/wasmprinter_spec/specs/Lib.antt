@@ -23,7 +23,6 @@ pub mod Module
 pub mod Limits
 pub mod Indexed
 pub mod Call
-pub mod Lines
 pub mod Colour
 pub mod Plain
 pub mod Meaning
