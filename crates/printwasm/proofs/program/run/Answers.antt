@@ -2,8 +2,8 @@ use Rattle.std.proofs.Common.{string_bytes, map, ap, sym, ◌∙◌, option_copi
 use Rattle.printwasm.proofs.Endings.{refusal_told}
 use Rattle.printwasm.proofs.program.run.Goals as goal
 
-pub returns-in-Err : goal.returns-in-Err
-returns-in-Err g c =
+pub returns : goal.returns
+returns g c =
     let words = map string_bytes c.args.words.now in
     let named = sym c.file_of.ensures ∙ ap option_copied c.in-Some.is in
     rw c.refuse.ensures.status
