@@ -208,7 +208,7 @@ fn labels_are_listed_by_function_and_number(rt: HostRuntime) -> Result<(), Fail>
 
 /// A number of fewer than 14 bits in two bytes, as the binary format may spell it.
 fn two_bytes(n: u16) -> [u8; 2] {
-    [(n & 0x7f) as u8 | 0x80, (n >> 7) as u8]
+    [(n & 0x7f) as u8 | 0x80, (n >> 7 & 0x7f) as u8]
 }
 
 /// A name map in which as many items, the first ones, are called `a`.
@@ -224,7 +224,7 @@ fn map_of(alloc: Global, count: u16) -> Result<Vec<u8>, Error> {
 /// A subsection that holds this.
 fn subsection_of(alloc: Global, id: u8, content: &[u8]) -> Result<Vec<u8>, Error> {
     let mut subsection = Vec::from_slice(alloc, &[id])?;
-    subsection.extend_from_slice(&two_bytes(content.len() as u16))?;
+    subsection.extend_from_slice(&two_bytes((content.len() & 0x3fff) as u16))?;
     subsection.extend_from_slice(content)?;
     Ok(subsection)
 }
