@@ -15,7 +15,7 @@ use Rattle.wasmprinter_spec.specs.Read.{read}
 use Rattle.wasmprinter_reading.proofs.Hints.Kept.{hints_stay}
 use Rattle.wasmprinter_spec.specs.Text.Hints.{text_hints}
 use Rattle.wasmprinter.specs.Printed.{Printed, HasTextBy, HasText, unclaimed, IsUnclaimed}
-use Rattle.wasmprinter.proofs.Claims.{alike_unclaimed, unclaimed_layout}
+use Rattle.wasmprinter.proofs.Claims.{IsSame, alike_unclaimed, unclaimed_layout}
 
 -- a view that each call extends by its text is extended by the text of a run
 run_text : {P : Type 0} (m : Meaning P) (view : P → List ℕ) → ((s : P) (c : Call) (t : P) → m.after s c t → view t ≡ view s ++ call_text c) →
@@ -46,14 +46,17 @@ claims_never gives s (Line place) t h = tt
 claims_never gives s (Start style) t h = tt
 claims_never gives s (Claim name place bytes answer) t h = h.0
 
--- what was printed to a writer that was empty is its text
-pub printed_text : {P : Type 0} (m : Meaning P) (o : Options) (view : P → List ℕ) → ((s : P) (c : Call) (t : P) → m.after s c t → view t ≡ view s ++ call_text c) →
-    ((s : P) (c : Call) (t : P) → m.after s c t → IsUnclaimed c) → (bytes : List ℕ) (old new : P) → view old ≡ [] → Printed m o bytes old new → HasTextBy o bytes (view new)
-printed_text m o view grows never bytes old new empty v =
-    let handed : view new ≡ text_of v.calls = run_text m view grows old new v.calls v.run ∙ ap (λ t. t ++ text_of v.calls) empty in
-    let asked : AllByRecursion IsUnclaimed v.calls = none_claimed m never old new v.calls v.run in
-    let own = unclaimed_layout o v.answers v.placed v.accepted (alike_unclaimed v.calls (layout o v.answers v.placed) v.alike asked) in
-    let is : view new ≡ text_of (layout o unclaimed v.placed) = handed ∙ alike_texts v.calls (layout o v.answers v.placed) v.alike ∙ ap text_of own.layout in
+-- what was printed to a printer that claims nothing is the layout of which nothing is claimed
+pub unclaimed_printed : {P : Type 0} (m : Meaning P) (o : Options) → ((s : P) (c : Call) (t : P) → m.after s c t → IsUnclaimed c) → (bytes : List ℕ) (old new : P) →
+    (v : Printed m o bytes old new) → IsSame o v.answers v.placed
+unclaimed_printed m o never bytes old new v =
+    unclaimed_layout o v.answers v.placed v.accepted (alike_unclaimed v.calls (layout o v.answers v.placed) v.alike (none_claimed m never old new v.calls v.run))
+
+-- the text of its calls is that of the module
+abbrev pub calls_text : {P : Type 0} (m : Meaning P) (o : Options) (bytes : List ℕ) (old new : P) (v : Printed m o bytes old new) → IsSame o v.answers v.placed →
+    (text : List ℕ) → text ≡ text_of v.calls → HasTextBy o bytes text
+calls_text m o bytes old new v own text handed =
+    let is : text ≡ text_of (layout o unclaimed v.placed) = handed ∙ alike_texts v.calls (layout o v.answers v.placed) v.alike ∙ ap text_of own.layout in
     record {
       placed = v.placed;
       spelled = v.spelled;
@@ -64,6 +67,13 @@ printed_text m o view grows never bytes old new empty v =
       reads = λ indexed whole blank. ap read is ∙ reads_back bytes v.placed o unclaimed v.spelled indexed v.within.tables whole blank (λ n. refl) own.refusal;
       hints = λ hs whole blank given. ap text_hints is ∙ hints_stay bytes v.placed o unclaimed hs v.spelled whole blank own.refusal given;
     }
+
+-- what was printed to a writer that was empty is its text
+pub printed_text : {P : Type 0} (m : Meaning P) (o : Options) (view : P → List ℕ) → ((s : P) (c : Call) (t : P) → m.after s c t → view t ≡ view s ++ call_text c) →
+    ((s : P) (c : Call) (t : P) → m.after s c t → IsUnclaimed c) → (bytes : List ℕ) (old new : P) → view old ≡ [] → Printed m o bytes old new → HasTextBy o bytes (view new)
+printed_text m o view grows never bytes old new empty v =
+    let handed : view new ≡ text_of v.calls = run_text m view grows old new v.calls v.run ∙ ap (λ t. t ++ text_of v.calls) empty in
+    calls_text m o bytes old new v (unclaimed_printed m o never bytes old new v) (view new) handed
 
 two_blanks : IsBlank defaults.indent
 two_blanks = (inl refl, (inl refl, tt))

@@ -1,3 +1,4 @@
+pub mod Lined
 pub mod OfFile
 pub mod Outcome
 pub mod Printed

@@ -7,6 +7,7 @@
 mod config;
 mod files;
 mod in_memory;
+mod lined;
 pub mod print;
 pub mod text;
 pub mod wasm;
@@ -16,3 +17,4 @@ pub use files::print_file;
 pub use in_memory::print_bytes;
 pub use print::{Print, PrintFmtWrite, PrintIoWrite, PrintTermcolor};
 pub use wasmprinter_error::Error;
+pub use wasmprinter_tracker::OffsetsAndLines;
