@@ -1,13 +1,14 @@
 #!/bin/sh
 # Refuses each request for memory of the program `refusals` in turn, and judges how it takes that. Each run has to end with status 1, with one
-# module `out of memory` and all others `printed`. Ends with another status than 0 where a run doesn't, or faults or hangs.
+# line `out of memory` and all others `printed`. Ends with another status than 0 where a run doesn't, or faults or hangs.
 #
 # tools/refusals.sh [LAST]: the request with the number LAST is refused in each run, and each makes requests of its own
 # first, so many that another one of the library's comes to be that request. LAST has to be greater than the number of the
-# library's requests; the runs past them show that nothing was refused. The runs are dealt out to as many builds as there are processors.
+# library's requests (one of those counted is the program's own, for the text that lines are appended to); the runs past them show that
+# nothing was refused. The runs are dealt out to as many builds as there are processors.
 set -eu
 cd "$(dirname "$0")/../crates/refusals"
-last=${1:-280}
+last=${1:-270}
 hands=$(nproc)
 began=$(date +%s)
 work=$(mktemp -d)
@@ -30,7 +31,7 @@ if ls "$work"/cases*.failed >"$work/failed" 2>&1; then
     exit 1
 fi
 awk -v last="$last" -v err="$work/err" '
-    # standard output: a line `== RUN`, and then one for each module
+    # standard output: a line `== RUN`, and then one for each ending
     FILENAME != err && /^== / { run = $2; next }
     FILENAME != err && /: printed$/ { printed[run]++; next }
     FILENAME != err && /: out of memory$/ { refused[run]++; next }

@@ -2,16 +2,15 @@
 use Rattle.std.specs.Prelude.{ℕ, List, Some, Result, Ok, Err, IfOk, IfErr}
 use Rattle.std.proofs.Common.{inr}
 use Rattle.wasmprinter_error.specs.declared.error.Error.{Error}
-use Rattle.wasmprinter_spec.specs.Options.{Options}
-use Rattle.wasmprinter.specs.Printed.{HasTextBy}
 use Rattle.wasmprinter.specs.Outcome.{HasTextCause, IsTrueOfText}
-use Rattle.printwasm.specs.Outcome.{Reading, GivesText, GivesNoText}
+use Rattle.printwasm.specs.Words.{Choice}
+use Rattle.printwasm.specs.Outcome.{Reading, IsTextBy, GivesText, GivesNoText}
 
 -- the text of the bytes is the file's
-pub gives_text : {T : Type 0} (o : Options) (view : T → List ℕ) (gives : Reading) (wasm : List ℕ) (r : Result T Error) →
-    gives (Some wasm) → IfOk r (λ t. HasTextBy o wasm (view t)) → IfOk r (λ t. GivesText o gives (view t))
-gives_text o view gives wasm (Ok t) g h = (wasm, g, h)
-gives_text o view gives wasm (Err e) g h = tt
+pub gives_text : {T : Type 0} (choice : Choice) (view : T → List ℕ) (gives : Reading) (wasm : List ℕ) (r : Result T Error) →
+    gives (Some wasm) → IfOk r (λ t. IsTextBy choice wasm (view t)) → IfOk r (λ t. GivesText choice gives (view t))
+gives_text choice view gives wasm (Ok t) g h = (wasm, g, h)
+gives_text choice view gives wasm (Err e) g h = tt
 
 -- why there is none
 pub gives_no_text : {T : Type 0} (gives : Reading) (wasm : List ℕ) (r : Result T Error) →

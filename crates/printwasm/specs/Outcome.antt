@@ -1,13 +1,14 @@
 -- What a run leads to: what it writes of a module, why it writes none, what it tells of that, and its status.
-use Rattle.std.specs.Prelude.{◌≡◌, ℕ, ◌≤◌, ◌⊎◌, ◌↔◌, List, [], ◌∷◌, ◌++◌, Option, Some, None, Result, Ok, Err, codes}
+use Rattle.std.specs.Prelude.{◌≡◌, ℕ, ◌≤◌, ◌⊎◌, ◌↔◌, List, [], ◌∷◌, ◌++◌, Bool, true, false, Option, Some, None, Result, Ok, Err, codes}
 use Rattle.std.specs.Fmt.{◌++?◌}
 use Rattle.std.specs.declared.io.Error.{Error as IoError}
 use Rattle.wasmprinter_error.specs.declared.error.Error.{Error}
 use Rattle.wasmprinter_error.specs.declared.error.Error.TheVariants.{Unreadable, Printer}
 use Rattle.wasmprinter_spec.specs.Options.{Options}
 use Rattle.wasmprinter.specs.Printed.{HasTextBy}
+use Rattle.wasmprinter.specs.Coloured.{HasColouredTextBy}
 use Rattle.wasmprinter.specs.Outcome.{HasTextCause, IsTrueOfText}
-use Rattle.printwasm.specs.Words.{named_file, chosen}
+use Rattle.printwasm.specs.Words.{Choice, named_file, chosen}
 
 -- what a read of one file may give: bytes, or `None` where it fails
 abbrev pub Reading : Type 1
@@ -17,9 +18,18 @@ Reading = Option (List ℕ) → Type 0
 abbrev pub Writing : Type 0 → Type 1
 Writing W = W → Option (List ℕ) → Result (Unit {0}) IoError → W → Type 0
 
--- the file gives bytes that spell a module with this text, by these options
-abbrev pub GivesText : Options → Reading → List ℕ → Type 0
-GivesText o gives text = (wasm : List ℕ) × gives (Some wasm) × HasTextBy o wasm text
+-- with sequences that colour it, or without
+abbrev pub HasTextIn : Bool → Options → List ℕ → List ℕ → Type 0
+HasTextIn true o wasm text = HasColouredTextBy o wasm text
+HasTextIn false o wasm text = HasTextBy o wasm text
+
+-- the text, as it was chosen, of the module that the bytes spell
+abbrev pub IsTextBy : Choice → List ℕ → List ℕ → Type 0
+IsTextBy c wasm text = HasTextIn c.coloured c.options wasm text
+
+-- the file gives bytes that spell a module with this text, as it was chosen
+abbrev pub GivesText : Choice → Reading → List ℕ → Type 0
+GivesText c gives text = (wasm : List ℕ) × gives (Some wasm) × IsTextBy c wasm text
 
 -- there is no text of the file: it can't be read, or its module can't be printed for a cause that is true of its bytes
 abbrev pub GivesNoText : Reading → Error → Type 0
@@ -27,13 +37,13 @@ GivesNoText gives error =
     (gives None × (error ≡ Unreadable)) ⊎ ((wasm : List ℕ) × gives (Some wasm) × IsTrueOfText wasm error × HasTextCause wasm error)
 
 -- the text of the file's module was written once, and the write answered this
-abbrev pub WritesText : {W : Type 0} → Options → Reading → Writing W → W → W → Result (Unit {0}) IoError → Type 0
-WritesText o gives takes old new answer = (text : List ℕ) × GivesText o gives text × takes old (Some text) answer new
+abbrev pub WritesText : {W : Type 0} → Choice → Reading → Writing W → W → W → Result (Unit {0}) IoError → Type 0
+WritesText c gives takes old new answer = (text : List ℕ) × GivesText c gives text × takes old (Some text) answer new
 
 -- the module isn't printed: there is no text of it, and nothing was written; or the one write of its text failed
-abbrev pub FailsToWrite : {W : Type 0} → Options → Reading → Writing W → W → W → Error → Type 0
-FailsToWrite o gives takes old new error = (GivesNoText gives error × (new ≡ old))
-    ⊎ ((failure : IoError) × WritesText o gives takes old new (Err failure) × (error ≡ Printer failure))
+abbrev pub FailsToWrite : {W : Type 0} → Choice → Reading → Writing W → W → W → Error → Type 0
+FailsToWrite c gives takes old new error = (GivesNoText gives error × (new ≡ old))
+    ⊎ ((failure : IoError) × WritesText c gives takes old new (Err failure) × (error ≡ Printer failure))
 
 -- the text was written once, whatever the write answered
 abbrev pub Tells : {W : Type 0} → Writing W → W → W → Option (List ℕ) → Type 0
@@ -41,7 +51,7 @@ Tells takes old new text = (answer : Result (Unit {0}) IoError) × takes old tex
 
 -- the line that tells how the program is used
 abbrev pub usage_line : List ℕ
-usage_line = codes "usage: printwasm [--offsets] [--skeleton] [--name-unnamed] FILE" ++ (10 ∷ [])
+usage_line = codes "usage: printwasm [--offsets] [--skeleton] [--name-unnamed] [--color] FILE" ++ (10 ∷ [])
 
 -- the line that tells an error, where the error's text is told
 abbrev pub error_line : Option (List ℕ) → Option (List ℕ)
@@ -49,7 +59,7 @@ error_line text = Some (codes "error: ") ++? (text ++? Some (10 ∷ []))
 
 -- What a run with these words leads to, where `text_of` tells the texts of errors: the status is 2 exactly where the words don't name one
 -- file beside options that there are, and then the output stays as it was and the usage line is told; it is 0 only where the text of the module in the
--- named file, by the options that the words choose, was written whole and nothing was told; and 1 only where it wasn't, and the error was told.
+-- named file, as the words choose it, was written whole and nothing was told; and 1 only where it wasn't, and the error was told.
 pub record HasOutcome {W V : Type 0} (gives : List ℕ → Reading) (takes : Writing W) (tells : Writing V) (text_of : Error → Option (List ℕ))
     (words : List (List ℕ)) (out new_out : W) (err new_err : V) (status : ℕ) : Type 0 where
   pub usage : (status ≡ 2) ↔ (named_file words ≡ None)

@@ -25,9 +25,12 @@ skeleton_option = codes "--skeleton"
 abbrev pub name_unnamed_option : List ℕ
 name_unnamed_option = codes "--name-unnamed"
 
+abbrev pub color_option : List ℕ
+color_option = codes "--color"
+
 -- an option that there is, or a file
 abbrev pub is_known : List ℕ → Bool
-is_known word = not (is_option word) || has (offsets_option ∷ (skeleton_option ∷ (name_unnamed_option ∷ []))) word
+is_known word = not (is_option word) || has (offsets_option ∷ (skeleton_option ∷ (name_unnamed_option ∷ (color_option ∷ [])))) word
 
 -- the words that are files
 abbrev pub files : List (List ℕ) → List (List ℕ)
@@ -41,12 +44,20 @@ the_only _ = None
 abbrev pub named_file : List (List ℕ) → Option (List ℕ)
 named_file words = if list_all is_known words then the_only (files words) else None
 
+-- what words choose: the options of printing, and whether the text is coloured
+pub record Choice : Type 0 where
+  pub options : Options
+  pub coloured : Bool
+
 -- what the options choose, wherever and however often they stand
-abbrev pub chosen : List (List ℕ) → Options
-chosen words = record defaults {
-  offsets = has words offsets_option;
-  skeleton = has words skeleton_option;
-  invents = has words name_unnamed_option;
+abbrev pub chosen : List (List ℕ) → Choice
+chosen words = record {
+  options = record defaults {
+    offsets = has words offsets_option;
+    skeleton = has words skeleton_option;
+    invents = has words name_unnamed_option;
+  };
+  coloured = has words color_option;
 }
 
 -- all that the iterator gives to its end, in order, but the first, which is the program's name

@@ -4,17 +4,19 @@ ghost use Rattle.std.specs.Iterator.{IsFinite};
 ghost use Rattle.std.specs.Process.{exit_status};
 ghost use Rattle.std.specs.declared.io.Error.{Error as IoError};
 ghost use Rattle.printwasm.specs.Words.{AreWordsOf, WantsWords, is_option, is_known, named_file, has, chosen};
-ghost use Rattle.printwasm.specs.Outcome.{GivesText, GivesNoText, WritesText, FailsToWrite, Tells, HasOutcome, error_line};
+ghost use Rattle.printwasm.specs.Outcome.{IsTextBy, GivesText, GivesNoText, WritesText, FailsToWrite, Tells, HasOutcome, error_line};
+ghost use Rattle.wasmprinter.specs.Outcome.{HasTextCause, IsTrueOfText};
 
 use crate::system::{Sink, Source};
 use std::alloc::Global;
 use std::fmt::Display;
 use std::io;
+use std::marker::Model;
 use std::path::Path;
 use std::process::ExitCode;
 use wasmprinter::{Config, Error};
 
-const USAGE: &str = "usage: printwasm [--offsets] [--skeleton] [--name-unnamed] FILE\n";
+const USAGE: &str = "usage: printwasm [--offsets] [--skeleton] [--name-unnamed] [--color] FILE\n";
 
 /// The module was printed.
 const PRINTED: u8 = 0;
@@ -25,20 +27,38 @@ const REFUSED: u8 = 1;
 /// The words aren't those of the usage line.
 const MISUSED: u8 = 2;
 
-/// With what words begin that choose an option.
+/// How a word begins that chooses an option.
 const OPTION_START: &str = "--";
 
 /// Each line begins with the place of what stands on it.
 const OFFSETS: &str = "--offsets";
 
-/// Bodies, items of element segments and bytes of data segments are left out.
+/// Bodies, items of element segments, and bytes of data segments and custom sections are left out.
 const SKELETON: &str = "--skeleton";
 
 /// Identifiers are made up for items without a name.
 const NAME_UNNAMED: &str = "--name-unnamed";
 
+/// The text is coloured for a terminal.
+const COLOR: &str = "--color";
+
 /// All options that there are.
-const OPTIONS: [&str; 3] = [OFFSETS, SKELETON, NAME_UNNAMED];
+const OPTIONS: [&str; 4] = [OFFSETS, SKELETON, NAME_UNNAMED, COLOR];
+
+/// What the words choose.
+#[derive(Drop)]
+struct Choice {
+    config: Config,
+    is_colored: bool,
+}
+
+impl Model for Choice {
+    ghost use Rattle.printwasm.specs.Words.{Choice as ChosenValue};
+
+    ghost Value = { ChosenValue };
+
+    ghost view = { λ c. record { options = c.config; coloured = c.is_colored } };
+}
 
 /// The program over all words that it is started with, its own name first.
 pub fn start<S: Source, I: Iterator<Item = String>, O: Sink, E: Sink>(
@@ -94,7 +114,7 @@ pub fn run<S: Source, O: Sink, E: Sink>(
         let _ = err.write_text(USAGE);
         return MISUSED;
     };
-    match write_file(source, alloc, &config_of(words), file, out) {
+    match write_file(source, alloc, &choice_of(words), file, out) {
         Ok(()) => PRINTED,
         Err(error) => refuse(err, error),
     }
@@ -138,7 +158,7 @@ fn has(words: &[String], option: &str) -> bool
 }
 
 /// What the words choose.
-fn config_of(words: &[String]) -> Config
+fn choice_of(words: &[String]) -> Choice
     ensures { result ≡ chosen (map string_bytes words.now) }
 {
     let mut config = Config::new();
@@ -146,36 +166,52 @@ fn config_of(words: &[String]) -> Config
         .print_offsets(has(words, OFFSETS))
         .print_skeleton(has(words, SKELETON))
         .name_unnamed(has(words, NAME_UNNAMED));
-    config
+    Choice {
+        config,
+        is_colored: has(words, COLOR),
+    }
 }
 
 /// Writes the text of the module in a file. The text is made whole before it is written.
 fn write_file<S: Source, O: Sink>(
     source: &S,
     alloc: Global,
-    config: &Config,
+    choice: &Choice,
     file: &str,
     out: &mut O,
 ) -> Result<(), Error>
-    ensures written { OnOk result (WritesText config.now (S.gives source.now file.now) O.takes out.old out.new (Ok tt)) }
-    ensures refused { IfErr result (FailsToWrite config.now (S.gives source.now file.now) O.takes out.old out.new) }
+    ensures written { OnOk result (WritesText choice.now (S.gives source.now file.now) O.takes out.old out.new (Ok tt)) }
+    ensures refused { IfErr result (FailsToWrite choice.now (S.gives source.now file.now) O.takes out.old out.new) }
 {
-    let text = print_file(source, alloc, config, file)?;
-    out.write_text(text.as_str()).map_err(Error::Printer)
+    let text = print_file(source, alloc, choice, file)?;
+    out.write_bytes(&text).map_err(Error::Printer)
 }
 
 /// The text of the module in a file.
 fn print_file<S: Source>(
     source: &S,
     alloc: Global,
-    config: &Config,
+    choice: &Choice,
     file: &str,
-) -> Result<String, Error>
-    ensures printed { IfOk result (λ text. GivesText config.now (S.gives source.now file.now) (string_bytes text)) }
+) -> Result<Vec<u8>, Error>
+    ensures printed { IfOk result (λ text. GivesText choice.now (S.gives source.now file.now) text.items) }
     ensures refused { IfErr result (GivesNoText (S.gives source.now file.now)) }
 {
     let wasm = source.read(Path::new(file)).map_err(|_| Error::Unreadable)?;
-    config.print_to_string(alloc, &wasm)
+    print(alloc, choice, &wasm)
+}
+
+/// The text of a module.
+fn print(alloc: Global, choice: &Choice, wasm: &[u8]) -> Result<Vec<u8>, Error>
+    ensures printed { IfOk result (λ text. IsTextBy choice.now wasm.now text.items) }
+    ensures caused { IfErr result (HasTextCause wasm.now) }
+    ensures refused { IfErr result (IsTrueOfText wasm.now) }
+{
+    if choice.is_colored {
+        choice.config.print_to_ansi(alloc, wasm)
+    } else {
+        Ok(choice.config.print_to_string(alloc, wasm)?.into_bytes())
+    }
 }
 
 /// Tells an error in a line of its own, and answers the status of a refusal, also where the line can't be written.

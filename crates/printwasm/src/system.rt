@@ -33,6 +33,10 @@ pub trait Sink {
     /// Writes a text to its end, or fails.
     fn write_text<D: Display + Drop>(&mut self, text: D) -> io::Result<()>
         ensures { takes self.old (D.output text) result self.new };
+
+    /// Writes the bytes of a text to their end, or fails.
+    fn write_bytes(&mut self, text: &[u8]) -> io::Result<()>
+        ensures { takes self.old (Some text.now) result self.new };
 }
 
 // The system's files. No contract can say what a file holds.
@@ -50,5 +54,9 @@ impl<W: Write> Sink for W {
 
     fn write_text<D: Display + Drop>(&mut self, text: D) -> io::Result<()> {
         write!(self, "{text}")
+    }
+
+    fn write_bytes(&mut self, text: &[u8]) -> io::Result<()> {
+        self.write_all(text)
     }
 }

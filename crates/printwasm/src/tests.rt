@@ -23,7 +23,7 @@ const MANY_LOCALS: [u8; 28] = [
     0x01, 0x00, 0x0a, 0x08, 0x01, 0x06, 0x01, 0xd1, 0x86, 0x03, 0x7f, 0x0b,
 ];
 
-const USAGE: &str = "usage: printwasm [--offsets] [--skeleton] [--name-unnamed] FILE\n";
+const USAGE: &str = "usage: printwasm [--offsets] [--skeleton] [--name-unnamed] [--color] FILE\n";
 
 /// What a run wrote, and its status.
 #[derive(Drop)]
@@ -118,7 +118,7 @@ fn prints_by_its_options(rt: HostRuntime) -> Result<(), Fail> {
 }
 
 /// The identity by each option alone.
-const BY_ONE_OPTION: [(&str, &str); 3] = [
+const BY_ONE_OPTION: [(&str, &str); 4] = [
     (
         "--offsets",
         r#"(module
@@ -150,7 +150,56 @@ const BY_ONE_OPTION: [(&str, &str); 3] = [
 )
 "#,
     ),
+    (
+        "--color",
+        "(\x1b[0m\x1b[1m\x1b[38;5;11mmodule\x1b[0m
+  (\x1b[0m\x1b[1m\x1b[38;5;11mtype \x1b[0m\x1b[0m\x1b[35m(;0;)\x1b[0m (\x1b[0m\x1b[1m\x1b[38;5;11mfunc\x1b[0m \
+(\x1b[0m\x1b[1m\x1b[38;5;11mparam\x1b[0m \x1b[0m\x1b[1m\x1b[38;5;10mi32\x1b[0m) \
+(\x1b[0m\x1b[1m\x1b[38;5;11mresult\x1b[0m \x1b[0m\x1b[1m\x1b[38;5;10mi32\x1b[0m)))
+  (\x1b[0m\x1b[1m\x1b[38;5;11mexport \x1b[0m\x1b[0m\x1b[31m\"f\"\x1b[0m (\x1b[0m\x1b[1m\x1b[38;5;11mfunc \x1b[0m\x1b[0m\x1b[35m0\x1b[0m))
+  (\x1b[0m\x1b[1m\x1b[38;5;11mfunc \x1b[0m\x1b[0m\x1b[35m(;0;)\x1b[0m \
+(\x1b[0m\x1b[1m\x1b[38;5;11mtype \x1b[0m\x1b[0m\x1b[35m0\x1b[0m) \
+(\x1b[0m\x1b[1m\x1b[38;5;11mparam\x1b[0m \x1b[0m\x1b[1m\x1b[38;5;10mi32\x1b[0m) \
+(\x1b[0m\x1b[1m\x1b[38;5;11mresult\x1b[0m \x1b[0m\x1b[1m\x1b[38;5;10mi32\x1b[0m)
+    local.get \x1b[0m\x1b[35m0\x1b[0m
+  )
+)
+",
+    ),
 ];
+
+/// The identity in colours, with places in front of lines and without its body.
+const OUTLINE_COLORED: &str = "(\x1b[0m\x1b[1m\x1b[38;5;11mmodule\x1b[0m
+\x1b[0m\x1b[36m(;@b     ;)\x1b[0m  (\x1b[0m\x1b[1m\x1b[38;5;11mtype \x1b[0m\x1b[0m\x1b[35m(;0;)\x1b[0m \
+(\x1b[0m\x1b[1m\x1b[38;5;11mfunc\x1b[0m \
+(\x1b[0m\x1b[1m\x1b[38;5;11mparam\x1b[0m \x1b[0m\x1b[1m\x1b[38;5;10mi32\x1b[0m) \
+(\x1b[0m\x1b[1m\x1b[38;5;11mresult\x1b[0m \x1b[0m\x1b[1m\x1b[38;5;10mi32\x1b[0m)))
+\x1b[0m\x1b[36m(;@17    ;)\x1b[0m  (\x1b[0m\x1b[1m\x1b[38;5;11mexport \x1b[0m\x1b[0m\x1b[31m\"f\"\x1b[0m \
+(\x1b[0m\x1b[1m\x1b[38;5;11mfunc \x1b[0m\x1b[0m\x1b[35m0\x1b[0m))
+\x1b[0m\x1b[36m(;@1f    ;)\x1b[0m  (\x1b[0m\x1b[1m\x1b[38;5;11mfunc \x1b[0m\x1b[0m\x1b[35m(;0;)\x1b[0m \
+(\x1b[0m\x1b[1m\x1b[38;5;11mtype \x1b[0m\x1b[0m\x1b[35m0\x1b[0m) \
+(\x1b[0m\x1b[1m\x1b[38;5;11mparam\x1b[0m \x1b[0m\x1b[1m\x1b[38;5;10mi32\x1b[0m) \
+(\x1b[0m\x1b[1m\x1b[38;5;11mresult\x1b[0m \x1b[0m\x1b[1m\x1b[38;5;10mi32\x1b[0m) ...)
+\x1b[0m\x1b[36m(;@23    ;)\x1b[0m)
+";
+
+#[test]
+fn prints_in_colors_by_other_options(rt: HostRuntime) -> Result<(), Fail> {
+    let file = "colors.wasm";
+    fs::write(&rt, file, &IDENTITY)?;
+    let orders: [&[&str]; 2] = [
+        &["--color", "--offsets", "--skeleton", file],
+        &[file, "--skeleton", "--color", "--offsets", "--color"],
+    ];
+    for words in orders {
+        let printed = run_with(&rt, words)?;
+        assert_eq!(rt; printed.status, 0);
+        assert_eq!(rt; printed.out.as_slice(), OUTLINE_COLORED.as_bytes());
+        assert_eq!(rt; printed.err.len(), 0);
+    }
+    fs::remove_file(&rt, file)?;
+    Ok(())
+}
 
 #[test]
 fn prints_by_one_option(rt: HostRuntime) -> Result<(), Fail> {
@@ -247,7 +296,7 @@ fn refuses_a_file_that_is_missing(rt: HostRuntime) -> Result<(), Fail> {
 
 #[test]
 fn tells_its_usage(rt: HostRuntime) -> Result<(), Fail> {
-    let misuses: [&[&str]; 8] = [
+    let misuses: [&[&str]; 10] = [
         &[],
         &["a.wasm", "b.wasm"],
         &["a.wasm", "b.wasm", "c.wasm"],
@@ -256,6 +305,8 @@ fn tells_its_usage(rt: HostRuntime) -> Result<(), Fail> {
         &["--offsets", "a.wasm", "--help"],
         &["--", "a.wasm"],
         &["a.wasm", "--offset"],
+        &["--color"],
+        &["--colors", "a.wasm"],
     ];
     for words in misuses {
         let misused = run_with(&rt, words)?;

@@ -4,7 +4,10 @@ use crate::comparing::Comparing;
 use crate::shapes::Shape;
 use std::alloc::Global;
 use wasmprinter::wasm::decode;
-use wasmprinter::{Config, Error, print_bytes};
+use wasmprinter::{Config, Error, OffsetsAndLines, print_bytes};
+
+/// What stands in the storage that lines are appended to.
+const OLD: &str = "old";
 
 #[derive(Clone, Copy)]
 pub enum Ending {
@@ -91,4 +94,37 @@ pub fn ending_of(alloc: Global, shape: &Shape) -> Ending {
     by_print_bytes(alloc, shape)
         .or(by_config(alloc, shape))
         .or(by_decode(alloc, shape))
+}
+
+/// Whether these lines are the text.
+fn are_text(lines: OffsetsAndLines<'_>, text: &str) -> bool {
+    let mut rest = text;
+    for (_, line) in lines {
+        match rest.strip_prefix(line) {
+            Some(behind) => rest = behind,
+            None => return false,
+        }
+    }
+    rest.is_empty()
+}
+
+/// By the call that appends lines to a text.
+pub fn ending_of_lines(alloc: Global, shape: &Shape) -> Ending {
+    let mut storage = String::new(alloc);
+    if storage.push_str(OLD).is_err() {
+        return Ending::OutOfMemory;
+    }
+    let refused = match Config::new().offsets_and_lines(alloc, shape.wasm, &mut storage) {
+        Ok(lines) => return Ending::of(are_text(lines, shape.text), "wrong lines"),
+        Err(error) => Ending::of_error(error),
+    };
+    Ending::of(storage.starts_with(OLD), "lost text").or(refused)
+}
+
+/// By the call that gives a text in colours, of which only the length is judged.
+pub fn ending_of_colors(alloc: Global, shape: &Shape) -> Ending {
+    match Config::new().print_to_ansi(alloc, shape.wasm) {
+        Ok(text) => Ending::of(text.len() > shape.text.len(), "no colours"),
+        Err(error) => Ending::of_error(error),
+    }
 }

@@ -1,15 +1,17 @@
-//! Prints modules of every shape, and tells of each how it ended: `printed`, `out of memory`, or what else came.
+//! Prints modules of every shape, one also in lines and in colours, and tells of each how it ended: `printed`, `out of memory`, or what
+//! else came.
 //!
 //! It shows what comes of a refused request for memory (tools/refusals.sh refuses each in turn). So it asks for no memory itself, but for
-//! the requests that standard input wants it to make first: they choose which request of the library is the one that is refused.
+//! the text that lines are appended to, and for the requests that standard input wants it to make first: they choose which request of the
+//! library is the one that is refused.
 #![tactic(auto)]
 
 mod comparing;
 mod ending;
 mod shapes;
 
-use ending::{Ending, ending_of};
-use shapes::SHAPES;
+use ending::{Ending, ending_of, ending_of_colors, ending_of_lines};
+use shapes::{LINED, SHAPES};
 use std::alloc::{AllocError, Global};
 use std::io;
 use std::io::Read;
@@ -49,17 +51,23 @@ fn are_granted(alloc: Global, count: u32) -> bool {
     true
 }
 
-/// Prints each module, writes how it ended, and answers the status of the worst ending.
+/// Tells how something ended, and answers its status.
+fn tell(rt: &HostRuntime, name: &str, ending: Ending) -> io::Result<u8> {
+    println!(rt; "{}: {}", name, ending.word())?;
+    Ok(ending.status())
+}
+
+/// Prints each module, and one also in lines and in colours, writes how each ended, and answers the status of the worst ending.
 fn print_all(rt: &HostRuntime) -> io::Result<u8> {
     if !are_granted(rt.alloc(), wanted_requests(&mut rt.stdin())?) {
         return Ok(Ending::Other("own request").status());
     }
     let mut status = Ending::Printed.status();
     for shape in &SHAPES {
-        let ending = ending_of(rt.alloc(), shape);
-        status = status.max(ending.status());
-        println!(rt; "{}: {}", shape.name, ending.word())?;
+        status = status.max(tell(rt, shape.name, ending_of(rt.alloc(), shape))?);
     }
+    status = status.max(tell(rt, "lines", ending_of_lines(rt.alloc(), &LINED))?);
+    status = status.max(tell(rt, "colours", ending_of_colors(rt.alloc(), &LINED))?);
     Ok(status)
 }
 

@@ -9,6 +9,14 @@ pub struct Shape {
     pub functions: u32,
 }
 
+/// The module of which lines and colours are asked for too.
+pub const LINED: Shape = Shape {
+    name: "blocks",
+    wasm: &BLOCKS,
+    text: BLOCKS_TEXT,
+    functions: 1,
+};
+
 pub const SHAPES: [Shape; 10] = [
     Shape {
         name: "empty",
@@ -40,12 +48,7 @@ pub const SHAPES: [Shape; 10] = [
         text: BODIES_TEXT,
         functions: 2,
     },
-    Shape {
-        name: "blocks",
-        wasm: &BLOCKS,
-        text: BLOCKS_TEXT,
-        functions: 1,
-    },
+    LINED,
     Shape {
         name: "fields",
         wasm: &FIELDS,

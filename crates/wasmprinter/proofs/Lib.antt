@@ -1,6 +1,10 @@
 pub mod Headline
 pub mod Outcomes
 pub mod Texts
+pub mod TrackedLines
+pub mod Colours
+pub mod FindingSteps
+pub mod FoundLines
 pub mod Named
 pub mod Claims
 pub mod Subsections

@@ -1,3 +1,6 @@
+pub mod Coloured
+pub mod Found
+pub mod Lined
 pub mod OfFile
 pub mod Outcome
 pub mod Printed

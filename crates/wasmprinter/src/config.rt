@@ -68,8 +68,8 @@ impl Config {
         self
     }
 
-    /// The text that stands once for each level of nesting, two blanks by default. A text of other characters than blanks and tabs is printed as
-    /// it stands; what is printed then isn't promised to read back. Takes no memory.
+    /// The text that stands once for each level of nesting, two blanks by default. A text of other characters than blanks and tabs is
+    /// printed as it stands; what is printed then isn't promised to read back. Takes no memory.
     pub fn indent_text(&mut self, text: String) -> &mut Self
         ensures itself { result.ghost_name ≡ self.entry.ghost_name }
         ensures options { result.now ≡ record self.old { indent = string_bytes text } }
@@ -80,8 +80,8 @@ impl Config {
 
     /// Prints the text of a module in the binary format to a printer.
     ///
-    /// The module is read and checked whole, and its names are read, before the first call on the printer. Each custom section is offered to
-    /// the printer, `name` and `metadata.code.branch_hint` too; of one that it takes nothing is printed, but its names and hints stay.
+    /// The module is read and checked whole, and its names are read, before the first call on the printer. Each custom section is offered
+    /// to the printer, `name` and `metadata.code.branch_hint` too; of one that it takes nothing is printed, but its names and hints stay.
     ///
     /// # Errors
     ///

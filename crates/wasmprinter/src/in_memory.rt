@@ -8,7 +8,7 @@ use crate::config::Config;
 use std::alloc::Global;
 use wasmprinter_error::Error;
 
-/// A string that is printed to fails only where it can't grow.
+/// A printer that keeps its text in memory fails only where that can't grow.
 pub(crate) fn without_printer(error: Error) -> Error
     ensures { result ≡ as_growth error }
 {

@@ -56,7 +56,7 @@ finds_place m lines i j number place e =
     )
 
 -- the only line with the place is found
-only_found : (m : PlacedModule) (lines : List TextLine) (i j number : ℕ) (a : Placed Operator) → operator_at m i j ≡ Some a → IsOnlyLine (line_places lines) a.place number →
+pub only_found : (m : PlacedModule) (lines : List TextLine) (i j number : ℕ) (a : Placed Operator) → operator_at m i j ≡ Some a → IsOnlyLine (line_places lines) a.place number →
     (n : ℕ) × (place_of m lines i j ≡ Some (n, a.place)) × IsOnlyLine (line_places lines) a.place n
 only_found m lines i j number a e only =
     let found = line_found lines 0 a.place number only.has in

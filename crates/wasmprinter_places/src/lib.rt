@@ -2,7 +2,8 @@
 //! function with an empty body. No code of the printer is in them: they relate the grammar and the layout.
 #![tactic(auto)]
 
-ghost use Rattle.wasmprinter_spec.specs.PlaceLaws.{AlikeHaveSameLines, LinesJoin, BodiesLieApart, FunctionsHaveLines, FindsPlace, FindsLine};
+ghost use Rattle.wasmprinter_spec.specs.PlaceLaws.{AlikeHaveSameLines, LinesJoin, BodiesLieApart, FunctionsHaveLines};
+ghost use Rattle.wasmprinter_spec.specs.PlaceLaws.{FindsPlace, FindsLine};
 
 /// Two lists of calls that differ only in how text is cut into pieces have the same lines.
 pub fn alike_calls_have_the_same_lines()

@@ -11,6 +11,7 @@ pub mod Identifiers
 pub mod Types
 pub mod Tabled
 pub mod Operators
+pub mod Folded
 pub mod Customs
 pub mod Ranged
 pub mod PartRanges

@@ -165,7 +165,7 @@ pub data In : Row → List Row → Type 0 where
   here : {r : Row} {rs : List Row} → In r (r ∷ rs)
   there : {r s : Row} {rs : List Row} → In r rs → In r (s ∷ rs)
 
-all_at : (p : Row → Bool) (r : Row) (rs : List Row) → all p rs ≡ true → In r rs → p r ≡ true
+pub all_at : (p : Row → Bool) (r : Row) (rs : List Row) → all p rs ≡ true → In r rs → p r ≡ true
 all_at p r (s ∷ rs) h here = (and_parts (p r) (all p rs) h).0
 all_at p r (s ∷ rs) h (there i) = all_at p r rs (and_parts (p s) (all p rs) h).1 i
 all_at p r [] h i = elim i [ ]
@@ -238,7 +238,7 @@ pub record StandsAlone (w : List ℕ) : Type 0 where
   pub part : is_part_word w ≡ false
   pub others : AllByRecursion (λ v. bytes_eq w v ≡ false) group_words
 
-none_among : (w : List ℕ) (vs : List (List ℕ)) → list_any (λ v. bytes_eq w v) vs ≡ false → AllByRecursion (λ v. bytes_eq w v ≡ false) vs
+pub none_among : (w : List ℕ) (vs : List (List ℕ)) → list_any (λ v. bytes_eq w v) vs ≡ false → AllByRecursion (λ v. bytes_eq w v ≡ false) vs
 none_among w [] h = tt
 none_among w (v ∷ vs) h = by (bytes_eq w v) refl h (none_among w vs)
   where

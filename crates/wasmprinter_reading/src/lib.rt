@@ -5,6 +5,7 @@
 ghost use Rattle.wasmprinter_spec.specs.Laws.{SpellsOne, TakesNested, ReadsBack, TokensStay, HintsStay};
 ghost use Rattle.wasmprinter_spec.specs.Laws.{PrintsPlainText, PlainTextIsUtf8, PlainTextHasNoColour, PlainTextsJoin};
 ghost use Rattle.wasmprinter_reading.specs.OperatorLaws.{OperatorsReadBack, NamedOperatorsReadBack};
+ghost use Rattle.wasmprinter_reading.specs.FoldedLaws.{FoldedOperatorsReadBack};
 ghost use Rattle.wasmprinter_reading.specs.NameLaws.{NamesAreOneList, EntriesAreGiven, NameMapsAreListed, BytesGiveEntries};
 ghost use Rattle.wasmprinter_reading.specs.NameLaws.{IdentifiersAreApart, IdentifiersAreNamed, ModulesHaveIdentifiers, IdentifiersResolve};
 ghost use Rattle.wasmprinter_reading.specs.LabelLaws.{LabelsMeanTheirBlocks};
@@ -56,8 +57,8 @@ pub fn plain_texts_join()
     ensures { PlainTextsJoin }
 {}
 
-/// The text that is laid out for nested operators, over lines or in one, with branch hints in front of them or without, reads as exactly them,
-/// whatever items and labels are called.
+/// The text that is laid out for nested operators, over lines or in one, with branch hints in front of them or without, reads as exactly
+/// them, whatever items and labels are called.
 pub fn printed_operators_read_back()
     ensures { OperatorsReadBack }
 {}
@@ -65,6 +66,12 @@ pub fn printed_operators_read_back()
 /// The same where items and labels have the names of name sections, and the others identifiers made up for them, or none.
 pub fn named_operators_read_back()
     ensures { NamedOperatorsReadBack }
+{}
+
+/// The text that is laid out for folded operators, over lines or in one, with branch hints in front of them or without, reads as exactly
+/// them, whatever numbers of operands and results they are said to have.
+pub fn folded_operators_read_back()
+    ensures { FoldedOperatorsReadBack }
 {}
 
 /// Each data of a name section gives exactly one list of entries (appendix "Name Section" of the standard).
@@ -97,8 +104,8 @@ pub fn identifiers_are_named()
     ensures { IdentifiersAreNamed }
 {}
 
-/// Both hold of each module that bytes spell: its name sections give identifiers of which none means two items of one space, of one function
-/// or of one type.
+/// Both hold of each module that bytes spell: its name sections give identifiers of which none means two items of one space, of one
+/// function or of one type.
 pub fn modules_have_identifiers()
     ensures { ModulesHaveIdentifiers }
 {}

@@ -43,3 +43,8 @@ pub mod CustomTextRows
 pub mod NameSections
 pub mod NameLabels
 pub mod PlaceRows
+pub mod Folding
+pub mod FoldingCode
+pub mod FoldingItems
+pub mod ArityRows
+pub mod FoldingRows

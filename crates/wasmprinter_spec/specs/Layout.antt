@@ -33,6 +33,7 @@ pub mod Variables
 pub mod Types
 pub mod Declarations
 pub mod Operators
+pub mod Folded
 pub mod Expressions
 pub mod Functions
 pub mod Limits

@@ -40,6 +40,7 @@ pub mod LabelNames
 pub mod Names
 pub mod ModuleNames
 pub mod Layout
+pub mod Folding
 pub mod IndexSpaces
 pub mod Code
 pub mod HintsOfModule

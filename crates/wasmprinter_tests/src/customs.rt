@@ -1,5 +1,5 @@
-//! Custom sections: raw ones with their places, `producers`, `dylink.0`, and sections that the printer takes itself (custom sections: section
-//! 5.5.3 of the standard; `producers` and `dylink.0`: tool conventions).
+//! Custom sections: raw ones with their places, `producers`, `dylink.0`, and sections that the printer takes itself (custom sections:
+//! section 5.5.3 of the standard; `producers` and `dylink.0`: tool conventions).
 
 use crate::recorder::Recorder;
 use crate::sections::add_section;

@@ -1,5 +1,5 @@
 //! Tests that cross crates, through the paths of the crate `wasmprinter` alone: whole texts, all operators, single values, refusals,
-//! limits, names, custom sections, branch hints, options, decoded modules, and calls on printers that record them or fail. What is expected is
+//! limits, names, custom sections, branch hints, decoded modules, and calls on printers that record them or fail. What is expected is
 //! typed by hand.
 #![tactic(auto)]
 
@@ -11,10 +11,6 @@ mod control;
 mod customs;
 #[cfg(test)]
 mod decoding;
-#[cfg(test)]
-mod example;
-#[cfg(test)]
-mod files;
 #[cfg(test)]
 mod floats;
 #[cfg(test)]
@@ -29,8 +25,6 @@ mod names;
 mod opcode_words;
 #[cfg(test)]
 mod opcodes;
-#[cfg(test)]
-mod options;
 #[cfg(test)]
 mod recorder;
 #[cfg(test)]

@@ -8,7 +8,7 @@ use Rattle.std.proofs.lemmas.List.{take-append-le, drop-append-le}
 use Rattle.wasmprinter_spec.specs.Lines.{TextLine}
 use Rattle.wasmprinter_tracker.specs.Cuts.{cut, first_at, IsCuttable}
 use Rattle.wasmprinter_tracker.specs.Tracked.{Tracked, waiting_start, extend_last, shown, with_line, with_text}
-use Rattle.wasmprinter_tracker.specs.declared.lines.Start.{Start}
+use Rattle.wasmprinter_tracker.specs.declared.lines.LineStart.{LineStart}
 
 -- a place where a text may be cut stays one
 pub IsCharBoundary-longer : (t s : List ℕ) (i : ℕ) → IsUtf8 t → IsUtf8 s → IsCharBoundary t i → IsCharBoundary (t ++ s) i
@@ -17,18 +17,18 @@ IsCharBoundary-longer t s i v u b =
     IsCharBoundary-from_take (t ++ s) i (IsUtf8-append t s v u) (omega (arith, length-append t s))
     (rw take-append-le (IsUtf8-take t i v b))
 
-pub first_at_le : (starts : List Start) (t : List ℕ) → IsCuttable starts t → first_at starts t ≤ length t
+pub first_at_le : (starts : List LineStart) (t : List ℕ) → IsCuttable starts t → first_at starts t ≤ length t
 first_at_le [] t h = omega arith
 first_at_le (s ∷ starts) t h = omega (arith, h.0.0)
 
-pub IsCuttable-longer : (starts : List Start) (t s : List ℕ) → IsUtf8 t → IsUtf8 s → IsCuttable starts t → IsCuttable starts (t ++ s)
+pub IsCuttable-longer : (starts : List LineStart) (t s : List ℕ) → IsUtf8 t → IsUtf8 s → IsCuttable starts t → IsCuttable starts (t ++ s)
 IsCuttable-longer [] t s v u h = tt
 IsCuttable-longer (x ∷ []) t s v u h = (IsCharBoundary-longer t s x.at v u h.0, omega (arith, length-append t s, h.1), tt)
 IsCuttable-longer (x ∷ y ∷ starts) t s v u h =
     (IsCharBoundary-longer t s x.at v u h.0, h.1, IsCuttable-longer (y ∷ starts) t s v u h.2)
 
 -- a line that begins at the end
-pub IsCuttable-more : (starts : List Start) (t : List ℕ) (p : Option ℕ) → IsCuttable starts t →
+pub IsCuttable-more : (starts : List LineStart) (t : List ℕ) (p : Option ℕ) → IsCuttable starts t →
     IsCuttable (starts ++ record { place = p; at = length t } ∷ []) t
 IsCuttable-more [] t p h = (IsCharBoundary-end t, omega arith, tt)
 IsCuttable-more (x ∷ []) t p h = (h.0, h.1, IsCuttable-more [] t p tt)
@@ -44,7 +44,7 @@ part-longer i j t s le within =
     let short : j - i ≤ length (drop i t) = omega (arith, length-drop i t) in
     rw (drop-append-le i t s le) (take-append-le (j - i) (drop i t) s short)
 
-pub cut-longer : (starts : List Start) (t s : List ℕ) → IsCuttable starts t → cut starts (t ++ s) ≡ extend_last (cut starts t) s
+pub cut-longer : (starts : List LineStart) (t s : List ℕ) → IsCuttable starts t → cut starts (t ++ s) ≡ extend_last (cut starts t) s
 cut-longer [] t s h = refl
 cut-longer (x ∷ []) t s h =
     ap (λ (l : List ℕ). (x.place, l) ∷ [])
@@ -53,7 +53,7 @@ cut-longer (x ∷ y ∷ starts) t s h =
     let within : y.at ≤ length t = h.2.0.0 in
     ap₂ (λ (l : List ℕ) (m : List TextLine). (x.place, l) ∷ m) (part-longer x.at y.at t s h.0.0 within) (cut-longer (y ∷ starts) t s h.2)
 
-pub cut-more : (starts : List Start) (t : List ℕ) (p : Option ℕ) → IsCuttable starts t →
+pub cut-more : (starts : List LineStart) (t : List ℕ) (p : Option ℕ) → IsCuttable starts t →
     cut (starts ++ record { place = p; at = length t } ∷ []) t ≡ cut starts t ++ (p, []) ∷ []
 cut-more [] t p h = ap (λ (l : List ℕ). (p, l) ∷ []) (rw drop-length (take-nil (length t - length t)))
 cut-more (x ∷ []) t p h = ap (λ (l : List TextLine). (x.place, take (length t - x.at) (drop x.at t)) ∷ l) (cut-more [] t p tt)
@@ -61,30 +61,30 @@ cut-more (x ∷ y ∷ starts) t p h =
     ap (λ (l : List TextLine). (x.place, take (y.at - x.at) (drop x.at t)) ∷ l) (cut-more (y ∷ starts) t p h.2)
 
 -- what a tracker keeps where a line begins
-pub IsCuttable-begun : (starts : List Start) (w : Option (Option ℕ)) (t : List ℕ) (p : Option ℕ) → is_some w ≡ false →
+pub IsCuttable-begun : (starts : List LineStart) (w : Option (Option ℕ)) (t : List ℕ) (p : Option ℕ) → is_some w ≡ false →
     IsCuttable (starts ++ waiting_start w (length t)) t → IsCuttable (starts ++ record { place = p; at = length t } ∷ []) t
 IsCuttable-begun starts None t p e h = IsCuttable-more starts t p (rw append-nil at h)
 IsCuttable-begun starts (Some q) t p e h = absurd (true≢false e)
 
 -- what a tracker keeps where text is added, and no line waits
-pub IsCuttable-pushed : (starts : List Start) (w : Option (Option ℕ)) (t s u : List ℕ) → IsUtf8 t → IsUtf8 s → is_some w ≡ false → u ≡ t ++ s →
+pub IsCuttable-pushed : (starts : List LineStart) (w : Option (Option ℕ)) (t s u : List ℕ) → IsUtf8 t → IsUtf8 s → is_some w ≡ false → u ≡ t ++ s →
     IsCuttable (starts ++ waiting_start w (length t)) t → IsCuttable (starts ++ waiting_start w (length u)) u
 IsCuttable-pushed starts None t s u v x e f h =
     rw (append-nil, f) (IsCuttable-longer starts t s v x (rw append-nil at h))
 IsCuttable-pushed starts (Some q) t s u v x e f h = absurd (true≢false e)
 
 -- a line that begins, as the tracker shows it
-pub shown-begun : (t : List ℕ) (starts : List Start) (w : Option (Option ℕ)) (lost : Bool) (p : Option ℕ) → is_some w ≡ false →
+pub shown-begun : (t : List ℕ) (starts : List LineStart) (w : Option (Option ℕ)) (lost : Bool) (p : Option ℕ) → is_some w ≡ false →
     IsCuttable (starts ++ waiting_start w (length t)) t → shown t starts (Some p) lost ≡ with_line (shown t starts w lost) p
 shown-begun t starts None lost p e h =
     let same : cut (starts ++ record { place = p; at = length t } ∷ []) t ≡ cut (starts ++ []) t ++ (p, []) ∷ [] =
-    cut-more starts t p (rw append-nil at h) ∙ ap (λ (x : List Start). cut x t ++ (p, []) ∷ []) (sym (append-nil starts)) in
+    cut-more starts t p (rw append-nil at h) ∙ ap (λ (x : List LineStart). cut x t ++ (p, []) ∷ []) (sym (append-nil starts)) in
     let show : List TextLine → Tracked = λ l. record { text = t; lines = l; new_line = true; lost = lost } in
     ap show same
 shown-begun t starts (Some q) lost p e h = absurd (true≢false e)
 
 -- text that is added, as the tracker shows it
-pub shown-pushed : (t s u : List ℕ) (starts : List Start) (w : Option (Option ℕ)) (lost : Bool) → is_some w ≡ false → u ≡ t ++ s →
+pub shown-pushed : (t s u : List ℕ) (starts : List LineStart) (w : Option (Option ℕ)) (lost : Bool) → is_some w ≡ false → u ≡ t ++ s →
     IsCuttable (starts ++ waiting_start w (length t)) t → shown u starts w lost ≡ with_text (shown t starts w lost) s
 shown-pushed t s u starts None lost e f h =
     rw (f, append-nil) (let same : cut starts (t ++ s) ≡ extend_last (cut starts t) s = cut-longer starts t s (rw append-nil at h) in cc)

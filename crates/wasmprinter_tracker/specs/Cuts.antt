@@ -2,19 +2,19 @@
 use Rattle.std.specs.Prelude.{ℕ, List, [], ◌∷◌, take, drop, length, ◌-◌, ◌≤◌, ⊤}
 use Rattle.std.specs.Str.{IsCharBoundary}
 use Rattle.wasmprinter_spec.specs.Lines.{TextLine}
-use Rattle.wasmprinter_tracker.specs.declared.lines.Start.{Start}
+use Rattle.wasmprinter_tracker.specs.declared.lines.LineStart.{LineStart}
 
 -- where the first of the lines begins, or the end of the text
-abbrev pub first_at : List Start → List ℕ → ℕ
+abbrev pub first_at : List LineStart → List ℕ → ℕ
 first_at [] text = length text
 first_at (s ∷ starts) text = s.at
 
 -- the lines that begin at these places of a text
-abbrev pub cut : List Start → List ℕ → List TextLine
+abbrev pub cut : List LineStart → List ℕ → List TextLine
 cut [] text = []
 cut (s ∷ starts) text = (s.place, take (first_at starts text - s.at) (drop s.at text)) ∷ cut starts text
 
 -- each line begins where the text may be cut, and not behind the next one's beginning
-abbrev pub IsCuttable : List Start → List ℕ → Type 0
+abbrev pub IsCuttable : List LineStart → List ℕ → Type 0
 IsCuttable [] text = ⊤
 IsCuttable (s ∷ starts) text = IsCharBoundary text s.at × (s.at ≤ first_at starts text) × IsCuttable starts text

@@ -2,7 +2,7 @@
 use Rattle.std.specs.Prelude.{ℕ, List, [], ◌∷◌, ◌++◌, Bool, true, false, Option, Some, None, is_some, length}
 use Rattle.wasmprinter_spec.specs.Lines.{TextLine}
 use Rattle.wasmprinter_tracker.specs.Cuts.{cut}
-use Rattle.wasmprinter_tracker.specs.declared.lines.Start.{Start}
+use Rattle.wasmprinter_tracker.specs.declared.lines.LineStart.{LineStart}
 
 -- the text, its lines, whether the last line is new and no piece of text came behind its beginning, and whether a line was lost
 pub record Tracked : Type 0 where
@@ -16,12 +16,12 @@ abbrev pub without_lines : List ℕ → Tracked
 without_lines text = record { text = text; lines = []; new_line = false; lost = false }
 
 -- the line that waits, as an entry
-abbrev pub waiting_start : Option (Option ℕ) → ℕ → List Start
+abbrev pub waiting_start : Option (Option ℕ) → ℕ → List LineStart
 waiting_start None at = []
 waiting_start (Some place) at = record { place = place; at = at } ∷ []
 
 -- what a text with these starts, and this line that waits, shows
-abbrev pub shown : List ℕ → List Start → Option (Option ℕ) → Bool → Tracked
+abbrev pub shown : List ℕ → List LineStart → Option (Option ℕ) → Bool → Tracked
 shown text starts waiting lost = record {
   text = text;
   lines = cut (starts ++ waiting_start waiting (length text)) text;

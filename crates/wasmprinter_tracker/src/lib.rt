@@ -4,5 +4,5 @@
 mod lines;
 mod tracker;
 
-pub use lines::{OffsetsAndLines, Start};
+pub use lines::{LineStart, OffsetsAndLines};
 pub use tracker::Tracker;

@@ -5,7 +5,7 @@ use std::marker::Model;
 
 /// Where a line begins.
 #[derive(Clone, Copy)]
-pub struct Start {
+pub struct LineStart {
     /// The place of what stands on the line, as a byte offset from the module's start, if it stands for anything.
     pub place: Option<u64>,
     /// The line's first byte, as a byte offset from the text's start.
@@ -19,7 +19,7 @@ pub struct Start {
 #[derive(Drop)]
 pub struct OffsetsAndLines<'a> {
     text: &'a str,
-    starts: Vec<Start>,
+    starts: Vec<LineStart>,
     next: usize,
 }
 
@@ -41,7 +41,7 @@ impl<'a> OffsetsAndLines<'a> {
     ghost use Rattle.wasmprinter_tracker.specs.Cuts.{cut, IsCuttable};
 
     /// The lines of `text` that begin at `starts`. Takes no memory.
-    pub fn new(text: &'a str, starts: Vec<Start>) -> OffsetsAndLines<'a>
+    pub fn new(text: &'a str, starts: Vec<LineStart>) -> OffsetsAndLines<'a>
         requires { IsCuttable starts.items text.now }
         ensures { result ≡ record { storage = text.now; lines = cut starts.items text.now } }
     {

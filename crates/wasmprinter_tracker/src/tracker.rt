@@ -2,7 +2,7 @@
 ghost use Rattle.std.specs.Prelude.{◌≡◌};
 ghost use Rattle.wasmprinter_tracker.specs.Tracking.{tracked_meaning};
 
-use crate::lines::Start;
+use crate::lines::LineStart;
 use std::alloc::{AllocError, Global};
 use std::io;
 use std::marker::Model;
@@ -11,12 +11,13 @@ use wasmprinter_print::Print;
 /// A printer that appends to a text of its own, and keeps where the lines begin that are printed to it.
 ///
 /// It leaves no trace of styles and takes no custom section itself. A call that writes text fails where memory is refused, with an error
-/// of the kind `OutOfMemory`, and then leaves the text and its lines as they were. The beginning of a line takes no memory: it waits for its entry
-/// until the next call that may fail. A line that begins before then is lost, and from there on those calls fail as if memory were refused.
+/// of the kind `OutOfMemory`, and then leaves the text and its lines as they were. The beginning of a line takes no memory: it waits for
+/// its entry until the next call that may fail. A line that begins before then is lost, and from there on those calls fail as if memory
+/// were refused.
 #[derive(Drop)]
 pub struct Tracker {
     text: String,
-    starts: Vec<Start>,
+    starts: Vec<LineStart>,
     waiting: Option<Option<u64>>,
     lost: bool,
 }
@@ -63,7 +64,7 @@ impl Tracker {
         }
         if let Some(place) = self.waiting {
             let at = self.text.len();
-            self.starts.push(Start { place, at })?;
+            self.starts.push(LineStart { place, at })?;
             self.waiting = None;
         }
         Ok(())
@@ -86,7 +87,7 @@ impl Tracker {
     /// # Errors
     ///
     /// Where memory is refused to the last beginning of a line, or a line was lost before. The text is given back all the same.
-    pub fn finish(mut self) -> (String, Result<Vec<Start>, AllocError>)
+    pub fn finish(mut self) -> (String, Result<Vec<LineStart>, AllocError>)
         ensures text { string_bytes result.0 ≡ self.text }
         ensures lines { IfOk result.1 (λ starts. cut starts.items self.text ≡ self.lines) }
         ensures cuttable { IfOk result.1 (λ starts. IsCuttable starts.items self.text) }

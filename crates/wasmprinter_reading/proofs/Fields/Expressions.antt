@@ -89,7 +89,7 @@ plain_role r n = by r (stops_at_end (r ∷ []) n)
     by Ends e = absurd cc
 
 -- its word is the head of a folded operator
-head-alone : (w : List ℕ) → StandsAlone w → head w ≡ head_by (rows_of w)
+pub head-alone : (w : List ℕ) → StandsAlone w → head w ≡ head_by (rows_of w)
 unfolding head
 head-alone w a =
     ap (λ t. cond t PartHead (cond (bytes_eq w (codes "then")) ThenHead (cond (bytes_eq w (codes "else")) ElseHead (head_by (rows_of w))))) a.part

@@ -1,15 +1,15 @@
 -- The bytes that a read gave spell the module of which there is a text, or none.
-use Rattle.std.proofs.Common.{rules, Some, string_bytes}
+use Rattle.std.proofs.Common.{rules, Some}
 use Rattle.printwasm.proofs.Texts.{gives_text, gives_no_text}
 use Rattle.printwasm.proofs.program.print_file.Goals as goal
 
 pub returns-clause-printed : goal.returns-clause-printed
 returns-clause-printed g c =
     let gave : g.S.Source.gives c.args.source.now c.args.file.now (Some c.in_ok-wasm.wasm.items) = search rules in
-    gives_text c.args.config.now string_bytes (g.S.Source.gives c.args.source.now c.args.file.now) c.in_ok-wasm.wasm.items c.print_to_string.result gave (rw c.deref.ensures.value at c.print_to_string.ensures.printed)
+    gives_text c.args.choice.now (λ t. t.items) (g.S.Source.gives c.args.source.now c.args.file.now) c.in_ok-wasm.wasm.items c.print.result gave (rw c.deref.ensures.value at c.print.ensures.printed)
 
 pub returns-clause-refused : goal.returns-clause-refused
 returns-clause-refused g c =
     let gave : g.S.Source.gives c.args.source.now c.args.file.now (Some c.in_ok-wasm.wasm.items) = search rules in
-    gives_no_text (g.S.Source.gives c.args.source.now c.args.file.now) c.in_ok-wasm.wasm.items c.print_to_string.result gave (rw c.deref.ensures.value at c.print_to_string.ensures.refused)
-    (rw c.deref.ensures.value at c.print_to_string.ensures.caused)
+    gives_no_text (g.S.Source.gives c.args.source.now c.args.file.now) c.in_ok-wasm.wasm.items c.print.result gave (rw c.deref.ensures.value at c.print.ensures.refused)
+    (rw c.deref.ensures.value at c.print.ensures.caused)

@@ -8,4 +8,4 @@ returns g c =
     let named = sym c.file_of.ensures ∙ ap option_copied c.in-Some.is in
     rw c.refuse.ensures.status
     (refusal_told (g.S.Source.gives c.args.source.now) g.O.Sink.takes g.E.Sink.takes _ words c.in-Some.file.now c.in-Err.error named
-    (rw c.config_of.ensures at c.in-Err.ensures.refused) c.refuse.ensures.told)
+    (rw c.choice_of.ensures at c.in-Err.ensures.refused) c.refuse.ensures.told)

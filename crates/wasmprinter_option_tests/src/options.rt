@@ -84,6 +84,36 @@ const EVERY_SPACE_OUTLINE: &str = r#"(module $all
 (;@164   ;))
 "#;
 
+/// `EVERY_SPACE` by all options at once: with places, without bodies, with identifiers made up, and indented by tabs.
+const EVERY_OPTION: &str = "(module $all
+(;@b     ;)\t(type $sig (;0;) (func (param i32) (result i32)))
+(;@10    ;)\t(type $#type1 (;1;) (struct (field $#field0 i32) (field $x (mut i64))))
+(;@16    ;)\t(type $#type2 (;2;) (func (param i32)))
+(;@1a    ;)\t(type $#type3 (;3;) (func))
+(;@20    ;)\t(import \"a\" \"f\" (func $#func0 (;0;) (type $sig) (param $arg i32) (result i32)))
+(;@2e    ;)\t(table $#table0 (;0;) 1 funcref)
+(;@31    ;)\t(table $tab (;1;) 2 funcref)
+(;@37    ;)\t(memory $#memory0 (;0;) 1)
+(;@39    ;)\t(memory $mem (;1;) 2)
+(;@3e    ;)\t(tag $#tag0 (;0;) (type $#type3))
+(;@40    ;)\t(tag $exc (;1;) (type $#type2) (param i32))
+(;@45    ;)\t(global $#global0 (;0;) i32 i32.const 3)
+(;@4a    ;)\t(global $var (;1;) i32 global.get $#global0)
+(;@52    ;)\t(export \"f\" (func $run))
+(;@56    ;)\t(export \"a\" (table $tab))
+(;@5a    ;)\t(export \"m\" (memory $mem))
+(;@5e    ;)\t(export \"g\" (global $var))
+(;@62    ;)\t(export \"t\" (tag 1))
+(;@68    ;)\t(start $init)
+(;@6c    ;)\t(elem $#elem0 (;0;) (table $tab) (i32.const 0) ...)
+(;@74    ;)\t(elem $els (;1;) ...)
+(;@7f    ;)\t(func $run (;1;) (type $sig) (param $arg i32) (result i32) ...)
+(;@d9    ;)\t(func $init (;2;) (type $#type3) ...)
+(;@de    ;)\t(data $#data0 (;0;) (memory $mem) (global.get $var) ...)
+(;@e6    ;)\t(data $raw (;1;) ...)
+(;@164   ;))
+";
+
 #[test]
 fn prints_places(rt: HostRuntime) -> Result<(), Fail> {
     let modules: [(&[u8], &str); 3] = [
@@ -174,19 +204,58 @@ fn prints_fields_of_a_skeleton(rt: HostRuntime) -> Result<(), Fail> {
 }
 
 #[test]
+fn leaves_room_where_a_line_has_no_place(rt: HostRuntime) -> Result<(), Fail> {
+    let group = [
+        0x00, 0x61, 0x73, 0x6d, 0x01, 0x00, 0x00, 0x00, 0x01, 0x06, 0x01, 0x4e, 0x01, 0x60, 0x00,
+        0x00,
+    ];
+    let mut config = Config::new();
+    config.print_offsets(true);
+    let text = config.print_to_string(rt.alloc(), &group)?;
+    assert_eq!(rt;
+        text.as_str(),
+        r#"(module
+(;@b     ;)  (rec
+(;@d     ;)    (type (;0;) (func))
+             )
+(;@10    ;))
+"#
+    );
+    Ok(())
+}
+
+#[test]
 fn indents_by_another_text(rt: HostRuntime) -> Result<(), Fail> {
     let cases = [
         (
             "\t",
-            "(module\n\t(type (;0;) (func (param i32) (result i32)))\n\t(export \"f\" (func 0))\n\t(func (;0;) (type 0) (param i32) (result i32)\n\t\tlocal.get 0\n\t)\n)\n",
+            "(module\n\
+            \t(type (;0;) (func (param i32) (result i32)))\n\
+            \t(export \"f\" (func 0))\n\
+            \t(func (;0;) (type 0) (param i32) (result i32)\n\
+            \t\tlocal.get 0\n\
+            \t)\n\
+            )\n",
         ),
         (
             "",
-            "(module\n(type (;0;) (func (param i32) (result i32)))\n(export \"f\" (func 0))\n(func (;0;) (type 0) (param i32) (result i32)\nlocal.get 0\n)\n)\n",
+            "(module\n\
+            (type (;0;) (func (param i32) (result i32)))\n\
+            (export \"f\" (func 0))\n\
+            (func (;0;) (type 0) (param i32) (result i32)\n\
+            local.get 0\n\
+            )\n\
+            )\n",
         ),
         (
             "-λ",
-            "(module\n-λ(type (;0;) (func (param i32) (result i32)))\n-λ(export \"f\" (func 0))\n-λ(func (;0;) (type 0) (param i32) (result i32)\n-λ-λlocal.get 0\n-λ)\n)\n",
+            "(module\n\
+            -λ(type (;0;) (func (param i32) (result i32)))\n\
+            -λ(export \"f\" (func 0))\n\
+            -λ(func (;0;) (type 0) (param i32) (result i32)\n\
+            -λ-λlocal.get 0\n\
+            -λ)\n\
+            )\n",
         ),
     ];
     for (indent, expected) in cases {
@@ -208,7 +277,13 @@ fn indents_behind_places(rt: HostRuntime) -> Result<(), Fail> {
     let text = config.print_to_string(rt.alloc(), &IDENTITY)?;
     assert_eq!(rt;
         text.as_str(),
-        "(module\n(;@b     ;)\t(type (;0;) (func (param i32) (result i32)))\n(;@17    ;)\t(export \"f\" (func 0))\n(;@1f    ;)\t(func (;0;) (type 0) (param i32) (result i32)\n(;@20    ;)\t\tlocal.get 0\n(;@22    ;)\t)\n(;@23    ;))\n"
+        "(module\n\
+        (;@b     ;)\t(type (;0;) (func (param i32) (result i32)))\n\
+        (;@17    ;)\t(export \"f\" (func 0))\n\
+        (;@1f    ;)\t(func (;0;) (type 0) (param i32) (result i32)\n\
+        (;@20    ;)\t\tlocal.get 0\n\
+        (;@22    ;)\t)\n\
+        (;@23    ;))\n"
     );
     Ok(())
 }
@@ -225,6 +300,19 @@ fn chains_setters(rt: HostRuntime) -> Result<(), Fail> {
         .print_offsets(true)
         .print_to_string(rt.alloc(), &IDENTITY)?;
     assert_eq!(rt; text.as_str(), IDENTITY_OUTLINE_INVENTED);
+    Ok(())
+}
+
+#[test]
+fn prints_by_all_options_at_once(rt: HostRuntime) -> Result<(), Fail> {
+    let mut config = Config::new();
+    config
+        .print_offsets(true)
+        .print_skeleton(true)
+        .name_unnamed(true)
+        .indent_text(String::from_str(rt.alloc(), "\t")?);
+    let text = config.print_to_string(rt.alloc(), &EVERY_SPACE)?;
+    assert_eq!(rt; text.as_str(), EVERY_OPTION);
     Ok(())
 }
 

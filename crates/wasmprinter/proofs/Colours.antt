@@ -1,0 +1,79 @@
+-- The text of a module in colours.
+use Rattle.std.specs.Prelude.{◌≡◌, ℕ, List, [], ◌∷◌, ◌++◌, map, Some, Ok, refl}
+use Rattle.std.proofs.Common.{sym, ap, ◌∙◌, append_assoc, append-nil}
+use Rattle.wasmprinter_spec.specs.Call.{Call, Text, Newline, Line, Start, Claim, cut_call, atoms}
+use Rattle.wasmprinter_spec.specs.Colour.{uncolour}
+use Rattle.wasmprinter_spec.specs.Meaning.{Meaning}
+use Rattle.wasmprinter_spec.specs.Options.{Options}
+use Rattle.wasmprinter_spec.specs.Layout.{layout}
+use Rattle.wasmprinter_writers.specs.Writing.{Writing, TakesWhole}
+use Rattle.wasmprinter_writers.specs.ColourCalls.{Painting, PaintsBySequences, WritesInColour, coloured_meaning}
+use Rattle.wasmprinter_writers.specs.Sequences.{coloured_bytes, coloured_text}
+use Rattle.wasmprinter_writers.proofs.Runs.{coloured_run}
+use Rattle.wasmprinter_writers.proofs.Uncoloured.{colours_keep_text}
+use Rattle.wasmprinter_reading.proofs.Main.{prints_plain_text}
+use Rattle.wasmprinter.specs.Printed.{Printed, unclaimed, IsUnclaimed}
+use Rattle.wasmprinter.specs.Coloured.{HasColouredTextBy}
+use Rattle.wasmprinter.proofs.Claims.{IsSame}
+use Rattle.wasmprinter.proofs.Texts.{unclaimed_printed, module_text}
+
+-- ---- cutting text into pieces changes no text in colours
+
+coloured_text-append : (k l : List Call) → coloured_text (k ++ l) ≡ coloured_text k ++ coloured_text l
+coloured_text-append [] l = refl
+coloured_text-append (c ∷ k) l = ap (λ t. coloured_bytes c ++ t) (coloured_text-append k l) ∙ sym (append_assoc (coloured_bytes c) (coloured_text k) (coloured_text l))
+
+bytes_coloured : (s : List ℕ) → coloured_text (map (λ b. Text (b ∷ [])) s) ≡ s
+bytes_coloured [] = refl
+bytes_coloured (b ∷ bs) = ap (λ t. b ∷ t) (bytes_coloured bs)
+
+cut_coloured : (c : Call) → coloured_text (cut_call c) ≡ coloured_bytes c
+cut_coloured (Text s) = bytes_coloured s
+cut_coloured Newline = refl
+cut_coloured (Line place) = refl
+cut_coloured (Start style) = append-nil (coloured_bytes (Start style))
+cut_coloured (Claim name place bytes answer) = refl
+
+coloured_text-atoms : (cs : List Call) → coloured_text (atoms cs) ≡ coloured_text cs
+coloured_text-atoms [] = refl
+coloured_text-atoms (c ∷ cs) =
+    coloured_text-append (cut_call c) (atoms cs) ∙ ap (λ t. t ++ coloured_text (atoms cs)) (cut_coloured c) ∙ ap (λ t. coloured_bytes c ++ t) (coloured_text-atoms cs)
+
+alike_coloured : (k l : List Call) → atoms k ≡ atoms l → coloured_text k ≡ coloured_text l
+alike_coloured k l e = sym (coloured_text-atoms k) ∙ ap coloured_text e ∙ coloured_text-atoms l
+
+-- ---- what a printer in colours made
+
+takes_no_section : {T : Type 0} (takes : Writing T) (paints : Painting T) (s : T) (c : Call) (t : T) → WritesInColour takes paints s c (Ok tt) t → IsUnclaimed c
+takes_no_section takes paints s (Text bytes) t h = tt
+takes_no_section takes paints s Newline t h = tt
+takes_no_section takes paints s (Line place) t h = tt
+takes_no_section takes paints s (Start style) t h = tt
+takes_no_section takes paints s (Claim name place bytes answer) t h = h.0
+
+-- what was printed to a writer of sequences over one that was empty is the module's text in colours
+pub printed_in_colours : {P T U : Type 0} (writer_of : P → T) (inner_of : T → U) (contents : U → List ℕ) (o : Options) (bytes : List ℕ) (old new : P) →
+    contents (inner_of (writer_of old)) ≡ [] →
+    Printed (coloured_meaning writer_of (TakesWhole (λ w. Some (contents (inner_of w)))) (PaintsBySequences inner_of (TakesWhole (λ u. Some (contents u))))) o bytes old new →
+    HasColouredTextBy o bytes (contents (inner_of (writer_of new)))
+printed_in_colours {P} {T} {U} writer_of inner_of contents o bytes old new empty v =
+    let takes : Writing T = TakesWhole (λ w. Some (contents (inner_of w))) in
+    let paints : Painting T = PaintsBySequences inner_of (TakesWhole (λ u. Some (contents u))) in
+    let m : Meaning P = coloured_meaning writer_of takes paints in
+    let own : IsSame o v.answers v.placed =
+    unclaimed_printed m o (λ s c t h. takes_no_section takes paints (writer_of s) c (writer_of t) h) bytes old new v in
+    let laid : List Call = layout o unclaimed v.placed in
+    let text : List ℕ = contents (inner_of (writer_of new)) in
+    let handed : text ≡ coloured_text v.calls =
+    coloured_run writer_of inner_of (λ u. Some (contents u)) old new v.calls v.run ∙ ap (λ t. t ++ coloured_text v.calls) empty in
+    let is : text ≡ coloured_text laid = handed ∙ alike_coloured v.calls laid (v.alike ∙ ap atoms own.layout) in
+    record {
+      placed = v.placed;
+      spelled = v.spelled;
+      within = v.within;
+      accepted = own.refusal;
+      is = is;
+      bare = λ blank.
+          module_text o bytes v.placed v.spelled v.within own.refusal (uncolour text)
+          (ap uncolour is ∙ colours_keep_text laid (prints_plain_text bytes v.placed o unclaimed v.spelled blank));
+    }

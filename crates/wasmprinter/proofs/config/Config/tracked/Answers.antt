@@ -1,0 +1,51 @@
+-- What the tracker kept of the calls, and what `finish` gives of it.
+use Rattle.std.proofs.Common.{rules, ◌≡◌, string_bytes, sym, ap, ◌∙◌, subst}
+use Rattle.wasmprinter_tracker.specs.Cuts.{cut}
+use Rattle.wasmprinter_tracker.specs.Tracked.{without_lines}
+use Rattle.wasmprinter_tracker.specs.Tracking.{BeginsWith}
+use Rattle.wasmprinter.specs.Lined.{HasLinesBy}
+use Rattle.wasmprinter.specs.Outcome.{HasTextCause, IsTrueOfText}
+use Rattle.wasmprinter.proofs.Outcomes.{growth_cause, growth_true}
+use Rattle.wasmprinter.proofs.TrackedLines.{told_as, handed_on_as, on_err, in_front, printed_behind, printable, finished_lines, refusal_keeps}
+use Rattle.wasmprinter.proofs.config.Config.tracked.Goals as goal
+
+pub returns-in-Ok-clause-lines : goal.returns-in-Ok-clause-lines
+returns-in-Ok-clause-lines c =
+    let base = string_bytes c.args.storage.now in
+    let text = string_bytes c.finish-text.result.0 in
+    let begun : c.new-printer.result ≡ without_lines base = c.new-printer.ensures ∙ ap (λ s. without_lines (string_bytes s)) c.replace-text.ensures.value in
+    handed_on_as _ (λ starts. HasLinesBy c.args.self.now c.args.wasm.now base text (cut starts.items text)) c.finish-text.result.1 c.map_err.result c.map_err.ensures.cases
+    (finished_lines c.args.self.now c.args.wasm.now base text c.new-printer.result c.print-printed.new.printer begun c.finish-text.ensures.text (λ starts. starts.items) c.finish-text.result.1
+    c.in-Ok.ensures.printed c.finish-text.ensures.kept c.finish-text.ensures.lines)
+
+pub returns-in-Ok-clause-refused : goal.returns-in-Ok-clause-refused
+returns-in-Ok-clause-refused c =
+    let base = string_bytes c.args.storage.now in
+    let begun : c.new-printer.result ≡ without_lines base = c.new-printer.ensures ∙ ap (λ s. without_lines (string_bytes s)) c.replace-text.ensures.value in
+    told_as _ (λ e y h. search rules) c.finish-text.result.1 c.map_err.result c.map_err.ensures.cases (IsTrueOfText c.args.wasm.now)
+    (printable c.args.self.now c.args.wasm.now base (string_bytes c.finish-text.result.0) c.new-printer.result c.print-printed.new.printer begun c.finish-text.ensures.text c.in-Ok.ensures.printed)
+
+pub returns-in-Ok-clause-left : goal.returns-in-Ok-clause-left
+returns-in-Ok-clause-left c =
+    let base = string_bytes c.args.storage.now in
+    let text = string_bytes c.finish-text.result.0 in
+    let begun : c.new-printer.result ≡ without_lines base = c.new-printer.ensures ∙ ap (λ s. without_lines (string_bytes s)) c.replace-text.ensures.value in
+    on_err c.map_err.result (BeginsWith base text)
+    (printed_behind c.args.self.now c.args.wasm.now base text c.new-printer.result c.print-printed.new.printer begun c.finish-text.ensures.text c.in-Ok.ensures.printed)
+
+pub returns-in-Err-clause-caused : goal.returns-in-Err-clause-caused
+returns-in-Err-clause-caused c =
+    subst (HasTextCause c.args.wasm.now) (sym c.without_printer.ensures)
+    (growth_cause _ c.args.wasm.now _ c.print-printed.new.printer c.in-Err.error c.in-Err.ensures.caused)
+
+pub returns-in-Err-clause-refused : goal.returns-in-Err-clause-refused
+returns-in-Err-clause-refused c =
+    subst (IsTrueOfText c.args.wasm.now) (sym c.without_printer.ensures) (growth_true c.args.wasm.now c.in-Err.error c.in-Err.ensures.refused)
+
+pub returns-in-Err-clause-left : goal.returns-in-Err-clause-left
+returns-in-Err-clause-left c =
+    let base = string_bytes c.args.storage.now in
+    let text = string_bytes c.finish-text.result.0 in
+    let begun : c.new-printer.result ≡ without_lines base = c.new-printer.ensures ∙ ap (λ s. without_lines (string_bytes s)) c.replace-text.ensures.value in
+    in_front c.args.self.now c.args.wasm.now base text c.new-printer.result c.print-printed.new.printer begun c.finish-text.ensures.text
+    (refusal_keeps c.args.self.now c.args.wasm.now c.new-printer.result c.print-printed.new.printer c.in-Err.error c.in-Err.ensures.left)

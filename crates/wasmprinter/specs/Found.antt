@@ -1,0 +1,42 @@
+-- What is found for an operator among lines.
+use Rattle.std.specs.Prelude.{◌≡◌, ℕ, List, false, Option, Some, None, map, option_map, slice_get}
+use Rattle.std.specs.Borrow.{Bor}
+use Rattle.wasmprinter_spec.specs.Grammar.{Placed}
+use Rattle.wasmprinter_spec.specs.Operator.{Operator}
+use Rattle.wasmprinter_spec.specs.Placed.{PlacedModule}
+use Rattle.wasmprinter_spec.specs.Binary.{Spells}
+use Rattle.wasmprinter_spec.specs.Options.{Options}
+use Rattle.wasmprinter_spec.specs.Lines.{TextLine, line_places, IsOnlyLine, operator_at}
+use Rattle.wasmprinter.specs.Lined.{HasLinesBy}
+
+-- lines as code holds them, by their places and texts
+abbrev pub text_lines : List (Option ℕ × Bor (List ℕ)) → List TextLine
+text_lines lines = map (λ line. (line.0, line.1.now)) lines
+
+-- the place of the operator with this number
+abbrev pub place_at : List (Placed Operator) → ℕ → Option ℕ
+place_at operators number = option_map (λ (o : Placed Operator). o.place) (slice_get operators number)
+
+-- Whatever the lines are: what is found is the place of that operator, and the line with the number begins with it.
+abbrev pub NamesItsLine : PlacedModule → List TextLine → ℕ → ℕ → Option (ℕ × ℕ) → Type 0
+NamesItsLine m lines function operator result =
+    (number place : ℕ) → result ≡ Some (number, place) →
+    (o : Placed Operator) × (operator_at m function operator ≡ Some o) × (place ≡ o.place) × (slice_get (line_places lines) number ≡ Some (Some place))
+
+-- the lines are all that were given of bytes that spell the module, with its bodies
+pub record AreLinesOf (m : PlacedModule) (lines : List TextLine) : Type 0 where
+  pub bytes : List ℕ
+  pub spelled : Spells bytes m
+  pub options : Options
+  pub whole : options.skeleton ≡ false
+  pub old : List ℕ
+  pub storage : List ℕ
+  pub given : HasLinesBy options bytes old storage lines
+
+-- In these the operator's line is found, the only one with its place, and nothing where there is no such operator.
+abbrev pub FindsItsLine : PlacedModule → List TextLine → ℕ → ℕ → Option (ℕ × ℕ) → Type 0
+FindsItsLine m lines function operator result =
+    AreLinesOf m lines →
+    ((o : Placed Operator) → operator_at m function operator ≡ Some o →
+    (number : ℕ) × (result ≡ Some (number, o.place)) × IsOnlyLine (line_places lines) o.place number)
+    × (operator_at m function operator ≡ None → result ≡ None)

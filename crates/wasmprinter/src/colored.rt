@@ -1,0 +1,31 @@
+//! The text of a module in the colours of a terminal.
+ghost use Rattle.std.specs.Prelude.{◌↔◌, IfOk, IfErr, IsErrOf};
+ghost use Rattle.wasmprinter_spec.specs.Binary.{IsComponent};
+ghost use Rattle.wasmprinter.specs.Coloured.{HasColouredTextBy};
+ghost use Rattle.wasmprinter.specs.Outcome.{HasTextCause, IsTrueOfText};
+
+use crate::config::Config;
+use crate::in_memory::without_printer;
+use std::alloc::Global;
+use wasmprinter_error::Error;
+use wasmprinter_writers::{Ansi, PrintTermcolor};
+
+impl Config {
+    /// The text of a module in the binary format, with the sequences that colour it on a terminal, as [`Ansi`] writes them.
+    ///
+    /// # Errors
+    ///
+    /// As [`Config::print_to_string`].
+    pub fn print_to_ansi(&self, alloc: Global, wasm: &[u8]) -> Result<Vec<u8>, Error>
+        ensures printed { IfOk result (λ text. HasColouredTextBy self.now wasm.now text.items) }
+        ensures caused { IfErr result (HasTextCause wasm.now) }
+        ensures refused { IfErr result (IsTrueOfText wasm.now) }
+        ensures component { IsErrOf result Error.Component ↔ IsComponent wasm.now }
+    {
+        let mut printer = PrintTermcolor(Ansi::new(Vec::new(alloc)));
+        match self.print(alloc, wasm, &mut printer) {
+            Ok(()) => Ok(printer.0.into_inner()),
+            Err(error) => Err(without_printer(error)),
+        }
+    }
+}

@@ -1,0 +1,65 @@
+//! The text of a module behind another text, with its lines.
+ghost use Rattle.std.specs.Prelude.{◌≡◌, ◌↔◌, OnErr, IfOk, IfErr, IsErrOf, string_bytes};
+ghost use Rattle.wasmprinter_spec.specs.Binary.{IsComponent};
+ghost use Rattle.wasmprinter_tracker.specs.Cuts.{IsCuttable};
+ghost use Rattle.wasmprinter_tracker.specs.Tracking.{BeginsWith};
+ghost use Rattle.wasmprinter.specs.Lined.{HasLinesBy, HasLinesAt};
+ghost use Rattle.wasmprinter.specs.Outcome.{HasTextCause, IsTrueOfText};
+
+use crate::config::Config;
+use crate::in_memory::without_printer;
+use std::alloc::Global;
+use std::mem;
+use wasmprinter_error::Error;
+use wasmprinter_tracker::{LineStart, OffsetsAndLines, Tracker};
+
+impl Config {
+    /// Appends the text of a module to `storage`, and says where its lines begin.
+    pub(crate) fn tracked(
+        &self,
+        alloc: Global,
+        wasm: &[u8],
+        storage: &mut String,
+    ) -> Result<Vec<LineStart>, Error>
+        ensures lines { IfOk result (λ starts.
+            HasLinesAt self.now wasm.now (string_bytes storage.old) (string_bytes storage.new) starts.items) }
+        ensures cuttable { IfOk result (λ starts. IsCuttable starts.items (string_bytes storage.new)) }
+        ensures caused { IfErr result (HasTextCause wasm.now) }
+        ensures refused { IfErr result (IsTrueOfText wasm.now) }
+        ensures component { IsErrOf result Error.Component ↔ IsComponent wasm.now }
+        ensures left { OnErr result (BeginsWith (string_bytes storage.old) (string_bytes storage.new)) }
+    {
+        let text = mem::replace(storage, String::new(alloc));
+        let mut printer = Tracker::new(alloc, text);
+        let printed = self.print(alloc, wasm, &mut printer);
+        let (text, starts) = printer.finish();
+        *storage = text;
+        match printed {
+            Ok(()) => starts.map_err(|_| Error::Memory),
+            Err(error) => Err(without_printer(error)),
+        }
+    }
+
+    /// Appends the text of a module in the binary format to `storage`, and gives its lines, each with the place of what stands on it.
+    ///
+    /// What stood in `storage` stays in front, and is on no line. A place is a byte offset from the module's start, and `None` where a
+    /// line stands for nothing in the module. Each line has its line feed at its end. To ask for the next line takes no memory.
+    ///
+    /// # Errors
+    ///
+    /// As [`Config::print_to_string`]. `storage` then begins with its old text; behind it may stand a beginning of the module's.
+    pub fn offsets_and_lines<'a>(
+        &self,
+        alloc: Global,
+        wasm: &[u8],
+        storage: &'a mut String,
+    ) -> Result<OffsetsAndLines<'a>, Error>
+        ensures lines { IfOk result (λ it. HasLinesBy self.now wasm.now (string_bytes storage.old) it.storage it.lines) }
+        ensures caused { IfErr result (HasTextCause wasm.now) }
+        ensures refused { IfErr result (IsTrueOfText wasm.now) }
+        ensures component { IsErrOf result Error.Component ↔ IsComponent wasm.now }
+    {
+        let starts = self.tracked(alloc, wasm, storage)?;
+        Ok(OffsetsAndLines::new(storage.as_str(), starts))
+    }
+}

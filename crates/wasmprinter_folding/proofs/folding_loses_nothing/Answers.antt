@@ -1,0 +1,5 @@
+use Rattle.wasmprinter_spec.proofs.Folding.{unfolded-tree}
+use Rattle.wasmprinter_folding.proofs.folding_loses_nothing.Goals as goal
+
+pub returns : goal.returns
+returns c = unfolded-tree

@@ -1,0 +1,78 @@
+//! Texts with the sequences that colour them on a terminal. The sequences are typed by hand.
+
+use crate::large::large;
+use std::test::Fail;
+use wasmprinter::{Config, Error};
+use wasmprinter_samples::{IDENTITY, PREAMBLE};
+
+/// `IDENTITY` in colours.
+const IDENTITY_COLORED: &str = "(\x1b[0m\x1b[1m\x1b[38;5;11mmodule\x1b[0m
+  (\x1b[0m\x1b[1m\x1b[38;5;11mtype \x1b[0m\x1b[0m\x1b[35m(;0;)\x1b[0m (\x1b[0m\x1b[1m\x1b[38;5;11mfunc\x1b[0m \
+(\x1b[0m\x1b[1m\x1b[38;5;11mparam\x1b[0m \x1b[0m\x1b[1m\x1b[38;5;10mi32\x1b[0m) \
+(\x1b[0m\x1b[1m\x1b[38;5;11mresult\x1b[0m \x1b[0m\x1b[1m\x1b[38;5;10mi32\x1b[0m)))
+  (\x1b[0m\x1b[1m\x1b[38;5;11mexport \x1b[0m\x1b[0m\x1b[31m\"f\"\x1b[0m (\x1b[0m\x1b[1m\x1b[38;5;11mfunc \x1b[0m\x1b[0m\x1b[35m0\x1b[0m))
+  (\x1b[0m\x1b[1m\x1b[38;5;11mfunc \x1b[0m\x1b[0m\x1b[35m(;0;)\x1b[0m \
+(\x1b[0m\x1b[1m\x1b[38;5;11mtype \x1b[0m\x1b[0m\x1b[35m0\x1b[0m) \
+(\x1b[0m\x1b[1m\x1b[38;5;11mparam\x1b[0m \x1b[0m\x1b[1m\x1b[38;5;10mi32\x1b[0m) \
+(\x1b[0m\x1b[1m\x1b[38;5;11mresult\x1b[0m \x1b[0m\x1b[1m\x1b[38;5;10mi32\x1b[0m)
+    local.get \x1b[0m\x1b[35m0\x1b[0m
+  )
+)
+";
+
+/// Its last lines with places in front, which are comments.
+const PLACES_COLORED: &str = "\
+\x1b[0m\x1b[36m(;@20    ;)\x1b[0m    local.get \x1b[0m\x1b[35m0\x1b[0m
+\x1b[0m\x1b[36m(;@22    ;)\x1b[0m  )
+\x1b[0m\x1b[36m(;@23    ;)\x1b[0m)
+";
+
+#[test]
+fn prints_in_colors(rt: HostRuntime) -> Result<(), Fail> {
+    let modules: [(&[u8], &str); 2] = [
+        (&PREAMBLE, "(\x1b[0m\x1b[1m\x1b[38;5;11mmodule\x1b[0m)\n"),
+        (&IDENTITY, IDENTITY_COLORED),
+    ];
+    for (wasm, expected) in modules {
+        let text = Config::new().print_to_ansi(rt.alloc(), wasm)?;
+        assert_eq!(rt; text.as_slice(), expected.as_bytes());
+    }
+    Ok(())
+}
+
+#[test]
+fn prints_places_in_colors(rt: HostRuntime) -> Result<(), Fail> {
+    let mut config = Config::new();
+    config.print_offsets(true);
+    let text = config.print_to_ansi(rt.alloc(), &IDENTITY)?;
+    assert!(rt; text.ends_with(PLACES_COLORED.as_bytes()));
+    Ok(())
+}
+
+#[test]
+fn refuses_in_colors_what_it_refuses_without(rt: HostRuntime) -> Result<(), Fail> {
+    let cut = Config::new().print_to_ansi(rt.alloc(), &IDENTITY[..34]);
+    assert!(rt; matches!(cut, Err(Error::Malformed { .. })));
+    let component = [0x00, 0x61, 0x73, 0x6d, 0x0d, 0x00, 0x01, 0x00];
+    let refused = Config::new().print_to_ansi(rt.alloc(), &component);
+    assert!(rt; matches!(refused, Err(Error::Component)));
+    let unknown = Config::new().print_to_ansi(
+        rt.alloc(),
+        b"\0asm\x01\0\0\0\0\x0b\x08dylink.0\x09\0",
+    );
+    assert!(rt; matches!(unknown, Err(Error::DylinkSubsection { id: 9 })));
+    Ok(())
+}
+
+#[test]
+fn prints_a_large_module_in_colors(rt: HostRuntime) -> Result<(), Fail> {
+    let wasm = large(rt.alloc())?;
+    let text = Config::new().print_to_ansi(rt.alloc(), &wasm)?;
+    assert!(rt;
+        text.ends_with(
+            b"\n  (\x1b[0m\x1b[1m\x1b[38;5;11mfunc \x1b[0m\x1b[0m\x1b[35m(;2999;)\x1b[0m \
+            (\x1b[0m\x1b[1m\x1b[38;5;11mtype \x1b[0m\x1b[0m\x1b[35m0\x1b[0m))\n)\n"
+        )
+    );
+    Ok(())
+}

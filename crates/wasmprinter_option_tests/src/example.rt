@@ -1,0 +1,67 @@
+//! The examples of the README.
+
+use std::alloc::Global;
+use std::test::Fail;
+use wasmprinter::print::Ansi;
+use wasmprinter::wasm::decode;
+use wasmprinter::{Config, Error, PrintTermcolor, place_of, print_bytes};
+use wasmprinter_samples::IDENTITY;
+
+/// The text of a module, or what is wrong with its bytes.
+fn shown(alloc: Global, wasm: &[u8]) -> Result<String, Error> {
+    match print_bytes(alloc, wasm) {
+        Err(Error::Malformed { place }) => Ok(format!(in alloc; "no module: see byte {place}\n")?),
+        printed => printed,
+    }
+}
+
+/// The text of a module without its bodies, in the colours of a terminal.
+fn outlined(alloc: Global, wasm: &[u8]) -> Result<Vec<u8>, Error> {
+    let mut config = Config::new();
+    config.print_skeleton(true);
+    let mut printer = PrintTermcolor(Ansi::new(Vec::new(alloc)));
+    config.print(alloc, wasm, &mut printer)?;
+    Ok(printer.0.into_inner())
+}
+
+/// The number of the line on which an operator stands, from 0, and the operator's place in the module.
+fn found(
+    alloc: Global,
+    wasm: &[u8],
+    function: u32,
+    operator: u32,
+) -> Result<Option<(usize, u64)>, Error> {
+    let mut storage = String::new(alloc);
+    let text = Config::new().offsets_and_lines(alloc, wasm, &mut storage)?;
+    let lines: Vec<(Option<u64>, &str)> = text.collect(alloc)?;
+    let module = decode(alloc, wasm)?;
+    Ok(place_of(&module, &lines, function, operator))
+}
+
+#[test]
+fn shows_a_module_and_what_is_none(rt: HostRuntime) -> Result<(), Fail> {
+    let module = [0x00, 0x61, 0x73, 0x6d, 0x01, 0x00, 0x00, 0x00];
+    let text = shown(rt.alloc(), &module)?;
+    assert_eq!(rt; text.as_str(), "(module)\n");
+    let text = shown(rt.alloc(), b"(module)")?;
+    assert_eq!(rt; text.as_str(), "no module: see byte 0\n");
+    Ok(())
+}
+
+#[test]
+fn outlines_a_module(rt: HostRuntime) -> Result<(), Fail> {
+    let module = [0x00, 0x61, 0x73, 0x6d, 0x01, 0x00, 0x00, 0x00];
+    let text = outlined(rt.alloc(), &module)?;
+    assert_eq!(rt;
+        text.as_slice(),
+        b"(\x1b[0m\x1b[1m\x1b[38;5;11mmodule\x1b[0m)\n".as_slice()
+    );
+    Ok(())
+}
+
+#[test]
+fn finds_an_operator(rt: HostRuntime) -> Result<(), Fail> {
+    assert_eq!(rt; found(rt.alloc(), &IDENTITY, 0, 0)?, Some((4, 0x20)));
+    assert_eq!(rt; found(rt.alloc(), &IDENTITY, 0, 1)?, None);
+    Ok(())
+}

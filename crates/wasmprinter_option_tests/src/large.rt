@@ -1,0 +1,30 @@
+//! A module that is large enough for texts and lists of lines to grow many times.
+
+use std::alloc::{AllocError, Global};
+
+/// How many functions the module has, and that number as the binary format spells it.
+const COUNT: u32 = 3000;
+
+const COUNT_SPELLED: [u8; 2] = [0xb8, 0x17];
+
+/// How many lines it is printed in: the module's first, its type, a line for each function, and the last.
+pub const LINES: u32 = 3003;
+
+/// A module of 12,024 bytes with 3,000 functions without locals and operators.
+pub fn large(alloc: Global) -> Result<Vec<u8>, AllocError> {
+    let mut wasm = Vec::from_slice(alloc, &wasmprinter_samples::PREAMBLE)?;
+    wasm.extend_from_slice(&[0x01, 0x04, 0x01, 0x60, 0x00, 0x00])?;
+    // a function section of 3,002 bytes: the count, and type 0 for each
+    wasm.extend_from_slice(&[0x03, 0xba, 0x17])?;
+    wasm.extend_from_slice(&COUNT_SPELLED)?;
+    for _ in 0..COUNT {
+        wasm.push(0x00)?;
+    }
+    // a code section of 9,002 bytes: the count, and a body of two bytes for each
+    wasm.extend_from_slice(&[0x0a, 0xaa, 0x46])?;
+    wasm.extend_from_slice(&COUNT_SPELLED)?;
+    for _ in 0..COUNT {
+        wasm.extend_from_slice(&[0x02, 0x00, 0x0b])?;
+    }
+    Ok(wasm)
+}

@@ -1,0 +1,199 @@
+//! The lines of a text, each with its place. What is expected is typed by hand.
+
+use crate::large::{LINES, large};
+use std::alloc::Global;
+use std::test::Fail;
+use wasmprinter::{Config, Error, OffsetsAndLines};
+use wasmprinter_samples::{IDENTITY, MINUS_ONE, PREAMBLE};
+
+/// A line: the place of what stands on it, and its text with the line feed.
+type Line = (Option<u64>, &'static str);
+
+/// The lines of `IDENTITY`.
+const IDENTITY_LINES: [Line; 7] = [
+    (Some(0x0), "(module\n"),
+    (
+        Some(0xb),
+        "  (type (;0;) (func (param i32) (result i32)))\n",
+    ),
+    (Some(0x17), "  (export \"f\" (func 0))\n"),
+    (
+        Some(0x1f),
+        "  (func (;0;) (type 0) (param i32) (result i32)\n",
+    ),
+    (Some(0x20), "    local.get 0\n"),
+    (Some(0x22), "  )\n"),
+    (Some(0x23), ")\n"),
+];
+
+/// Its lines without its body.
+const OUTLINE: [Line; 5] = [
+    (Some(0x0), "(module\n"),
+    (
+        Some(0xb),
+        "  (type (;0;) (func (param i32) (result i32)))\n",
+    ),
+    (Some(0x17), "  (export \"f\" (func 0))\n"),
+    (
+        Some(0x1f),
+        "  (func (;0;) (type 0) (param i32) (result i32) ...)\n",
+    ),
+    (Some(0x23), ")\n"),
+];
+
+/// The same with places in front.
+const PLACED: [Line; 5] = [
+    (Some(0x0), "(module\n"),
+    (
+        Some(0xb),
+        "(;@b     ;)  (type (;0;) (func (param i32) (result i32)))\n",
+    ),
+    (Some(0x17), "(;@17    ;)  (export \"f\" (func 0))\n"),
+    (
+        Some(0x1f),
+        "(;@1f    ;)  (func (;0;) (type 0) (param i32) (result i32) ...)\n",
+    ),
+    (Some(0x23), "(;@23    ;))\n"),
+];
+
+/// The lines of `MINUS_ONE`, whose function has locals.
+const MINUS_ONE_LINES: [Line; 9] = [
+    (Some(0x0), "(module\n"),
+    (Some(0xb), "  (type (;0;) (func (result i64)))\n"),
+    (Some(0x17), "  (func (;0;) (type 0) (result i64)\n"),
+    (Some(0x18), "    (local i64)\n"),
+    (Some(0x1a), "    i64.const -1\n"),
+    (Some(0x1c), "    local.set 0\n"),
+    (Some(0x1e), "    local.get 0\n"),
+    (Some(0x20), "  )\n"),
+    (Some(0x21), ")\n"),
+];
+
+/// A group of one type.
+const GROUP: [u8; 16] = [
+    0x00, 0x61, 0x73, 0x6d, 0x01, 0x00, 0x00, 0x00, // preamble
+    0x01, 0x06, 0x01, 0x4e, 0x01, 0x60, 0x00, 0x00, // types
+];
+
+/// Its lines: the group's end stands for nothing.
+const GROUP_LINES: [Line; 5] = [
+    (Some(0x0), "(module\n"),
+    (Some(0xb), "  (rec\n"),
+    (Some(0xd), "    (type (;0;) (func))\n"),
+    (None, "  )\n"),
+    (Some(0x10), ")\n"),
+];
+
+/// A `dylink.0` section with subsection 9, which isn't known, behind a type.
+const UNKNOWN: [u8; 27] = [
+    0x00, 0x61, 0x73, 0x6d, 0x01, 0x00, 0x00, 0x00, // preamble
+    0x01, 0x04, 0x01, 0x60, 0x00, 0x00, // types
+    0x00, 0x0b, 0x08, 0x64, 0x79, 0x6c, 0x69, 0x6e, 0x6b, 0x2e, 0x30, // the name
+    0x09, 0x00, // the subsection
+];
+
+/// Whether these are the lines.
+fn are_lines(found: OffsetsAndLines<'_>, expected: &[Line]) -> bool {
+    found.eq(expected.iter().copied())
+}
+
+#[test]
+fn gives_each_line_with_its_place(rt: HostRuntime) -> Result<(), Fail> {
+    let modules: [(&[u8], &[Line]); 4] = [
+        (&PREAMBLE, &[(Some(0x0), "(module)\n")]),
+        (&IDENTITY, &IDENTITY_LINES),
+        (&MINUS_ONE, &MINUS_ONE_LINES),
+        (&GROUP, &GROUP_LINES),
+    ];
+    for (wasm, expected) in modules {
+        let mut storage = String::new(rt.alloc());
+        let lines = Config::new().offsets_and_lines(rt.alloc(), wasm, &mut storage)?;
+        assert!(rt; are_lines(lines, expected));
+    }
+    Ok(())
+}
+
+#[test]
+fn gives_lines_by_options(rt: HostRuntime) -> Result<(), Fail> {
+    let mut config = Config::new();
+    config.print_skeleton(true);
+    let mut storage = String::new(rt.alloc());
+    let lines = config.offsets_and_lines(rt.alloc(), &IDENTITY, &mut storage)?;
+    assert!(rt; are_lines(lines, &OUTLINE));
+    config.print_offsets(true);
+    let mut storage = String::new(rt.alloc());
+    let lines = config.offsets_and_lines(rt.alloc(), &IDENTITY, &mut storage)?;
+    assert!(rt; are_lines(lines, &PLACED));
+    Ok(())
+}
+
+#[test]
+fn appends_to_the_text_that_stands_there(rt: HostRuntime) -> Result<(), Fail> {
+    let mut storage = String::from_str(rt.alloc(), "λ\n")?;
+    let config = Config::new();
+    let lines = config.offsets_and_lines(rt.alloc(), &PREAMBLE, &mut storage)?;
+    assert!(rt; are_lines(lines, &[(Some(0x0), "(module)\n")]));
+    assert_eq!(rt; storage.as_str(), "λ\n(module)\n");
+    let lines = config.offsets_and_lines(rt.alloc(), &PREAMBLE, &mut storage)?;
+    assert!(rt; are_lines(lines, &[(Some(0x0), "(module)\n")]));
+    assert_eq!(rt; storage.as_str(), "λ\n(module)\n(module)\n");
+    Ok(())
+}
+
+/// Why the lines of a module are refused, if they are.
+fn refusal(alloc: Global, wasm: &[u8], storage: &mut String) -> Option<Error> {
+    match Config::new().offsets_and_lines(alloc, wasm, storage) {
+        Ok(_) => None,
+        Err(error) => Some(error),
+    }
+}
+
+#[test]
+fn keeps_the_text_behind_a_refusal(rt: HostRuntime) -> Result<(), Fail> {
+    let mut storage = String::from_str(rt.alloc(), "old")?;
+    let cut = refusal(rt.alloc(), &IDENTITY[..34], &mut storage);
+    assert!(rt; matches!(cut, Some(Error::Malformed { .. })));
+    assert_eq!(rt; storage.as_str(), "old");
+    let refused = refusal(rt.alloc(), &UNKNOWN, &mut storage);
+    assert!(rt; matches!(refused, Some(Error::DylinkSubsection { id: 9 })));
+    assert_eq!(rt; storage.as_str(), "old(module\n  (type (;0;) (func))");
+    Ok(())
+}
+
+/// Line by line, over and over behind the last.
+fn walks_to_the_end(alloc: Global) -> Result<bool, Error> {
+    let mut storage = String::new(alloc);
+    let mut lines = Config::new().offsets_and_lines(alloc, &PREAMBLE, &mut storage)?;
+    let first = lines.next();
+    let second = lines.next();
+    let third = lines.next();
+    Ok(first == Some((Some(0), "(module)\n")) && second.is_none() && third.is_none())
+}
+
+#[test]
+fn stays_at_the_end(rt: HostRuntime) -> Result<(), Fail> {
+    assert!(rt; walks_to_the_end(rt.alloc())?);
+    Ok(())
+}
+
+#[test]
+fn gives_all_lines_of_a_large_module(rt: HostRuntime) -> Result<(), Fail> {
+    let wasm = large(rt.alloc())?;
+    let mut storage = String::new(rt.alloc());
+    let mut count: u32 = 0;
+    let mut header = None;
+    let mut end = None;
+    for (place, text) in Config::new().offsets_and_lines(rt.alloc(), &wasm, &mut storage)? {
+        count = count.wrapping_add(1);
+        if text == "  (func (;2999;) (type 0))\n" {
+            header = place;
+        }
+        if text == ")\n" {
+            end = place;
+        }
+    }
+    assert_eq!(rt; count, LINES);
+    assert_eq!(rt; header, Some(12022));
+    assert_eq!(rt; end, Some(12024));
+    Ok(())
+}

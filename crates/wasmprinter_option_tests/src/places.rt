@@ -1,0 +1,90 @@
+//! Operators and their lines. What is expected is typed by hand.
+
+use std::alloc::Global;
+use std::test::Fail;
+use wasmprinter::wasm::decode;
+use wasmprinter::{Config, Error, place_of};
+use wasmprinter_samples::{IDENTITY, MINUS_ONE};
+
+/// A function with a branch hint at its `if`.
+const HINTED: [u8; 68] = [
+    0x00, 0x61, 0x73, 0x6d, 0x01, 0x00, 0x00, 0x00, // preamble
+    0x01, 0x05, 0x01, 0x60, 0x01, 0x7f, 0x00, // types
+    0x03, 0x02, 0x01, 0x00, // functions
+    0x00, 0x20, 0x19, 0x6d, 0x65, 0x74, 0x61, 0x64, 0x61, 0x74, 0x61, 0x2e, 0x63, 0x6f, 0x64, 0x65,
+    0x2e, 0x62, 0x72, 0x61, 0x6e, 0x63, 0x68, 0x5f, 0x68, 0x69, 0x6e, 0x74, // the name
+    0x01, 0x00, 0x01, 0x03, 0x01, 0x01, // the hint
+    0x0a, 0x09, 0x01, 0x07, 0x00, 0x20, 0x00, 0x04, 0x40, 0x0b, 0x0b, // code
+    0x00, 0x02, 0x01, 0x61, // a custom section
+];
+
+/// An operator, and what is found for it: the number of its line and its place.
+type Case = (u32, u32, Option<(usize, u64)>);
+
+/// Whether these are found in all lines of a module.
+fn are_found(alloc: Global, config: &Config, wasm: &[u8], cases: &[Case]) -> Result<bool, Error> {
+    let module = decode(alloc, wasm)?;
+    let mut storage = String::new(alloc);
+    let all = config.offsets_and_lines(alloc, wasm, &mut storage)?;
+    let lines: Vec<(Option<u64>, &str)> = all.collect(alloc)?;
+    Ok(
+        cases.iter().all(|(function, operator, found)| {
+            place_of(&module, &lines, *function, *operator) == *found
+        }),
+    )
+}
+
+#[test]
+fn walks_over_the_places_of_operators(rt: HostRuntime) -> Result<(), Fail> {
+    let module = decode(rt.alloc(), &MINUS_ONE)?;
+    let mut places = [0x1a, 0x1c, 0x1e].iter();
+    if let Some(body) = module.body(0) {
+        for (place, _) in body.operators() {
+            assert_eq!(rt; places.next(), Some(&place));
+        }
+    }
+    assert!(rt; places.next().is_none());
+    Ok(())
+}
+
+#[test]
+fn finds_operators_in_all_lines(rt: HostRuntime) -> Result<(), Fail> {
+    let identity: [Case; 3] = [(0, 0, Some((4, 0x20))), (0, 1, None), (1, 0, None)];
+    let minus_one: [Case; 5] = [
+        (0, 0, Some((4, 0x1a))),
+        (0, 1, Some((5, 0x1c))),
+        (0, 2, Some((6, 0x1e))),
+        (0, 3, None),
+        (u32::MAX, u32::MAX, None),
+    ];
+    let hinted: [Case; 4] = [
+        (0, 0, Some((3, 0x3a))),
+        (0, 1, Some((5, 0x3c))),
+        (0, 2, Some((6, 0x3e))),
+        (0, 3, None),
+    ];
+    let config = Config::new();
+    assert!(rt; are_found(rt.alloc(), &config, &IDENTITY, &identity)?);
+    assert!(rt; are_found(rt.alloc(), &config, &MINUS_ONE, &minus_one)?);
+    assert!(rt; are_found(rt.alloc(), &config, &HINTED, &hinted)?);
+    Ok(())
+}
+
+#[test]
+fn finds_no_operator_where_bodies_are_left_out(rt: HostRuntime) -> Result<(), Fail> {
+    let mut config = Config::new();
+    config.print_skeleton(true);
+    assert!(rt; are_found(rt.alloc(), &config, &IDENTITY, &[(0, 0, None)])?);
+    Ok(())
+}
+
+#[test]
+fn finds_the_first_of_any_lines(rt: HostRuntime) -> Result<(), Fail> {
+    let module = decode(rt.alloc(), &IDENTITY)?;
+    assert_eq!(rt; place_of(&module, &[], 0, 0), None);
+    let none = [(None, "local.get 0\n"), (Some(0x1f), ""), (Some(0x21), "")];
+    assert_eq!(rt; place_of(&module, &none, 0, 0), None);
+    let two = [(None, ""), (Some(0x20), "a\n"), (Some(0x20), "b\n")];
+    assert_eq!(rt; place_of(&module, &two, 0, 0), Some((1, 0x20)));
+    Ok(())
+}

@@ -1,0 +1,189 @@
+-- The operators of a list, each with what is printed of it: what this is as items, and which operator of the flat text it is.
+use Rattle.std.proofs.Common.{◌≡◌, ℕ, ◌-◌, Bool, true, false, List, [], ◌∷◌, length, map, Option, Some, None, refl, sym, ap, ap₂, ◌∙◌, subst, codes}
+use Rattle.std.specs.List.{AllByRecursion}
+use Rattle.wasmprinter_spec.specs.Grammar.{Placed}
+use Rattle.wasmprinter_spec.specs.Token.{Token}
+use Rattle.wasmprinter_spec.specs.Forest.{Forest, End, grow, the_one, cut}
+use Rattle.wasmprinter_spec.specs.Operator.{Operator}
+use Rattle.wasmprinter_spec.specs.Row.{Role, Plain, Opens, OpensIf, OpensTry, Turns, Catches, CatchesAll, Delegates, Ends}
+use Rattle.wasmprinter_spec.specs.Table.{rows_of, word_of, role_of, shape_of}
+use Rattle.wasmprinter_spec.specs.Labels.{Label, labels_after, count_after, outside, inside}
+use Rattle.wasmprinter_spec.specs.Module.{without_places}
+use Rattle.wasmprinter_spec.specs.Customs.Hints.{Hint, next_hint, hint_behind}
+use Rattle.wasmprinter_spec.specs.Names.{IsNamedIfAny, AreNamed}
+use Rattle.wasmprinter_spec.specs.Piece.{Piece, Word, all_tokens}
+use Rattle.wasmprinter_spec.specs.Layout.Operators.{Form, Setting, pieces_by}
+use Rattle.wasmprinter_spec.specs.Layout.Folded.{item, items}
+use Rattle.wasmprinter_spec.specs.Folding.Arities.{Signatures, label_of_block, label_counts_after}
+use Rattle.wasmprinter_spec.specs.Folding.Code.{Item, role}
+use Rattle.wasmprinter_spec.specs.Folding.Unfolding.{Told, told_as, told}
+use Rattle.wasmprinter_spec.specs.Code.{Chunk, chunk, word_chunk, role_by}
+use Rattle.wasmprinter_lexical.proofs.Grown.{one-flat}
+use Rattle.wasmprinter_lexical.proofs.Noted.{noted-cut}
+use Rattle.wasmprinter_lexical.proofs.Pieces.{Edge, Bound}
+use Rattle.wasmprinter_lexical.proofs.Writes.{Writes}
+use Rattle.wasmprinter_reading.specs.Listed.{IsListed, AreSignaturesInRange}
+use Rattle.wasmprinter_reading.proofs.Operators.Arguments.{AreArguments}
+use Rattle.wasmprinter_reading.proofs.Operators.Forms.{behind}
+use Rattle.wasmprinter_reading.proofs.Operators.Immediates.{items_by, arguments_by, writes_by}
+use Rattle.wasmprinter_reading.proofs.Operators.Open.{outside_labels, after_labels}
+use Rattle.wasmprinter_reading.proofs.Operators.Lists.{arguments_items, chunks_of}
+use Rattle.wasmprinter_reading.proofs.Folded.Words.{IsBare, turn_is_bare, end_is_bare, role_by-rows}
+
+-- ---- what pieces write
+
+abbrev pub forest_or_end : Option Forest → Forest
+forest_or_end None = End
+forest_or_end (Some f) = cut f
+
+-- the items of pieces, without annotations
+abbrev pub items_of : List Piece → Forest
+items_of ps = forest_or_end (the_one (grow (all_tokens ps)))
+
+pub items_of-writes : {a b : Edge} {ps : List Piece} {f : Forest} → Writes a ps b f → items_of ps ≡ f
+items_of-writes w = ap (λ (t : List Token). forest_or_end (the_one (grow t))) w.tokens ∙ ap forest_or_end (one-flat w.whole) ∙ noted-cut w.noted ∙ w.without
+
+-- ---- one operator
+
+abbrev pub word : Item → List ℕ
+word x = word_of x.operator.value.opcode
+
+abbrev pub behind_first : List Piece → List Piece
+behind_first [] = []
+behind_first (p ∷ ps) = ps
+
+-- the pieces of its immediates, and what they write
+abbrev pub rest : Item → List Piece
+rest x = behind_first x.pieces
+
+abbrev pub arguments : Item → Forest
+arguments x = items_of (rest x)
+
+-- `else` and `end` have no immediates
+abbrev pub is_bare : Role → Bool
+is_bare Turns = true
+is_bare Ends = true
+is_bare _ = false
+
+-- it is listed, and its pieces are its word and what may stand behind a word
+pub record IsPrinted (form : Form) (x : Item) : Type 0 where
+  pub listed : IsListed x.operator.value
+  pub pieces : x.pieces ≡ Word (word x) ∷ rest x
+  pub are : AreArguments (arguments x)
+  pub writes : Writes Bound (rest x) (behind form) (arguments x)
+  pub bare : is_bare (role x) ≡ true → arguments x ≡ End
+
+-- as the reader has it
+abbrev pub item_chunk : Item → Chunk
+item_chunk x = chunk (rows_of (word x)) (arguments x)
+
+abbrev pub told_chunk : Told → Chunk
+told_chunk None = word_chunk (codes "end")
+told_chunk (Some x) = item_chunk x
+
+abbrev pub told_chunks : List Told → List Chunk
+told_chunks ts = map told_chunk ts
+
+-- `else`
+pub turn_chunk : {form : Form} (x : Item) → IsPrinted form x → role x ≡ Turns → item_chunk x ≡ word_chunk (codes "else")
+turn_chunk x h e =
+    let b : IsBare x.operator.value (codes "else") = turn_is_bare x.operator.value h.listed e in
+    ap₂ (λ w f. chunk (rows_of w) f) b.word (h.bare (ap is_bare e))
+
+end_chunk : {form : Form} (x : Item) → IsPrinted form x → role x ≡ Ends → item_chunk x ≡ word_chunk (codes "end")
+end_chunk x h e =
+    let b : IsBare x.operator.value (codes "end") = end_is_bare x.operator.value h.listed e in
+    ap₂ (λ w f. chunk (rows_of w) f) b.word (h.bare (ap is_bare e))
+
+-- what is told of an operator is its chunk
+told_item : {form : Form} (x : Item) → IsPrinted form x → told_chunk (told_as (role x) x) ≡ item_chunk x
+told_item x h = by (role x) refl
+  where
+    by : (r : Role) → role x ≡ r → told_chunk (told_as r x) ≡ item_chunk x
+    by Ends e = sym (end_chunk x h e)
+    by Plain e = refl
+    by Opens e = refl
+    by OpensIf e = refl
+    by OpensTry e = refl
+    by Turns e = refl
+    by Catches e = refl
+    by CatchesAll e = refl
+    by Delegates e = refl
+
+pub told_items : (form : Form) (xs : List Item) → AllByRecursion (IsPrinted form) xs → told_chunks (told xs) ≡ map item_chunk xs
+told_items form [] h = refl
+told_items form (x ∷ xs) h = ap₂ (λ c cs. c ∷ cs) (told_item x h.0) (told_items form xs h.1)
+
+-- they stand to their blocks as the operators do
+pub told_roles : (form : Form) (xs : List Item) → AllByRecursion (IsPrinted form) xs → map (λ c. role_by c.rows) (map item_chunk xs) ≡ map role xs
+told_roles form [] h = refl
+told_roles form (x ∷ xs) h = ap₂ (λ c cs. c ∷ cs) (role_by-rows x.operator.value h.0.listed) (told_roles form xs h.1)
+
+-- ---- the operators of a list
+
+bare_items : (s : Setting) (inner xs : List Label) (own : Label) (o : Operator) (w : List ℕ) → IsBare o w → items_by s inner xs own (shape_of o.opcode) o.immediates ≡ End
+bare_items s inner xs own o w b = ap (λ t. items_by s inner xs own t o.immediates) b.shape
+
+bare_by_role : (s : Setting) (inner xs : List Label) (own : Label) (o : Operator) → IsListed o → is_bare (role_of o.opcode) ≡ true →
+    items_by s inner xs own (shape_of o.opcode) o.immediates ≡ End
+bare_by_role s inner xs own o l h = by (role_of o.opcode) refl h
+  where
+    by : (r : Role) → role_of o.opcode ≡ r → is_bare r ≡ true → items_by s inner xs own (shape_of o.opcode) o.immediates ≡ End
+    by Turns e k = bare_items s inner xs own o (codes "else") (turn_is_bare o l e)
+    by Ends e k = bare_items s inner xs own o (codes "end") (end_is_bare o l e)
+    by _ e k = absurd cc
+
+module _ (s : Setting) (named : AreNamed s.names) (ranged : AreSignaturesInRange s.signature) (signatures : Signatures) where
+  item_writes : (own : Label) (xs : List Label) (o : Placed Operator) → AllByRecursion IsNamedIfAny xs → IsNamedIfAny own → IsListed o.value →
+      Writes Bound (pieces_by s (inside (role_of o.value.opcode) xs) (outside (role_of o.value.opcode) xs) own (shape_of o.value.opcode) o.value.immediates) (behind s.form)
+      (arguments_items s own xs o.value)
+  item_writes own xs o h k l =
+      let is : Role = role_of o.value.opcode in
+      writes_by s named ranged (inside is xs) (outside is xs) own (outside_labels is xs h) k (shape_of o.value.opcode) o.value.immediates l.range
+
+  -- what is written of an operator of a list
+  pub item_arguments : (hint : Option (Placed Hint)) (own : Label) (xs : List Label) (ls : List (Option ℕ)) (o : Placed Operator) →
+      AllByRecursion IsNamedIfAny xs → IsNamedIfAny own → IsListed o.value → arguments (item s signatures hint own xs ls o) ≡ arguments_items s own xs o.value
+  item_arguments hint own xs ls o h k l = items_of-writes (item_writes own xs o h k l)
+
+  item_printed : (hint : Option (Placed Hint)) (own : Label) (xs : List Label) (ls : List (Option ℕ)) (o : Placed Operator) →
+      AllByRecursion IsNamedIfAny xs → IsNamedIfAny own → IsListed o.value → IsPrinted s.form (item s signatures hint own xs ls o)
+  item_printed hint own xs ls o h k l =
+      let is : Role = role_of o.value.opcode in
+      let e : arguments (item s signatures hint own xs ls o) ≡ arguments_items s own xs o.value = item_arguments hint own xs ls o h k l in
+      record {
+        listed = l;
+        pieces = refl;
+        are = subst AreArguments (sym e) (arguments_by s (inside is xs) (outside is xs) own (shape_of o.value.opcode) o.value.immediates l.range);
+        writes = subst (Writes Bound (rest (item s signatures hint own xs ls o)) (behind s.form)) (sym e) (item_writes own xs o h k l);
+        bare = λ b. e ∙ bare_by_role s (inside is xs) (outside is xs) own o.value l b;
+      }
+
+  pub items_printed : (hs : List (Placed Hint)) (n : ℕ) (xs : List Label) (ls : List (Option ℕ)) (os : List (Placed Operator)) →
+      AllByRecursion IsNamedIfAny xs → AllByRecursion IsListed (without_places os) → AllByRecursion (IsPrinted s.form) (items s signatures hs n xs ls os)
+  unfolding items
+  items_printed hs n xs ls [] h l = tt
+  items_printed hs n xs ls (o ∷ os) h l =
+      let is : Role = role_of o.value.opcode in
+      let own : Label = s.names.labels s.function n (length xs) in
+      let k : IsNamedIfAny own = named.labels s.function n (length xs) in
+      let offset : ℕ = o.place - s.body in (
+        item_printed (next_hint offset hs) own xs ls o h k l.0,
+        items_printed (hint_behind offset hs) (count_after is n) (labels_after is own xs) (label_counts_after is (label_of_block signatures o.value) ls) os
+            (after_labels is own xs k h) l.1,
+      )
+
+  -- they are the operators of the flat text
+  pub items_chunks : (hs : List (Placed Hint)) (n : ℕ) (xs : List Label) (ls : List (Option ℕ)) (os : List (Placed Operator)) →
+      AllByRecursion IsNamedIfAny xs → AllByRecursion IsListed (without_places os) →
+      map item_chunk (items s signatures hs n xs ls os) ≡ chunks_of s n xs (without_places os)
+  unfolding items
+  items_chunks hs n xs ls [] h l = refl
+  items_chunks hs n xs ls (o ∷ os) h l =
+      let is : Role = role_of o.value.opcode in
+      let own : Label = s.names.labels s.function n (length xs) in
+      let k : IsNamedIfAny own = named.labels s.function n (length xs) in
+      let offset : ℕ = o.place - s.body in
+      ap₂ (λ f cs. chunk (rows_of (word_of o.value.opcode)) f ∷ cs) (item_arguments (next_hint offset hs) own xs ls o h k l.0)
+      (items_chunks (hint_behind offset hs) (count_after is n) (labels_after is own xs) (label_counts_after is (label_of_block signatures o.value) ls) os
+      (after_labels is own xs k h) l.1)

@@ -1,0 +1,223 @@
+-- What nodes are written as, and that the reader takes it as the operators that the nodes say, in their flat order.
+use Rattle.std.proofs.Common.{◌≡◌, ℕ, Bool, true, false, List, [], ◌∷◌, ◌++◌, map, Option, Some, None, refl, sym, ap, ap₂, ◌∙◌, append_assoc, append-nil, codes}
+use Rattle.std.proofs.lemmas.List.{map-append}
+use Rattle.wasmprinter_spec.specs.Grammar.{Placed, ◌>>=◌}
+use Rattle.wasmprinter_spec.specs.Forest.{Forest, End, Word, Group, onto}
+use Rattle.wasmprinter_spec.specs.Operator.{Operator}
+use Rattle.wasmprinter_spec.specs.Table.{rows_of}
+use Rattle.wasmprinter_spec.specs.Customs.Hints.{Hint}
+use Rattle.wasmprinter_spec.specs.Layout.Operators.{Form}
+use Rattle.wasmprinter_spec.specs.Layout.Folded.{head_hint}
+use Rattle.wasmprinter_spec.specs.Folding.Code.{Item, role}
+use Rattle.wasmprinter_spec.specs.Folding.Tree.{Head, Of, Then, Else, Nodes, Nil, Snoc}
+use Rattle.wasmprinter_spec.specs.Folding.Unfolding.{Told, Elsewhere, Within, unfolded_as, unfold_at, unfolded}
+use Rattle.wasmprinter_spec.specs.Code as code
+use Rattle.wasmprinter_spec.specs.Code.{Chunk, chunk, word_chunk, Instruction, Folded, code_of, flattened, operands, branches, folded_as, before, branch, ThenHead, ElseHead, OperatorHead, head, with_group, code}
+use Rattle.wasmprinter_lexical.proofs.Grown.{onto-End, onto_assoc}
+use Rattle.wasmprinter_reading.proofs.Operators.Arguments.{arguments_front}
+use Rattle.wasmprinter_reading.proofs.Operators.Forms.{hint_items}
+use Rattle.wasmprinter_reading.proofs.Folded.Words.{is_folded, HasRows, rows_for, head-folded}
+use Rattle.wasmprinter_reading.proofs.Folded.Items.{word, arguments, IsPrinted, item_chunk, told_chunks, turn_chunk}
+use Rattle.wasmprinter_reading.proofs.Folded.Rows.{are_nested, IsRow, no_nodes, a_plain, a_block, an_if, an_if_else}
+
+-- ---- what nodes are written as
+
+-- with hints in front of them, or without
+abbrev pub hint_at : Bool → Option (Placed Hint) → Forest → Forest
+hint_at true h f = hint_items h f
+hint_at false h f = f
+
+-- what stands in a node, with what it holds
+abbrev pub head_items : Head → Forest → Forest
+head_items (Of x) f = Word (word x) (onto (arguments x) f)
+head_items (Then x) f = Word (codes "then") f
+head_items (Else x) f = Word (codes "else") f
+
+-- each node is a group
+abbrev pub row_items : Bool → Nodes → Forest
+row_items hints Nil = End
+row_items hints (Snoc b h r held) = onto (row_items hints b) (hint_at hints (head_hint h) (Group (head_items h (row_items hints held)) End))
+
+-- ---- folded operators in a row
+
+-- the operators in front of one's own, its own, and those behind it
+pub record Fold : Type 0 where
+  pub front : List Chunk
+  pub own : Chunk
+  pub behind : List Chunk
+
+abbrev pub as_folded : Fold → Instruction
+as_folded n = Folded n.front n.own n.behind
+
+abbrev pub chunks_in : List Fold → List Chunk
+chunks_in [] = []
+chunks_in (n ∷ ns) = n.front ++ (n.own ∷ (n.behind ++ chunks_in ns))
+
+chunks_in-append : (a b : List Fold) → chunks_in (a ++ b) ≡ chunks_in a ++ chunks_in b
+chunks_in-append [] b = refl
+chunks_in-append (n ∷ a) b = simp (chunks_in-append a b, append_assoc)
+
+operands-folds : (ns : List Fold) → operands (map as_folded ns) ≡ Some (chunks_in ns)
+operands-folds [] = refl
+operands-folds (n ∷ ns) = rw (operands-folds ns) refl
+
+pub flattened-folds : (ns : List Fold) → flattened (map as_folded ns) ≡ Some (chunks_in ns)
+flattened-folds [] = refl
+flattened-folds (n ∷ ns) = rw (flattened-folds ns) refl
+
+branches-folds : (ns : List Fold) (is : List Instruction) (a b : List Chunk) → branches is ≡ Some (a, b) →
+    branches (map as_folded ns ++ is) ≡ Some (chunks_in ns ++ a, b)
+branches-folds [] is a b e = e
+branches-folds (n ∷ ns) is a b e =
+    rw (branches-folds ns is a b e) (ap (λ (l : List Chunk). Some (l, b)) (simp append_assoc))
+
+-- ---- one group
+
+-- of an operator
+operator_reads : (form : Form) (x : Item) (h : IsPrinted form x) (held g : Forest) (is js : List Instruction) (i : Instruction) → is_folded (role x) ≡ true →
+    code held ≡ Some (code_of End is) → folded_as (role x) (rows_of (word x)) (code_of (arguments x) is) ≡ Some i → code g ≡ Some (code_of End js) →
+    code (Group (Word (word x) (onto (arguments x) held)) g) ≡ Some (code_of End (i ∷ js))
+operator_reads form x h held g is js i p e f eg =
+    let o : Operator = x.operator.value in
+    let rs : HasRows o = rows_for o h.listed in
+    let a : Forest = arguments x in
+    let item : Forest → Forest = Group (Word (word x) (onto a held)) in
+    let own : folded_as rs.first.role (rs.first ∷ rs.others) (code_of a is) ≡ Some i =
+    ap (λ r. folded_as r (rs.first ∷ rs.others) (code_of a is)) rs.role ∙ ap (λ l. folded_as (role x) l (code_of a is)) (sym rs.are) ∙ f in
+    ap (λ t. with_group t item (code (onto a held)) (code g)) (head-folded o h.listed p)
+    ∙ ap (λ t. with_group (OperatorHead rs.first rs.others) item t (code g)) (arguments_front a h.are held is e)
+    ∙ ap (λ t. t >>= λ j. code g >>= before j) own
+    ∙ ap (λ t. t >>= before i) eg
+
+-- of a case of an `if`
+branch_reads : (make : List Chunk → Instruction) (held g : Forest) (is js : List Instruction) (cs : List Chunk) →
+    code held ≡ Some (code_of End is) → flattened is ≡ Some cs → are_nested cs ≡ true → code g ≡ Some (code_of End js) →
+    branch make (code held) (code g) ≡ Some (code_of End (make cs ∷ js))
+branch_reads make held g is js cs e f n eg = rw (e, f, n, eg) refl
+
+then_reads : (held g : Forest) (is js : List Instruction) (cs : List Chunk) → code held ≡ Some (code_of End is) → flattened is ≡ Some cs → are_nested cs ≡ true →
+    code g ≡ Some (code_of End js) → code (Group (Word (codes "then") held) g) ≡ Some (code_of End (code.Then cs ∷ js))
+unfolding head
+then_reads held g is js cs e f n eg = branch_reads code.Then held g is js cs e f n eg
+
+else_reads : (held g : Forest) (is js : List Instruction) (cs : List Chunk) → code held ≡ Some (code_of End is) → flattened is ≡ Some cs → are_nested cs ≡ true →
+    code g ≡ Some (code_of End js) → code (Group (Word (codes "else") held) g) ≡ Some (code_of End (code.Else cs ∷ js))
+unfolding head
+else_reads held g is js cs e f n eg = branch_reads code.Else held g is js cs e f n eg
+
+-- ---- nodes in a row
+
+-- They are folded operators, which are those that the nodes say.
+pub record Reads (f : Nodes) : Type 0 where
+  pub folds : List Fold
+  pub say : chunks_in folds ≡ told_chunks (unfolded f)
+  pub reads : (g : Forest) (is : List Instruction) → code g ≡ Some (code_of End is) → code (onto (row_items false f) g) ≡ Some (code_of End (map as_folded folds ++ is))
+
+alone_reads : (f : Nodes) (r : Reads f) → code (row_items false f) ≡ Some (code_of End (map as_folded r.folds))
+alone_reads f r =
+    ap code (sym (onto-End (row_items false f))) ∙ r.reads End [] refl ∙ ap (λ (is : List Instruction). Some (code_of End is)) (append-nil (map as_folded r.folds))
+
+told_append : (a b : List Told) → told_chunks (a ++ b) ≡ told_chunks a ++ told_chunks b
+told_append [] b = refl
+told_append (t ∷ a) b = simp (told_append a b)
+
+-- both cases of an `if`, and its `end`
+told_cases : (g h o : List Told) (x y : Item) → item_chunk y ≡ word_chunk (codes "else") →
+    told_chunks (((g ++ Some x ∷ h) ++ Some y ∷ o) ++ None ∷ [])
+    ≡ told_chunks g ++ item_chunk x ∷ ((told_chunks h ++ word_chunk (codes "else") ∷ told_chunks o) ++ word_chunk (codes "end") ∷ [])
+told_cases g h o x y e =
+    let end : List Chunk = word_chunk (codes "end") ∷ [] in
+    told_append ((g ++ Some x ∷ h) ++ Some y ∷ o) (None ∷ [])
+    ∙ ap (λ l. l ++ end) (told_append (g ++ Some x ∷ h) (Some y ∷ o) ∙ ap₂ (λ a c. a ++ c ∷ told_chunks o) (told_append g (Some x ∷ h)) e)
+    ∙ ap (λ l. l ++ end) (append_assoc (told_chunks g) (item_chunk x ∷ told_chunks h) (word_chunk (codes "else") ∷ told_chunks o))
+    ∙ append_assoc (told_chunks g) (item_chunk x ∷ (told_chunks h ++ word_chunk (codes "else") ∷ told_chunks o)) end
+
+-- what an operator's own node says
+abbrev own_told : Item → Nodes → List Told
+own_told x held = unfolded_as (role x) x (unfold_at Elsewhere held) (unfold_at (Within x) held)
+
+-- one more node
+one_more : (b : Nodes) (x : Item) (r : ℕ) (held : Nodes) (rb : Reads b) (n : Fold) → n.front ++ n.own ∷ n.behind ≡ told_chunks (own_told x held) →
+    ((g : Forest) (is : List Instruction) → code g ≡ Some (code_of End is) → code (Group (head_items (Of x) (row_items false held)) g) ≡ Some (code_of End (as_folded n ∷ is))) →
+    Reads (Snoc b (Of x) r held)
+one_more b x r held rb n says reads = record {
+  folds = rb.folds ++ (n ∷ []);
+  say =
+      chunks_in-append rb.folds (n ∷ [])
+      ∙ ap₂ (λ a c. a ++ c) rb.say (ap (λ (l : List Chunk). n.front ++ n.own ∷ l) (append-nil n.behind) ∙ says)
+      ∙ sym (told_append (unfolded b) (own_told x held));
+  reads = λ g is e.
+      let own : Forest = Group (head_items (Of x) (row_items false held)) End in
+      ap code (onto_assoc (row_items false b) own g)
+      ∙ rb.reads (onto own g) (as_folded n ∷ is) (reads g is e)
+      ∙ ap (λ (l : List Instruction). Some (code_of End l))
+      (sym (append_assoc (map as_folded rb.folds) (as_folded n ∷ []) is) ∙ ap (λ (l : List Instruction). l ++ is) (sym (map-append as_folded rb.folds (n ∷ []))));
+}
+
+-- each kind of node in its turn
+pub row_reads : (form : Form) (f : Nodes) → IsRow form f → Reads f
+row_reads form f no_nodes = record { folds = []; say = refl; reads = λ g is e. e }
+row_reads form f (a_plain b x r held p h rb rh) =
+    let k : Reads held = row_reads form held rh in
+    let n : Fold = record { front = chunks_in k.folds; own = item_chunk x; behind = [] } in
+    one_more b x r held (row_reads form b rb) n
+    (ap (λ (l : List Chunk). l ++ item_chunk x ∷ []) k.say
+    ∙ sym (told_append (unfolded held) (Some x ∷ []))
+    ∙ ap (λ t. told_chunks (unfolded_as t x (unfold_at Elsewhere held) (unfold_at (Within x) held))) (sym p))
+    (λ g is e. operator_reads form x h (row_items false held) g (map as_folded k.folds) is (as_folded n) (ap is_folded p) (alone_reads held k) (rw (p, operands-folds k.folds) refl) e)
+row_reads form f (a_block b x r held p h rb rh nested) =
+    let k : Reads held = row_reads form held rh in
+    let end : Chunk = word_chunk (codes "end") in
+    let n : Fold = record { front = []; own = item_chunk x; behind = chunks_in k.folds ++ end ∷ [] } in
+    let same : are_nested (chunks_in k.folds) ≡ true = ap are_nested k.say ∙ nested in
+    one_more b x r held (row_reads form b rb) n
+    (ap (λ (l : List Chunk). item_chunk x ∷ (l ++ end ∷ [])) k.say
+    ∙ ap (λ (l : List Chunk). item_chunk x ∷ l) (sym (told_append (unfolded held) (None ∷ [])))
+    ∙ ap (λ t. told_chunks (unfolded_as t x (unfold_at Elsewhere held) (unfold_at (Within x) held))) (sym p))
+    (λ g is e. operator_reads form x h (row_items false held) g (map as_folded k.folds) is (as_folded n) (ap is_folded p) (alone_reads held k)
+    (rw (p, flattened-folds k.folds, same) refl) e)
+row_reads form f (an_if b x r given q held p h rb rg rh nested) =
+    let j : Reads given = row_reads form given rg in
+    let k : Reads held = row_reads form held rh in
+    let end : Chunk = word_chunk (codes "end") in
+    let yes : List Chunk = chunks_in k.folds in
+    let n : Fold = record { front = chunks_in j.folds ++ []; own = item_chunk x; behind = yes ++ end ∷ [] } in
+    let same : are_nested yes ≡ true = ap are_nested k.say ∙ nested in
+    let node : Nodes = Snoc given (Then x) q held in
+    let cases : code (row_items false node) ≡ Some (code_of End (map as_folded j.folds ++ code.Then yes ∷ [])) =
+    j.reads (Group (Word (codes "then") (row_items false held)) End) (code.Then yes ∷ [])
+    (then_reads (row_items false held) End (map as_folded k.folds) [] yes (alone_reads held k) (flattened-folds k.folds) same refl) in
+    one_more b x r node (row_reads form b rb) n
+    (simp (j.say, k.say, append-nil, append_assoc, told_append, p))
+    (λ g is e. operator_reads form x h (row_items false node) g (map as_folded j.folds ++ code.Then yes ∷ []) is (as_folded n) (ap is_folded p) cases
+    (rw (p, branches-folds j.folds (code.Then yes ∷ []) [] yes refl) refl) e)
+row_reads form f (an_if_else b x r given q held y t other p h rb rg rh nested py hy ro nested_other) =
+    let j : Reads given = row_reads form given rg in
+    let k : Reads held = row_reads form held rh in
+    let l : Reads other = row_reads form other ro in
+    let end : Chunk = word_chunk (codes "end") in
+    let turn : Chunk = word_chunk (codes "else") in
+    let yes : List Chunk = chunks_in k.folds in
+    let otherwise : List Chunk = chunks_in l.folds in
+    let n : Fold = record { front = chunks_in j.folds ++ []; own = item_chunk x; behind = (yes ++ turn ∷ otherwise) ++ end ∷ [] } in
+    let same : are_nested yes ≡ true = ap are_nested k.say ∙ nested in
+    let same_other : are_nested otherwise ≡ true = ap are_nested l.say ∙ nested_other in
+    let node : Nodes = Snoc (Snoc given (Then x) q held) (Else y) t other in
+    let both : List Instruction = code.Then yes ∷ code.Else otherwise ∷ [] in
+    let first : Forest = Group (Word (codes "then") (row_items false held)) End in
+    let second : Forest = Group (Word (codes "else") (row_items false other)) End in
+    let cases : code (row_items false node) ≡ Some (code_of End (map as_folded j.folds ++ both)) =
+    ap code (onto_assoc (row_items false given) first second)
+    ∙ j.reads (onto first second) both
+    (then_reads (row_items false held) second (map as_folded k.folds) (code.Else otherwise ∷ []) yes (alone_reads held k) (flattened-folds k.folds) same
+    (else_reads (row_items false other) End (map as_folded l.folds) [] otherwise (alone_reads other l) (flattened-folds l.folds) same_other refl)) in
+    one_more b x r node (row_reads form b rb) n
+    (rw (append-nil (chunks_in j.folds), j.say, k.say, l.say, p) (sym (told_cases (unfolded given) (unfolded held) (unfolded other) x y (turn_chunk y hy py))))
+    (λ g is e. operator_reads form x h (row_items false node) g (map as_folded j.folds ++ both) is (as_folded n) (ap is_folded p) cases
+    (rw (p, branches-folds j.folds both [] (yes ++ turn ∷ otherwise) refl) refl) e)
+
+-- nodes read as the operators that they say
+pub row_unfolds : (form : Form) (f : Nodes) → IsRow form f → code.unfolded (row_items false f) ≡ Some (told_chunks (unfolded f))
+row_unfolds form f h =
+    let r : Reads f = row_reads form f h in
+    rw (alone_reads f r, flattened-folds r.folds, r.say) refl

@@ -1,0 +1,166 @@
+-- Nodes say what the code says that they are made of, and the search for operands ends as the rule says.
+use Rattle.std.proofs.Common.{◌≡◌, ℕ, zero, suc, ◌+◌, ◌<◌, ◌≤◌, List, [], ◌∷◌, ◌++◌, refl, sym, ◌∙◌, ap, arith, append_assoc, Bool, true, false, cond, ltb, eqb, Some}
+use Rattle.std.proofs.lemmas.List.{append-nil}
+use Rattle.std.proofs.lemmas.Bool.{eqb-true, eqb-false, ltb-true, ltb-false, cond_both}
+use Rattle.wasmprinter_spec.specs.Row as row
+use Rattle.wasmprinter_spec.specs.Row.{Role, Opens, OpensIf, OpensTry, Turns, Catches, CatchesAll, Delegates, Ends}
+use Rattle.wasmprinter_spec.specs.Folding.Arities.{greatest, saturated}
+use Rattle.wasmprinter_spec.specs.Folding.Code.{Item, Code, Done, Plain, Block, If, IfElse, flat, role, IsFit}
+use Rattle.wasmprinter_spec.specs.Folding.Tree.{Head, Of, Then, Else, Nodes, Nil, Snoc, joined, front, last, Operands, Fit, Passed, Short, with_last, operands_from, operands, with_operands, folded, results_of, IsFirst, IsAnswer, OperandRule, tree_behind}
+use Rattle.wasmprinter_spec.specs.Folding.Unfolding.{Told, told_as, told, unfolded, UnfoldingRule}
+
+-- ---- nodes in rows
+
+pub joined-nil : (f : Nodes) → joined Nil f ≡ f
+joined-nil Nil = refl
+joined-nil (Snoc b h r held) = ap (λ (x : Nodes). Snoc x h r held) (joined-nil b)
+
+pub joined_assoc : (a b c : Nodes) → joined (joined a b) c ≡ joined a (joined b c)
+joined_assoc a b Nil = refl
+joined_assoc a b (Snoc c h r held) = ap (λ (x : Nodes). Snoc x h r held) (joined_assoc a b c)
+
+pub joined-front-last : (f : Nodes) → joined (front f) (last f) ≡ f
+joined-front-last Nil = refl
+joined-front-last (Snoc b h r held) = refl
+
+-- ---- the search for operands
+
+saturated-zero : (s : ℕ) → s ≤ greatest → saturated s 0 ≡ s
+saturated-zero s h = omega arith
+
+saturated_assoc : (s q n : ℕ) → saturated (saturated s q) n ≡ saturated s (n + q)
+saturated_assoc s q n = omega arith
+
+nil_joined : (a b : Nodes) → Nil ≡ joined a b → a ≡ Nil
+nil_joined a Nil e = sym e
+nil_joined a (Snoc b h r held) e = absurd (cc)
+
+-- before a run of one node no shorter run has any results
+one_first : (wanted s : ℕ) (h : Head) (q : ℕ) (held : Nodes) → s < wanted → s ≤ greatest → IsFirst wanted s (Snoc Nil h q held)
+one_first wanted s h q held lt le before Nil e ne = omega (arith, saturated-zero s le)
+one_first wanted s h q held lt le before (Snoc last g r inner) e ne = absurd (ne (nil_joined before last (ap front e)))
+
+more_first : (wanted s : ℕ) (run : Nodes) (h : Head) (q : ℕ) (held : Nodes) → s < wanted → s ≤ greatest → IsFirst wanted (saturated s q) run → IsFirst wanted s (Snoc run h q held)
+more_first wanted s run h q held lt le first before Nil e ne = omega (arith, saturated-zero s le)
+more_first wanted s run h q held lt le first before (Snoc last g r inner) e ne =
+    let same : q ≡ r = cc in
+    let below : saturated (saturated s q) (results_of last) < wanted = first before last (ap front e) ne in
+    omega (arith, same, below, saturated_assoc s q (results_of last))
+
+-- one node more at the end of a row
+more : (wanted s : ℕ) (b : Nodes) (h : Head) (q : ℕ) (held : Nodes) (o : Operands)
+    → s < wanted → s ≤ greatest → IsAnswer wanted (saturated s q) b o → IsAnswer wanted s (Snoc b h q held) (with_last h q held o)
+more wanted s b h q held (Fit before run) lt le a =
+    (ap (λ (x : Nodes). Snoc x h q held) a.0, sym (saturated_assoc s q (results_of run)) ∙ a.1, more_first wanted s run h q held lt le a.2)
+more wanted s b h q held Passed lt le a =
+    (a.0, Snoc a.1 h q held, ap (λ (x : Nodes). Snoc x h q held) a.2, omega (arith, a.3, saturated_assoc s q (results_of a.1)), more_first wanted s a.1 h q held lt le a.4)
+more wanted s b h q held Short lt le a =
+    λ before run e. short before run e
+  where
+    short : (before run : Nodes) → Snoc b h q held ≡ joined before run → saturated s (results_of run) < wanted
+    short before Nil e = omega (arith, saturated-zero s le)
+    short before (Snoc run g r inner) e =
+        let same : q ≡ r = cc in
+        let below : saturated (saturated s q) (results_of run) < wanted = a before run (ap front e) in
+        omega (arith, same, below, saturated_assoc s q (results_of run))
+
+pub IsAnswer-operands_from : (wanted s : ℕ) (f : Nodes) → s < wanted → s ≤ greatest → IsAnswer wanted s f (operands_from wanted s f)
+IsAnswer-operands_from wanted s Nil lt le = none
+  where
+    none : (before run : Nodes) → Nil ≡ joined before run → saturated s (results_of run) < wanted
+    none before Nil e = omega (arith, saturated-zero s le)
+    none before (Snoc run h r inner) e = absurd (cc)
+IsAnswer-operands_from wanted s (Snoc b h q held) lt le =
+    let next : ℕ = saturated s q in
+    let deeper : Operands = with_last h q held (operands_from wanted next b) in
+    cond_both (eqb next wanted) (Fit b (Snoc Nil h q held)) (cond (ltb wanted next) Passed deeper)
+    (IsAnswer wanted s (Snoc b h q held))
+    (λ e. (refl, omega (arith, eqb-true next wanted e), one_first wanted s h q held lt le))
+    (λ ne. cond_both (ltb wanted next) Passed deeper
+    (IsAnswer wanted s (Snoc b h q held))
+    (λ e. (b, Snoc Nil h q held, refl, omega (arith, ltb-true wanted next e), one_first wanted s h q held lt le))
+    (λ e. more wanted s b h q held (operands_from wanted next b) lt le
+    (IsAnswer-operands_from wanted next b (omega (arith, eqb-false next wanted ne, ltb-false wanted next e)) (omega arith))))
+
+-- an operator that takes operands takes them by the rule
+pub IsAnswer-operands : OperandRule
+IsAnswer-operands zero f lt = absurd (omega arith)
+IsAnswer-operands (suc n) f lt = IsAnswer-operands_from (suc n) 0 f lt (omega arith)
+
+-- ---- what nodes say
+
+pub unfolded-joined : (a b : Nodes) → unfolded (joined a b) ≡ unfolded a ++ unfolded b
+unfolded-joined a Nil = sym (append-nil (unfolded a))
+unfolded-joined a (Snoc b (Of x) r held) = simp (unfolded-joined a b, append_assoc)
+unfolded-joined a (Snoc b (Then x) r held) = unfolded-joined a b
+unfolded-joined a (Snoc b (Else x) r held) = unfolded-joined a b
+
+-- operands that were found are the last nodes
+abbrev pub AreLast : Nodes → Operands → Type 0
+AreLast f (Fit before run) = f ≡ joined before run
+AreLast f Passed = Unit {0}
+AreLast f Short = Unit {0}
+
+AreLast-with_last : (b held : Nodes) (h : Head) (r : ℕ) (o : Operands) → AreLast b o → AreLast (Snoc b h r held) (with_last h r held o)
+AreLast-with_last b held h r (Fit before run) e = ap (λ (x : Nodes). Snoc x h r held) e
+AreLast-with_last b held h r Passed e = tt
+AreLast-with_last b held h r Short e = tt
+
+AreLast-cond : (f : Nodes) (t : Bool) (o p : Operands) → AreLast f o → AreLast f p → AreLast f (cond t o p)
+AreLast-cond f true o p x y = x
+AreLast-cond f false o p x y = y
+
+AreLast-operands_from : (wanted sum : ℕ) (f : Nodes) → AreLast f (operands_from wanted sum f)
+AreLast-operands_from wanted sum Nil = tt
+AreLast-operands_from wanted sum (Snoc b h r held) =
+    let next : ℕ = saturated sum r in
+    let deeper : Operands = with_last h r held (operands_from wanted next b) in
+    let found : AreLast (Snoc b h r held) (Fit b (Snoc Nil h r held)) = refl in
+    let over : AreLast (Snoc b h r held) (cond (ltb wanted next) Passed deeper) =
+    AreLast-cond (Snoc b h r held) (ltb wanted next) Passed deeper tt
+    (AreLast-with_last b held h r (operands_from wanted next b) (AreLast-operands_from wanted next b)) in
+    AreLast-cond (Snoc b h r held) (eqb next wanted) (Fit b (Snoc Nil h r held)) (cond (ltb wanted next) Passed deeper) found over
+
+pub AreLast-operands : (wanted : ℕ) (f : Nodes) → AreLast f (operands wanted f)
+AreLast-operands zero f = tt
+AreLast-operands (suc n) f = AreLast-operands_from (suc n) 0 f
+
+unfolded-with_operands : (f : Nodes) (x : Item) (o : Operands) → role x ≡ row.Plain → AreLast f o → unfolded (with_operands f x o) ≡ unfolded f ++ Some x ∷ []
+unfolded-with_operands f x (Fit before run) p e =
+    rw p
+    (sym (append_assoc (unfolded before) (unfolded run) (Some x ∷ []))
+    ∙ ap (λ (l : List Told). l ++ Some x ∷ []) (sym (unfolded-joined before run) ∙ ap unfolded (sym e)))
+unfolded-with_operands f x Passed p e = rw p refl
+unfolded-with_operands f x Short p e = rw p refl
+
+-- whatever numbers of operands and results are given
+pub unfolded-folded : (f : Nodes) (x : Item) → role x ≡ row.Plain → unfolded (folded f x) ≡ unfolded f ++ Some x ∷ []
+unfolded-folded f x p = unfolded-with_operands f x (operands x.takes f) p (AreLast-operands x.takes f)
+
+unfolded-front-last : (f : Nodes) → unfolded (front f) ++ unfolded (last f) ≡ unfolded f
+unfolded-front-last f = sym (unfolded-joined (front f) (last f)) ∙ ap unfolded (joined-front-last f)
+
+told-append : (a b : List Item) → told (a ++ b) ≡ told a ++ told b
+told-append [] b = refl
+told-append (x ∷ a) b = ap (λ (l : List Told). told_as (role x) x ∷ l) (told-append a b)
+
+-- what stands behind a row of nodes
+pub unfolded-tree_behind : (f : Nodes) (code : Code) → IsFit code → unfolded (tree_behind f code) ≡ unfolded f ++ told (flat code)
+unfolded-tree_behind f Done h = sym (append-nil (unfolded f))
+unfolded-tree_behind f (Plain x rest) h =
+    unfolded-tree_behind (folded f x) rest h.1
+    ∙ rw (unfolded-folded f x h.0, h.0) (append_assoc (unfolded f) (Some x ∷ []) (told (flat rest)))
+unfolded-tree_behind f (Block x body end rest) h =
+    unfolded-tree_behind (Snoc f (Of x) x.gives (tree_behind Nil body)) rest h.3
+    ∙ simp (unfolded-tree_behind Nil body h.1, told-append, append_assoc, h.0, h.2)
+unfolded-tree_behind f (If x body end rest) h =
+    unfolded-tree_behind (Snoc (front f) (Of x) x.gives (Snoc (last f) (Then x) 0 (tree_behind Nil body))) rest h.3
+    ∙ simp (unfolded-tree_behind Nil body h.1, told-append, append_assoc, h.0, h.2, ← unfolded-front-last f)
+unfolded-tree_behind f (IfElse x body turn other end rest) h =
+    unfolded-tree_behind
+    (Snoc (front f) (Of x) x.gives (Snoc (Snoc (last f) (Then x) 0 (tree_behind Nil body)) (Else turn) 0 (tree_behind Nil other))) rest h.5
+    ∙ simp (unfolded-tree_behind Nil body h.1, unfolded-tree_behind Nil other h.3, told-append, append_assoc, h.0, h.2, h.4, ← unfolded-front-last f)
+
+-- folding loses nothing
+pub unfolded-tree : UnfoldingRule
+unfolded-tree code h = unfolded-tree_behind Nil code h

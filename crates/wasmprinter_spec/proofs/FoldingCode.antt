@@ -1,0 +1,337 @@
+-- The tree of a list says the list, and what is well nested, without the older `try`, has one.
+use Rattle.std.proofs.Common.{subst, ◌≡◌, List, [], ◌∷◌, ◌++◌, map, refl, sym, ◌∙◌, ap, append_assoc, true, false, Option, Some}
+use Rattle.std.proofs.lemmas.List.{append-nil, map-append}
+use Rattle.wasmprinter_spec.specs.Grammar.{◌>>=◌, bind_some, some_is}
+use Rattle.wasmprinter_spec.specs.Row as row
+use Rattle.wasmprinter_spec.specs.Row.{Role, Opens, OpensIf, OpensTry, Turns, Catches, CatchesAll, Delegates, Ends}
+use Rattle.wasmprinter_spec.specs.Nesting.{Part, Sequence, Handlers, Nests, none, plain, block, one_armed, two_armed, tried, delegated, no_handler, caught, caught_all}
+use Rattle.wasmprinter_spec.specs.Folding.Code.{Item, Code, Done, Plain, Block, If, IfElse, flat, role, Behind, Outside, InBlock, InIf, with_code, in_front, behind_of, whole, code_of, IsFit, AreWithoutTry, CodeRule, UniqueCodeRule, NestedCodeRule, NestingCodeRule}
+
+-- ---- a tree, its list, and its tree again
+
+-- code behind code
+abbrev behind : Code → Code → Code
+behind Done d = d
+behind (Plain x rest) d = Plain x (behind rest d)
+behind (Block x body end rest) d = Block x body end (behind rest d)
+behind (If x body end rest) d = If x body end (behind rest d)
+behind (IfElse x body turn other end rest) d = IfElse x body turn other end (behind rest d)
+
+behind-done : (c : Code) → behind c Done ≡ c
+behind-done Done = refl
+behind-done (Plain x rest) = ap (Plain x) (behind-done rest)
+behind-done (Block x body end rest) = ap (Block x body end) (behind-done rest)
+behind-done (If x body end rest) = ap (If x body end) (behind-done rest)
+behind-done (IfElse x body turn other end rest) = ap (IfElse x body turn other end) (behind-done rest)
+
+with_code-twice : (f g : Code → Code) (b : Behind) → with_code f (with_code g b) ≡ with_code (λ c. f (g c)) b
+with_code-twice f g (Outside c) = refl
+with_code-twice f g (InBlock c end b) = refl
+with_code-twice f g (InIf c turn other end b) = refl
+
+with_code-same : (b : Behind) → with_code (λ c. c) b ≡ b
+with_code-same (Outside c) = refl
+with_code-same (InBlock c end b) = refl
+with_code-same (InIf c turn other end b) = refl
+
+-- code in front of a list
+behind_of-flat : (c : Code) (xs : List Item) (b : Behind) → IsFit c → behind_of xs ≡ Some b → behind_of (flat c ++ xs) ≡ Some (with_code (behind c) b)
+behind_of-flat Done xs b h e = e ∙ ap (λ (b : Behind). Some b) (sym (with_code-same b))
+behind_of-flat (Plain x rest) xs b h e =
+    rw (behind_of-flat rest xs b h.1 e, h.0) (ap (λ (b : Behind). Some b) (with_code-twice (Plain x) (behind rest) b))
+behind_of-flat (Block x body end rest) xs b h e =
+    let after : behind_of (end ∷ (flat rest ++ xs)) ≡ Some (InBlock Done end (with_code (behind rest) b)) = rw (behind_of-flat rest xs b h.3 e, h.2) refl in
+    let inner : behind_of (flat body ++ end ∷ (flat rest ++ xs)) ≡ Some (InBlock body end (with_code (behind rest) b)) =
+    behind_of-flat body (end ∷ (flat rest ++ xs)) (InBlock Done end (with_code (behind rest) b)) h.1 after
+    ∙ ap (λ (c : Code). Some (InBlock c end (with_code (behind rest) b))) (behind-done body) in
+    rw (append_assoc (flat body) (end ∷ flat rest) xs, inner, h.0) (ap (λ (b : Behind). Some b) (with_code-twice (Block x body end) (behind rest) b))
+behind_of-flat (If x body end rest) xs b h e =
+    let after : behind_of (end ∷ (flat rest ++ xs)) ≡ Some (InBlock Done end (with_code (behind rest) b)) = rw (behind_of-flat rest xs b h.3 e, h.2) refl in
+    let inner : behind_of (flat body ++ end ∷ (flat rest ++ xs)) ≡ Some (InBlock body end (with_code (behind rest) b)) =
+    behind_of-flat body (end ∷ (flat rest ++ xs)) (InBlock Done end (with_code (behind rest) b)) h.1 after
+    ∙ ap (λ (c : Code). Some (InBlock c end (with_code (behind rest) b))) (behind-done body) in
+    rw (append_assoc (flat body) (end ∷ flat rest) xs, inner, h.0) (ap (λ (b : Behind). Some b) (with_code-twice (If x body end) (behind rest) b))
+behind_of-flat (IfElse x body turn other end rest) xs b h e =
+    let far : Behind = with_code (behind rest) b in
+    let after : behind_of (end ∷ (flat rest ++ xs)) ≡ Some (InBlock Done end far) = rw (behind_of-flat rest xs b h.5 e, h.4) refl in
+    let second : behind_of (flat other ++ end ∷ (flat rest ++ xs)) ≡ Some (InBlock other end far) =
+    behind_of-flat other (end ∷ (flat rest ++ xs)) (InBlock Done end far) h.3 after
+    ∙ ap (λ (c : Code). Some (InBlock c end far)) (behind-done other) in
+    let between : behind_of (turn ∷ (flat other ++ end ∷ (flat rest ++ xs))) ≡ Some (InIf Done turn other end far) = rw (second, h.2) refl in
+    let first : behind_of (flat body ++ turn ∷ (flat other ++ end ∷ (flat rest ++ xs))) ≡ Some (InIf body turn other end far) =
+    behind_of-flat body (turn ∷ (flat other ++ end ∷ (flat rest ++ xs))) (InIf Done turn other end far) h.1 between
+    ∙ ap (λ (c : Code). Some (InIf c turn other end far)) (behind-done body) in
+    rw (append_assoc (flat body) (turn ∷ (flat other ++ end ∷ flat rest)) xs, append_assoc (flat other) (end ∷ flat rest) xs, first, h.0)
+    (ap (λ (b : Behind). Some b) (with_code-twice (IfElse x body turn other end) (behind rest) b))
+
+-- the tree of what a tree says is the tree
+pub code_of-flat : UniqueCodeRule
+code_of-flat c h =
+    let e : behind_of (flat c ++ []) ≡ Some (Outside c) =
+    behind_of-flat c [] (Outside Done) h refl ∙ ap (λ (c : Code). Some (Outside c)) (behind-done c) in
+    ap (λ (b : Option Behind). b >>= whole) (ap behind_of (sym (append-nil (flat c))) ∙ e)
+
+-- the operators that a place has behind it
+abbrev flat_behind : Behind → List Item
+flat_behind (Outside c) = flat c
+flat_behind (InBlock c end b) = flat c ++ end ∷ flat_behind b
+flat_behind (InIf c turn other end b) = flat c ++ turn ∷ (flat other ++ end ∷ flat_behind b)
+
+abbrev IsFitBehind : Behind → Type 0
+IsFitBehind (Outside c) = IsFit c
+IsFitBehind (InBlock c end b) = IsFit c × (role end ≡ Ends) × IsFitBehind b
+IsFitBehind (InIf c turn other end b) = IsFit c × (role turn ≡ Turns) × IsFit other × (role end ≡ Ends) × IsFitBehind b
+
+-- these are the operators, and each stands where its role has it
+abbrev IsTreeOf : List Item → Behind → Type 0
+IsTreeOf xs b = (flat_behind b ≡ xs) × IsFitBehind b
+
+-- an operator of this role in front of one place makes another
+abbrev Leads : Role → Item → Behind → Behind → Type 0
+Leads r x b new = role x ≡ r → IsFitBehind b → IsTreeOf (x ∷ flat_behind b) new
+
+plain_in_front : (x : Item) (b : Behind) → Leads row.Plain x b (with_code (Plain x) b)
+plain_in_front x (Outside c) e h = (refl, (e, h))
+plain_in_front x (InBlock c end b) e h = (refl, ((e, h.0), h.1, h.2))
+plain_in_front x (InIf c turn other end b) e h = (refl, ((e, h.0), h.1, h.2, h.3, h.4))
+
+-- a constructor whose last part is the code behind it
+module _ (f : Code → Code) (xs : List Item) (flat_f : (d : Code) → flat (f d) ≡ xs ++ flat d) (fit_f : (d : Code) → IsFit d → IsFit (f d)) where
+  closed_in_front : (b : Behind) → IsFitBehind b → IsTreeOf (xs ++ flat_behind b) (with_code f b)
+  closed_in_front (Outside d) h = (flat_f d, fit_f d h)
+  closed_in_front (InBlock d end b) h =
+      (ap (λ (l : List Item). l ++ end ∷ flat_behind b) (flat_f d) ∙ append_assoc xs (flat d) (end ∷ flat_behind b), (fit_f d h.0, h.1, h.2))
+  closed_in_front (InIf d turn other end b) h = (
+    ap (λ (l : List Item). l ++ turn ∷ (flat other ++ end ∷ flat_behind b)) (flat_f d) ∙ append_assoc xs (flat d) (turn ∷ (flat other ++ end ∷ flat_behind b)),
+    (fit_f d h.0, h.1, h.2, h.3, h.4),
+  )
+
+-- an operator, a part and another behind it, and a second part
+in_two : (x : Item) (a b : List Item) (y : Item) → x ∷ (a ++ y ∷ b) ≡ (x ∷ (a ++ y ∷ [])) ++ b
+in_two x a b y = simp (append_assoc)
+
+block_in_front : (x : Item) (c : Code) (end : Item) (b : Behind) → Leads Opens x (InBlock c end b) (with_code (Block x c end) b)
+block_in_front x c end b e h =
+    let t : IsTreeOf ((x ∷ (flat c ++ end ∷ [])) ++ flat_behind b) (with_code (Block x c end) b) =
+    closed_in_front (Block x c end) (x ∷ (flat c ++ end ∷ [])) (λ d. in_two x (flat c) (flat d) end) (λ d i. (e, h.0, h.1, i)) b h.2 in
+    (t.0 ∙ sym (in_two x (flat c) (flat_behind b) end), t.1)
+
+if_in_front : (x : Item) (c : Code) (end : Item) (b : Behind) → Leads OpensIf x (InBlock c end b) (with_code (If x c end) b)
+if_in_front x c end b e h =
+    let t : IsTreeOf ((x ∷ (flat c ++ end ∷ [])) ++ flat_behind b) (with_code (If x c end) b) =
+    closed_in_front (If x c end) (x ∷ (flat c ++ end ∷ [])) (λ d. in_two x (flat c) (flat d) end) (λ d i. (e, h.0, h.1, i)) b h.2 in
+    (t.0 ∙ sym (in_two x (flat c) (flat_behind b) end), t.1)
+
+-- the same with three parts
+in_three : (x : Item) (a b c : List Item) (y z : Item) → x ∷ (a ++ y ∷ (b ++ z ∷ c)) ≡ (x ∷ (a ++ y ∷ (b ++ z ∷ []))) ++ c
+in_three x a b c y z = simp (append_assoc)
+
+if_else_in_front : (x : Item) (c : Code) (turn : Item) (other : Code) (end : Item) (b : Behind) → Leads OpensIf x (InIf c turn other end b) (with_code (IfElse x c turn other end) b)
+if_else_in_front x c turn other end b e h =
+    let t : IsTreeOf ((x ∷ (flat c ++ turn ∷ (flat other ++ end ∷ []))) ++ flat_behind b) (with_code (IfElse x c turn other end) b) =
+    closed_in_front (IfElse x c turn other end) (x ∷ (flat c ++ turn ∷ (flat other ++ end ∷ [])))
+    (λ d. in_three x (flat c) (flat other) (flat d) turn end) (λ d i. (e, h.0, h.1, h.2, h.3, i)) b h.4 in
+    (t.0 ∙ sym (in_three x (flat c) (flat other) (flat_behind b) turn end), t.1)
+
+tree_of_some : (xs : List Item) (b new : Behind) → ◌≡◌ {A = Option Behind} (Some b) (Some new) → IsTreeOf xs b → IsTreeOf xs new
+tree_of_some xs b new e h = subst (IsTreeOf xs) (some_is b new e) h
+
+in_front-tree : (r : Role) (x : Item) (b new : Behind) → role x ≡ r → IsFitBehind b → in_front r x b ≡ Some new → IsTreeOf (x ∷ flat_behind b) new
+in_front-tree row.Plain x b new p h e = tree_of_some _ _ new e (plain_in_front x b p h)
+in_front-tree Ends x b new p h e = tree_of_some _ _ new e (refl, (tt, p, h))
+in_front-tree Turns x (InBlock c end b) new p h e = tree_of_some _ _ new e (refl, (tt, p, h.0, h.1, h.2))
+in_front-tree Turns x (Outside c) new p h e = absurd cc
+in_front-tree Turns x (InIf c turn other end b) new p h e = absurd cc
+in_front-tree Opens x (InBlock c end b) new p h e = tree_of_some _ _ new e (block_in_front x c end b p h)
+in_front-tree Opens x (Outside c) new p h e = absurd cc
+in_front-tree Opens x (InIf c turn other end b) new p h e = absurd cc
+in_front-tree OpensIf x (InBlock c end b) new p h e = tree_of_some _ _ new e (if_in_front x c end b p h)
+in_front-tree OpensIf x (InIf c turn other end b) new p h e = tree_of_some _ _ new e (if_else_in_front x c turn other end b p h)
+in_front-tree OpensIf x (Outside c) new p h e = absurd cc
+in_front-tree OpensTry x b new p h e = absurd cc
+in_front-tree Catches x b new p h e = absurd cc
+in_front-tree CatchesAll x b new p h e = absurd cc
+in_front-tree Delegates x b new p h e = absurd cc
+
+behind_of-tree : (xs : List Item) (b : Behind) → behind_of xs ≡ Some b → IsTreeOf xs b
+behind_of-tree [] b e = tree_of_some [] (Outside Done) b e (refl, tt)
+behind_of-tree (x ∷ xs) b e =
+    let rest = bind_some (behind_of xs) (in_front (role x) x) b e in
+    let t : IsTreeOf xs rest.0 = behind_of-tree xs rest.0 rest.1 in
+    let top : IsTreeOf (x ∷ flat_behind rest.0) b = in_front-tree (role x) x rest.0 b refl t.1 rest.2 in
+    (top.0 ∙ ap (λ (l : List Item). x ∷ l) t.0, top.1)
+
+-- the tree of a list is well formed and says the list
+pub code_of-tree : CodeRule
+code_of-tree xs c e =
+    let b = bind_some (behind_of xs) whole c e in
+    of_whole b.0 b.2 (behind_of-tree xs b.0 b.1)
+  where
+    of_whole : (b : Behind) → whole b ≡ Some c → IsTreeOf xs b → (flat c ≡ xs) × IsFit c
+    of_whole (Outside d) e h = subst (λ (c : Code). (flat c ≡ xs) × IsFit c) (some_is d c e) h
+    of_whole (InBlock d end b) e h = absurd cc
+    of_whole (InIf d turn other end b) e h = absurd cc
+
+-- ---- what is well nested has a tree
+
+without_try-append : (a b : List Role) → AreWithoutTry a → AreWithoutTry b → AreWithoutTry (a ++ b)
+without_try-append [] b h k = k
+without_try-append (r ∷ a) b h k = (h.0, without_try-append a b h.1 k)
+
+without_try-parts : (a b : List Role) → AreWithoutTry (a ++ b) → AreWithoutTry a × AreWithoutTry b
+without_try-parts [] b h = (tt, h)
+without_try-parts (r ∷ a) b h =
+    let parts : AreWithoutTry a × AreWithoutTry b = without_try-parts a b h.1 in
+    ((h.0, parts.0), parts.1)
+
+-- operators whose roles fall into two parts with a role between
+record AreParted (xs : List Item) (before : List Role) (between : Role) (behind : List Role) : Type 0 where
+  front : List Item
+  middle : Item
+  rest : List Item
+  are : xs ≡ front ++ middle ∷ rest
+  are_before : map role front ≡ before
+  is_between : role middle ≡ between
+  are_behind : map role rest ≡ behind
+
+parted : (xs : List Item) (before : List Role) (between : Role) (after : List Role) → map role xs ≡ before ++ between ∷ after → AreParted xs before between after
+parted [] [] between after e = absurd cc
+parted [] (r ∷ before) between after e = absurd cc
+parted (x ∷ xs) [] between after e =
+    record { front = []; middle = x; rest = xs; are = refl; are_before = refl; is_between = cc; are_behind = cc }
+parted (x ∷ xs) (r ∷ before) between after e =
+    let same : role x ≡ r = cc in
+    let p : AreParted xs before between after = parted xs before between after cc in
+    record {
+      front = x ∷ p.front;
+      middle = p.middle;
+      rest = p.rest;
+      are = ap (λ (l : List Item). x ∷ l) p.are;
+      are_before = same_cons (role x) r (map role p.front) before same p.are_before;
+      is_between = p.is_between;
+      are_behind = p.are_behind;
+    }
+  where
+    same_cons : (a b : Role) (rs ss : List Role) → a ≡ b → rs ≡ ss → a ∷ rs ≡ b ∷ ss
+    same_cons a b rs ss e f = cc
+
+-- the tree of operators
+record HasTree (xs : List Item) : Type 0 where
+  code : Code
+  is_flat : flat code ≡ xs
+  is_fit : IsFit code
+
+abbrev Grows : Part → List Role → Type 0
+Grows Sequence rs = (xs : List Item) → map role xs ≡ rs → AreWithoutTry rs → HasTree xs
+Grows Handlers rs = Unit {0}
+
+record AreLed (xs : List Item) (r : Role) (behind : List Role) : Type 0 where
+  first : Item
+  rest : List Item
+  are : xs ≡ first ∷ rest
+  is_first : role first ≡ r
+  are_behind : map role rest ≡ behind
+
+led : (xs : List Item) (r : Role) (after : List Role) → map role xs ≡ r ∷ after → AreLed xs r after
+led [] r after e = absurd cc
+led (x ∷ xs) r after e = record { first = x; rest = xs; are = refl; is_first = cc; are_behind = cc }
+
+nothing_grows : (xs : List Item) → map role xs ≡ [] → HasTree xs
+nothing_grows [] e = record { code = Done; is_flat = refl; is_fit = tt }
+nothing_grows (x ∷ xs) e = absurd cc
+
+grows : {part : Part} {rs : List Role} → Nests part rs → Grows part rs
+grows none = λ xs e h. nothing_grows xs e
+grows (plain {rest} n) = λ xs e h.
+    let l : AreLed xs row.Plain rest = led xs row.Plain rest e in
+    let t : HasTree l.rest = grows n l.rest l.are_behind h.1 in
+    record { code = Plain l.first t.code; is_flat = ap (λ (ys : List Item). l.first ∷ ys) t.is_flat ∙ sym l.are; is_fit = (l.is_first, t.is_fit) }
+grows (block {body} {rest} b n) = λ xs e h.
+    let l : AreLed xs Opens (body ++ Ends ∷ rest) = led xs Opens (body ++ Ends ∷ rest) e in
+    let p : AreParted l.rest body Ends rest = parted l.rest body Ends rest l.are_behind in
+    let w : AreWithoutTry body × AreWithoutTry (Ends ∷ rest) = without_try-parts body (Ends ∷ rest) h.1 in
+    let t : HasTree p.front = grows b p.front p.are_before w.0 in
+    let u : HasTree p.rest = grows n p.rest p.are_behind w.1.1 in
+    record {
+      code = Block l.first t.code p.middle u.code;
+      is_flat = rw (t.is_flat, u.is_flat) (ap (λ (ys : List Item). l.first ∷ ys) (sym p.are) ∙ sym l.are);
+      is_fit = (l.is_first, t.is_fit, p.is_between, u.is_fit);
+    }
+grows (one_armed {body} {rest} b n) = λ xs e h.
+    let l : AreLed xs OpensIf (body ++ Ends ∷ rest) = led xs OpensIf (body ++ Ends ∷ rest) e in
+    let p : AreParted l.rest body Ends rest = parted l.rest body Ends rest l.are_behind in
+    let w : AreWithoutTry body × AreWithoutTry (Ends ∷ rest) = without_try-parts body (Ends ∷ rest) h.1 in
+    let t : HasTree p.front = grows b p.front p.are_before w.0 in
+    let u : HasTree p.rest = grows n p.rest p.are_behind w.1.1 in
+    record {
+      code = If l.first t.code p.middle u.code;
+      is_flat = rw (t.is_flat, u.is_flat) (ap (λ (ys : List Item). l.first ∷ ys) (sym p.are) ∙ sym l.are);
+      is_fit = (l.is_first, t.is_fit, p.is_between, u.is_fit);
+    }
+grows (two_armed {yes} {no} {rest} y o n) = λ xs e h.
+    let l : AreLed xs OpensIf (yes ++ Turns ∷ (no ++ Ends ∷ rest)) = led xs OpensIf (yes ++ Turns ∷ (no ++ Ends ∷ rest)) e in
+    let p : AreParted l.rest yes Turns (no ++ Ends ∷ rest) = parted l.rest yes Turns (no ++ Ends ∷ rest) l.are_behind in
+    let q : AreParted p.rest no Ends rest = parted p.rest no Ends rest p.are_behind in
+    let w : AreWithoutTry yes × AreWithoutTry (Turns ∷ (no ++ Ends ∷ rest)) = without_try-parts yes (Turns ∷ (no ++ Ends ∷ rest)) h.1 in
+    let v : AreWithoutTry no × AreWithoutTry (Ends ∷ rest) = without_try-parts no (Ends ∷ rest) w.1.1 in
+    let t : HasTree p.front = grows y p.front p.are_before w.0 in
+    let s : HasTree q.front = grows o q.front q.are_before v.0 in
+    let u : HasTree q.rest = grows n q.rest q.are_behind v.1.1 in
+    record {
+      code = IfElse l.first t.code p.middle s.code q.middle u.code;
+      is_flat = rw (t.is_flat, s.is_flat, u.is_flat, sym q.are) (ap (λ (ys : List Item). l.first ∷ ys) (sym p.are) ∙ sym l.are);
+      is_fit = (l.is_first, t.is_fit, p.is_between, s.is_fit, q.is_between, u.is_fit);
+    }
+grows (tried b hs n) = λ xs e h. absurd (no_try h.0)
+  where
+    no_try : true ≡ false → ⊥
+    no_try e = cc
+grows (delegated b n) = λ xs e h. absurd (no_try h.0)
+  where
+    no_try : true ≡ false → ⊥
+    no_try e = cc
+grows no_handler = tt
+grows (caught b hs) = tt
+grows (caught_all b) = tt
+
+pub code_of-nested : NestedCodeRule
+code_of-nested xs n h =
+    let t : HasTree xs = grows n xs refl h in
+    (t.code, ap code_of (sym t.is_flat) ∙ code_of-flat t.code t.is_fit)
+
+-- ---- what has a tree is well nested
+
+-- the roles of a tree nest, and none is of the older `try`
+abbrev IsNested : List Role → Type 0
+IsNested rs = Nests Sequence rs × AreWithoutTry rs
+
+nested-fit : (c : Code) → IsFit c → IsNested (map role (flat c))
+nested-fit Done h = (none, tt)
+nested-fit (Plain x rest) h =
+    let r : IsNested (map role (flat rest)) = nested-fit rest h.1 in
+    rw (h.0) (plain r.0, (refl, r.1))
+nested-fit (Block x body end rest) h =
+    let b : IsNested (map role (flat body)) = nested-fit body h.1 in
+    let r : IsNested (map role (flat rest)) = nested-fit rest h.3 in
+    rw (map-append role (flat body) (end ∷ flat rest), h.0, h.2) (block b.0 r.0, (refl, without_try-append _ (Ends ∷ map role (flat rest)) b.1 (refl, r.1)))
+nested-fit (If x body end rest) h =
+    let b : IsNested (map role (flat body)) = nested-fit body h.1 in
+    let r : IsNested (map role (flat rest)) = nested-fit rest h.3 in
+    rw (map-append role (flat body) (end ∷ flat rest), h.0, h.2) (one_armed b.0 r.0, (refl, without_try-append _ (Ends ∷ map role (flat rest)) b.1 (refl, r.1)))
+nested-fit (IfElse x body turn other end rest) h =
+    let b : IsNested (map role (flat body)) = nested-fit body h.1 in
+    let o : IsNested (map role (flat other)) = nested-fit other h.3 in
+    let r : IsNested (map role (flat rest)) = nested-fit rest h.5 in
+    rw (map-append role (flat body) (turn ∷ (flat other ++ end ∷ flat rest)), map-append role (flat other) (end ∷ flat rest), h.0, h.2, h.4) (
+      two_armed b.0 o.0 r.0,
+      (
+        refl,
+        without_try-append _ (Turns ∷ (map role (flat other) ++ Ends ∷ map role (flat rest))) b.1
+            (refl, without_try-append _ (Ends ∷ map role (flat rest)) o.1 (refl, r.1)),
+      ),
+    )
+
+pub code_of-nests : NestingCodeRule
+code_of-nests xs c e =
+    let t : (flat c ≡ xs) × IsFit c = code_of-tree xs c e in
+    subst (λ (ys : List Item). IsNested (map role ys)) t.0 (nested-fit c t.1)

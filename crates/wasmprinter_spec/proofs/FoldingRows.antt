@@ -1,0 +1,290 @@
+-- Worked rows of folding: how bodies and constant expressions are printed when they are folded, and that these texts read as the same operators.
+use Rattle.std.specs.Prelude.{◌≡◌, ℕ, List, [], ◌∷◌, ◌++◌, map, flat_map, true, false, codes, slice_get, Option, Some, None, option_map, refl}
+use Rattle.wasmprinter_spec.specs.Grammar.{input, Placed, ◌>>=◌}
+use Rattle.wasmprinter_spec.specs.Types as types
+use Rattle.wasmprinter_spec.specs.Types.{FuncType, ValType}
+use Rattle.wasmprinter_spec.specs.Operator.{Operator}
+use Rattle.wasmprinter_spec.specs.Instructions.{expression}
+use Rattle.wasmprinter_spec.specs.Names.{Names, no_names}
+use Rattle.wasmprinter_spec.specs.LabelNames.{label_naming}
+use Rattle.wasmprinter_spec.specs.Customs.Hints.{Hint}
+use Rattle.wasmprinter_spec.specs.Forest.{forest, cut}
+use Rattle.wasmprinter_spec.specs.Code.{unfolded}
+use Rattle.wasmprinter_spec.specs.Text.Operators.{read_operators}
+use Rattle.wasmprinter_spec.specs.Call.{text_of}
+use Rattle.wasmprinter_spec.specs.Options.{Options, defaults}
+use Rattle.wasmprinter_spec.specs.Piece.{all_calls, left_in, place_text}
+use Rattle.wasmprinter_spec.specs.Layout.Operators.{Form, OverLines, InLine, Setting}
+use Rattle.wasmprinter_spec.specs.Layout.Folded.{items, node_pieces, folded_pieces}
+use Rattle.wasmprinter_spec.specs.Folding.Arities.{Signatures}
+use Rattle.wasmprinter_spec.proofs.Computing.{printing, reading}
+use Rattle.wasmprinter_spec.proofs.Samples.{no_spaces}
+
+-- no types; function 0 gives two values
+abbrev pair_giving : Signatures
+pair_giving = record {
+  types = λ t. None;
+  functions = slice_get (record { params = []; results = types.I32 ∷ types.I32 ∷ [] } ∷ []);
+  tags = λ t. None;
+  fields = λ t. None;
+  own = Some 0;
+}
+
+-- in a function of so many results, or of a type that isn't there
+abbrev giving : Option ℕ → Signatures
+giving own = record pair_giving { own = own }
+
+abbrev setting : Form → Names → Setting
+setting form names = record { form = form; signature = λ n. None; nesting = 2; names = names; function = 0; body = 0 }
+
+-- The text of the operators that the bytes spell, of which the first is at the place 1. Bytes may spell nothing, and what they spell may not be folded.
+abbrev folded_by : Options → Setting → Signatures → List (Placed Hint) → List ℕ → Option (Option (List ℕ))
+folded_by o s ts hs bytes =
+    option_map (λ x. option_map (λ ps. text_of (all_calls o ps)) (folded_pieces o s ts hs x.0.items)) (expression.parse (input 1 (bytes ++ 0x0b ∷ [])))
+
+abbrev spelled : List ℕ → Option (List Operator)
+spelled bytes = option_map (λ x. map (λ o. o.value) x.0.items) (expression.parse (input 1 (bytes ++ 0x0b ∷ [])))
+
+-- what code reads as that names nothing
+abbrev read_back : List ℕ → Option (List Operator)
+read_back text =
+    forest text >>= λ f. unfolded (cut f) >>= read_operators (record { spaces = no_spaces; signature = λ n. None; fields = λ n. [] })
+
+-- bytes, and the lines that they give in a body
+record Sample : Type 0 where
+  bytes : List ℕ
+  lines : List (List ℕ)
+
+abbrev sample : List ℕ → List (List ℕ) → Sample
+sample bs ls = record { bytes = bs; lines = ls }
+
+abbrev lines : List (List ℕ) → List ℕ
+lines ls = flat_map (λ l. codes "\n    " ++ l) ls
+
+abbrev body : Names → Signatures → List ℕ → Option (Option (List ℕ))
+body names ts bytes = folded_by defaults (setting OverLines names) ts [] bytes
+
+-- ---- bodies
+
+abbrev operands : List Sample
+operands =
+    sample (0x41 ∷ 0x01 ∷ 0x41 ∷ 0x02 ∷ 0x6a ∷ []) (codes "(i32.add" ∷ codes "  (i32.const 1)" ∷ codes "  (i32.const 2))" ∷ [])
+    -- all operands are there but one
+    ∷ sample (0x41 ∷ 0x01 ∷ 0x6a ∷ 0x45 ∷ []) (codes "(i32.const 1)" ∷ codes "(i32.eqz" ∷ codes "  (i32.add))" ∷ [])
+    -- two results are taken together or not at all, and what can't be folded isn't taken either
+    ∷ sample (0x10 ∷ 0x00 ∷ 0x6a ∷ []) (codes "(i32.add" ∷ codes "  (call 0))" ∷ [])
+    ∷ sample (0x10 ∷ 0x00 ∷ 0x45 ∷ 0x6a ∷ []) (codes "(call 0)" ∷ codes "(i32.eqz)" ∷ codes "(i32.add)" ∷ [])
+    ∷ sample (0x10 ∷ 0x00 ∷ 0x45 ∷ 0x45 ∷ []) (codes "(call 0)" ∷ codes "(i32.eqz)" ∷ codes "(i32.eqz)" ∷ [])
+    ∷ sample (0x41 ∷ 0x01 ∷ 0x10 ∷ 0x00 ∷ 0x6a ∷ 0x6a ∷ []) (codes "(i32.add" ∷ codes "  (i32.const 1)" ∷ codes "  (i32.add" ∷ codes "    (call 0)))" ∷ [])
+    -- nodes without results are taken along where an operand stands before them
+    ∷ sample (0x41 ∷ 0x00 ∷ 0x01 ∷ 0x1a ∷ []) (codes "(drop" ∷ codes "  (i32.const 0)" ∷ codes "  (nop))" ∷ [])
+    ∷ sample (0x01 ∷ 0x41 ∷ 0x00 ∷ 0x1a ∷ 0x01 ∷ []) (codes "(nop)" ∷ codes "(drop" ∷ codes "  (i32.const 0))" ∷ codes "(nop)" ∷ [])
+    -- a chain
+    ∷ sample (0x41 ∷ 0x00 ∷ 0x45 ∷ 0x45 ∷ 0x45 ∷ []) (codes "(i32.eqz" ∷ codes "  (i32.eqz" ∷ codes "    (i32.eqz" ∷ codes "      (i32.const 0))))" ∷ [])
+    ∷ sample [] []
+    ∷ []
+
+abbrev blocks : List Sample
+blocks =
+    -- the line's comment must not hide the parenthesis
+    sample (0x02 ∷ 0x40 ∷ 0x0b ∷ []) (codes "(block ;; label = @1" ∷ codes ")" ∷ [])
+    ∷ sample (0x1f ∷ 0x40 ∷ 0x00 ∷ 0x0b ∷ []) (codes "(try_table ;; label = @1" ∷ codes ")" ∷ [])
+    ∷ sample (0x02 ∷ 0x40 ∷ 0x02 ∷ 0x40 ∷ 0x0b ∷ 0x0b ∷ []) (codes "(block ;; label = @1" ∷ codes "  (block ;; label = @2" ∷ codes "  ))" ∷ [])
+    ∷ sample (0x02 ∷ 0x7f ∷ 0x41 ∷ 0x01 ∷ 0x0b ∷ 0x1a ∷ []) (codes "(drop" ∷ codes "  (block (result i32) ;; label = @1" ∷ codes "    (i32.const 1)))" ∷ [])
+    -- operands don't stand in front of the block
+    ∷ sample (0x41 ∷ 0x01 ∷ 0x02 ∷ 0x40 ∷ 0x1a ∷ 0x0b ∷ []) (codes "(i32.const 1)" ∷ codes "(block ;; label = @1" ∷ codes "  (drop))" ∷ [])
+    -- a branch to a block takes its results, one to a loop none of them
+    ∷ sample (0x02 ∷ 0x7f ∷ 0x41 ∷ 0x05 ∷ 0x0c ∷ 0x00 ∷ 0x0b ∷ 0x1a ∷ [])
+    (codes "(drop" ∷ codes "  (block (result i32) ;; label = @1" ∷ codes "    (br 0 (;@1;)" ∷ codes "      (i32.const 5))))" ∷ [])
+    ∷ sample (0x03 ∷ 0x7f ∷ 0x41 ∷ 0x05 ∷ 0x0c ∷ 0x00 ∷ 0x0b ∷ []) (codes "(loop (result i32) ;; label = @1" ∷ codes "  (i32.const 5)" ∷ codes "  (br 0 (;@1;)))" ∷ [])
+    ∷ sample (0x02 ∷ 0x7f ∷ 0x03 ∷ 0x40 ∷ 0x41 ∷ 0x05 ∷ 0x0c ∷ 0x01 ∷ 0x0b ∷ 0x0b ∷ [])
+    (codes "(block (result i32) ;; label = @1" ∷ codes "  (loop ;; label = @2" ∷ codes "    (br 1 (;@1;)" ∷ codes "      (i32.const 5))))" ∷ [])
+    ∷ []
+
+abbrev ifs : List Sample
+ifs =
+    sample (0x20 ∷ 0x00 ∷ 0x04 ∷ 0x40 ∷ 0x0b ∷ []) (codes "(if ;; label = @1" ∷ codes "  (local.get 0)" ∷ codes "  (then))" ∷ [])
+    ∷ sample (0x20 ∷ 0x00 ∷ 0x04 ∷ 0x40 ∷ 0x05 ∷ 0x0b ∷ []) (codes "(if ;; label = @1" ∷ codes "  (local.get 0)" ∷ codes "  (then)" ∷ codes "  (else))" ∷ [])
+    ∷ sample (0x41 ∷ 0x00 ∷ 0x04 ∷ 0x40 ∷ 0x41 ∷ 0x01 ∷ 0x05 ∷ 0x41 ∷ 0x02 ∷ 0x0b ∷ [])
+    (codes "(if ;; label = @1" ∷ codes "  (i32.const 0)" ∷ codes "  (then" ∷ codes "    (i32.const 1))" ∷ codes "  (else" ∷ codes "    (i32.const 2)))" ∷ [])
+    -- the last node alone, whatever it gives, or none
+    ∷ sample (0x01 ∷ 0x04 ∷ 0x40 ∷ 0x0b ∷ []) (codes "(if ;; label = @1" ∷ codes "  (nop)" ∷ codes "  (then))" ∷ [])
+    ∷ sample (0x41 ∷ 0x00 ∷ 0x01 ∷ 0x04 ∷ 0x40 ∷ 0x0b ∷ []) (codes "(i32.const 0)" ∷ codes "(if ;; label = @1" ∷ codes "  (nop)" ∷ codes "  (then))" ∷ [])
+    ∷ sample (0x04 ∷ 0x40 ∷ 0x0b ∷ []) (codes "(if ;; label = @1" ∷ codes "  (then))" ∷ [])
+    -- an `if` whose results are taken, as the operand of another
+    ∷ sample (0x41 ∷ 0x00 ∷ 0x04 ∷ 0x7f ∷ 0x41 ∷ 0x01 ∷ 0x05 ∷ 0x41 ∷ 0x02 ∷ 0x0b ∷ 0x04 ∷ 0x40 ∷ 0x0b ∷ [])
+    (codes "(if ;; label = @1"
+    ∷ codes "  (if (result i32) ;; label = @1"
+    ∷ codes "    (i32.const 0)"
+    ∷ codes "    (then"
+    ∷ codes "      (i32.const 1))"
+    ∷ codes "    (else"
+    ∷ codes "      (i32.const 2)))"
+    ∷ codes "  (then))"
+    ∷ [])
+    ∷ []
+
+abbrev all_samples : List (List Sample)
+all_samples = operands ∷ blocks ∷ ifs ∷ []
+
+samples_folded : map (λ ss. map (λ s. body no_names pair_giving s.bytes) ss) all_samples ≡ map (λ ss. map (λ s. Some (Some (lines s.lines))) ss) all_samples
+unfolding printing items node_pieces folded_pieces
+samples_folded = refl
+
+samples_read : map (λ ss. map (λ s. read_back (lines s.lines)) ss) all_samples ≡ map (λ ss. map (λ s. spelled s.bytes) ss) all_samples
+unfolding reading
+samples_read = refl
+
+-- What can't be folded counts for the greatest number of results, which an array of so many takes.
+greatest_array : body no_names pair_giving (0x10 ∷ 0x00 ∷ 0x45 ∷ 0xfb ∷ 0x08 ∷ 0x00 ∷ 0xff ∷ 0xff ∷ 0xff ∷ 0xff ∷ 0x0f ∷ [])
+    ≡ Some (Some (lines (codes "(call 0)" ∷ codes "(array.new_fixed 0 4294967295" ∷ codes "  (i32.eqz))" ∷ [])))
+unfolding printing items node_pieces folded_pieces
+greatest_array = refl
+
+-- a branch to a block of a type that isn't there takes nothing, and the block gives nothing
+unknown_block : body no_names pair_giving (0x41 ∷ 0x00 ∷ 0x02 ∷ 0x05 ∷ 0x41 ∷ 0x01 ∷ 0x0d ∷ 0x00 ∷ 0x0b ∷ 0x1a ∷ [])
+    ≡ Some (Some (lines (codes "(drop" ∷ codes "  (i32.const 0)" ∷ codes "  (block (type 5) ;; label = @1" ∷ codes "    (i32.const 1)" ∷ codes "    (br_if 0 (;@1;))))" ∷ [])))
+unfolding printing items node_pieces folded_pieces
+unknown_block = refl
+
+-- to the body's own label and out of the function, with one result, with none, and where the function has no function type
+abbrev leaving : List ℕ
+leaving = 0x41 ∷ 0x05 ∷ 0x0c ∷ 0x00 ∷ 0x41 ∷ 0x06 ∷ 0x0f ∷ 0x41 ∷ 0x07 ∷ 0x0d ∷ 0x00 ∷ []
+
+leaving_with_one : body no_names (giving (Some 1)) leaving
+    ≡ Some (Some (lines (codes "(br 0" ∷ codes "  (i32.const 5))" ∷ codes "(return" ∷ codes "  (i32.const 6))" ∷ codes "(i32.const 7)" ∷ codes "(br_if 0)" ∷ [])))
+unfolding printing items node_pieces folded_pieces
+leaving_with_one = refl
+
+leaving_with_none : body no_names (giving (Some 0)) leaving
+    ≡ Some (Some (lines (codes "(i32.const 5)" ∷ codes "(br 0)" ∷ codes "(i32.const 6)" ∷ codes "(return)" ∷ codes "(br_if 0" ∷ codes "  (i32.const 7))" ∷ [])))
+unfolding printing items node_pieces folded_pieces
+leaving_with_none = refl
+
+leaving_without_type : body no_names (giving None) leaving
+    ≡ Some (Some (lines (codes "(i32.const 5)" ∷ codes "(br 0)" ∷ codes "(i32.const 6)" ∷ codes "(return)" ∷ codes "(i32.const 7)" ∷ codes "(br_if 0)" ∷ [])))
+unfolding printing items node_pieces folded_pieces
+leaving_without_type = refl
+
+-- the older `try`
+older_try : map (body no_names pair_giving) ((0x06 ∷ 0x40 ∷ 0x19 ∷ 0x0b ∷ []) ∷ (0x06 ∷ 0x40 ∷ 0x07 ∷ 0x00 ∷ 0x0b ∷ []) ∷ (0x02 ∷ 0x40 ∷ 0x06 ∷ 0x40 ∷ 0x18 ∷ 0x00 ∷ 0x0b ∷ []) ∷ [])
+    ≡ Some None ∷ Some None ∷ Some None ∷ []
+unfolding printing items node_pieces folded_pieces
+older_try = refl
+
+-- ---- names
+
+-- local 0 has this name, and the first block
+abbrev naming : List ℕ → Names
+naming s = record no_names {
+  locals = λ f i. Some (record { given = Some s; content = s });
+  items = λ space i. Some (record { given = Some s; content = s });
+  labels = λ f. label_naming false (slice_get (s ∷ []));
+}
+
+-- a block with an identifier has no comment
+named_block : body (naming (codes "a")) pair_giving (0x02 ∷ 0x40 ∷ 0x0b ∷ []) ≡ Some (Some (lines (codes "(block $a)" ∷ [])))
+unfolding printing reading items node_pieces folded_pieces
+named_block = refl
+
+-- blocks are numbered in order, and a label goes with its block
+abbrev two_labels : Names
+two_labels = record no_names { labels = λ f. label_naming false (slice_get (codes "a" ∷ codes "b" ∷ [])) }
+
+labels_of_blocks : body two_labels pair_giving (0x02 ∷ 0x40 ∷ 0x0b ∷ 0x02 ∷ 0x40 ∷ 0x0c ∷ 0x00 ∷ 0x0c ∷ 0x01 ∷ 0x0b ∷ [])
+    ≡ Some (Some (lines (codes "(block $a)" ∷ codes "(block $b" ∷ codes "  (br $b)" ∷ codes "  (br 1))" ∷ [])))
+unfolding printing reading items node_pieces folded_pieces
+labels_of_blocks = refl
+
+-- a predicate stands inside its `if`, but outside the block
+labels_of_predicate : body no_names pair_giving (0x02 ∷ 0x40 ∷ 0x41 ∷ 0x00 ∷ 0x0d ∷ 0x00 ∷ 0x04 ∷ 0x40 ∷ 0x0c ∷ 0x00 ∷ 0x0c ∷ 0x01 ∷ 0x0b ∷ 0x0b ∷ [])
+    ≡ Some (Some (lines (
+    codes "(block ;; label = @1"
+    ∷ codes "  (if ;; label = @2"
+    ∷ codes "    (br_if 0 (;@1;)"
+    ∷ codes "      (i32.const 0))"
+    ∷ codes "    (then"
+    ∷ codes "      (br 0 (;@2;))"
+    ∷ codes "      (br 1 (;@1;)))))"
+    ∷ [])))
+unfolding printing items node_pieces folded_pieces
+labels_of_predicate = refl
+
+-- invented identifiers
+labels_invented : body (record no_names { labels = λ f. label_naming true (λ n. None) }) pair_giving (0x02 ∷ 0x40 ∷ 0x02 ∷ 0x40 ∷ 0x0c ∷ 0x01 ∷ 0x0c ∷ 0x00 ∷ 0x0b ∷ 0x0b ∷ [])
+    ≡ Some (Some (lines (codes "(block $#label0" ∷ codes "  (block $#label1" ∷ codes "    (br $#label0)" ∷ codes "    (br $#label1)))" ∷ [])))
+unfolding printing reading items node_pieces folded_pieces
+labels_invented = refl
+
+-- two semicolons in a name are taken for a comment
+semicolons : body (naming (codes "a;;b")) pair_giving (0x20 ∷ 0x00 ∷ 0x20 ∷ 0x00 ∷ 0x1a ∷ [])
+    ≡ Some (Some (lines (codes "(local.get $\"a;;b\"" ∷ codes ")" ∷ codes "(drop" ∷ codes "  (local.get $\"a;;b\"" ∷ codes "  ))" ∷ [])))
+unfolding printing reading items node_pieces folded_pieces
+semicolons = refl
+
+-- two that stand apart are not
+apart : body (naming (codes ";a;")) pair_giving (0x20 ∷ 0x00 ∷ []) ≡ Some (Some (lines (codes "(local.get $\";a;\")" ∷ [])))
+unfolding printing reading items node_pieces folded_pieces
+apart = refl
+
+-- ---- hints and places
+
+abbrev hint_at : ℕ → Placed Hint
+hint_at n = record { place = 99; value = record { offset = n; taken = true } }
+
+hint_of_if : folded_by defaults (setting OverLines no_names) pair_giving (hint_at 3 ∷ []) (0x20 ∷ 0x00 ∷ 0x04 ∷ 0x40 ∷ 0x0b ∷ [])
+    ≡ Some (Some (lines (codes "(@metadata.code.branch_hint \"\\01\")" ∷ codes "(if ;; label = @1" ∷ codes "  (local.get 0)" ∷ codes "  (then))" ∷ [])))
+unfolding printing items node_pieces folded_pieces
+hint_of_if = refl
+
+-- the hint of an operand, and then that of the operator
+hints_of_operands : folded_by defaults (setting OverLines no_names) pair_giving (hint_at 3 ∷ hint_at 5 ∷ []) (0x41 ∷ 0x01 ∷ 0x41 ∷ 0x02 ∷ 0x6a ∷ [])
+    ≡ Some (Some (lines (
+    codes "(@metadata.code.branch_hint \"\\01\")" ∷ codes "(i32.add" ∷ codes "  (i32.const 1)" ∷ codes "  (@metadata.code.branch_hint \"\\01\")" ∷ codes "  (i32.const 2))" ∷ [])))
+unfolding printing items node_pieces folded_pieces
+hints_of_operands = refl
+
+-- a hint has the place of its operator, a `then` that of the `if`, an `else` its own, as a parenthesis by itself that of what it closes
+abbrev places : List (List ℕ)
+places =
+    codes "(;@3     ;)    (@metadata.code.branch_hint \"\\01\")"
+    ∷ codes "(;@3     ;)    (if ;; label = @1"
+    ∷ codes "(;@1     ;)      (local.get 0)"
+    ∷ codes "(;@3     ;)      (then"
+    ∷ codes "(;@5     ;)        (block ;; label = @2"
+    ∷ codes "(;@5     ;)        ))"
+    ∷ codes "(;@8     ;)      (else))"
+    ∷ []
+
+with_places : folded_by (record defaults { offsets = true }) (setting OverLines no_names) pair_giving (hint_at 3 ∷ []) (0x20 ∷ 0x00 ∷ 0x04 ∷ 0x40 ∷ 0x02 ∷ 0x40 ∷ 0x0b ∷ 0x05 ∷ 0x0b ∷ [])
+    ≡ Some (Some (flat_map (λ l. codes "\n" ++ l) places))
+unfolding printing left_in place_text items node_pieces folded_pieces
+with_places = refl
+
+-- ---- constant expressions
+
+abbrev constant : Names → List ℕ → Option (Option (List ℕ))
+constant names bytes = folded_by defaults (setting InLine names) (giving (Some 0)) [] bytes
+
+constants : map (constant no_names) (
+    (0x02 ∷ 0x7f ∷ 0x41 ∷ 0x01 ∷ 0x0b ∷ []) ∷ (0x02 ∷ 0x40 ∷ 0x0b ∷ []) ∷ (0x41 ∷ 0x01 ∷ 0x41 ∷ 0x02 ∷ []) ∷ (0x41 ∷ 0x01 ∷ 0x41 ∷ 0x02 ∷ 0x6a ∷ 0x45 ∷ []) ∷ [] ∷ [])
+    ≡ Some (Some (codes "(block (result i32)  (; label = @1 ;) (i32.const 1))"))
+    ∷ Some (Some (codes "(block  (; label = @1 ;))"))
+    ∷ Some (Some (codes "(i32.const 1) (i32.const 2)"))
+    ∷ Some (Some (codes "(i32.eqz (i32.add (i32.const 1) (i32.const 2)))"))
+    ∷ Some (Some [])
+    ∷ []
+unfolding printing items node_pieces folded_pieces
+constants = refl
+
+-- the label of the expression itself takes nothing
+constant_branches : map (constant no_names) ((0x41 ∷ 0x00 ∷ 0x0d ∷ 0x00 ∷ []) ∷ (0x41 ∷ 0x00 ∷ 0xd6 ∷ 0x00 ∷ []) ∷ (0x41 ∷ 0x00 ∷ 0x0f ∷ []) ∷ [])
+    ≡ Some (Some (codes "(br_if 0 (i32.const 0))")) ∷ Some (Some (codes "(i32.const 0) (br_on_non_null 0)")) ∷ Some (Some (codes "(i32.const 0) (return)")) ∷ []
+unfolding printing items node_pieces folded_pieces
+constant_branches = refl
+
+-- also here a line breaks behind two semicolons, so deep as the node would stand over lines
+constant_semicolons : map (constant (naming (codes "a;;b"))) ((0x23 ∷ 0x00 ∷ []) ∷ (0x23 ∷ 0x00 ∷ 0x45 ∷ []) ∷ [])
+    ≡ Some (Some (codes "(global.get $\"a;;b\"\n    )")) ∷ Some (Some (codes "(i32.eqz (global.get $\"a;;b\"\n      ))")) ∷ []
+unfolding printing reading items node_pieces folded_pieces
+constant_semicolons = refl

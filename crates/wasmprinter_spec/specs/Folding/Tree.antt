@@ -1,0 +1,122 @@
+-- Nodes: what code folds into. A node is a pair of parentheses with an operator and its operands, with a block and what it holds, or with a case of
+-- an `if`. Which operators take which nodes as operands is this printer's own rule.
+use Rattle.std.specs.Prelude.{◌≡◌, ◌≢◌, ◌<◌, ℕ, zero, suc, ◌+◌, nat_lt, ◌==◌, Bool, true, false, if◌then◌else◌}
+use Rattle.wasmprinter_spec.specs.Folding.Arities.{greatest, saturated}
+use Rattle.wasmprinter_spec.specs.Folding.Code.{Item, Code, Done, Plain, Block, If, IfElse}
+
+-- What stands first in a node: an operator, for a block the one that opens it; or the word `then` of this `if`; or this `else`.
+pub data Head : Type 0 where
+  Of : Item → Head
+  Then : Item → Head
+  Else : Item → Head
+
+-- Nodes in a row. The last one stands behind the others, with its head, how many results it counts for, and the nodes that it holds.
+pub data Nodes : Type 0 where
+  Nil : Nodes
+  Snoc : Nodes → Head → ℕ → Nodes → Nodes
+
+-- whether there is no node
+abbrev pub is_nil : Nodes → Bool
+is_nil Nil = true
+is_nil (Snoc before head results held) = false
+
+-- one row, and then another
+abbrev pub joined : Nodes → Nodes → Nodes
+joined a Nil = a
+joined a (Snoc before head results held) = Snoc (joined a before) head results held
+
+-- all nodes but the last
+abbrev pub front : Nodes → Nodes
+front Nil = Nil
+front (Snoc before head results held) = before
+
+-- the last node, alone
+abbrev pub last : Nodes → Nodes
+last Nil = Nil
+last (Snoc before head results held) = Snoc Nil head results held
+
+-- how many nodes there are, at every depth
+abbrev pub count : Nodes → ℕ
+count Nil = 0
+count (Snoc before head results held) = suc (count before + count held)
+
+-- ---- operands
+
+-- how the search for operands ends
+pub data Operands : Type 0 where
+  Fit : Nodes → Nodes → Operands  -- the nodes in front of them, and the operands
+  Passed : Operands  -- a sum passed what is wanted first
+  Short : Operands  -- no run has what is wanted
+
+-- one more operand at the end
+abbrev pub with_last : Head → ℕ → Nodes → Operands → Operands
+with_last head results held (Fit before run) = Fit before (Snoc run head results held)
+with_last head results held Passed = Passed
+with_last head results held Short = Short
+
+-- the shortest run of last nodes that gives, with `sum` results more, so many as are wanted
+abbrev pub operands_from : ℕ → ℕ → Nodes → Operands
+operands_from wanted sum Nil = Short
+operands_from wanted sum (Snoc before head results held) =
+    let next : ℕ = saturated sum results in
+    if next == wanted then Fit before (Snoc Nil head results held) else
+    (if nat_lt wanted next then Passed else with_last head results held (operands_from wanted next before))
+
+-- what takes nothing has no operands, not even nodes without results
+abbrev pub operands : ℕ → Nodes → Operands
+operands zero f = Short
+operands (suc n) f = operands_from (suc n) 0 f
+
+-- An operator behind a row of nodes, with those that it takes. Where a sum passed, results that were given together would have to be parted: the
+-- operator takes no node, and counts for so many results that hardly any other takes it.
+abbrev pub with_operands : Nodes → Item → Operands → Nodes
+with_operands f x (Fit before run) = Snoc before (Of x) x.gives run
+with_operands f x Passed = Snoc f (Of x) greatest Nil
+with_operands f x Short = Snoc f (Of x) x.gives Nil
+
+-- an operator behind a row of nodes
+abbrev pub folded : Nodes → Item → Nodes
+folded f x = with_operands f x (operands x.takes f)
+
+-- ---- the rule for operands, without the search
+
+-- the results of nodes in a row
+abbrev pub results_of : Nodes → ℕ
+results_of Nil = 0
+results_of (Snoc before head results held) = results_of before + results
+
+-- `sum` and the results of each shorter run of last nodes stay below what is wanted
+abbrev pub IsFirst : ℕ → ℕ → Nodes → Type 0
+IsFirst wanted sum run = (before last : Nodes) → run ≡ joined before last → before ≢ Nil → saturated sum (results_of last) < wanted
+
+-- where `sum` results are there already
+abbrev pub IsAnswer : ℕ → ℕ → Nodes → Operands → Type 0
+-- the shortest run of last nodes whose results are what is wanted
+IsAnswer wanted sum f (Fit before run) = (f ≡ joined before run) × (saturated sum (results_of run) ≡ wanted) × IsFirst wanted sum run
+-- a run passes what is wanted, and no shorter one reaches it
+IsAnswer wanted sum f Passed =
+    (before : Nodes) × (run : Nodes) × (f ≡ joined before run) × (wanted < saturated sum (results_of run)) × IsFirst wanted sum run
+-- no run reaches what is wanted
+IsAnswer wanted sum f Short = (before run : Nodes) → f ≡ joined before run → saturated sum (results_of run) < wanted
+
+-- the search ends as the rule says
+abbrev pub OperandRule : Type 0
+OperandRule = (wanted : ℕ) (f : Nodes) → 0 < wanted → IsAnswer wanted 0 f (operands wanted f)
+
+-- ---- code
+
+-- The nodes of code behind a row of nodes. A block gives its results alone. An `if` holds the last node before it, if there is one, and then its
+-- cases.
+abbrev pub tree_behind : Nodes → Code → Nodes
+tree_behind f Done = f
+tree_behind f (Plain x rest) = tree_behind (folded f x) rest
+tree_behind f (Block x body end rest) = tree_behind (Snoc f (Of x) x.gives (tree_behind Nil body)) rest
+tree_behind f (If x body end rest) = tree_behind (Snoc (front f) (Of x) x.gives (Snoc (last f) (Then x) 0 (tree_behind Nil body))) rest
+tree_behind f (IfElse x body turn other end rest) =
+    tree_behind
+    (Snoc (front f) (Of x) x.gives (Snoc (Snoc (last f) (Then x) 0 (tree_behind Nil body)) (Else turn) 0 (tree_behind Nil other)))
+    rest
+
+-- the nodes of code
+abbrev pub tree : Code → Nodes
+tree code = tree_behind Nil code

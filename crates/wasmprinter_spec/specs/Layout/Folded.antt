@@ -1,0 +1,114 @@
+-- Operators, as they are printed when they are folded: each with its operands in parentheses, over lines or in one line.
+use Rattle.std.specs.Prelude.{◌≡◌, ℕ, ◌+◌, ◌-◌, ◌==◌, ◌&&◌, ◌||◌, List, [], ◌∷◌, ◌++◌, Bool, true, false, cond, codes, length, Option, Some, None, option_map}
+use Rattle.wasmprinter_spec.specs.Grammar.{Placed}
+use Rattle.wasmprinter_spec.specs.Operator.{Operator}
+use Rattle.wasmprinter_spec.specs.Row.{Role}
+use Rattle.wasmprinter_spec.specs.Table.{word_of, role_of, shape_of}
+use Rattle.wasmprinter_spec.specs.Nesting.{Nests, Sequence}
+use Rattle.wasmprinter_spec.specs.Instructions.{roles}
+use Rattle.wasmprinter_spec.specs.Labels as labels
+use Rattle.wasmprinter_spec.specs.Labels.{labels_after, count_after, outside, inside}
+use Rattle.wasmprinter_spec.specs.Customs.Hints.{Hint, next_hint, hint_behind}
+use Rattle.wasmprinter_spec.specs.Call.{text_of}
+use Rattle.wasmprinter_spec.specs.Options.{Options}
+use Rattle.wasmprinter_spec.specs.Piece.{Piece, Break, Word, OpenPlain, Shut, HintNote, text, all_calls}
+use Rattle.wasmprinter_spec.specs.Layout.Operators.{Form, Setting, pieces_by, before_word}
+use Rattle.wasmprinter_spec.specs.Folding.Arities.{Signatures, Counts, counts_of, label_of_block, label_counts_after}
+use Rattle.wasmprinter_spec.specs.Folding.Code.{Item, code_of, AreWithoutTry}
+use Rattle.wasmprinter_spec.specs.Folding.Tree.{Head, Of, Then, Else, Nodes, Nil, Snoc, is_nil, tree}
+
+-- ---- the operators of a list, each with what is printed of it
+
+-- an operator, with its own label if it opens a block, and where these labels are open, which take so many values
+abbrev pub item : Setting → Signatures → Option (Placed Hint) → labels.Label → List labels.Label → List (Option ℕ) → Placed Operator → Item
+item s signatures hint own xs ls o =
+    let role : Role = role_of o.value.opcode in
+    let counts : Counts = counts_of signatures ls o.value in
+    record {
+      operator = o;
+      pieces = Word (word_of o.value.opcode) ∷ pieces_by s (inside role xs) (outside role xs) own (shape_of o.value.opcode) o.value.immediates;
+      hint = hint;
+      takes = counts.takes;
+      gives = counts.gives;
+    }
+
+-- n blocks were opened before, these labels are open, which take so many values, and these hints wait for their operators
+unfoldable pub items : Setting → Signatures → List (Placed Hint) → ℕ → List labels.Label → List (Option ℕ) → List (Placed Operator) → List Item
+items s signatures hs n xs ls [] = []
+items s signatures hs n xs ls (o ∷ os) =
+    let role : Role = role_of o.value.opcode in
+    let own : labels.Label = s.names.labels s.function n (length xs) in
+    let offset : ℕ = o.place - s.body in
+    item s signatures (next_hint offset hs) own xs ls o
+    ∷ items s signatures (hint_behind offset hs) (count_after role n) (labels_after role own xs) (label_counts_after role (label_of_block signatures o.value) ls) os
+
+-- ---- nodes
+
+-- the place of a node: that of the operator that stands first in it, for `then` that of the `if`
+abbrev pub head_place : Head → ℕ
+head_place (Of x) = x.operator.place
+head_place (Then x) = x.operator.place
+head_place (Else x) = x.operator.place
+
+-- what stands behind the parenthesis of a node, without styles
+abbrev pub head_text : Options → Head → List ℕ
+head_text o (Of x) = text_of (all_calls o x.pieces)
+head_text o (Then x) = codes "then"
+head_text o (Else x) = codes "else"
+
+-- the hint of a node is that of its own operator
+abbrev pub head_hint : Head → Option (Placed Hint)
+head_hint (Of x) = x.hint
+head_hint (Then x) = None
+head_hint (Else x) = None
+
+-- whether two semicolons follow one another in a text
+abbrev pub has_line_comment : List ℕ → Bool
+has_line_comment [] = false
+has_line_comment (a ∷ []) = false
+has_line_comment (a ∷ b ∷ cs) = ((a == 59) && (b == 59)) || has_line_comment (b ∷ cs)
+
+-- The parenthesis that closes a node must not stand in a comment that goes up to the end of the line: where nothing else stands between, a new line.
+abbrev pub comment_end : Bool → List ℕ → ℕ → ℕ → List Piece
+comment_end true s place nesting = cond (has_line_comment s) (Break (Some place) nesting ∷ []) []
+comment_end false s place nesting = []
+
+-- a hint stands in front of the node of its operator as a node would, and in its place
+abbrev pub node_hint : Options → Form → Bool → ℕ → ℕ → Option (Placed Hint) → List Piece
+node_hint o form first place nesting None = []
+node_hint o form first place nesting (Some h) = before_word form first place nesting ++ Word (text o (HintNote h.value.taken)) ∷ []
+
+-- whether there is no hint
+abbrev pub is_none : Option (Placed Hint) → Bool
+is_none None = true
+is_none (Some h) = false
+
+-- Nodes in a row, nested so deep, as the first of their line or behind something. What a node holds is nested one level deeper.
+unfoldable pub node_pieces : Options → Form → Bool → ℕ → Nodes → List Piece
+node_pieces o form first nesting Nil = []
+node_pieces o form first nesting (Snoc before head results held) =
+    let place : ℕ = head_place head in
+    let s : List ℕ = head_text o head in
+    let leads : Bool = first && is_nil before in
+    node_pieces o form first nesting before
+    ++ node_hint o form leads place nesting (head_hint head)
+    ++ before_word form (leads && is_none (head_hint head)) place nesting
+    ++ OpenPlain s ∷ (comment_end (is_nil held) s place nesting ++ node_pieces o form false (nesting + 1) held ++ (Shut ∷ []))
+
+-- a list of operators, with no label open: none where it holds operators of the older `try`, which aren't folded
+unfoldable pub folded_pieces : Options → Setting → Signatures → List (Placed Hint) → List (Placed Operator) → Option (List Piece)
+folded_pieces o s signatures hs os = option_map (λ code. node_pieces o s.form true s.nesting (tree code)) (code_of (items s signatures hs 0 [] [] os))
+
+-- ---- laws
+
+-- A list is folded where it is well nested and holds no operator of the older `try`.
+abbrev pub FoldedRule : Setting → Signatures → Type 0
+FoldedRule s signatures =
+    (o : Options) (hs : List (Placed Hint)) (os : List (Placed Operator))
+    → Nests Sequence (roles os) → AreWithoutTry (roles os) → (ps : List Piece) × (folded_pieces o s signatures hs os ≡ Some ps)
+
+-- No other list is.
+abbrev pub FoldingRule : Setting → Signatures → Type 0
+FoldingRule s signatures =
+    (o : Options) (hs : List (Placed Hint)) (os : List (Placed Operator)) (ps : List Piece)
+    → folded_pieces o s signatures hs os ≡ Some ps → Nests Sequence (roles os) × AreWithoutTry (roles os)
