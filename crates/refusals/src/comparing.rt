@@ -31,7 +31,8 @@ impl<'a> Comparing<'a> {
         !self.differs
     }
 
-    fn compare(&mut self, s: &str) {
+    /// More of what came.
+    pub fn compare(&mut self, s: &str) {
         match self.rest.strip_prefix(s) {
             Some(rest) => self.rest = rest,
             None => self.differs = true,

@@ -98,14 +98,11 @@ pub fn ending_of(alloc: Global, shape: &Shape) -> Ending {
 
 /// Whether these lines are the text.
 fn are_text(lines: OffsetsAndLines<'_>, text: &str) -> bool {
-    let mut rest = text;
+    let mut comparing = Comparing::new(text);
     for (_, line) in lines {
-        match rest.strip_prefix(line) {
-            Some(behind) => rest = behind,
-            None => return false,
-        }
+        comparing.compare(line);
     }
-    rest.is_empty()
+    comparing.is_whole()
 }
 
 /// By the call that appends lines to a text.
