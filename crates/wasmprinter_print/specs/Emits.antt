@@ -32,11 +32,19 @@ pub record Broken {P : Type 0} (m : Meaning P) (old new : P) (error : IoError) (
   pub failed : Failed m before call error new
   pub alike : atoms (calls ++ call ∷ []) ++ rest ≡ atoms layout
 
--- How a function over a printer ends: it is through; a call on the printer failed with this error; or, which doesn't happen, it refuses
--- by itself.
+-- all calls that were made succeeded, and they are a beginning of the layout, up to cutting
+pub record Begun {P : Type 0} (m : Meaning P) (old new : P) (layout : List Call) : Type 0 where
+  pub calls : List Call
+  pub rest : List Call
+  pub run : Run m old calls new
+  pub alike : atoms calls ++ rest ≡ atoms layout
+
+-- How a function over a printer ends: it is through; a call on the printer failed with this error; it stopped between two calls, since a growth was
+-- refused; or, which doesn't happen, it refuses by itself.
 pub data Ending : Type 0 where
   Through : Ending
   AtCall : IoError → Ending
+  Stopped : Ending
   Never : Ending
 
 -- the end of a function that answers the printer's own errors alone
@@ -63,9 +71,29 @@ abbrev pub outcome : {T : Type 0} → Result T Error → Ending
 outcome (Ok x) = Through
 outcome (Err e) = moment_of e
 
+-- when each error comes of a function that keeps something in memory while it prints
+abbrev pub halt_of : Error → Ending
+halt_of (Malformed place) = Never
+halt_of Component = Never
+halt_of (TooManyLocals place) = Never
+halt_of (TooManyFunctions count) = Never
+halt_of (EmptyTableInit place) = Never
+halt_of (FoldLegacy place) = Never
+halt_of (FoldHint place) = Never
+halt_of (DylinkSubsection id) = Never
+halt_of Unreadable = Never
+halt_of (Printer e) = AtCall e
+halt_of Memory = Stopped
+
+-- the end of such a function
+abbrev pub halt : {T : Type 0} → Result T Error → Ending
+halt (Ok x) = Through
+halt (Err e) = halt_of e
+
 abbrev pub Calls : {P : Type 0} → Meaning P → P → P → Ending → List Call → Type 0
 Calls m old new Through layout = Whole m old new layout
 Calls m old new (AtCall e) layout = Broken m old new e layout
+Calls m old new Stopped layout = Begun m old new layout
 Calls m old new Never layout = ⊥
 
 -- what a function that ended so has made: the name by which lemmas go
