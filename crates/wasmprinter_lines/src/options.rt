@@ -17,24 +17,34 @@ pub struct PrintOptions {
     pub skeleton: bool,
     /// Items without a name have identifiers made up for them.
     pub invents: bool,
+    /// Each operator stands in parentheses with its operands.
+    pub folds: bool,
     /// The text that stands once for each level of nesting.
     indent: Indent,
 }
 
 impl Model for PrintOptions {
     ghost use Rattle.wasmprinter_spec.specs.Options.{Options};
+    ghost use Rattle.std.specs.Prelude.{false};
     ghost use Rattle.wasmprinter_lines.specs.Indents.{indent_text};
 
     ghost Value = { Options };
 
-    ghost view = { λ o. record { offsets = o.offsets; skeleton = o.skeleton; invents = o.invents; indent = indent_text o.indent } };
+    ghost view = { λ o. record {
+      offsets = o.offsets;
+      skeleton = o.skeleton;
+      invents = o.invents;
+      folds = o.folds;
+      paints = false;
+      indent = indent_text o.indent;
+    } };
 }
 
 impl PrintOptions {
     ghost use Rattle.std.specs.Prelude.{◌≡◌, string_bytes};
     ghost use Rattle.wasmprinter_spec.specs.Options.{defaults};
 
-    /// No places in front of lines, bodies in full, no identifiers made up, and an indent of two blanks. Takes no memory.
+    /// No places in front of lines, bodies in full, no identifiers made up, nothing folded, and an indent of two blanks. Takes no memory.
     pub fn new() -> PrintOptions
         ensures { result ≡ defaults }
     {
@@ -42,6 +52,7 @@ impl PrintOptions {
             offsets: false,
             skeleton: false,
             invents: false,
+            folds: false,
             indent: Indent::TwoBlanks,
         }
     }
