@@ -1,0 +1,5 @@
+pub mod Postorder
+pub mod Rows
+pub mod Mapping
+pub mod Building
+pub mod Frames
