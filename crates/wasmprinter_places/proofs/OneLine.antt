@@ -1,5 +1,5 @@
 -- Pieces that stay on their line: identifiers, and all of types.
-use Rattle.std.proofs.Common.{◌≡◌, ℕ, ◌+◌, List, [], ◌∷◌, ◌++◌, Bool, true, false, cond, Option, Some, None, refl, ap₂, ◌∙◌, codes}
+use Rattle.std.proofs.Common.{◌≡◌, ℕ, ◌+◌, List, [], ◌∷◌, ◌++◌, Bool, true, false, cond, Option, Some, None, refl, sym, subst, ap₂, ◌∙◌, codes}
 use Rattle.std.specs.Prelude.{bytes_eq}
 use Rattle.std.specs.List.{flat_map}
 use Rattle.std.proofs.lemmas.List.Concat.{flat_map-append}
@@ -7,8 +7,8 @@ use Rattle.wasmprinter_spec.specs.Types.{HeapType, Index, RefType, ValType, Ref,
 use Rattle.wasmprinter_spec.specs.Row.{Types}
 use Rattle.wasmprinter_spec.specs.Labels.{Named}
 use Rattle.wasmprinter_spec.specs.Names.{Names}
-use Rattle.wasmprinter_spec.specs.Piece.{Piece}
-use Rattle.wasmprinter_spec.specs.Layout.Groups.{line_group, line_group_gap, numbered}
+use Rattle.wasmprinter_spec.specs.Piece.{Piece, Begin, Break}
+use Rattle.wasmprinter_spec.specs.Layout.Groups.{has_break, close, line_group, line_group_gap, group_gap, numbered}
 use Rattle.wasmprinter_spec.specs.Layout.Identifiers.{given_pieces, mark_pieces, leading_mark_pieces, mark_gap_pieces, identifier_gap_pieces, declaration_pieces, index_pieces}
 use Rattle.wasmprinter_spec.specs.Layout.ValTypes.{type_index_pieces, heap_pieces, null_ref_pieces, ref_pieces_by, ref_pieces, val_pieces, type_list}
 use Rattle.wasmprinter_spec.specs.Layout.Variables.{Variables, Alone, Together, grouped, variables_pieces, groups_pieces}
@@ -44,6 +44,21 @@ line_group_stays w h = then_stay refl (both_stay h (alone_stays refl))
 pub line_group_gap_stays : (w : List ℕ) {ps : List Piece} → IsOneLine ps → IsOneLine (line_group_gap w ps)
 unfolding line_group_gap
 line_group_gap_stays w h = then_stay refl (both_stay h (alone_stays refl))
+
+-- Pieces that begin no line hold no break.
+unbroken : (ps : List Piece) → flat_map starts ps ≡ [] → has_break ps ≡ false
+unbroken [] e = refl
+unbroken (Begin place ∷ ps) e = absurd cc
+unbroken (Break place nesting ∷ ps) e = absurd cc
+unbroken (p ∷ ps) e = unbroken ps e
+
+-- behind such pieces a group closes on their line
+pub close_stays : (nesting : ℕ) {ps : List Piece} → IsOneLine ps → IsOneLine (close None nesting (has_break ps))
+close_stays nesting {ps} h = subst (λ (b : Bool). IsOneLine (close None nesting b)) (sym (unbroken ps h.begins)) (alone_stays refl)
+
+pub group_gap_stays : (nesting : ℕ) (w : List ℕ) {ps : List Piece} → IsOneLine ps → IsOneLine (group_gap nesting w ps)
+unfolding group_gap
+group_gap_stays nesting w h = then_stay refl (both_stay h (close_stays nesting h))
 
 pub numbered_stay : {A : Type 0} (f : ℕ → A → List Piece) → ((i : ℕ) (x : A) → IsOneLine (f i x)) → (i : ℕ) (xs : List A) → IsOneLine (numbered f i xs)
 unfolding numbered
