@@ -119,10 +119,10 @@ unfolding header_pieces
 header_stays s space f i type_index =
     both_stay (declaration_stays (s.names.items space i) i) (then_stay refl (type_use_stays s.names f type_index (signature_at s.types type_index)))
 
-item_stays : (s : Scope) (space : Space) (i : ℕ) → IsOneLine (item_index s space i)
+pub item_stays : (s : Scope) (space : Space) (i : ℕ) → IsOneLine (item_index s space i)
 item_stays s space i = index_stays (s.names.items space i) i
 
-declared_stays : (s : Scope) (space : Space) (i : ℕ) → IsOneLine (item_declaration s space i)
+pub declared_stays : (s : Scope) (space : Space) (i : ℕ) → IsOneLine (item_declaration s space i)
 declared_stays s space i = declaration_stays (s.names.items space i) i
 
 -- An expression that isn't folded stays on its line.
@@ -135,7 +135,7 @@ constant_stays : (s : Scope) → s.folding ≡ None → (nesting : ℕ) (os : Li
 unfolding constant_pieces
 constant_stays s flat nesting os = constant_by_stays s.folding flat (in_line s nesting) refl os
 
-word_stays : (w : List ℕ) (os : List (Placed Operator)) → IsOneLine (word_unless_one w os)
+pub word_stays : (w : List ℕ) (os : List (Placed Operator)) → IsOneLine (word_unless_one w os)
 word_stays w [] = then_stay refl (alone_stays refl)
 word_stays w (o ∷ []) = nothing_stays
 word_stays w (o ∷ p ∷ os) = then_stay refl (alone_stays refl)
@@ -160,7 +160,7 @@ limits_stay l = alone_stays refl
 
 -- ---- tables, memories, tags, globals
 
-table_type_stays : (names : Names) (t : TableType) → IsOneLine (table_type_pieces names t)
+pub table_type_stays : (names : Names) (t : TableType) → IsOneLine (table_type_pieces names t)
 unfolding table_type_pieces
 table_type_stays names t = both_stay (wide_stays t.wide) (both_stay (limits_stay t.limits) (then_stay refl (ref_stays names t.element)))
 
@@ -182,7 +182,7 @@ page_stays : (p : Option ℕ) → IsOneLine (page_pieces p)
 page_stays None = nothing_stays
 page_stays (Some e) = then_stay refl (line_group_gap_stays (codes "pagesize") (alone_stays refl))
 
-memory_type_stays : (m : MemoryType) → IsOneLine (memory_type_pieces m)
+pub memory_type_stays : (m : MemoryType) → IsOneLine (memory_type_pieces m)
 unfolding memory_type_pieces
 memory_type_stays m = both_stay (wide_stays m.wide) (both_stay (limits_stay m.limits) (both_stay (shared_stays m.shared) (page_stays m.page)))
 
@@ -198,7 +198,7 @@ mutable_stays : (names : Names) (b : Bool) (t : ValType) → IsOneLine (mutable_
 mutable_stays names true t = then_stay refl (both_stay (val_stays names t) (alone_stays refl))
 mutable_stays names false t = val_stays names t
 
-global_type_stays : (names : Names) (t : GlobalType) → IsOneLine (global_type_pieces names t)
+pub global_type_stays : (names : Names) (t : GlobalType) → IsOneLine (global_type_pieces names t)
 unfolding global_type_pieces
 global_type_stays names t = mutable_stays names t.mutable t.type
 
@@ -230,7 +230,7 @@ imports_begin s n (i ∷ is) =
     flat_map-append starts (import_pieces s (number_of i.value.type n) i) (imports_pieces s (numbers_behind i.value.type n) is)
     ∙ ap₂ (λ (ls ms : List (Option ℕ)). ls ++ ms) (import_begins s (number_of i.value.type n) i) (imports_begin s (numbers_behind i.value.type n) is)
 
-extern_index_stays : (s : Scope) (k : ExternKind) (n : ℕ) → IsOneLine (extern_index_pieces s k n)
+pub extern_index_stays : (s : Scope) (k : ExternKind) (n : ℕ) → IsOneLine (extern_index_pieces s k n)
 unfolding extern_index_pieces
 extern_index_stays s TagKind n = alone_stays refl
 extern_index_stays s FuncKind n = item_stays s (space_of FuncKind) n
@@ -251,7 +251,7 @@ start_elsewhere low high s (Some start) h = (h.0, stay_elsewhere low high (line_
 
 -- ---- segments
 
-named_table_stays : (s : Scope) (b : Bool) (t : ℕ) → IsOneLine (named_table s b t)
+pub named_table_stays : (s : Scope) (b : Bool) (t : ℕ) → IsOneLine (named_table s b t)
 named_table_stays s true t = then_stay refl (line_group_gap_stays (codes "table") (item_stays s row.Table t))
 named_table_stays s false t = nothing_stays
 
@@ -261,7 +261,7 @@ mode_stays s flat b Passive = nothing_stays
 mode_stays s flat b Declared = then_stay refl (alone_stays refl)
 mode_stays s flat b (Active t offset) = both_stay (named_table_stays s b t) (then_stay refl (constant_group_stays s flat 2 (codes "offset") offset))
 
-function_items_stay : (s : Scope) (is : List ℕ) → IsOneLine (function_items s is)
+pub function_items_stay : (s : Scope) (is : List ℕ) → IsOneLine (function_items s is)
 unfolding function_items
 function_items_stay s [] = nothing_stays
 function_items_stay s (i ∷ is) = then_stay refl (both_stay (item_stays s Func i) (function_items_stay s is))
@@ -286,7 +286,7 @@ element_begins skeleton s flat i e =
     field_begins e.place 1 (group_gap_stays 1 (codes "elem")
     (both_stay (declared_stays s row.Elem i) (both_stay (mode_stays s flat e.value.names_table e.value.element.mode) (then_stay refl (shown_items_stay skeleton s flat e.value.element.items)))))
 
-named_memory_stays : (s : Scope) (n : ℕ) → IsOneLine (named_memory s n)
+pub named_memory_stays : (s : Scope) (n : ℕ) → IsOneLine (named_memory s n)
 named_memory_stays s n = cond_stays (n == 0) nothing_stays (both_stay (line_group_gap_stays (codes "memory") (item_stays s row.Memory n)) (alone_stays refl))
 
 data_mode_stays : (s : Scope) → s.folding ≡ None → (m : DataMode (Placed Operator)) → IsOneLine (data_mode_pieces s m)

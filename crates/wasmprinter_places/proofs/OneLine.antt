@@ -46,11 +46,15 @@ unfolding line_group_gap
 line_group_gap_stays w h = then_stay refl (both_stay h (alone_stays refl))
 
 -- Pieces that begin no line hold no break.
-unbroken : (ps : List Piece) → flat_map starts ps ≡ [] → has_break ps ≡ false
+pub unbroken : (ps : List Piece) → flat_map starts ps ≡ [] → has_break ps ≡ false
 unbroken [] e = refl
 unbroken (Begin place ∷ ps) e = absurd cc
 unbroken (Break place nesting ∷ ps) e = absurd cc
 unbroken (p ∷ ps) e = unbroken ps e
+
+-- pieces that stay on their line hold no break
+pub stays_unbroken : {ps : List Piece} → IsOneLine ps → has_break ps ≡ false
+stays_unbroken {ps} h = unbroken ps h.begins
 
 -- behind such pieces a group closes on their line
 pub close_stays : (nesting : ℕ) {ps : List Piece} → IsOneLine ps → IsOneLine (close None nesting (has_break ps))
