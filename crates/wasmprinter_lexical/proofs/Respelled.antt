@@ -1,5 +1,5 @@
 -- Pieces in place of others: their text is the same by all options, and so are the tokens of the text of each.
-use Rattle.std.proofs.Common.{◌≡◌, ℕ, List, [], ◌∷◌, ◌++◌, refl, sym, ap, ap₂, ◌∙◌, append_assoc, append-nil}
+use Rattle.std.proofs.Common.{◌≡◌, ℕ, List, [], ◌∷◌, ◌++◌, refl, sym, ap, ap₂, subst, ◌∙◌, append_assoc, append-nil}
 use Rattle.wasmprinter_spec.specs.Character.{class}
 use Rattle.wasmprinter_spec.specs.Options.{Options}
 use Rattle.wasmprinter_spec.specs.Token.{Token, tokens, lex, Clear}
@@ -43,6 +43,9 @@ pub record Respelled (ps rs : List Piece) : Type 0 where
 
 pub same_spelled : {ps : List Piece} → Respelled ps ps
 same_spelled = record { text = λ o. refl; tokens = refl }
+
+pub equal_spelled : {ps rs : List Piece} → ps ≡ rs → Respelled ps rs
+equal_spelled {ps} e = subst (Respelled ps) e same_spelled
 
 pub first_spelled : {ps rs : List Piece} (p : Piece) → Respelled ps rs → Respelled (p ∷ ps) (p ∷ rs)
 first_spelled p s = record { text = λ o. ap (λ t. text o p ++ t) (s.text o); tokens = ap (λ t. lexed p ++ t) s.tokens }

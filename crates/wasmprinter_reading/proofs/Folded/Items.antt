@@ -11,7 +11,7 @@ use Rattle.wasmprinter_spec.specs.Labels.{Label, labels_after, count_after, outs
 use Rattle.wasmprinter_spec.specs.Module.{without_places}
 use Rattle.wasmprinter_spec.specs.Customs.Hints.{Hint, next_hint, hint_behind}
 use Rattle.wasmprinter_spec.specs.Names.{IsNamedIfAny, AreNamed}
-use Rattle.wasmprinter_spec.specs.Piece.{Piece, Word, all_tokens}
+use Rattle.wasmprinter_spec.specs.Piece.{Piece, Word}
 use Rattle.wasmprinter_spec.specs.Layout.Operators.{Form, Setting, pieces_by}
 use Rattle.wasmprinter_spec.specs.Layout.Folded.{item, items}
 use Rattle.wasmprinter_spec.specs.Folding.Arities.{Signatures, label_of_block, label_counts_after}
@@ -21,13 +21,16 @@ use Rattle.wasmprinter_spec.specs.Code.{Chunk, chunk, word_chunk, role_by}
 use Rattle.wasmprinter_lexical.proofs.Grown.{one-flat}
 use Rattle.wasmprinter_lexical.proofs.Noted.{noted-cut}
 use Rattle.wasmprinter_lexical.proofs.Pieces.{Edge, Bound}
-use Rattle.wasmprinter_lexical.proofs.Writes.{Writes}
+use Rattle.wasmprinter_lexical.proofs.Respelled.{all_lexed}
+use Rattle.wasmprinter_lexical.proofs.Writes.{Writes, writes_lexed}
 use Rattle.wasmprinter_reading.specs.Listed.{IsListed, AreSignaturesInRange}
 use Rattle.wasmprinter_reading.proofs.Operators.Arguments.{AreArguments}
 use Rattle.wasmprinter_reading.proofs.Operators.Forms.{behind}
 use Rattle.wasmprinter_reading.proofs.Operators.Immediates.{items_by, arguments_by, writes_by}
 use Rattle.wasmprinter_reading.proofs.Operators.Open.{outside_labels, after_labels}
 use Rattle.wasmprinter_reading.proofs.Operators.Lists.{arguments_items, chunks_of}
+use Rattle.wasmprinter_reading.proofs.Folded.OneLine.{IsOneLine, then_stay}
+use Rattle.wasmprinter_reading.proofs.Folded.ImmediateLines.{by_shape_stay}
 use Rattle.wasmprinter_reading.proofs.Folded.Words.{IsBare, turn_is_bare, end_is_bare, role_by-rows}
 
 -- ---- what pieces write
@@ -38,10 +41,10 @@ forest_or_end (Some f) = cut f
 
 -- the items of pieces, without annotations
 abbrev pub items_of : List Piece → Forest
-items_of ps = forest_or_end (the_one (grow (all_tokens ps)))
+items_of ps = forest_or_end (the_one (grow (all_lexed ps)))
 
 pub items_of-writes : {a b : Edge} {ps : List Piece} {f : Forest} → Writes a ps b f → items_of ps ≡ f
-items_of-writes w = ap (λ (t : List Token). forest_or_end (the_one (grow t))) w.tokens ∙ ap forest_or_end (one-flat w.whole) ∙ noted-cut w.noted ∙ w.without
+items_of-writes w = ap (λ (t : List Token). forest_or_end (the_one (grow t))) (writes_lexed w ∙ w.tokens) ∙ ap forest_or_end (one-flat w.whole) ∙ noted-cut w.noted ∙ w.without
 
 -- ---- one operator
 
@@ -72,6 +75,7 @@ pub record IsPrinted (form : Form) (x : Item) : Type 0 where
   pub are : AreArguments (arguments x)
   pub writes : Writes Bound (rest x) (behind form) (arguments x)
   pub bare : is_bare (role x) ≡ true → arguments x ≡ End
+  pub line : IsOneLine x.pieces
 
 -- as the reader has it
 abbrev pub item_chunk : Item → Chunk
@@ -157,6 +161,7 @@ module _ (s : Setting) (named : AreNamed s.names) (ranged : AreSignaturesInRange
         are = subst AreArguments (sym e) (arguments_by s (inside is xs) (outside is xs) own (shape_of o.value.opcode) o.value.immediates l.range);
         writes = subst (Writes Bound (rest (item s signatures hint own xs ls o)) (behind s.form)) (sym e) (item_writes own xs o h k l);
         bare = λ b. e ∙ bare_by_role s (inside is xs) (outside is xs) own o.value l b;
+        line = then_stay refl (by_shape_stay s (inside is xs) (outside is xs) own (shape_of o.value.opcode) o.value.immediates);
       }
 
   pub items_printed : (hs : List (Placed Hint)) (n : ℕ) (xs : List Label) (ls : List (Option ℕ)) (os : List (Placed Operator)) →

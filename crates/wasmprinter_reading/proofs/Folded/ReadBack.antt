@@ -12,7 +12,7 @@ use Rattle.wasmprinter_spec.specs.Options.{Options, IsBlank}
 use Rattle.wasmprinter_spec.specs.Piece.{Piece, all_calls}
 use Rattle.wasmprinter_spec.specs.Code.{unfolded}
 use Rattle.wasmprinter_spec.specs.Text.Operators.{read_operators}
-use Rattle.wasmprinter_spec.specs.Layout.Operators.{Setting}
+use Rattle.wasmprinter_spec.specs.Layout.Operators.{Form, Setting}
 use Rattle.wasmprinter_spec.specs.Layout.Folded.{items, node_pieces, folded_pieces}
 use Rattle.wasmprinter_spec.specs.Folding.Arities.{Signatures}
 use Rattle.wasmprinter_spec.specs.Folding.Code as folding
@@ -21,26 +21,23 @@ use Rattle.wasmprinter_spec.specs.Folding.Tree.{Nodes, tree}
 use Rattle.wasmprinter_spec.proofs.Folding.{unfolded-tree}
 use Rattle.wasmprinter_spec.proofs.FoldingCode.{code_of-tree}
 use Rattle.wasmprinter_lexical.proofs.Noted.{noted-cut}
-use Rattle.wasmprinter_lexical.proofs.Writes.{writes_forest}
+use Rattle.wasmprinter_lexical.proofs.Pieces.{Free, Bound}
+use Rattle.wasmprinter_lexical.proofs.Writes.{WritesNoted, writes_forest, respelled_write}
 use Rattle.wasmprinter_reading.specs.Listed.{IsListed, AreSignaturesInRange}
 use Rattle.wasmprinter_reading.specs.FoldedLaws.{FoldedOperatorsReadBack}
 use Rattle.wasmprinter_reading.proofs.Operators.Lists.{chunks_of, expression_reads}
 use Rattle.wasmprinter_reading.proofs.Folded.Items.{IsPrinted, item_chunk, told_chunks, told_items, items_printed, items_chunks}
 use Rattle.wasmprinter_reading.proofs.Folded.Rows.{IsRow, row-tree}
 use Rattle.wasmprinter_reading.proofs.Folded.Reads.{row_items, row_unfolds}
-use Rattle.wasmprinter_reading.proofs.Folded.Texts.{whole_pieces, nodes_text}
+use Rattle.wasmprinter_reading.proofs.Folded.Texts.{nodes_spelled}
+use Rattle.wasmprinter_reading.proofs.Folded.Spelled.{row_spelled}
 use Rattle.wasmprinter_reading.proofs.Folded.Writes.{nodes_write}
 
--- ---- nodes
-
--- The text of nodes is the nested groups that they are written as.
-pub nodes_forest : (o : Options) → IsBlank o.indent → (s : Setting) (nesting : ℕ) (f : Nodes) → IsRow s.form f →
-    (forest (text_of (all_calls o (node_pieces o s.form true nesting f))) >>= λ g. Some (cut g)) ≡ Some (row_items false f)
-nodes_forest o blank s nesting f h =
-    let w = nodes_write o s.form f h nesting in
-    ap (λ t. forest t >>= λ g. Some (cut g)) (nodes_text o s.form true nesting f)
-    ∙ ap (λ g. g >>= λ k. Some (cut k)) (writes_forest o blank (whole_pieces o s.form true nesting f) w)
-    ∙ ap (λ g. Some g) (noted-cut w.noted ∙ w.without)
+-- nodes as they are printed write their groups
+pub printed_nodes_write : (o : Options) → IsBlank o.indent → (form : Form) (f : Nodes) → IsRow form f → (nesting : ℕ) →
+    WritesNoted Free (node_pieces o false form true nesting f) Bound (row_items false f) (row_items true f)
+printed_nodes_write o blank form f h nesting =
+    respelled_write (nodes_spelled o blank form true nesting f (row_spelled o blank form f h)) (nodes_write o form f h nesting)
 
 -- ---- the list of operators that is folded
 
@@ -48,14 +45,14 @@ nodes_forest o blank s nesting f h =
 record HasTree (o : Options) (s : Setting) (signatures : Signatures) (hs : List (Placed Hint)) (os : List (Placed Operator)) (ps : List Piece) : Type 0 where
   code : Code
   is : folding.code_of (items s signatures hs 0 [] [] os) ≡ Some code
-  printed : node_pieces o s.form true s.nesting (tree code) ≡ ps
+  printed : node_pieces o false s.form true s.nesting (tree code) ≡ ps
 
 has_tree : (o : Options) (s : Setting) (signatures : Signatures) (hs : List (Placed Hint)) (os : List (Placed Operator)) (ps : List Piece) →
-    folded_pieces o s signatures hs os ≡ Some ps → HasTree o s signatures hs os ps
+    folded_pieces o false s signatures hs os ≡ Some ps → HasTree o s signatures hs os ps
 unfolding folded_pieces
 has_tree o s signatures hs os ps e = by (folding.code_of (items s signatures hs 0 [] [] os)) refl e
   where
-    by : (c : Option Code) → folding.code_of (items s signatures hs 0 [] [] os) ≡ c → option_map (λ (x : Code). node_pieces o s.form true s.nesting (tree x)) c ≡ Some ps →
+    by : (c : Option Code) → folding.code_of (items s signatures hs 0 [] [] os) ≡ c → option_map (λ (x : Code). node_pieces o false s.form true s.nesting (tree x)) c ≡ Some ps →
         HasTree o s signatures hs os ps
     by None f g = absurd cc
     by (Some x) f g = record { code = x; is = f; printed = cc }
@@ -88,10 +85,9 @@ folded_operators_read_back s apart named c n types same signatures hs os h o bla
     let t = has_tree o s signatures hs os ps e in
     let f : Nodes = tree t.code in
     let row : IsRow s.form f = tree_row s named types.in_range signatures hs os h.listed t.code t.is in
-    let w = nodes_write o s.form f row s.nesting in
+    let w = printed_nodes_write o blank s.form f row s.nesting in
     ap (λ qs. forest (text_of (all_calls o qs)) >>= λ g. unfolded (cut g) >>= read_operators c) (sym t.printed)
-    ∙ ap (λ x. forest x >>= λ g. unfolded (cut g) >>= read_operators c) (nodes_text o s.form true s.nesting f)
-    ∙ ap (λ g. g >>= λ k. unfolded (cut k) >>= read_operators c) (writes_forest o blank (whole_pieces o s.form true s.nesting f) w)
+    ∙ ap (λ g. g >>= λ k. unfolded (cut k) >>= read_operators c) (writes_forest o blank (node_pieces o false s.form true s.nesting f) w)
     ∙ ap (λ g. unfolded g >>= read_operators c) (noted-cut w.noted ∙ w.without)
     ∙ ap (λ cs. cs >>= read_operators c) (tree_unfolds s named types.in_range signatures hs os h.listed t.code t.is)
     ∙ expression_reads s c n types same apart os h

@@ -51,7 +51,7 @@ module _ (form : Form) where
 
   -- ---- the tree of code
 
-  row-with_operands : (f : Nodes) (x : Item) (o : Operands) → role x ≡ row.Plain → IsPrinted form x → AreLast f o → IsRow form f → IsRow form (with_operands f x o)
+  row-with_operands : (f : Nodes) (x : Item) (o : Operands) → role x ≡ row.Plain → IsPrinted form x → AreLast f o → IsRow form f → IsRow form (with_operands f (Of x) x.gives o)
   row-with_operands f x (Fit before run) e p l h =
       let ps = parts before run (subst (IsRow form) l h) in
       a_plain before x _ run e p ps.0 ps.1
