@@ -11,3 +11,4 @@ pub mod Spelled
 pub mod Writes
 pub mod ReadBack
 pub mod Lists
+pub mod Begins

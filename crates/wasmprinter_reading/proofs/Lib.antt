@@ -22,6 +22,7 @@ pub mod GivenNames
 pub mod Fields
 pub mod Sorted
 pub mod DeclaredTypes
+pub mod Foldable
 pub mod Back
 pub mod Written
 pub mod Stays

@@ -31,7 +31,7 @@ use Rattle.wasmprinter_reading.proofs.Operators.Alone.{IsAlone, alone_for, unfol
 use Rattle.wasmprinter_reading.proofs.Operators.Immediates.{arguments_by, writes_by}
 use Rattle.wasmprinter_reading.proofs.Operators.Open.{outside_labels}
 use Rattle.wasmprinter_reading.proofs.Operators.Lists.{arguments_items, expression_items, chunks_of, expression_writes, expression_reads}
-use Rattle.wasmprinter_reading.proofs.Folded.Lists.{IsUnpainted, AreFoldable, list_items, folded_list_writes, unfolded-list}
+use Rattle.wasmprinter_reading.proofs.Folded.Lists.{IsUnpainted, AreFoldable, list_items, unhinted_list_writes, unfolded-list}
 use Rattle.wasmprinter_reading.proofs.Fields.Scopes.{AreScoped}
 
 -- ---- what they are written as

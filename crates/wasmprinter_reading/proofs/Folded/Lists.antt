@@ -108,10 +108,10 @@ folded_list_writes f bare own s named ranged hs os l = by f.paints bare (folding
 abbrev IsUnhinted : Item → Type 0
 IsUnhinted x = x.hint ≡ None
 
-items_unhinted : (s : Setting) (signatures : Signatures) (n : ℕ) (xs : List labels.Label) (ls : List (Option ℕ)) (os : List (Placed Operator)) → AllByRecursion IsUnhinted (items s signatures [] n xs ls os)
+items_unhinted : (s : Setting) (signatures : Signatures) (os : List (Placed Operator)) (n : ℕ) (xs : List labels.Label) (ls : List (Option ℕ)) → AllByRecursion IsUnhinted (items s signatures [] n xs ls os)
 unfolding items
-items_unhinted s signatures n xs ls [] = tt
-items_unhinted s signatures n xs ls (o ∷ os) = (refl, items_unhinted s signatures _ _ _ os)
+items_unhinted s signatures [] n xs ls = tt
+items_unhinted s signatures (o ∷ os) n xs ls = (refl, items_unhinted s signatures os _ _ _)
 
 row_unhinted : (f : Nodes) → AllHeads IsUnhinted f → row_items true f ≡ row_items false f
 row_unhinted Nil h = refl
@@ -131,7 +131,7 @@ folded_unhinted s signatures os = by (folding.code_of xs) refl
     by None e = refl
     by (Some code) e =
         row_unhinted (tree code)
-        (heads-tree IsUnhinted code (subst (AllByRecursion IsUnhinted) (sym (code_of-tree xs code e).0) (items_unhinted s signatures 0 [] [] os)))
+        (heads-tree IsUnhinted code (subst (AllByRecursion IsUnhinted) (sym (code_of-tree xs code e).0) (items_unhinted s signatures os 0 [] [])))
 
 pub unhinted_list_writes : (f : Folding) → f.paints ≡ false → (own : Option ℕ) (s : Setting) → AreNamed s.names → AreSignaturesInRange s.signature →
     (os : List (Placed Operator)) → AllByRecursion IsListed (without_places os) →
