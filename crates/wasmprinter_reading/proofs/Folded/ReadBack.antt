@@ -1,5 +1,5 @@
 -- The text of folded operators reads back.
-use Rattle.std.proofs.Common.{◌≡◌, ℕ, List, [], Option, Some, None, option_map, true, false, map, refl, sym, ap, ◌∙◌, subst}
+use Rattle.std.proofs.Common.{◌≡◌, ℕ, Bool, List, [], Option, Some, None, option_map, true, false, map, refl, sym, ap, ◌∙◌, subst}
 use Rattle.std.specs.List.{AllByRecursion}
 use Rattle.wasmprinter_spec.specs.Grammar.{Placed, ◌>>=◌}
 use Rattle.wasmprinter_spec.specs.Forest.{forest, cut}
@@ -26,7 +26,8 @@ use Rattle.wasmprinter_lexical.proofs.Writes.{WritesNoted, writes_forest, respel
 use Rattle.wasmprinter_reading.specs.Listed.{IsListed, AreSignaturesInRange}
 use Rattle.wasmprinter_reading.specs.FoldedLaws.{FoldedOperatorsReadBack}
 use Rattle.wasmprinter_reading.proofs.Operators.Lists.{chunks_of, expression_reads}
-use Rattle.wasmprinter_reading.proofs.Folded.Items.{IsPrinted, item_chunk, told_chunks, told_items, items_printed, items_chunks}
+use Rattle.wasmprinter_reading.proofs.Folded.Items.{IsPrinted, own_chunk, IsHintless, unasked, told_chunks, told_items, items_printed, items_chunks}
+use Rattle.wasmprinter_reading.proofs.Folded.Heads.{heads-tree}
 use Rattle.wasmprinter_reading.proofs.Folded.Rows.{IsRow, row-tree}
 use Rattle.wasmprinter_reading.proofs.Folded.Reads.{row_items, row_unfolds}
 use Rattle.wasmprinter_reading.proofs.Folded.Texts.{nodes_spelled}
@@ -68,15 +69,21 @@ module _ (s : Setting) (named : AreNamed s.names) (ranged : AreSignaturesInRange
   pub tree_row : IsRow s.form (tree code)
   tree_row = row-tree s.form code (code_of-tree (items s signatures hs 0 [] [] os) code is).1 all_printed
 
-  -- The reader takes what they are written as for the operators of the flat text, in the same order.
+  -- The reader takes what they are written as for the operators in their flat order, each with its hint if hints are shown.
+  pub tree_unfolds_at : (hints : Bool) → AllByRecursion (IsHintless hints) (items s signatures hs 0 [] [] os) →
+      unfolded (row_items hints (tree code)) ≡ Some (map (own_chunk hints) (items s signatures hs 0 [] [] os))
+  tree_unfolds_at hints h =
+      let rule = code_of-tree (items s signatures hs 0 [] [] os) code is in
+      let hintless : AllByRecursion (IsHintless hints) (flat code) = subst (AllByRecursion (IsHintless hints)) (sym rule.0) h in
+      row_unfolds hints s.form (tree code) tree_row (heads-tree (IsHintless hints) code hintless)
+      ∙ ap (λ ts. Some (told_chunks hints ts)) (unfolded-tree code rule.1)
+      ∙ ap (λ cs. Some cs) (told_items hints s.form (flat code) all_printed hintless)
+      ∙ ap (λ xs. Some (map (own_chunk hints) xs)) rule.0
+
+  -- those of the flat text
   pub tree_unfolds : unfolded (row_items false (tree code)) ≡ Some (chunks_of s 0 [] (without_places os))
   tree_unfolds =
-      let rule = code_of-tree (items s signatures hs 0 [] [] os) code is in
-      row_unfolds s.form (tree code) tree_row
-      ∙ ap (λ ts. Some (told_chunks ts)) (unfolded-tree code rule.1)
-      ∙ ap (λ cs. Some cs) (told_items s.form (flat code) all_printed)
-      ∙ ap (λ xs. Some (map item_chunk xs)) rule.0
-      ∙ ap (λ cs. Some cs) (items_chunks s named ranged signatures hs 0 [] [] os tt listed)
+      tree_unfolds_at false (unasked (items s signatures hs 0 [] [] os)) ∙ ap (λ cs. Some cs) (items_chunks s named ranged signatures hs 0 [] [] os tt listed)
 
 -- ---- the law
 

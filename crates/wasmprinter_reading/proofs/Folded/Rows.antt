@@ -1,5 +1,5 @@
 -- Nodes that a text may hold: what stands in each, and that the tree of a list of operators is made of such nodes.
-use Rattle.std.proofs.Common.{◌≡◌, ℕ, Bool, true, List, [], ◌∷◌, ◌++◌, map, sym, ap, ◌∙◌, subst}
+use Rattle.std.proofs.Common.{◌≡◌, ℕ, Bool, true, false, List, [], ◌∷◌, ◌++◌, map, sym, ap, ◌∙◌, subst}
 use Rattle.std.specs.List.{AllByRecursion}
 use Rattle.wasmprinter_spec.specs.Row as row
 use Rattle.wasmprinter_spec.specs.Row.{Role, Opens, OpensIf, Turns, Ends}
@@ -13,14 +13,14 @@ use Rattle.wasmprinter_spec.specs.Folding.Unfolding.{unfolded}
 use Rattle.wasmprinter_spec.specs.Code.{Chunk, role_by}
 use Rattle.wasmprinter_spec.proofs.Folding.{joined-front-last, AreLast, AreLast-operands, unfolded-tree}
 use Rattle.wasmprinter_spec.proofs.FoldingCode.{code_of-flat, code_of-nests}
-use Rattle.wasmprinter_reading.proofs.Folded.Items.{IsPrinted, told_chunks, told_items, told_roles}
+use Rattle.wasmprinter_reading.proofs.Folded.Items.{IsPrinted, told_chunks, told_items, unasked, told_roles}
 
 abbrev pub are_nested : List Chunk → Bool
 are_nested cs = stops advance at_start (map (λ c. role_by c.rows) cs) Ends
 
 -- what a block or a case of an `if` holds is well nested by itself
 abbrev pub IsNested : Nodes → Type 0
-IsNested f = are_nested (told_chunks (unfolded f)) ≡ true
+IsNested f = are_nested (told_chunks false (unfolded f)) ≡ true
 
 -- Nodes in a row, by the last of them: the node of a plain operator with its operands, of a block with what it holds, or of an `if` with the nodes that are
 -- given to it and with its cases.
@@ -61,8 +61,8 @@ module _ (form : Form) where
   -- code is well nested
   nested-code : (code : Code) → IsFit code → AllByRecursion (IsPrinted form) (flat code) → IsNested (tree code)
   nested-code code h p =
-      ap (λ ts. are_nested (told_chunks ts)) (unfolded-tree code h)
-      ∙ ap are_nested (told_items form (flat code) p)
+      ap (λ ts. are_nested (told_chunks false ts)) (unfolded-tree code h)
+      ∙ ap are_nested (told_items false form (flat code) p (unasked (flat code)))
       ∙ ap (λ rs. stops advance at_start rs Ends) (told_roles form (flat code) p)
       ∙ stops_at_end (map role (flat code)) (code_of-nests (flat code) code (code_of-flat code h)).0
 
