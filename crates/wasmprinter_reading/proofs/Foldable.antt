@@ -15,7 +15,7 @@ use Rattle.wasmprinter_reading.proofs.Folded.Lists.{AreFoldable}
 
 -- ---- lists in parts
 
-nothing_joined : {A : Type 0} (a b : List A) → a ++ b ≡ [] → (a ≡ []) × (b ≡ [])
+pub nothing_joined : {A : Type 0} (a b : List A) → a ++ b ≡ [] → (a ≡ []) × (b ≡ [])
 nothing_joined [] b e = (refl, e)
 nothing_joined (x ∷ a) b e = absurd cc
 

@@ -2,7 +2,7 @@
 use Rattle.std.proofs.Common.{◌≡◌, ℕ, zero, suc, ◌+◌, ◌-◌, ◌<◌, ◌≤◌, ◌^◌, true, false, Bool, bytes_eq, cond, List, [], ◌∷◌, ◌++◌, length, Option, Some, None, refl, ap, ◌∙◌, subst, codes, replicate, arith}
 use Rattle.std.specs.List.{AllByRecursion}
 use Rattle.wasmprinter_spec.specs.Character.{class}
-use Rattle.wasmprinter_spec.specs.Forest.{Forest, End, Word, Group, onto}
+use Rattle.wasmprinter_spec.specs.Forest.{Forest, End, Word, Group, Note, onto}
 use Rattle.wasmprinter_spec.specs.Grammar.{Placed}
 use Rattle.wasmprinter_spec.specs.Types.{ValType, FuncType, signature_at}
 use Rattle.wasmprinter_spec.specs.Row as row
@@ -213,6 +213,7 @@ unfolding groups
 groups_operators read w off End b = refl
 groups_operators read w off (Word v f) b = refl
 groups_operators read w off (Group (Word v g) f) b = rw (off v b)
+groups_operators read w off (Note id g f) b = refl
 groups_operators read w off _ b = absurd b
 
 no_param : (v : List ℕ) → StandsAlone v → bytes_eq v (codes "param") ≡ false

@@ -143,13 +143,18 @@ unhinted_list_writes f bare own s named ranged os l =
 -- ---- it is their code
 
 -- well nested and without the older `try`, they have a tree
+pub has_tree : (s : Setting) (signatures : Signatures) (hs : List (Placed Hint)) (os : List (Placed Operator)) → Nests Sequence (roles os) → AreWithoutTry (roles os) →
+    (code : Code) × (folding.code_of (items s signatures hs 0 [] [] os) ≡ Some code)
+has_tree s signatures hs os n t =
+    let xs : List Item = items s signatures hs 0 [] [] os in
+    let same : map role xs ≡ roles os = roles-items s signatures os hs 0 [] [] in
+    code_of-nested xs (subst (λ (rs : List Role). Nests Sequence rs) (sym same) n) (subst AreWithoutTry (sym same) t)
+
 folded-unfolds : (s : Setting) (signatures : Signatures) → AreNamed s.names → AreSignaturesInRange s.signature → (hs : List (Placed Hint)) (os : List (Placed Operator)) →
     AllByRecursion IsListed (without_places os) → Nests Sequence (roles os) → AreWithoutTry (roles os) →
     unfolded (folded_items false s signatures hs os) ≡ Some (chunks_of s 0 [] (without_places os))
 folded-unfolds s signatures named ranged hs os l n t =
-    let xs : List Item = items s signatures hs 0 [] [] os in
-    let same : map role xs ≡ roles os = roles-items s signatures os hs 0 [] [] in
-    let code = code_of-nested xs (subst (λ (rs : List Role). Nests Sequence rs) (sym same) n) (subst AreWithoutTry (sym same) t) in
+    let code = has_tree s signatures hs os n t in
     ap (λ c. unfolded (code_items false c)) code.1 ∙ tree_unfolds s named ranged signatures hs os l code.0 code.1
 
 pub unfolded-list : (folding : Option Folding) (own : Option ℕ) (s : Setting) → AreNamed s.names → AreSignaturesInRange s.signature → (hs : List (Placed Hint)) (os : List (Placed Operator)) →
