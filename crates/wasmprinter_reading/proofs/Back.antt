@@ -58,7 +58,8 @@ use Rattle.wasmprinter_reading.proofs.Fields.Elements as elements
 use Rattle.wasmprinter_reading.proofs.Fields.Elements.{element_items, identified-element, read_element-items}
 use Rattle.wasmprinter_reading.proofs.Fields.DataSegments as datas
 use Rattle.wasmprinter_reading.proofs.Fields.DataSegments.{data_items, identified-data, read_data-items}
-use Rattle.wasmprinter_reading.proofs.Foldable.{all_parts, Foldable, AllFoldable, CanFold}
+use Rattle.wasmprinter_reading.proofs.Each.{all_parts}
+use Rattle.wasmprinter_reading.proofs.Foldable.{Foldable, AllFoldable, CanFold}
 use Rattle.wasmprinter_reading.proofs.Types.Ranged.{IsRangedGroup}
 use Rattle.wasmprinter_reading.proofs.Types.Ranges.{own_signature_ranged}
 use Rattle.wasmprinter_reading.proofs.Types.Trees.{type_section_items}

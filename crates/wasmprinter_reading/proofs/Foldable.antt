@@ -1,8 +1,6 @@
 -- What can be folded in a module: no list of operators that is printed holds one of the older `try`, where operators are folded.
-use Rattle.std.proofs.Common.{◌≡◌, ℕ, Bool, true, false, cond, List, [], ◌∷◌, ◌++◌, map, Option, Some, None, refl, ap, sym, ◌∙◌, subst}
+use Rattle.std.proofs.Common.{◌≡◌, Bool, true, false, cond, List, [], ◌∷◌, ◌++◌, map, Some, None, refl, subst}
 use Rattle.std.specs.List.{AllByRecursion, flat_map}
-use Rattle.wasmprinter_spec.specs.Grammar.{Placed}
-use Rattle.wasmprinter_spec.specs.Operator.{Operator}
 use Rattle.wasmprinter_spec.specs.Table.{role_of}
 use Rattle.wasmprinter_spec.specs.Instructions.{roles}
 use Rattle.wasmprinter_spec.specs.Placed.{PlacedModule}
@@ -10,26 +8,9 @@ use Rattle.wasmprinter_spec.specs.Options.{Options}
 use Rattle.wasmprinter_spec.specs.Layout.Declarations.{Folding, folding_of}
 use Rattle.wasmprinter_spec.specs.Folding.Arities.{signatures_within}
 use Rattle.wasmprinter_spec.specs.Folding.Code.{is_try, AreWithoutTry}
-use Rattle.wasmprinter_spec.specs.Folding.Refusals.{Operators, init_list, offset_list, item_lists, element_lists, data_lists, constant_lists, body_lists, legacy_places_in, IsFoldable}
+use Rattle.wasmprinter_spec.specs.Folding.Refusals.{Operators, init_list, element_lists, data_lists, constant_lists, body_lists, legacy_places_in, IsFoldable}
+use Rattle.wasmprinter_reading.proofs.Each.{nothing_joined, all_parts, all_flat, all_mapped}
 use Rattle.wasmprinter_reading.proofs.Folded.Lists.{AreFoldable}
-
--- ---- lists in parts
-
-pub nothing_joined : {A : Type 0} (a b : List A) → a ++ b ≡ [] → (a ≡ []) × (b ≡ [])
-nothing_joined [] b e = (refl, e)
-nothing_joined (x ∷ a) b e = absurd cc
-
-pub all_parts : {A : Type 0} (P : A → Type 0) (a b : List A) → AllByRecursion P (a ++ b) → AllByRecursion P a × AllByRecursion P b
-all_parts P [] b h = (tt, h)
-all_parts P (x ∷ a) b h = let ps = all_parts P a b h.1 in ((h.0, ps.0), ps.1)
-
-all_flat : {A B : Type 0} (P : B → Type 0) (f : A → List B) (xs : List A) → AllByRecursion P (flat_map f xs) → AllByRecursion (λ x. AllByRecursion P (f x)) xs
-all_flat P f [] h = tt
-all_flat P f (x ∷ xs) h = let ps = all_parts P (f x) (flat_map f xs) h in (ps.0, all_flat P f xs ps.1)
-
-all_mapped : {A B : Type 0} (P : B → Type 0) (f : A → B) (xs : List A) → AllByRecursion P (map f xs) → AllByRecursion (λ x. P (f x)) xs
-all_mapped P f [] h = tt
-all_mapped P f (x ∷ xs) h = (h.0, all_mapped P f xs h.1)
 
 -- ---- where no place of the older `try` is found, none is there
 

@@ -4,6 +4,7 @@ pub mod AllGiven
 pub mod LebRange
 pub mod Vectors
 pub mod Few
+pub mod Each
 pub mod Numbered
 pub mod Items
 pub mod Declarations

@@ -7,7 +7,7 @@ use Rattle.wasmprinter_spec.specs.Token.{tokens}
 use Rattle.wasmprinter_spec.specs.Call.{text_of}
 use Rattle.wasmprinter_spec.specs.Options.{Options, Answers, AreUnclaimed, IsBlank}
 use Rattle.wasmprinter_spec.specs.Plain.{IsPlainText}
-use Rattle.wasmprinter_spec.specs.Piece.{Piece, all_calls, all_tokens}
+use Rattle.wasmprinter_spec.specs.Piece.{Piece, all_calls}
 use Rattle.wasmprinter_spec.specs.Kinds.{Kind, TypeSection, ImportSection, FunctionSection, TableSection, MemorySection, TagSection, GlobalSection, ExportSection, StartSection, ElementSection, CodeSection, DataSection}
 use Rattle.wasmprinter_spec.specs.Types.{FuncKind}
 use Rattle.wasmprinter_spec.specs.Customs.{RawCustom, raw_customs}

@@ -21,7 +21,7 @@ use Rattle.wasmprinter_spec.specs.Layout.Variables.{Variables, grouped}
 use Rattle.wasmprinter_spec.specs.Layout.Declarations.{Scope, Folding}
 use Rattle.wasmprinter_spec.specs.Layout.Types.{parameters_of}
 use Rattle.wasmprinter_spec.specs.Layout.Operators.{OverLines, Setting, hint_pieces, operator_pieces, operators_pieces}
-use Rattle.wasmprinter_spec.specs.Layout.Functions.{locals_place, local_line, local_pieces, header_pieces, result_count, body_by, body_pieces, inner_pieces, function_group}
+use Rattle.wasmprinter_spec.specs.Layout.Functions.{locals_place, local_line, local_pieces, header_pieces, over_lines, result_count, body_by, body_pieces, inner_pieces, function_group}
 use Rattle.wasmprinter_spec.specs.IndexSpaces.{Identifiers, index_space, space_in, index, Context}
 use Rattle.wasmprinter_spec.specs.Text.Items.{identified, groups, ids_of}
 use Rattle.wasmprinter_spec.specs.Text.Types.{val_types, variables, signature}
@@ -46,17 +46,13 @@ use Rattle.wasmprinter_reading.proofs.Fields.Headers.{header_items, header_write
 
 -- ---- what functions are written as
 
--- what the operators of a body at this place are laid out by
-abbrev pub body_setting : Scope → ℕ → Setting
-body_setting s place = record { form = OverLines; signature = signature_at s.types; nesting = 2; names = s.names; function = s.function; body = place }
-
 -- the locals behind so many parameters
 abbrev local_items : Scope → ℕ → List ValType → Forest
 local_items s count ls = groups_items s.names (codes "local") (grouped (s.names.locals s.function) count ls)
 
 -- the operators, with their hints or without
 abbrev pub body_items : Bool → Scope → List (Placed Hint) → PlacedFunction → Forest
-body_items hints s hs f = list_items hints s.folding (result_count s f.type_index) (body_setting s f.body.place) hs f.body.value.operators
+body_items hints s hs f = list_items hints s.folding (result_count s f.type_index) (over_lines s f.body.place) hs f.body.value.operators
 
 -- what a function holds behind its type
 abbrev inner_items : Bool → Scope → List (Placed Hint) → ℕ → PlacedFunction → Forest
@@ -113,7 +109,7 @@ hint_breaks nesting (Some h) ps e = refl
 
 -- operators begin with a line
 body_breaks : (s : Scope) (place : ℕ) (hs : List (Placed Hint)) (o : Placed Operator) (os : List (Placed Operator)) →
-    has_break (operators_pieces (body_setting s place) hs true 0 [] (o ∷ os)) ≡ true
+    has_break (operators_pieces (over_lines s place) hs true 0 [] (o ∷ os)) ≡ true
 unfolding operators_pieces operator_pieces
 body_breaks s place hs o os = hint_breaks (2 + 0) (next_hint (o.place - place) hs) _ refl
 
@@ -136,11 +132,11 @@ module _ (s : Scope) (named : AreNamed s.names) (ranged : AreSignaturesInRange (
       (grouped_types IsRangedVal own count (locals_of es) (locals_ranged es r))
 
   body_writes : (place : ℕ) (hs : List (Placed Hint)) (os : List (Placed Operator)) → AllByRecursion IsListed (without_places os) →
-      WritesNoted Bound (operators_pieces (body_setting s place) hs true 0 [] os) Ended (expression_items (body_setting s place) (without_places os))
-      (hinted_items (body_setting s place) hs 0 [] os)
-  body_writes place hs os l = behind_anything Bound (hinted_write (body_setting s place) named ranged hs os l)
+      WritesNoted Bound (operators_pieces (over_lines s place) hs true 0 [] os) Ended (expression_items (over_lines s place) (without_places os))
+      (hinted_items (over_lines s place) hs 0 [] os)
+  body_writes place hs os l = behind_anything Bound (hinted_write (over_lines s place) named ranged hs os l)
 
-  empty_body_writes : (place : ℕ) (hs : List (Placed Hint)) → Writes Bound (operators_pieces (body_setting s place) hs true 0 [] []) Bound End
+  empty_body_writes : (place : ℕ) (hs : List (Placed Hint)) → Writes Bound (operators_pieces (over_lines s place) hs true 0 [] []) Bound End
   unfolding operators_pieces
   empty_body_writes place hs = nothing_writes
 
@@ -171,9 +167,9 @@ module _ (s : Scope) (named : AreNamed s.names) (ranged : AreSignaturesInRange (
       own_items x = header_items s Func (Some s.function) s.function f.type_index (onto (local_items s (own_parameter_count s f) (locals_of locals)) x)
 
       flat : (os : List (Placed Operator)) → AllByRecursion IsListed (without_places os) →
-          WritesNoted a (group_gap_at offsets f.body.value.end 1 (codes "func") (header ++ (own_locals ++ operators_pieces (body_setting s place) hs true 0 [] os))) Bound
-          (Group (Word (codes "func") (own_items (expression_items (body_setting s place) (without_places os)))) End)
-          (Group (Word (codes "func") (own_items (hinted_items (body_setting s place) hs 0 [] os))) End)
+          WritesNoted a (group_gap_at offsets f.body.value.end 1 (codes "func") (header ++ (own_locals ++ operators_pieces (over_lines s place) hs true 0 [] os))) Bound
+          (Group (Word (codes "func") (own_items (expression_items (over_lines s place) (without_places os)))) End)
+          (Group (Word (codes "func") (own_items (hinted_items (over_lines s place) hs 0 [] os))) End)
       flat [] l =
           group_gap_at_writes offsets f.body.value.end 1 (codes "func") _ e refl
           (header_writes s named ranged Func (Some s.function) s.function f.type_index _ _ _ h r.type_index
@@ -188,15 +184,15 @@ module _ (s : Scope) (named : AreNamed s.names) (ranged : AreSignaturesInRange (
       own = result_count s f.type_index
 
       by : (folding : Option Folding) → IsUnpainted folding →
-          WritesNoted a (group_gap_at offsets f.body.value.end 1 (codes "func") (header ++ (own_locals ++ body_by folding own (body_setting s place) hs f.body.value.operators))) Bound
-          (Group (Word (codes "func") (own_items (list_items false folding own (body_setting s place) hs f.body.value.operators))) End)
-          (Group (Word (codes "func") (own_items (list_items true folding own (body_setting s place) hs f.body.value.operators))) End)
+          WritesNoted a (group_gap_at offsets f.body.value.end 1 (codes "func") (header ++ (own_locals ++ body_by folding own (over_lines s place) hs f.body.value.operators))) Bound
+          (Group (Word (codes "func") (own_items (list_items false folding own (over_lines s place) hs f.body.value.operators))) End)
+          (Group (Word (codes "func") (own_items (list_items true folding own (over_lines s place) hs f.body.value.operators))) End)
       by None b = flat f.body.value.operators r.body.listed
       by (Some x) b =
           group_gap_at_writes offsets f.body.value.end 1 (codes "func") _ e refl
           (header_writes s named ranged Func (Some s.function) s.function f.type_index _ _ _ h r.type_index
           (both_write (local_writes (own_parameter_count s f) locals r.body.locals)
-          (folded_list_writes x b own (body_setting s place) named ranged hs f.body.value.operators r.body.listed)))
+          (folded_list_writes x b own (over_lines s place) named ranged hs f.body.value.operators r.body.listed)))
 
 pub function_writes : (s : Scope) → AreNamed s.names → AreSignaturesInRange (signature_at s.types) → IsUnpainted s.folding → {a : Edge} → is_open a ≡ true → (skeleton offsets : Bool) (i : ℕ)
     (hs : List (Placed Hint)) (f : PlacedFunction) → i < 2 ^ 64 → IsRangedFunction f →
@@ -271,7 +267,7 @@ module _ (s : Scope) (c : Context) (n : Counts) (scoped : AreScoped s c n) (i co
   own_few row.Data = scoped.names.few row.Data
   own_few row.Label = scoped.names.few row.Label
 
-  own_names : HaveSameNames (body_setting (function_scope s i) place) own_context own_counts
+  own_names : HaveSameNames (over_lines (function_scope s i) place) own_context own_counts
   own_names = record {
     spaces = own_spaces;
     fields = scoped.names.fields;
@@ -282,13 +278,13 @@ module _ (s : Scope) (c : Context) (n : Counts) (scoped : AreScoped s c n) (i co
     structures = scoped.names.structures;
   }
 
-  own_types : HaveSameTypes (body_setting (function_scope s i) place) own_context own_counts
+  own_types : HaveSameTypes (over_lines (function_scope s i) place) own_context own_counts
   own_types = record { read = scoped.types.read; counted = scoped.types.counted; in_range = scoped.types.in_range }
 
   body_reads : (f : PlacedFunction) → IsRangedFunction f → AllByRecursion (IsIndexedOperator own_counts) (without_places f.body.value.operators) →
-      read_operators own_context (chunks_of (body_setting (function_scope s i) place) 0 [] (without_places f.body.value.operators)) ≡ Some (without_places f.body.value.operators)
+      read_operators own_context (chunks_of (over_lines (function_scope s i) place) 0 [] (without_places f.body.value.operators)) ≡ Some (without_places f.body.value.operators)
   body_reads f h d =
-      expression_reads (body_setting (function_scope s i) place) own_context own_counts own_types own_names scoped.apart
+      expression_reads (over_lines (function_scope s i) place) own_context own_counts own_types own_names scoped.apart
       f.body.value.operators (record { listed = h.body.listed; nested = h.body.nested; count = h.body.count; indexed = d })
 
 -- how many parameters and locals a function has
@@ -311,7 +307,7 @@ module _ (s : Scope) (c : Context) (n : Counts) (scoped : AreScoped s c n) where
       let ls : List ValType = locals_of f.body.value.locals in
       let named : ℕ → Option Named = s.names.locals i in
       let count : ℕ = length t.params in
-      let setting : Setting = body_setting (function_scope s i) f.body.place in
+      let setting : Setting = over_lines (function_scope s i) f.body.place in
       let code : Forest = body_items false (function_scope s i) hs f in
       let begins : BeginsCode code =
       list_begins s.folding (result_count (function_scope s i) f.type_index) setting scoped.named scoped.types.in_range hs f.body.value.operators h.body.listed in

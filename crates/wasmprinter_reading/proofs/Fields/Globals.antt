@@ -8,7 +8,7 @@ use Rattle.wasmprinter_spec.specs.Row as row
 use Rattle.wasmprinter_spec.specs.Names.{Names, AreNamed}
 use Rattle.wasmprinter_spec.specs.Operator.{Operator}
 use Rattle.wasmprinter_spec.specs.Placed.{Global}
-use Rattle.wasmprinter_spec.specs.Module.{without_places, global_without_places}
+use Rattle.wasmprinter_spec.specs.Module.{global_without_places}
 use Rattle.wasmprinter_spec.specs.Indexed.{Counts, IsDeclaredVal}
 use Rattle.wasmprinter_spec.specs.IndexSpaces.{Context}
 use Rattle.wasmprinter_spec.specs.Layout.ValTypes.{val_pieces}

@@ -12,10 +12,9 @@ use Rattle.wasmprinter_spec.specs.Code.{is_hint}
 use Rattle.wasmprinter_spec.specs.Layout.Declarations.{Folding}
 use Rattle.wasmprinter_spec.specs.Layout.Operators.{Form, Setting}
 use Rattle.wasmprinter_spec.specs.Layout.Folded.{items}
-use Rattle.wasmprinter_spec.specs.Folding.Arities.{Signatures}
 use Rattle.wasmprinter_spec.specs.Folding.Code as folding
 use Rattle.wasmprinter_spec.specs.Folding.Code.{Item, Code, role}
-use Rattle.wasmprinter_spec.specs.Folding.Tree.{Nodes, Snoc, tree}
+use Rattle.wasmprinter_spec.specs.Folding.Tree.{Nodes, tree}
 use Rattle.wasmprinter_reading.specs.Listed.{IsListed, AreSignaturesInRange}
 use Rattle.wasmprinter_reading.proofs.Tabled.{HasRow, row_for, StandsAlone}
 use Rattle.wasmprinter_reading.proofs.Operators.Lists.{expression_items}

@@ -1,9 +1,10 @@
 -- What holds of all operators of code holds of all heads of its tree.
-use Rattle.std.proofs.Common.{◌≡◌, List, [], ◌∷◌, ◌++◌, subst, sym}
+use Rattle.std.proofs.Common.{List, [], ◌∷◌, ◌++◌, subst}
 use Rattle.std.specs.List.{AllByRecursion}
 use Rattle.wasmprinter_spec.specs.Folding.Code.{Item, Code, Done, Plain, Block, If, IfElse, flat}
 use Rattle.wasmprinter_spec.specs.Folding.Tree.{Head, Of, Then, Else, Nodes, Nil, Snoc, joined, front, last, Operands, Fit, Passed, Short, operands, with_operands, folded, tree_behind, tree}
-use Rattle.wasmprinter_spec.proofs.Folding.{joined-front-last, AreLast, AreLast-operands}
+use Rattle.wasmprinter_spec.proofs.Folding.{AreLast, AreLast-operands}
+use Rattle.wasmprinter_reading.proofs.Each.{all_parts}
 
 module _ (P : Item → Type 0) where
   -- of the operator of a head; `then` has none of its own
@@ -29,24 +30,20 @@ module _ (P : Item → Type 0) where
   heads-operands f x Passed p l h = (p, h, tt)
   heads-operands f x Short p l h = (p, h, tt)
 
-  all_parts : (a b : List Item) → AllByRecursion P (a ++ b) → AllByRecursion P a × AllByRecursion P b
-  all_parts [] b h = (tt, h)
-  all_parts (x ∷ a) b h = let ps = all_parts a b h.1 in ((h.0, ps.0), ps.1)
-
   heads-tree_behind : (f : Nodes) (code : Code) → AllByRecursion P (flat code) → AllHeads f → AllHeads (tree_behind f code)
   heads-tree_behind f Done p h = h
   heads-tree_behind f (Plain x rest) p h = heads-tree_behind (folded f x) rest p.1 (heads-operands f x (operands x.takes f) p.0 (AreLast-operands x.takes f) h)
   heads-tree_behind f (Block x body end rest) p h =
-      let ps = all_parts (flat body) (end ∷ flat rest) p.1 in
+      let ps = all_parts P (flat body) (end ∷ flat rest) p.1 in
       heads-tree_behind (Snoc f (Of x) x.gives (tree_behind Nil body)) rest ps.1.1 (p.0, h, heads-tree_behind Nil body ps.0 tt)
   heads-tree_behind f (If x body end rest) p h =
-      let ps = all_parts (flat body) (end ∷ flat rest) p.1 in
+      let ps = all_parts P (flat body) (end ∷ flat rest) p.1 in
       let es = ends f h in
       heads-tree_behind (Snoc (front f) (Of x) x.gives (Snoc (last f) (Then x) 0 (tree_behind Nil body))) rest ps.1.1
       (p.0, es.0, (tt, es.1, heads-tree_behind Nil body ps.0 tt))
   heads-tree_behind f (IfElse x body turn other end rest) p h =
-      let ps = all_parts (flat body) (turn ∷ (flat other ++ end ∷ flat rest)) p.1 in
-      let qs = all_parts (flat other) (end ∷ flat rest) ps.1.1 in
+      let ps = all_parts P (flat body) (turn ∷ (flat other ++ end ∷ flat rest)) p.1 in
+      let qs = all_parts P (flat other) (end ∷ flat rest) ps.1.1 in
       let es = ends f h in
       heads-tree_behind
       (Snoc (front f) (Of x) x.gives (Snoc (Snoc (last f) (Then x) 0 (tree_behind Nil body)) (Else turn) 0 (tree_behind Nil other))) rest qs.1.1

@@ -1,5 +1,5 @@
 -- Pieces that stay on their line: identifiers, and types.
-use Rattle.std.proofs.Common.{◌≡◌, ℕ, ◌+◌, List, [], ◌∷◌, ◌++◌, Bool, true, false, cond, Option, Some, None, refl, sym, ap₂, ◌∙◌, codes, bytes_eq, true≢false}
+use Rattle.std.proofs.Common.{◌≡◌, ℕ, List, [], ◌∷◌, ◌++◌, Bool, true, false, cond, Option, Some, None, refl, sym, ap₂, ◌∙◌, codes, bytes_eq, true≢false}
 use Rattle.wasmprinter_spec.specs.Types.{HeapType, Index, RefType, ValType, Ref, FuncType}
 use Rattle.wasmprinter_spec.specs.Row.{Types}
 use Rattle.wasmprinter_spec.specs.Labels.{Named}

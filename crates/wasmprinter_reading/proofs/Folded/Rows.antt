@@ -13,6 +13,7 @@ use Rattle.wasmprinter_spec.specs.Folding.Unfolding.{unfolded}
 use Rattle.wasmprinter_spec.specs.Code.{Chunk, role_by}
 use Rattle.wasmprinter_spec.proofs.Folding.{joined-front-last, AreLast, AreLast-operands, unfolded-tree}
 use Rattle.wasmprinter_spec.proofs.FoldingCode.{code_of-flat, code_of-nests}
+use Rattle.wasmprinter_reading.proofs.Each.{all_parts}
 use Rattle.wasmprinter_reading.proofs.Folded.Items.{IsPrinted, told_chunks, told_items, unasked, told_roles}
 
 abbrev pub are_nested : List Chunk → Bool
@@ -66,26 +67,22 @@ module _ (form : Form) where
       ∙ ap (λ rs. stops advance at_start rs Ends) (told_roles form (flat code) p)
       ∙ stops_at_end (map role (flat code)) (code_of-nests (flat code) code (code_of-flat code h)).0
 
-  all_parts : (a b : List Item) → AllByRecursion (IsPrinted form) (a ++ b) → AllByRecursion (IsPrinted form) a × AllByRecursion (IsPrinted form) b
-  all_parts [] b h = (tt, h)
-  all_parts (x ∷ a) b h = let ps = all_parts a b h.1 in ((h.0, ps.0), ps.1)
-
   row-tree_behind : (f : Nodes) (code : Code) → IsFit code → AllByRecursion (IsPrinted form) (flat code) → IsRow form f → IsRow form (tree_behind f code)
   row-tree_behind f Done h p r = r
   row-tree_behind f (Plain x rest) h p r =
       row-tree_behind (folded f x) rest h.1 p.1 (row-with_operands f x (operands x.takes f) h.0 p.0 (AreLast-operands x.takes f) r)
   row-tree_behind f (Block x body end rest) h p r =
-      let ps = all_parts (flat body) (end ∷ flat rest) p.1 in
+      let ps = all_parts (IsPrinted form) (flat body) (end ∷ flat rest) p.1 in
       row-tree_behind (Snoc f (Of x) x.gives (tree_behind Nil body)) rest h.3 ps.1.1
       (a_block f x x.gives (tree_behind Nil body) h.0 p.0 r (row-tree_behind Nil body h.1 ps.0 no_nodes) (nested-code body h.1 ps.0))
   row-tree_behind f (If x body end rest) h p r =
-      let ps = all_parts (flat body) (end ∷ flat rest) p.1 in
+      let ps = all_parts (IsPrinted form) (flat body) (end ∷ flat rest) p.1 in
       let es = ends f r in
       row-tree_behind (Snoc (front f) (Of x) x.gives (Snoc (last f) (Then x) 0 (tree_behind Nil body))) rest h.3 ps.1.1
       (an_if (front f) x x.gives (last f) 0 (tree_behind Nil body) h.0 p.0 es.0 es.1 (row-tree_behind Nil body h.1 ps.0 no_nodes) (nested-code body h.1 ps.0))
   row-tree_behind f (IfElse x body turn other end rest) h p r =
-      let ps = all_parts (flat body) (turn ∷ (flat other ++ end ∷ flat rest)) p.1 in
-      let qs = all_parts (flat other) (end ∷ flat rest) ps.1.1 in
+      let ps = all_parts (IsPrinted form) (flat body) (turn ∷ (flat other ++ end ∷ flat rest)) p.1 in
+      let qs = all_parts (IsPrinted form) (flat other) (end ∷ flat rest) ps.1.1 in
       let es = ends f r in
       row-tree_behind
       (Snoc (front f) (Of x) x.gives (Snoc (Snoc (last f) (Then x) 0 (tree_behind Nil body)) (Else turn) 0 (tree_behind Nil other))) rest h.5 qs.1.1

@@ -1,19 +1,17 @@
 -- In front of what a node holds stands a text in place of pieces that read by themselves.
-use Rattle.std.proofs.Common.{◌≡◌, ℕ, true, List, [], ◌∷◌, ◌++◌, refl, sym, ap, ◌∙◌, subst, append-nil, codes}
-use Rattle.wasmprinter_spec.specs.Character.{class}
+use Rattle.std.proofs.Common.{◌≡◌, ℕ, true, List, [], ◌∷◌, ◌++◌, refl, sym, ap, ◌∙◌, subst, append-nil}
 use Rattle.wasmprinter_spec.specs.Options.{Options, IsBlank}
 use Rattle.wasmprinter_spec.specs.Token.{tokens}
 use Rattle.wasmprinter_spec.specs.Table.{word_of_row}
-use Rattle.wasmprinter_spec.specs.Call.{text_of}
 use Rattle.wasmprinter_spec.specs.Piece as piece
 use Rattle.wasmprinter_spec.specs.Piece.{Piece, OpenPlain, all_calls, all_tokens}
 use Rattle.wasmprinter_spec.specs.Layout.Operators.{Form}
 use Rattle.wasmprinter_spec.specs.Layout.Folded.{head_text}
 use Rattle.wasmprinter_spec.specs.Folding.Code.{Item}
-use Rattle.wasmprinter_spec.specs.Folding.Tree.{Of, Then, Else, Nodes, Nil, Snoc}
+use Rattle.wasmprinter_spec.specs.Folding.Tree.{Of, Then, Else, Nodes}
 use Rattle.wasmprinter_lexical.proofs.Runs.{is_word}
 use Rattle.wasmprinter_lexical.proofs.Pieces.{all_text, text_of-all_calls}
-use Rattle.wasmprinter_lexical.proofs.Respelled.{Respelled, lexed, all_lexed, pieces_lexed, first_spelled}
+use Rattle.wasmprinter_lexical.proofs.Respelled.{Respelled, all_lexed, pieces_lexed, first_spelled}
 use Rattle.wasmprinter_lexical.proofs.Writes.{writes_joined, pieces_tokens}
 use Rattle.wasmprinter_reading.proofs.Tabled.{HasRow, row_for}
 use Rattle.wasmprinter_reading.proofs.Folded.Items.{word as item_word, rest, IsPrinted}

@@ -3,13 +3,13 @@ use Rattle.std.proofs.Common.{◌≡◌, ℕ, ◌+◌, Bool, true, false, cond, 
 use Rattle.std.proofs.lemmas.List.{map-append}
 use Rattle.wasmprinter_spec.specs.Grammar.{◌>>=◌}
 use Rattle.wasmprinter_spec.specs.Forest.{Forest, End, Word, Name, String, Reserved, Group, Note}
-use Rattle.wasmprinter_spec.specs.Row.{Row, Role, Plain, Opens, OpensIf, OpensTry, Turns, Catches, CatchesAll, Delegates, Ends}
+use Rattle.wasmprinter_spec.specs.Row.{Row, Role, Plain, Opens, OpensIf, Ends}
 use Rattle.wasmprinter_spec.specs.Table.{rows_of}
 use Rattle.wasmprinter_spec.specs.Stepped.{stops}
 use Rattle.wasmprinter_spec.specs.Nesting.{advance, at_start}
 use Rattle.wasmprinter_spec.specs.Piece.{flag_byte}
-use Rattle.wasmprinter_spec.specs.Code.{Chunk, chunk, Instruction, Flat, Folded, Then, Else, Code, code_of, with_front, only_instructions, with_word, word_chunk, flattened, operands, role_by, if_nested, branches, folded_as, Head, PartHead, ThenHead, ElseHead, OperatorHead, head, before, branch, with_group, is_hint, hinted, hint_first, with_hint, with_note, code, unfolded}
-use Rattle.wasmprinter_spec.specs.HintsOfModule.{OperatorHint, operator_hint}
+use Rattle.wasmprinter_spec.specs.Code.{Chunk, chunk, Instruction, Flat, Folded, Then, Else, Code, code_of, with_front, only_instructions, with_word, word_chunk, flattened, operands, role_by, if_nested, branches, folded_as, Head, PartHead, ThenHead, ElseHead, OperatorHead, head, before, branch, with_group, is_hint, hint_first, with_hint, with_note, code, unfolded}
+use Rattle.wasmprinter_spec.specs.HintsOfModule.{operator_hint}
 use Rattle.wasmprinter_spec.specs.Text.Items.{each}
 use Rattle.wasmprinter_spec.specs.Text.Hints.{hint_flag, chunk_hints}
 use Rattle.wasmprinter_lexical.proofs.Noted.{Noted, no_items, a_word, a_name, a_noted_name, a_string, a_reserved, a_group, a_note}

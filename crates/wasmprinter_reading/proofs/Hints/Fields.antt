@@ -18,7 +18,7 @@ use Rattle.wasmprinter_spec.specs.Layout.Types.{parameters_of}
 use Rattle.wasmprinter_spec.specs.Layout.Declarations.{Scope}
 use Rattle.wasmprinter_spec.specs.Layout.Imports.{Numbers, number_of, numbers_behind}
 use Rattle.wasmprinter_spec.specs.Text.Hints.{header_words, chunk_hints, function_hints_in, field_hints}
-use Rattle.wasmprinter_spec.specs.Layout.Functions.{result_count}
+use Rattle.wasmprinter_spec.specs.Layout.Functions.{over_lines, result_count}
 use Rattle.wasmprinter_spec.specs.Folding.Refusals.{misplaced_in, misplaced_from}
 use Rattle.wasmprinter_lexical.proofs.Grown.{onto_assoc}
 use Rattle.wasmprinter_lexical.proofs.Noted.{Noted, no_items, a_word, a_name, a_noted_name, a_string, a_group, a_note}
@@ -31,9 +31,9 @@ use Rattle.wasmprinter_reading.proofs.Sorted.{field_rows}
 use Rattle.wasmprinter_reading.proofs.Types.Trees.{groups_items, group_items, signature_if_any_items, type_use_items, members_items, type_group_items_by, type_section_items}
 use Rattle.wasmprinter_reading.proofs.Fields.Start.{start_items}
 use Rattle.wasmprinter_reading.proofs.Fields.Imports.{extern_word, extern_items, imports_items}
-use Rattle.wasmprinter_reading.proofs.Fields.Functions.{body_setting, function_scope, function_hinted, functions_hinted}
+use Rattle.wasmprinter_reading.proofs.Fields.Functions.{function_scope, function_hinted, functions_hinted}
 use Rattle.wasmprinter_reading.proofs.Customs.Notes.{AreNotes}
-use Rattle.wasmprinter_reading.proofs.Foldable.{nothing_joined}
+use Rattle.wasmprinter_reading.proofs.Each.{nothing_joined}
 use Rattle.wasmprinter_reading.proofs.Hints.FoldedBodies.{is_folding, list_hints}
 use Rattle.wasmprinter_reading.proofs.Hints.Bodies.{taken_hints, all_taken, AreHeader, header_onto, header_noted}
 
@@ -170,7 +170,7 @@ module _ (s : Scope) (named : AreNamed s.names) (ranged : AreSignaturesInRange (
       header_noted P (id_items (s.names.items Func i)) (id_is (s.names.items Func i)) _
       (header_noted P (type_use_items s.names (Some i) f.type_index (signature_at s.types f.type_index)) (refl, signature_is s.names (Some i) (signature_at s.types f.type_index)) _
       (header_noted P (groups_items s.names (codes "local") ls) (groups_are s.names (codes "local") ls refl) _
-      (list_hints s.folding (result_count (function_scope s i) f.type_index) (body_setting (function_scope s i) f.body.place) i named ranged hs f.body.value.operators
+      (list_hints s.folding (result_count (function_scope s i) f.type_index) (over_lines (function_scope s i) f.body.place) i named ranged hs f.body.value.operators
       h.body.listed h.body.nested foldable fit))) y n
 
   function_before : (i : ℕ) (x : Forest) (rs : List OperatorHint) → ((y : Forest) → Noted y x → function_hints_in i y ≡ Some rs) →

@@ -2,7 +2,7 @@
 use Rattle.std.proofs.Common.{◌≡◌, ℕ, ◌+◌, ◌-◌, Bool, true, false, ◌||◌, cond, List, [], ◌∷◌, ◌++◌, map, length, Option, Some, None, refl, sym, ap, ◌∙◌, subst, codes, bytes_eq, true≢false}
 use Rattle.std.specs.List.{AllByRecursion, list_any}
 use Rattle.wasmprinter_spec.specs.Grammar.{Placed, ◌>>=◌}
-use Rattle.wasmprinter_spec.specs.Forest.{Forest, End, Word, String, Group, Note}
+use Rattle.wasmprinter_spec.specs.Forest.{Forest}
 use Rattle.wasmprinter_spec.specs.Operator.{Operator}
 use Rattle.wasmprinter_spec.specs.Row.{Role}
 use Rattle.wasmprinter_spec.specs.Table.{role_of}
@@ -14,18 +14,16 @@ use Rattle.wasmprinter_spec.specs.Labels.{labels_after, count_after}
 use Rattle.wasmprinter_spec.specs.Names.{AreNamed}
 use Rattle.wasmprinter_spec.specs.Customs.Hints.{Hint, next_hint, hint_behind}
 use Rattle.wasmprinter_spec.specs.HintsOfModule.{OperatorHint}
-use Rattle.wasmprinter_spec.specs.Code.{Chunk, chunk, is_hint, unfolded}
-use Rattle.wasmprinter_spec.specs.Table.{rows_of}
+use Rattle.wasmprinter_spec.specs.Code.{Chunk, unfolded}
 use Rattle.wasmprinter_spec.specs.Layout.Declarations.{Folding}
 use Rattle.wasmprinter_spec.specs.Layout.Operators.{Setting}
 use Rattle.wasmprinter_spec.specs.Layout.Folded.{item, items}
 use Rattle.wasmprinter_spec.specs.Folding.Arities.{Signatures, label_of_block, label_counts_after}
-use Rattle.wasmprinter_spec.specs.Folding.Code as folding
-use Rattle.wasmprinter_spec.specs.Folding.Code.{Item, Code, AreWithoutTry}
+use Rattle.wasmprinter_spec.specs.Folding.Code.{AreWithoutTry}
 use Rattle.wasmprinter_spec.specs.Folding.Tree.{tree}
 use Rattle.wasmprinter_spec.specs.Folding.Refusals.{is_hintless, misplaced, misplaced_in}
 use Rattle.wasmprinter_spec.specs.Text.Hints.{header_words, body_of, chunk_hints}
-use Rattle.wasmprinter_lexical.proofs.Noted.{Noted, no_items, a_word, a_name, a_noted_name, a_string, a_reserved, a_group, a_note}
+use Rattle.wasmprinter_lexical.proofs.Noted.{Noted, no_items, a_word, a_group, a_note}
 use Rattle.wasmprinter_reading.specs.Listed.{IsListed, AreSignaturesInRange}
 use Rattle.wasmprinter_reading.proofs.Bytes.{bytes_same, same_bytes}
 use Rattle.wasmprinter_reading.proofs.Tabled.{StandsAlone}
@@ -33,7 +31,7 @@ use Rattle.wasmprinter_reading.proofs.Folded.Items.{item_chunk, noted_chunk, own
 use Rattle.wasmprinter_reading.proofs.Folded.ReadBack.{tree_row, tree_unfolds_at}
 use Rattle.wasmprinter_reading.proofs.Folded.Lists.{AreFoldable, code_items, folded_items, list_items, has_tree}
 use Rattle.wasmprinter_reading.proofs.Folded.Begins.{BeginsCode, row_begins}
-use Rattle.wasmprinter_reading.proofs.Foldable.{nothing_joined}
+use Rattle.wasmprinter_reading.proofs.Each.{nothing_joined}
 use Rattle.wasmprinter_reading.proofs.Hints.Bodies.{own_hint, taken_hints, flag-byte, operators_hints}
 use Rattle.wasmprinter_reading.proofs.Hints.Bare.{noted_hints}
 
