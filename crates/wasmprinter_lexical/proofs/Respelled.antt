@@ -1,8 +1,8 @@
 -- Pieces in place of others: their text is the same by all options, and so are the tokens of the text of each.
-use Rattle.std.proofs.Common.{◌≡◌, ℕ, List, [], ◌∷◌, ◌++◌, refl, sym, ap, ap₂, subst, ◌∙◌, append_assoc, append-nil}
+use Rattle.std.proofs.Common.{◌≡◌, List, [], ◌∷◌, ◌++◌, refl, sym, ap, ap₂, subst, ◌∙◌, append_assoc, append-nil}
 use Rattle.wasmprinter_spec.specs.Character.{class}
 use Rattle.wasmprinter_spec.specs.Options.{Options}
-use Rattle.wasmprinter_spec.specs.Token.{Token, tokens, lex, Clear}
+use Rattle.wasmprinter_spec.specs.Token.{Token, tokens, lex}
 use Rattle.wasmprinter_spec.specs.Piece.{Piece, Word, OpenPlain, text, piece_tokens, all_tokens}
 use Rattle.wasmprinter_lexical.proofs.Runs.{word_lexes, open_lexes}
 use Rattle.wasmprinter_lexical.proofs.Pieces.{IsPiece, ArePieces, all_text}

@@ -20,7 +20,7 @@ use Rattle.wasmprinter_spec.specs.Layout.Groups.{group_gap_at, breaks, has_break
 use Rattle.wasmprinter_spec.specs.Layout.Variables.{Variables, grouped}
 use Rattle.wasmprinter_spec.specs.Layout.Declarations.{Scope, Folding}
 use Rattle.wasmprinter_spec.specs.Layout.Types.{parameters_of}
-use Rattle.wasmprinter_spec.specs.Layout.Operators.{OverLines, Setting, hint_pieces, operator_pieces, operators_pieces}
+use Rattle.wasmprinter_spec.specs.Layout.Operators.{Setting, hint_pieces, operator_pieces, operators_pieces}
 use Rattle.wasmprinter_spec.specs.Layout.Functions.{locals_place, local_line, local_pieces, header_pieces, over_lines, result_count, body_by, body_pieces, inner_pieces, function_group}
 use Rattle.wasmprinter_spec.specs.IndexSpaces.{Identifiers, index_space, space_in, index, Context}
 use Rattle.wasmprinter_spec.specs.Text.Items.{identified, groups, ids_of}
