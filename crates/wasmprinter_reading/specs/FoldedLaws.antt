@@ -1,5 +1,5 @@
 -- The law of folded operators: their text reads as exactly them, whatever numbers of operands and results operators are said to have.
-use Rattle.std.specs.Prelude.{◌≡◌, List, Some}
+use Rattle.std.specs.Prelude.{◌≡◌, List, false, Some}
 use Rattle.wasmprinter_spec.specs.Grammar.{Placed}
 use Rattle.wasmprinter_spec.specs.Operator.{Operator}
 use Rattle.wasmprinter_spec.specs.Module.{without_places}
@@ -21,5 +21,5 @@ FoldedOperatorsReadBack =
     (s : Setting) → AreApart s.names → AreNamed s.names →
     (c : Context) (n : Counts) → HaveSameTypes s c n → HaveSameNames s c n →
     (signatures : Signatures) (hs : List (Placed Hint)) (os : List (Placed Operator)) → AreOperators n os →
-    (o : Options) → IsBlank o.indent → (ps : List Piece) → folded_pieces o s signatures hs os ≡ Some ps →
+    (o : Options) → IsBlank o.indent → (ps : List Piece) → folded_pieces o false s signatures hs os ≡ Some ps →
     read_alone c (text_of (all_calls o ps)) ≡ Some (without_places os)
