@@ -210,7 +210,7 @@ global_begins s flat i g =
 
 -- ---- imports and exports, the start function
 
-extern_stays : (s : Scope) (n : ℕ) (t : ExternType) → IsOneLine (extern_pieces s n t)
+pub extern_stays : (s : Scope) (n : ℕ) (t : ExternType) → IsOneLine (extern_pieces s n t)
 unfolding extern_pieces
 extern_stays s n (FuncExtern i) = line_group_gap_stays (codes "func") (header_stays s Func (Some n) n i)
 extern_stays s n (TableExtern t) = line_group_gap_stays (codes "table") (both_stay (declared_stays s row.Table n) (then_stay refl (table_type_stays s.names t)))

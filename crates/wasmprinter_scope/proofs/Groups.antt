@@ -23,10 +23,10 @@ closed-breaks place nesting ps =
 pub behind-line : (ps qs : List Piece) → has_break ps ≡ false → has_break (ps ++ qs) ≡ has_break qs
 behind-line ps qs e = has_break-append ps qs ∙ ap (λ b. b || has_break qs) e
 
--- others, and then what stands on the line
-or-false : (b : Bool) → (b || false) ≡ b
+pub or-false : (b : Bool) → (b || false) ≡ b
 or-false true = refl
 or-false false = refl
 
+-- others, and then what stands on the line
 pub before-line : (ps qs : List Piece) → has_break qs ≡ false → has_break (ps ++ qs) ≡ has_break ps
 before-line ps qs e = has_break-append ps qs ∙ ap (λ b. has_break ps || b) e ∙ or-false (has_break ps)
