@@ -1,0 +1,9 @@
+//! How many operands an operator takes from the stack and how many results it gives, where it stands in a module (section 3.4 of the
+//! WebAssembly Core Specification, "Instructions").
+#![tactic(auto)]
+
+pub mod callees;
+pub mod counts;
+mod immediates;
+pub mod labels;
+pub mod operators;
