@@ -1,5 +1,5 @@
 -- The label that an operator opens, by its immediates.
-use Rattle.std.proofs.Common.{◌≡◌, ℕ, List, Bool, Option, refl, sym, ap, ◌∙◌}
+use Rattle.std.proofs.Common.{◌≡◌, List, Bool, sym, ap, ◌∙◌}
 use Rattle.wasmprinter_spec.specs.Operator.{Opcode, BlockType, Catch, Immediates, Block, TryTable, Operator}
 use Rattle.wasmprinter_spec.specs.Folding.Arities.{Signatures, is_loop, block_gives, label_of_type, label_of_block}
 

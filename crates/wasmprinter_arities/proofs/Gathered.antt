@@ -1,11 +1,11 @@
 -- What is imported of functions and tags, import after import.
-use Rattle.std.proofs.Common.{◌≡◌, ℕ, ◌+◌, ◌<◌, ◌≤◌, get_or, drop, List, [], ◌∷◌, ◌++◌, length, Option, Some, None, append_assoc, append-nil, refl, sym, ap, ◌∙◌}
+use Rattle.std.proofs.Common.{◌≡◌, ℕ, ◌+◌, ◌<◌, ◌≤◌, get_or, drop, List, [], ◌∷◌, ◌++◌, length, Option, Some, None, append_assoc, append-nil, sym, ap, ◌∙◌}
 use Rattle.std.proofs.Math.ListN.{drop_of_length-le}
 use Rattle.std.proofs.lemmas.List.{at_drop_more}
 use Rattle.wasmprinter_spec.specs.Grammar.{Placed}
-use Rattle.wasmprinter_spec.specs.Types.{ExternType, FuncExtern, TagExtern}
+use Rattle.wasmprinter_spec.specs.Types.{ExternType}
 use Rattle.wasmprinter_spec.specs.Placed.{Import}
-use Rattle.wasmprinter_spec.specs.Module.{without_places, imported, selected_first, func_import, tag_import}
+use Rattle.wasmprinter_spec.specs.Module.{without_places, imported, selected_first}
 
 -- what is imported by the imports from one on
 abbrev pub imported_from : (ExternType → Option ℕ) → List (Placed Import) → ℕ → List ℕ

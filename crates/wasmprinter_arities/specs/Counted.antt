@@ -1,5 +1,5 @@
 -- The program's counts, and those of the definitions.
-use Rattle.std.specs.Prelude.{◌≡◌, ℕ, Option, Some, None}
+use Rattle.std.specs.Prelude.{Option, Some, None}
 use Rattle.wasmprinter_spec.specs.Row.{Role, Opens, OpensIf, OpensTry}
 use Rattle.wasmprinter_spec.specs.Folding.Arities.{taking}
 use Rattle.wasmprinter_spec.specs.Folding.Arities.{Counts as DefinedCounts}

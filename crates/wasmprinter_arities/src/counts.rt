@@ -14,6 +14,9 @@ pub struct Counts {
     pub gives: u32,
 }
 
+/// Nothing is taken, and nothing given.
+pub(crate) const NOTHING: Counts = Counts { takes: 0, gives: 0 };
+
 /// So many are taken, and so many given.
 pub(crate) fn taking(takes: u32, gives: u32) -> Counts
     ensures { counts_view result ≡ taking takes gives }
@@ -21,7 +24,7 @@ pub(crate) fn taking(takes: u32, gives: u32) -> Counts
     Counts { takes, gives }
 }
 
-/// One more, or the greatest number of 32 bits.
+/// One more, unless 32 bits can't hold it.
 pub(crate) fn one_more(count: u32) -> u32
     ensures { result ≡ saturated count 1 }
 {
@@ -29,7 +32,7 @@ pub(crate) fn one_more(count: u32) -> u32
 }
 
 /// How many parameters a function type has.
-pub(crate) fn parameter_count(func_type: &FuncType<'_>) -> u32
+pub(crate) fn parameter_count_of(func_type: &FuncType<'_>) -> u32
     ensures { result ≡ length func_type.now.params }
 {
     func_type.params().len()
@@ -43,12 +46,13 @@ pub(crate) fn result_count_of(func_type: &FuncType<'_>) -> u32
 }
 
 /// What a call of a function of the type takes and gives.
-pub(crate) fn of_type(func_type: Option<FuncType<'_>>) -> Option<Counts>
-    ensures { option_map counts_view result ≡ option_map (λ t. taking (length t.params) (length t.results)) func_type.entry }
+pub(crate) fn counts_of_call(func_type: Option<FuncType<'_>>) -> Option<Counts>
+    ensures { option_map counts_view result
+        ≡ option_map (λ t. taking (length t.params) (length t.results)) func_type.entry }
 {
     match func_type {
         Some(func_type) => Some(Counts {
-            takes: parameter_count(&func_type),
+            takes: parameter_count_of(&func_type),
             gives: result_count_of(&func_type),
         }),
         None => None,

@@ -46,6 +46,7 @@ impl LabelCounts {
     pub fn advance(&mut self, role: Role, opened: Option<u32>) -> Result<(), AllocError>
         ensures ok { OnOk result (self.new ≡ label_counts_after (role_view role) opened self.old) }
         ensures memory { OnErr result (Pushes (role_view role)) }
+        ensures unchanged { OnErr result (self.new ≡ self.old) }
     {
         match role {
             Role::Opens | Role::OpensIf | Role::OpensTry => self.counts.push(opened)?,
@@ -73,7 +74,7 @@ impl LabelCounts {
         }
     }
     /// The same of a label that may be missing.
-    pub(crate) fn find_any(&self, own: Option<u32>, label: Option<u32>) -> Option<u32>
+    pub(crate) fn find_if_any(&self, own: Option<u32>, label: Option<u32>) -> Option<u32>
         ensures { result ≡ count_if_any self.now own label }
     {
         self.find(own, label?)

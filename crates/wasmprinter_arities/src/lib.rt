@@ -2,8 +2,9 @@
 //! WebAssembly Core Specification, "Instructions").
 #![tactic(auto)]
 
+pub mod blocks;
 pub mod callees;
 pub mod counts;
-mod immediates;
 pub mod labels;
+mod named;
 pub mod operators;

@@ -1,4 +1,4 @@
-use Rattle.std.proofs.Common.{ℕ, List, Option, ap, sym, ◌∙◌, arith}
+use Rattle.std.proofs.Common.{ℕ, List, Option, ap, ◌∙◌, arith}
 use Rattle.wasmprinter_spec.specs.Folding.Arities.{label_count}
 use Rattle.wasmprinter_arities.proofs.LabelsFound.{found_block, found_body, found_nothing}
 use Rattle.wasmprinter_arities.proofs.labels.LabelCounts.find.Goals as goal

@@ -1,9 +1,9 @@
-use Rattle.std.proofs.Common.{ap, sym, ◌∙◌}
+use Rattle.std.proofs.Common.{ap, ◌∙◌}
 use Rattle.wasmprinter_spec.specs.Folding.Arities.{signatures_within}
 use Rattle.wasmprinter_ops.specs.Immediates.{immediates_view}
 use Rattle.wasmprinter_ops.specs.Blocks.{block_type_view}
 use Rattle.wasmprinter_arities.proofs.BlockLabels.{label_in_block, label_in_try}
-use Rattle.wasmprinter_arities.proofs.operators.label_of_block.Goals as goal
+use Rattle.wasmprinter_arities.proofs.blocks.label_of_block.Goals as goal
 
 pub returns-in-Block : goal.returns-in-Block
 returns-in-Block c own =
