@@ -1,0 +1,211 @@
+//! Nodes written to any printer, without recursion.
+ghost use Rattle.std.specs.Prelude.{◌≡◌, ◌+◌, ◌&&◌, [], ◌∷◌, ◌++◌, ℕ, true, Some, IfOk};
+ghost use Rattle.wasmprinter_spec.specs.Options.{Options, defaults};
+ghost use Rattle.wasmprinter_spec.specs.Piece.{Break, Word, HintNote, OpenPlain, text as text_by};
+ghost use Rattle.wasmprinter_spec.specs.Layout.Groups.{has_break};
+ghost use Rattle.wasmprinter_spec.specs.Layout.Operators.{before_word};
+ghost use Rattle.wasmprinter_print.specs.Prints.{Prints, PrintsOrStops};
+ghost use Rattle.wasmprinter_flat.specs.Settings.{form_view};
+ghost use Rattle.wasmprinter_nodes.specs.Mapping.{map_nodes};
+ghost use Rattle.wasmprinter_nodes.specs.Postorder.{IsPostorder, forest_of};
+ghost use Rattle.wasmprinter_node_text.specs.Shown.{shown_in, IsIn, AreIn, row_pieces, node_front, shown_hint, comment_break};
+ghost use Rattle.wasmprinter_node_text.specs.Tasks.{task_front, IsSound};
+
+use crate::tasks::{Task, put_rest};
+use std::alloc::Global;
+use std::io;
+use wasmprinter_error::Error;
+use wasmprinter_flat::operators::Form;
+use wasmprinter_lines::lines::break_line;
+use wasmprinter_lines::options::PrintOptions;
+use wasmprinter_nodes::{Label, Node};
+use wasmprinter_print::Print;
+use wasmprinter_words::words::{gap, open_plain, shut, word};
+
+/// Says that a branch is hinted as taken.
+const TAKEN_NOTE: &str = "(@metadata.code.branch_hint \"\\01\")";
+
+/// Says that a branch is hinted as not taken.
+const NOT_TAKEN_NOTE: &str = "(@metadata.code.branch_hint \"\\00\")";
+
+/// The text of a label.
+fn label_text<'t>(text: &'t str, label: &Label) -> &'t str
+    requires { IsIn text.now label.now }
+    ensures { result.now ≡ (shown_in text.now label.now).text }
+{
+    &text[label.start..label.stop]
+}
+
+/// Begins a line that is nested so deep, and so much deeper.
+fn break_inside<P: Print>(
+    p: &mut P,
+    options: &PrintOptions,
+    place: u64,
+    nesting: u64,
+    depth: u64,
+) -> io::Result<()>
+    ensures { Prints P.meaning options.now p.old p.new result (Break (Some place) (nesting + depth) ∷ []) }
+{
+    break_line(p, options, Some(place), nesting.saturating_add(depth))
+}
+
+/// Writes what stands before a node or its hint.
+fn write_before<P: Print>(
+    p: &mut P,
+    options: &PrintOptions,
+    form: Form,
+    first: bool,
+    place: u64,
+    nesting: u64,
+    depth: u64,
+) -> io::Result<()>
+    ensures { Prints P.meaning options.now p.old p.new result (before_word (form_view form) first place (nesting + depth)) }
+{
+    match form {
+        Form::OverLines => break_inside(p, options, place, nesting, depth),
+        Form::InLine => {
+            if first {
+                return Ok(());
+            }
+            gap(p)
+        }
+    }
+}
+
+/// Writes the annotation of a hint, without a style.
+#[tactic(auto, unfolding(wasmprinter_spec::specs::Quoted::quoted_bytes, wasmprinter_spec::specs::Quoted::byte_text))]
+fn write_note<P: Print>(p: &mut P, taken: bool) -> io::Result<()>
+    ensures { (o : Options) → Prints P.meaning o p.old p.new result (Word (text_by defaults (HintNote taken)) ∷ []) }
+{
+    word(p, if taken { TAKEN_NOTE } else { NOT_TAKEN_NOTE })
+}
+
+/// Writes the hint of a node in front of it, if there is one.
+fn write_hint<P: Print>(
+    p: &mut P,
+    options: &PrintOptions,
+    form: Form,
+    first: bool,
+    label: &Label,
+    nesting: u64,
+    depth: u64,
+) -> io::Result<()>
+    ensures { Prints P.meaning options.now p.old p.new result (shown_hint (form_view form) first label.now.place (nesting + depth) label.now.hint) }
+{
+    match label.hint {
+        Some(taken) => {
+            write_before(p, options, form, first, label.place, nesting, depth)?;
+            write_note(p, taken)
+        }
+        None => Ok(()),
+    }
+}
+
+/// Ends the line behind a text with a comment up to the end of the line, where a parenthesis would follow.
+fn end_comment<P: Print>(
+    p: &mut P,
+    options: &PrintOptions,
+    leaf: bool,
+    label: &Label,
+    nesting: u64,
+    depth: u64,
+) -> io::Result<()>
+    ensures { Prints P.meaning options.now p.old p.new result (comment_break leaf label.now.comment label.now.place (nesting + depth)) }
+{
+    if leaf && label.comment {
+        break_inside(p, options, label.place, nesting, depth)
+    } else {
+        Ok(())
+    }
+}
+
+/// Writes a node up to the nodes that it holds.
+fn write_node<P: Print>(
+    p: &mut P,
+    options: &PrintOptions,
+    form: Form,
+    leads: bool,
+    leaf: bool,
+    text: &str,
+    label: &Label,
+    nesting: u64,
+    depth: u64,
+) -> io::Result<()>
+    requires { IsIn text.now label.now }
+    ensures { Prints P.meaning options.now p.old p.new result (node_front (form_view form) leads leaf (nesting + depth) (shown_in text.now label.now)) }
+{
+    write_hint(p, options, form, leads, label, nesting, depth)?;
+    let first = leads && label.hint.is_none();
+    write_before(p, options, form, first, label.place, nesting, depth)?;
+    open_plain(p, label_text(text, label))?;
+    end_comment(p, options, leaf, label, nesting, depth)
+}
+
+/// Whether a line begins in a node before the nodes that it holds.
+fn begins_line(form: Form, leaf: bool, comment: bool) -> bool {
+    match form {
+        Form::OverLines => true,
+        Form::InLine => leaf && comment,
+    }
+}
+
+/// Writes what comes first of a task, and tells whether a line began.
+fn write_front<P: Print>(
+    p: &mut P,
+    options: &PrintOptions,
+    form: Form,
+    nesting: u64,
+    text: &str,
+    task: &Task<'_>,
+) -> io::Result<bool>
+    requires { (bound : ℕ) × IsSound text.now bound task.now }
+    ensures prints { Prints P.meaning options.now p.old p.new result (task_front (form_view form) nesting text.now task.now) }
+    ensures lines { IfOk result (λ lines. lines ≡ has_break (task_front (form_view form) nesting text.now task.now)) }
+{
+    match task {
+        Task::Row(_, _, _) => Ok(false),
+        Task::One(label, held, leads, depth) => {
+            let leaf = held.is_empty();
+            write_node(
+                p, options, form, *leads, leaf, text, label, nesting, *depth,
+            )?;
+            Ok(begins_line(form, leaf, label.comment))
+        }
+        Task::Close => {
+            shut(p)?;
+            Ok(false)
+        }
+    }
+}
+
+/// Writes nodes, nested so deep, with their texts from `text`, and tells whether a line began.
+///
+/// # Errors
+///
+/// Those of the printer, and where memory is refused to what is still to be written.
+pub fn write_nodes<P: Print>(
+    alloc: Global,
+    p: &mut P,
+    options: &PrintOptions,
+    form: Form,
+    nesting: u64,
+    nodes: &[Node],
+    text: &str,
+) -> Result<bool, Error>
+    requires { IsPostorder nodes.now }
+    requires { AreIn text.now (forest_of nodes.now) }
+    ensures prints { PrintsOrStops P.meaning options.now p.old p.new result
+        (row_pieces (form_view form) true nesting (map_nodes (shown_in text.now) (forest_of nodes.now))) }
+    ensures lines { IfOk result (λ lines. lines ≡ has_break
+        (row_pieces (form_view form) true nesting (map_nodes (shown_in text.now) (forest_of nodes.now)))) }
+{
+    let mut lines = false;
+    let mut tasks = Vec::new(alloc);
+    tasks.push(Task::Row(nodes, true, 0))?;
+    while let Some(task) = tasks.pop() {
+        put_rest(&mut tasks, task)?;
+        let began = write_front(p, options, form, nesting, text, &task)?;
+        lines = lines || began;
+    }
+    Ok(lines)
+}
