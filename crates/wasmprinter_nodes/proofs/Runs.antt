@@ -1,5 +1,5 @@
 -- A whole list of operators.
-use Rattle.std.proofs.Common.{◌≡◌, ℕ, List, [], ◌∷◌, ◌++◌, map, refl, sym, ◌∙◌, ap, subst}
+use Rattle.std.proofs.Common.{◌≡◌, List, [], ◌∷◌, ◌++◌, map, refl, sym, ◌∙◌, ap, subst}
 use Rattle.wasmprinter_spec.specs.Row as row
 use Rattle.wasmprinter_spec.specs.Folding.Code.{Item, Code, Done, Plain, Block, If, IfElse, flat, role, IsFit}
 use Rattle.wasmprinter_spec.specs.Folding.Tree.{Head, Of, Then, Else, NodesOf, Nodes, Nil, Snoc, joined, front, last, folded, tree_behind, tree}
@@ -8,7 +8,7 @@ use Rattle.wasmprinter_nodes.specs.declared.Node.{Node}
 use Rattle.wasmprinter_nodes.specs.declared.builder.Frame.{Frame}
 use Rattle.wasmprinter_nodes.specs.Postorder.{postorder, forest_of, IsPostorder}
 use Rattle.wasmprinter_nodes.specs.Building.{Open, Top, InBlock, InThen, InElse, StateOf, Step, start, state_at, step, step_of, steps, run_all}
-use Rattle.wasmprinter_nodes.specs.Mapping.{map_nodes}
+use Rattle.wasmprinter_nodes.specs.Mapping.{map_nodes, map_step}
 use Rattle.wasmprinter_nodes.specs.Frames.{State, base, StandsAt}
 use Rattle.wasmprinter_nodes.proofs.Postorders.{postorder-joined, forest_of-postorder, IsPostorder-postorder}
 use Rattle.wasmprinter_nodes.proofs.Maps.{front-map, last-map, folded-map}
@@ -46,7 +46,8 @@ stands_whole nodes blocks s h =
     (IsPostorder-postorder (joined (base_row s.outer) s.groups))
 
 -- where no block is open, it stands for those of the state
-pub stands_closed : (nodes : List Node) (blocks : List Frame) (s : State) → StandsAt nodes blocks s → s.outer ≡ Top → forest_of nodes ≡ s.groups
+pub stands_closed : (nodes : List Node) (blocks : List Frame) (s : State) → StandsAt nodes blocks s → s.outer ≡ Top
+    → forest_of nodes ≡ s.groups
 stands_closed nodes blocks s h e =
     ap forest_of (h.rows ∙ ap (λ (o : Open Label). base o ++ postorder s.groups) e) ∙ forest_of-postorder s.groups
 
@@ -57,23 +58,29 @@ module _ {H : Type 0} where
   run_all-append s [] b = refl
   run_all-append s (t ∷ a) b = run_all-append (step s t) a b
 
+  pub run_all-push : (s : StateOf H) (ts : List (Step H)) (t : Step H) → run_all s (ts ++ t ∷ []) ≡ step (run_all s ts) t
+  run_all-push s ts t = run_all-append s ts (t ∷ [])
+
 module _ {H : Type 0} (v : Head → H) where
   pub steps-append : (a b : List Item) → steps v (a ++ b) ≡ steps v a ++ steps v b
   steps-append [] b = refl
   steps-append (x ∷ a) b = ap (λ (l : List (Step H)). step_of v (role x) x ∷ l) (steps-append a b)
 
   -- one item, then others
-  run-item : (s : StateOf H) (x : Item) (xs : List Item) (r : row.Role) → role x ≡ r → run_all s (steps v (x ∷ xs)) ≡ run_all (step s (step_of v r x)) (steps v xs)
+  run-item : (s : StateOf H) (x : Item) (xs : List Item) (r : row.Role) → role x ≡ r
+      → run_all s (steps v (x ∷ xs)) ≡ run_all (step s (step_of v r x)) (steps v xs)
   run-item s x xs r e = ap (λ (q : row.Role). run_all (step s (step_of v q x)) (steps v xs)) e
 
   -- code, then others
-  run-behind : (s t : StateOf H) (code : Code) (xs : List Item) → run_all s (steps v (flat code)) ≡ t → run_all s (steps v (flat code ++ xs)) ≡ run_all t (steps v xs)
+  run-behind : (s t : StateOf H) (code : Code) (xs : List Item) → run_all s (steps v (flat code)) ≡ t
+      → run_all s (steps v (flat code ++ xs)) ≡ run_all t (steps v xs)
   run-behind s t code xs e =
       ap (run_all s) (steps-append (flat code) xs)
       ∙ (run_all-append s (steps v (flat code)) (steps v xs) ∙ ap (λ (u : StateOf H). run_all u (steps v xs)) e)
 
   -- well-nested operators leave the open blocks as they are, and their nodes behind those that were there
-  pub run-flat : (o : Open H) (f : Nodes) (code : Code) → IsFit code → run_all (state_at o (map_nodes v f)) (steps v (flat code)) ≡ state_at o (map_nodes v (tree_behind f code))
+  pub run-flat : (o : Open H) (f : Nodes) (code : Code) → IsFit code
+      → run_all (state_at o (map_nodes v f)) (steps v (flat code)) ≡ state_at o (map_nodes v (tree_behind f code))
   run-flat o f Done h = refl
   run-flat o f (Plain x rest) h =
       run-item (state_at o (map_nodes v f)) x (flat rest) row.Plain h.0
@@ -112,3 +119,20 @@ module _ {H : Type 0} (v : Head → H) where
   -- code is folded into its nodes
   pub run-tree : (code : Code) → IsFit code → run_all start (steps v (flat code)) ≡ state_at Top (map_nodes v (tree code))
   run-tree code h = run-flat Top Nil code h
+
+-- steps with something else first in each node
+module _ {H K : Type 0} (v : Head → H) (w : H → K) where
+  pub step_of-map : (r : row.Role) (x : Item) → map_step w (step_of v r x) ≡ step_of (λ h. w (v h)) r x
+  step_of-map row.Plain x = refl
+  step_of-map row.Opens x = refl
+  step_of-map row.OpensIf x = refl
+  step_of-map row.OpensTry x = refl
+  step_of-map row.Turns x = refl
+  step_of-map row.Catches x = refl
+  step_of-map row.CatchesAll x = refl
+  step_of-map row.Delegates x = refl
+  step_of-map row.Ends x = refl
+
+  pub steps-map : (xs : List Item) → map (map_step w) (steps v xs) ≡ steps (λ h. w (v h)) xs
+  steps-map [] = refl
+  steps-map (x ∷ xs) = rw (step_of-map (role x) x, steps-map xs) refl
