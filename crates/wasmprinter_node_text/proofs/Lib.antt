@@ -1,0 +1,5 @@
+pub mod RowLaws
+pub mod TaskLaws
+pub mod TextLaws
+pub mod LabelLaws
+pub mod Sequences

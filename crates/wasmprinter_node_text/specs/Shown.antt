@@ -7,6 +7,7 @@ use Rattle.wasmprinter_spec.specs.Layout.Operators.{Form, before_word}
 use Rattle.wasmprinter_spec.specs.Layout.Folded.{head_place, head_hint, head_calls, painted, has_line_comment}
 use Rattle.wasmprinter_spec.specs.Folding.Tree.{Head, NodesOf, Nil, Snoc, is_nil}
 use Rattle.wasmprinter_nodes.specs.declared.Label.{Label}
+use Rattle.wasmprinter_nodes.specs.Heads.{AllNodes}
 
 -- its place, whether its branch is hinted as taken, its text, and whether that holds a comment up to the end of the line
 pub record Shown : Type 0 where
@@ -42,8 +43,7 @@ pub record IsIn (buffer : List ℕ) (l : Label) : Type 0 where
 
 -- the same of the label of each node
 abbrev pub AreIn : List ℕ → NodesOf Label → Type 0
-AreIn buffer Nil = Unit {0}
-AreIn buffer (Snoc before label results held) = AreIn buffer before × IsIn buffer label × AreIn buffer held
+AreIn buffer f = AllNodes (IsIn buffer) f
 
 -- ---- the layout
 

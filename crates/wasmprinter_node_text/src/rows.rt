@@ -73,11 +73,15 @@ fn write_before<P: Print>(
 }
 
 /// Writes the annotation of a hint, without a style.
-#[tactic(auto, unfolding(wasmprinter_spec::specs::Quoted::quoted_bytes, wasmprinter_spec::specs::Quoted::byte_text))]
+#[tactic(auto, using(crate::proofs::Sequences::taken_note, crate::proofs::Sequences::not_taken_note))]
 fn write_note<P: Print>(p: &mut P, taken: bool) -> io::Result<()>
     ensures { (o : Options) → Prints P.meaning o p.old p.new result (Word (text_by defaults (HintNote taken)) ∷ []) }
 {
-    word(p, if taken { TAKEN_NOTE } else { NOT_TAKEN_NOTE })
+    if taken {
+        word(p, TAKEN_NOTE)
+    } else {
+        word(p, NOT_TAKEN_NOTE)
+    }
 }
 
 /// Writes the hint of a node in front of it, if there is one.
@@ -192,8 +196,8 @@ pub fn write_nodes<P: Print>(
     nodes: &[Node],
     text: &str,
 ) -> Result<bool, Error>
-    requires { IsPostorder nodes.now }
-    requires { AreIn text.now (forest_of nodes.now) }
+    requires whole { IsPostorder nodes.now }
+    requires texts { AreIn text.now (forest_of nodes.now) }
     ensures prints { PrintsOrStops P.meaning options.now p.old p.new result
         (row_pieces (form_view form) true nesting (map_nodes (shown_in text.now) (forest_of nodes.now))) }
     ensures lines { IfOk result (λ lines. lines ≡ has_break
@@ -203,7 +207,7 @@ pub fn write_nodes<P: Print>(
     let mut tasks = Vec::new(alloc);
     tasks.push(Task::Row(nodes, true, 0))?;
     while let Some(task) = tasks.pop() {
-        put_rest(&mut tasks, task)?;
+        put_rest(&mut tasks, &task)?;
         let began = write_front(p, options, form, nesting, text, &task)?;
         lines = lines || began;
     }

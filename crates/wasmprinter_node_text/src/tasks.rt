@@ -1,5 +1,5 @@
 //! What is still to be written of nodes.
-ghost use Rattle.std.specs.Prelude.{◌≡◌, ℕ, ◌+◌, ◌≤◌, ◌<◌, ◌^◌, ◌++◌, List, length, OnOk};
+ghost use Rattle.std.specs.Prelude.{◌≡◌, ℕ, ◌+◌, ◌*◌, ◌≤◌, ◌<◌, ◌^◌, ◌++◌, List, length, OnOk};
 ghost use Rattle.wasmprinter_spec.specs.Layout.Operators.{Form};
 ghost use Rattle.wasmprinter_nodes.specs.Postorder.{IsPostorder};
 ghost use Rattle.wasmprinter_node_text.specs.Tasks.{pieces_of_row, pieces_left, task_rest, IsSound, IsSoundRow, AllSound, steps_left, steps_of};
@@ -42,14 +42,14 @@ pub fn put_row<'a>(
 }
 
 /// Puts what is left of a task, once its front is written, on top of the others.
-pub fn put_rest<'a>(tasks: &mut Vec<Task<'a>>, task: Task<'a>) -> Result<(), AllocError>
-    requires sound { (buffer : List ℕ) × (bound : ℕ) × IsSound buffer bound task × (bound < 2 ^ 64) }
+pub fn put_rest<'a>(tasks: &mut Vec<Task<'a>>, task: &Task<'a>) -> Result<(), AllocError>
+    requires sound { (buffer : List ℕ) × (bound : ℕ) × IsSound buffer bound task.now × (bound < 2 ^ 64) }
     ensures pieces { OnOk result ((form : Form) (nesting : ℕ) (buffer : List ℕ) →
-        pieces_left form nesting buffer tasks.new.items ≡ task_rest form nesting buffer task ++ pieces_left form nesting buffer tasks.old.items) }
-    ensures steps { OnOk result (steps_left tasks.new.items < steps_of task + steps_left tasks.old.items) }
-    ensures sound { OnOk result ((buffer : List ℕ) (bound : ℕ) → IsSound buffer bound task → AllSound buffer bound tasks.old.items → AllSound buffer bound tasks.new.items) }
+        pieces_left form nesting buffer tasks.new.items ≡ task_rest form nesting buffer task.now ++ pieces_left form nesting buffer tasks.old.items) }
+    ensures steps { OnOk result (steps_left tasks.new.items < steps_of task.now + steps_left tasks.old.items) }
+    ensures sound { OnOk result ((buffer : List ℕ) (bound : ℕ) → IsSound buffer bound task.now → AllSound buffer bound tasks.old.items → AllSound buffer bound tasks.new.items) }
 {
-    match task {
+    match *task {
         Task::Row(nodes, first, depth) => put_row(tasks, nodes, first, depth),
         Task::One(_, held, _, depth) => {
             tasks.extend_from_slice(&[Task::Close, Task::Row(held, false, depth + 1)])?;
