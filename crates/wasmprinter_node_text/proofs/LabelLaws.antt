@@ -30,9 +30,6 @@ module _ (buffer : List ℕ) (l : Label) (h : IsIn buffer l) where
       subst (IsCharBoundary buffer) at
       (IsCharBoundary-at_seam buffer (h.before ++ h.text) h.after (h.parts ∙ sym (append_assoc h.before h.text h.after)) h.is_rest)
 
-  pub start_first : l.start ≤ l.stop
-  start_first = omega (arith, h.stops)
-
   -- what lies there is the text
   pub text_there : take (l.stop - l.start) (drop l.start buffer) ≡ h.text
   text_there =
@@ -59,7 +56,16 @@ module _ (buffer : List ℕ) (l : Label) (h : IsIn buffer l) where
         is_rest = IsUtf8-append h.after more h.is_rest u;
       }
 
-shown_by : Label → List ℕ → Shown
+  -- and the text is there in the longer one
+  pub text_there_longer : (more new : List ℕ) → IsUtf8 more → new ≡ buffer ++ more → take (l.stop - l.start) (drop l.start new) ≡ h.text
+  text_there_longer more new u e =
+      let size : length h.text ≡ l.stop - l.start = omega (arith, h.stops) in
+      let longer = in_longer more new u e in
+      ap (λ (b : List ℕ). take (l.stop - l.start) (drop l.start b)) longer.parts
+      ∙ (ap (take (l.stop - l.start)) (drop_at h.before (h.text ++ (h.after ++ more)) l.start h.starts)
+      ∙ take_at h.text (h.after ++ more) (l.stop - l.start) size)
+
+abbrev shown_by : Label → List ℕ → Shown
 shown_by l text = record { place = l.place; hint = l.hint; text = text; comment = l.comment }
 
 -- A text stays where it lies when the buffer grows,
@@ -69,23 +75,22 @@ in_grown old new l g h = in_longer old l h g.more new g.is_text g.parts
 -- and what is printed of its node stays the same.
 pub shown_grown : (old new : List ℕ) (l : Label) → Grows old new → IsIn old l → shown_in new l ≡ shown_in old l
 shown_grown old new l g h =
-    let longer = in_longer old l h g.more new g.is_text g.parts in
-    ap (shown_by l) (text_there new l longer ∙ sym (text_there old l h))
+    ap (shown_by l) (text_there_longer old l h g.more new g.is_text g.parts ∙ sym (text_there old l h))
 
 -- The same of all labels of nodes.
 pub are_grown : (old new : List ℕ) (f : NodesOf Label) → Grows old new → AreIn old f → AreIn new f
 are_grown old new Nil g h = tt
 are_grown old new (Snoc before l results held) g h =
-    (are_grown old new before g h.0, (in_grown old new l g h.1, are_grown old new held g h.2))
+    (are_grown old new before g h.0, in_grown old new l g h.1, are_grown old new held g h.2)
 
 pub all_shown_grown : (old new : List ℕ) (f : NodesOf Label) → Grows old new → AreIn old f → map_nodes (shown_in new) f ≡ map_nodes (shown_in old) f
 all_shown_grown old new Nil g h = refl
 all_shown_grown old new (Snoc before l results held) g h =
-    rw (all_shown_grown old new before g h.0, all_shown_grown old new held g h.2.1, shown_grown old new l g h.1) refl
+    rw (all_shown_grown old new before g h.0, all_shown_grown old new held g h.2, shown_grown old new l g h.1) refl
 
 -- ---- semicolons
 
-comment_behind : Bool → List ℕ → Bool
+abbrev comment_behind : Bool → List ℕ → Bool
 comment_behind true bs = has_line_comment (59 ∷ bs)
 comment_behind false bs = has_line_comment bs
 
@@ -121,11 +126,12 @@ seen_comment bs = seen_behind unseen bs
 
 -- ---- a new text
 
-module _ (old new : View) (place start : ℕ) (hint : Option Bool) (layout : List Call) (a : Adds (begun old) layout new) (s : start ≡ length old.bytes) where
-  label_of : Label
-  label_of = record { place = place; hint = hint; start = start; stop = length new.bytes; comment = new.seen.double }
+-- the label of the last text
+abbrev pub label_of : View → ℕ → ℕ → Option Bool → Label
+label_of new place start hint = record { place = place; hint = hint; start = start; stop = length new.bytes; comment = new.seen.double }
 
-  last_in : IsIn new.bytes label_of
+module _ (old new : View) (place start : ℕ) (hint : Option Bool) (layout : List Call) (a : Adds (begun old) layout new) (s : start ≡ length old.bytes) where
+  last_in : IsIn new.bytes (label_of new place start hint)
   last_in =
       record {
         before = old.bytes;
@@ -139,13 +145,21 @@ module _ (old new : View) (place start : ℕ) (hint : Option Bool) (layout : Lis
       }
 
   -- its label says where it lies,
-  pub entered_in : (l : Label) → l ≡ label_of → IsIn new.bytes l
+  pub entered_in : (l : Label) → l ≡ label_of new place start hint → IsIn new.bytes l
   entered_in l e = subst (IsIn new.bytes) (sym e) last_in
 
+  last_there : take (length new.bytes - start) (drop start new.bytes) ≡ painted old.paints layout
+  last_there =
+      let size : length (painted old.paints layout) ≡ length new.bytes - start = omega (arith, s, ap length a.bytes, length-append old.bytes (painted old.paints layout)) in
+      ap (λ (b : List ℕ). take (length new.bytes - start) (drop start b)) a.bytes
+      ∙ (ap (take (length new.bytes - start)) (drop_at old.bytes (painted old.paints layout) start (sym s))
+      ∙ (ap (take (length new.bytes - start)) (sym (append-nil (painted old.paints layout)))
+      ∙ take_at (painted old.paints layout) [] (length new.bytes - start) size))
+
   -- and shows what was written
-  pub entered_shown : (l : Label) → l ≡ label_of → shown_in new.bytes l ≡ shown place hint old.paints layout
+  pub entered_shown : (l : Label) → l ≡ label_of new place start hint → shown_in new.bytes l ≡ shown place hint old.paints layout
   entered_shown l e =
       ap (shown_in new.bytes) e
       ∙ ap₂ (λ (text : List ℕ) (comment : Bool). record { place = place; hint = hint; text = text; comment = comment })
-      (text_there new.bytes label_of last_in)
+      last_there
       (ap (λ (x : Semicolons). x.double) a.seen ∙ seen_comment (text_of layout))

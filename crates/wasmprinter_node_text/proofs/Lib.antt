@@ -2,4 +2,4 @@ pub mod RowLaws
 pub mod TaskLaws
 pub mod TextLaws
 pub mod LabelLaws
-pub mod Sequences
+pub mod Constants

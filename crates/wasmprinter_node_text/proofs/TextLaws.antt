@@ -1,8 +1,11 @@
 -- What calls make of a buffer of texts: it grows by their text, with the sequences of their styles where they are wanted.
-use Rattle.std.proofs.Common.{◌≡◌, ℕ, ◌+◌, ◌-◌, ◌==◌, ◌&&◌, ◌||◌, Bool, true, false, List, [], ◌∷◌, ◌++◌, length, take, drop, refl, sym, ◌∙◌, ap, ap₂, subst, append_assoc, arith, map, length-append}
+use Rattle.std.proofs.Common.{◌≡◌, ℕ, ◌+◌, ◌-◌, ◌==◌, ◌&&◌, ◌||◌, Bool, true, false, List, [], ◌∷◌, ◌++◌, length, take, drop, refl, sym, ◌∙◌, ap, ap₂, subst, append_assoc, arith, map, length-append, ltb, ◌<◌, true≢false, if◌then◌else◌}
 use Rattle.std.proofs.lemmas.List.{append-nil}
-use Rattle.std.proofs.lemmas.Str.{IsUtf8-append, IsUtf8-nil, IsUtf8-from_is_utf8}
-use Rattle.std.specs.Prelude.{IsUtf8, Result, Ok, Err, None}
+use Rattle.std.proofs.lemmas.Str.{IsUtf8-append, IsUtf8-nil, IsUtf8-from_ascii}
+use Rattle.std.proofs.lemmas.Str.Ascii.{IsAscii-nil, IsAscii-cons}
+use Rattle.std.proofs.lemmas.Bool.{ltb-true}
+use Rattle.std.specs.Str.{IsAscii}
+use Rattle.std.specs.Prelude.{IsUtf8, Result, Ok, Err, Option}
 use Rattle.std.specs.Fmt.{digits}
 use Rattle.std.specs.declared.io.Error.{Error as IoError}
 use Rattle.wasmprinter_spec.specs.Call.{Call, Text, Newline, Line, Start, Claim, Style, Literal, Name, Keyword, TypeName, Comment, Reset, call_text, text_of, cut_call, atoms}
@@ -11,7 +14,7 @@ use Rattle.wasmprinter_spec.specs.Meaning.{Run, Failed}
 use Rattle.wasmprinter_spec.specs.Layout.Folded.{painted}
 use Rattle.wasmprinter_print.specs.Emits.{Made, Through, AtCall, Stopped, ending}
 use Rattle.wasmprinter_node_text.specs.declared.semicolons.Semicolons.{Semicolons}
-use Rattle.wasmprinter_node_text.specs.Buffers.{View, see_all, with_text, with_sequences, after, IsTextual, texts_meaning, Grows}
+use Rattle.wasmprinter_node_text.specs.Buffers.{View, see, see_all, with_text, with_sequences, after, IsTextual, texts_meaning, Grows}
 
 -- ---- text of lists of calls
 
@@ -65,7 +68,7 @@ painted_alike false k l e = text_alike k l e
 -- ---- one call
 
 -- what one call adds
-written : Bool → Call → List ℕ
+abbrev written : Bool → Call → List ℕ
 written true c = coloured_bytes c
 written false c = call_text c
 
@@ -126,21 +129,37 @@ after_seen v (Line place) = refl
 after_seen v (Start style) = start_seen v.paints v (coloured_bytes (Start style))
 after_seen v (Claim name place bytes answer) = refl
 
-see_all-append : (s : Semicolons) (x y : List ℕ) → see_all s (x ++ y) ≡ see_all (see_all s x) y
-see_all-append s [] y = refl
-see_all-append s (b ∷ x) y = see_all-append _ x y
+see_all-append : (x y : List ℕ) (s : Semicolons) → see_all s (x ++ y) ≡ see_all (see_all s x) y
+see_all-append [] y s = refl
+see_all-append (b ∷ x) y s = see_all-append x y (see s b)
+
+-- whether each byte is ASCII
+abbrev all_low : List ℕ → Bool
+all_low [] = true
+all_low (b ∷ bs) = if ltb b 128 then all_low bs else false
+
+low_first : (b : ℕ) (bs : List ℕ) (x : Bool) → ltb b 128 ≡ x → (if x then all_low bs else false) ≡ true → (b < 128) × (all_low bs ≡ true)
+low_first b bs true e h = (ltb-true b 128 e, h)
+low_first b bs false e h = absurd (true≢false (sym h))
+
+low_ascii : (bs : List ℕ) → all_low bs ≡ true → IsAscii bs
+low_ascii [] h = IsAscii-nil
+low_ascii (b ∷ bs) h = let both = low_first b bs (ltb b 128) refl h in IsAscii-cons b bs both.0 (low_ascii bs both.1)
+
+low_text : (bs : List ℕ) → all_low bs ≡ true → IsUtf8 bs
+low_text bs h = IsUtf8-from_ascii bs (low_ascii bs h)
 
 style_text : (style : Style) → IsUtf8 (coloured_bytes (Start style))
 unfolding digits
-style_text Literal = IsUtf8-from_is_utf8 _ refl
-style_text Name = IsUtf8-from_is_utf8 _ refl
-style_text Keyword = IsUtf8-from_is_utf8 _ refl
-style_text TypeName = IsUtf8-from_is_utf8 _ refl
-style_text Comment = IsUtf8-from_is_utf8 _ refl
-style_text Reset = IsUtf8-from_is_utf8 _ refl
+style_text Literal = low_text (coloured_bytes (Start Literal)) refl
+style_text Name = low_text (coloured_bytes (Start Name)) refl
+style_text Keyword = low_text (coloured_bytes (Start Keyword)) refl
+style_text TypeName = low_text (coloured_bytes (Start TypeName)) refl
+style_text Comment = low_text (coloured_bytes (Start Comment)) refl
+style_text Reset = low_text (coloured_bytes (Start Reset)) refl
 
 feed_text : IsUtf8 (10 ∷ [])
-feed_text = IsUtf8-from_is_utf8 _ refl
+feed_text = low_text (10 ∷ []) refl
 
 written_text : (paints : Bool) (c : Call) → IsTextual c → IsUtf8 (written paints c)
 written_text true (Text s) h = h
@@ -177,7 +196,7 @@ adds_first s t c cs is h =
           h.bytes ∙ ap₂ (λ x y. x ++ y) (after_bytes s c) rest ∙ append_assoc s.bytes (written s.paints c) (painted s.paints cs)
           ∙ ap (λ l. s.bytes ++ l) (sym (painted_first s.paints c cs));
       paints = h.paints ∙ same;
-      seen = h.seen ∙ ap (λ x. see_all x (text_of cs)) (after_seen s c) ∙ sym (see_all-append s.seen (call_text c) (text_of cs));
+      seen = h.seen ∙ ap (λ x. see_all x (text_of cs)) (after_seen s c) ∙ sym (see_all-append (call_text c) (text_of cs) s.seen);
       is_text =
           subst IsUtf8 (sym (painted_first s.paints c cs))
           (IsUtf8-append (written s.paints c) (painted s.paints cs) (written_text s.paints c is) (subst IsUtf8 rest h.is_text));

@@ -1,9 +1,10 @@
 -- What is printed of a node in front of the nodes that it holds, and the layout of nodes by it.
 use Rattle.std.specs.Prelude.{◌≡◌, ℕ, ◌+◌, ◌-◌, ◌&&◌, List, [], ◌∷◌, ◌++◌, length, take, drop, Bool, true, false, Option, Some, None, option_map, IsUtf8}
+use Rattle.std.specs.Option.{is_none}
 use Rattle.wasmprinter_spec.specs.Call.{Call, text_of}
 use Rattle.wasmprinter_spec.specs.Options.{defaults}
 use Rattle.wasmprinter_spec.specs.Piece.{Piece, Break, Word, OpenPlain, Shut, HintNote, text}
-use Rattle.wasmprinter_spec.specs.Layout.Operators.{Form, before_word}
+use Rattle.wasmprinter_spec.specs.Layout.Operators.{Form, OverLines, InLine, before_word}
 use Rattle.wasmprinter_spec.specs.Layout.Folded.{head_place, head_hint, head_calls, painted, has_line_comment}
 use Rattle.wasmprinter_spec.specs.Folding.Tree.{Head, NodesOf, Nil, Snoc, is_nil}
 use Rattle.wasmprinter_nodes.specs.declared.Label.{Label}
@@ -52,11 +53,6 @@ abbrev pub shown_hint : Form → Bool → ℕ → ℕ → Option Bool → List P
 shown_hint form first place nesting None = []
 shown_hint form first place nesting (Some taken) = before_word form first place nesting ++ Word (text defaults (HintNote taken)) ∷ []
 
--- whether there is no hint
-abbrev pub is_unhinted : Option Bool → Bool
-is_unhinted None = true
-is_unhinted (Some taken) = false
-
 -- The parenthesis that closes a node must not stand in a comment that goes up to the end of the line.
 abbrev pub comment_break : Bool → Bool → ℕ → ℕ → List Piece
 comment_break true true place nesting = Break (Some place) nesting ∷ []
@@ -66,7 +62,12 @@ comment_break _ _ place nesting = []
 abbrev pub node_front : Form → Bool → Bool → ℕ → Shown → List Piece
 node_front form leads leaf nesting s =
     shown_hint form leads s.place nesting s.hint
-    ++ (before_word form (leads && is_unhinted s.hint) s.place nesting ++ (OpenPlain s.text ∷ comment_break leaf s.comment s.place nesting))
+    ++ (before_word form (leads && is_none s.hint) s.place nesting ++ (OpenPlain s.text ∷ comment_break leaf s.comment s.place nesting))
+
+-- whether a line begins there
+abbrev pub begins_line : Form → Bool → Bool → Bool
+begins_line OverLines leaf comment = true
+begins_line InLine leaf comment = leaf && comment
 
 -- nodes in a row, nested so deep, as the first of their line or behind something
 unfoldable pub row_pieces : Form → Bool → ℕ → NodesOf Shown → List Piece

@@ -8,7 +8,7 @@ ghost use Rattle.wasmprinter_print.specs.Prints.{Prints, PrintsOrStops};
 ghost use Rattle.wasmprinter_flat.specs.Settings.{form_view};
 ghost use Rattle.wasmprinter_nodes.specs.Mapping.{map_nodes};
 ghost use Rattle.wasmprinter_nodes.specs.Postorder.{IsPostorder, forest_of};
-ghost use Rattle.wasmprinter_node_text.specs.Shown.{shown_in, IsIn, AreIn, row_pieces, node_front, shown_hint, comment_break};
+ghost use Rattle.wasmprinter_node_text.specs.Shown.{shown_in, IsIn, AreIn, row_pieces, node_front, shown_hint, comment_break, begins_line as begins};
 ghost use Rattle.wasmprinter_node_text.specs.Tasks.{task_front, IsSound};
 
 use crate::tasks::{Task, put_rest};
@@ -73,7 +73,7 @@ fn write_before<P: Print>(
 }
 
 /// Writes the annotation of a hint, without a style.
-#[tactic(auto, using(crate::proofs::Sequences::taken_note, crate::proofs::Sequences::not_taken_note))]
+#[tactic(auto, using(crate::proofs::Constants::taken_note, crate::proofs::Constants::not_taken_note))]
 fn write_note<P: Print>(p: &mut P, taken: bool) -> io::Result<()>
     ensures { (o : Options) → Prints P.meaning o p.old p.new result (Word (text_by defaults (HintNote taken)) ∷ []) }
 {
@@ -123,6 +123,14 @@ fn end_comment<P: Print>(
     }
 }
 
+/// Writes the parenthesis and the text of a node.
+fn write_text<P: Print>(p: &mut P, text: &str, label: &Label) -> io::Result<()>
+    requires { IsIn text.now label.now }
+    ensures { (o : Options) → Prints P.meaning o p.old p.new result (OpenPlain (shown_in text.now label.now).text ∷ []) }
+{
+    open_plain(p, label_text(text, label))
+}
+
 /// Writes a node up to the nodes that it holds.
 fn write_node<P: Print>(
     p: &mut P,
@@ -139,14 +147,23 @@ fn write_node<P: Print>(
     ensures { Prints P.meaning options.now p.old p.new result (node_front (form_view form) leads leaf (nesting + depth) (shown_in text.now label.now)) }
 {
     write_hint(p, options, form, leads, label, nesting, depth)?;
-    let first = leads && label.hint.is_none();
-    write_before(p, options, form, first, label.place, nesting, depth)?;
-    open_plain(p, label_text(text, label))?;
+    write_before(
+        p,
+        options,
+        form,
+        leads && label.hint.is_none(),
+        label.place,
+        nesting,
+        depth,
+    )?;
+    write_text(p, text, label)?;
     end_comment(p, options, leaf, label, nesting, depth)
 }
 
 /// Whether a line begins in a node before the nodes that it holds.
-fn begins_line(form: Form, leaf: bool, comment: bool) -> bool {
+fn begins_line(form: Form, leaf: bool, comment: bool) -> bool
+    ensures { result ≡ begins (form_view form) leaf comment }
+{
     match form {
         Form::OverLines => true,
         Form::InLine => leaf && comment,

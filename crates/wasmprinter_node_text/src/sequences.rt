@@ -4,7 +4,7 @@ ghost use Rattle.wasmprinter_spec.specs.Call.{Start, Literal as LiteralStyle, Na
 ghost use Rattle.wasmprinter_spec.specs.Coloured.{coloured_bytes};
 
 /// Red.
-#[tactic(auto, using(crate::proofs::Sequences::literal))]
+#[tactic(auto, using(crate::proofs::Constants::literal))]
 pub fn literal_sequences() -> &'static str
     ensures { result.now ≡ coloured_bytes (Start LiteralStyle) }
 {
@@ -12,7 +12,7 @@ pub fn literal_sequences() -> &'static str
 }
 
 /// Magenta.
-#[tactic(auto, using(crate::proofs::Sequences::name))]
+#[tactic(auto, using(crate::proofs::Constants::name))]
 pub fn name_sequences() -> &'static str
     ensures { result.now ≡ coloured_bytes (Start NameStyle) }
 {
@@ -20,7 +20,7 @@ pub fn name_sequences() -> &'static str
 }
 
 /// Bold, and yellow in its intense shade.
-#[tactic(auto, using(crate::proofs::Sequences::keyword))]
+#[tactic(auto, using(crate::proofs::Constants::keyword))]
 pub fn keyword_sequences() -> &'static str
     ensures { result.now ≡ coloured_bytes (Start KeywordStyle) }
 {
@@ -28,7 +28,7 @@ pub fn keyword_sequences() -> &'static str
 }
 
 /// Bold, and green in its intense shade.
-#[tactic(auto, using(crate::proofs::Sequences::type_name))]
+#[tactic(auto, using(crate::proofs::Constants::type_name))]
 pub fn type_sequences() -> &'static str
     ensures { result.now ≡ coloured_bytes (Start TypeStyle) }
 {
@@ -36,7 +36,7 @@ pub fn type_sequences() -> &'static str
 }
 
 /// Cyan.
-#[tactic(auto, using(crate::proofs::Sequences::comment))]
+#[tactic(auto, using(crate::proofs::Constants::comment))]
 pub fn comment_sequences() -> &'static str
     ensures { result.now ≡ coloured_bytes (Start CommentStyle) }
 {
@@ -44,7 +44,7 @@ pub fn comment_sequences() -> &'static str
 }
 
 /// Without colours.
-#[tactic(auto, using(crate::proofs::Sequences::reset))]
+#[tactic(auto, using(crate::proofs::Constants::reset))]
 pub fn reset_sequences() -> &'static str
     ensures { result.now ≡ coloured_bytes (Start NoStyle) }
 {

@@ -36,9 +36,9 @@ unfolding digits
 reset = refl
 
 pub taken_note : text defaults (HintNote true) ≡ codes "(@metadata.code.branch_hint \"\\01\")"
-unfolding quoted_bytes, byte_text
+unfolding quoted_bytes byte_text
 taken_note = refl
 
 pub not_taken_note : text defaults (HintNote false) ≡ codes "(@metadata.code.branch_hint \"\\00\")"
-unfolding quoted_bytes, byte_text
+unfolding quoted_bytes byte_text
 not_taken_note = refl
