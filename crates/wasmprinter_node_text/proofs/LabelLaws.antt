@@ -38,6 +38,13 @@ module _ (buffer : List ℕ) (l : Label) (h : IsIn buffer l) where
       ∙ (ap (take (l.stop - l.start)) (drop_at h.before (h.text ++ h.after) l.start h.starts)
       ∙ take_at h.text h.after (l.stop - l.start) size)
 
+  longer_parts : (more new : List ℕ) → new ≡ buffer ++ more → new ≡ h.before ++ (h.text ++ (h.after ++ more))
+  longer_parts more new e =
+      e
+      ∙ (ap (λ (b : List ℕ). b ++ more) h.parts
+      ∙ (append_assoc h.before (h.text ++ h.after) more
+      ∙ ap (λ (b : List ℕ). h.before ++ b) (append_assoc h.text h.after more)))
+
   -- text behind the buffer changes nothing
   pub in_longer : (more new : List ℕ) → IsUtf8 more → new ≡ buffer ++ more → IsIn new l
   in_longer more new u e =
@@ -45,11 +52,7 @@ module _ (buffer : List ℕ) (l : Label) (h : IsIn buffer l) where
         before = h.before;
         text = h.text;
         after = h.after ++ more;
-        parts =
-            e
-            ∙ (ap (λ (b : List ℕ). b ++ more) h.parts
-            ∙ (append_assoc h.before (h.text ++ h.after) more
-            ∙ ap (λ (b : List ℕ). h.before ++ b) (append_assoc h.text h.after more)));
+        parts = longer_parts more new e;
         starts = h.starts;
         stops = h.stops;
         is_text = h.is_text;
@@ -57,11 +60,10 @@ module _ (buffer : List ℕ) (l : Label) (h : IsIn buffer l) where
       }
 
   -- and the text is there in the longer one
-  pub text_there_longer : (more new : List ℕ) → IsUtf8 more → new ≡ buffer ++ more → take (l.stop - l.start) (drop l.start new) ≡ h.text
-  text_there_longer more new u e =
+  pub text_there_longer : (more new : List ℕ) → new ≡ buffer ++ more → take (l.stop - l.start) (drop l.start new) ≡ h.text
+  text_there_longer more new e =
       let size : length h.text ≡ l.stop - l.start = omega (arith, h.stops) in
-      let longer = in_longer more new u e in
-      ap (λ (b : List ℕ). take (l.stop - l.start) (drop l.start b)) longer.parts
+      ap (λ (b : List ℕ). take (l.stop - l.start) (drop l.start b)) (longer_parts more new e)
       ∙ (ap (take (l.stop - l.start)) (drop_at h.before (h.text ++ (h.after ++ more)) l.start h.starts)
       ∙ take_at h.text (h.after ++ more) (l.stop - l.start) size)
 
@@ -75,7 +77,7 @@ in_grown old new l g h = in_longer old l h g.more new g.is_text g.parts
 -- and what is printed of its node stays the same.
 pub shown_grown : (old new : List ℕ) (l : Label) → Grows old new → IsIn old l → shown_in new l ≡ shown_in old l
 shown_grown old new l g h =
-    ap (shown_by l) (text_there_longer old l h g.more new g.is_text g.parts ∙ sym (text_there old l h))
+    ap (shown_by l) (text_there_longer old l h g.more new g.parts ∙ sym (text_there old l h))
 
 -- The same of all labels of nodes.
 pub are_grown : (old new : List ℕ) (f : NodesOf Label) → Grows old new → AreIn old f → AreIn new f
@@ -130,7 +132,10 @@ seen_comment bs = seen_behind unseen bs
 abbrev pub label_of : View → ℕ → ℕ → Option Bool → Label
 label_of new place start hint = record { place = place; hint = hint; start = start; stop = length new.bytes; comment = new.seen.double }
 
-module _ (old new : View) (place start : ℕ) (hint : Option Bool) (layout : List Call) (a : Adds (begun old) layout new) (s : start ≡ length old.bytes) where
+module _ (old middle new : View) (place start : ℕ) (hint : Option Bool) (layout : List Call) (b : middle ≡ begun old) (s : start ≡ length old.bytes) (added : Adds middle layout new) where
+  abbrev a : Adds (begun old) layout new
+  a = subst (λ (u : View). Adds u layout new) b added
+
   last_in : IsIn new.bytes (label_of new place start hint)
   last_in =
       record {

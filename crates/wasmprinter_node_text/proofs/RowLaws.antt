@@ -35,13 +35,9 @@ break_same : (leaf : Bool) (s : List ℕ) (place nesting : ℕ) → comment_end 
 break_same true s place nesting = break_by (has_line_comment s) place nesting
 break_same false s place nesting = refl
 
--- the front of a node, and what stands behind it
-front_behind : (h b c k : List Piece) (x : Piece) → (h ++ (b ++ (x ∷ c))) ++ k ≡ h ++ (b ++ (x ∷ (c ++ k)))
-front_behind h b c k x = append_assoc h (b ++ (x ∷ c)) k ∙ ap (λ l. h ++ l) (append_assoc b (x ∷ c) k)
-
 same_parts : (a a2 h h2 b b2 c c2 k k2 : List Piece) (x : Piece) → a ≡ a2 → h ≡ h2 → b ≡ b2 → c ≡ c2 → k ≡ k2 →
-    a ++ (h ++ (b ++ (x ∷ (c ++ (k ++ (Shut ∷ [])))))) ≡ a2 ++ ((h2 ++ (b2 ++ (x ∷ c2))) ++ (k2 ++ (Shut ∷ [])))
-same_parts a a2 h h2 b b2 c c2 k k2 x p q r s t = rw (p, q, r, s, t) (ap (λ l. a2 ++ l) (sym (front_behind h2 b2 c2 (k2 ++ (Shut ∷ [])) x)))
+    ((a ++ h) ++ b) ++ (x ∷ ((c ++ k) ++ (Shut ∷ []))) ≡ a2 ++ ((h2 ++ (b2 ++ (x ∷ c2))) ++ (k2 ++ (Shut ∷ [])))
+same_parts a a2 h h2 b b2 c c2 k k2 x p q r s t = rw (p, q, r, s, t) (simp append_assoc)
 
 -- The layout of nodes is that of what is printed of each.
 pub rows_shown : (paints : Bool) (form : Form) (first : Bool) (nesting : ℕ) (f : Nodes) →

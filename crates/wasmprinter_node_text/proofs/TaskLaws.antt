@@ -96,9 +96,23 @@ module _ (new old : List Task) (nodes : List Node) (before : Bor (List Node)) (n
       let texts = texts_last nodes before.now node parts.now is buffer row.texts in
       let room = row.room in
       let lower : IsSoundRow buffer bound before.now depth = record { row = is.before_row; texts = texts.0; room = omega (arith, is.lengths, room) } in
-      let inner : IsSoundRow buffer bound parts.now (depth + 1) = record { row = is.parts_row; texts = texts.1.1; room = omega (arith, is.lengths, room) } in
+      let inner : IsSoundRow buffer bound parts.now (depth + 1) = record { row = is.parts_row; texts = texts.2; room = omega (arith, is.lengths, room) } in
       subst (AllSound buffer bound) (sym e)
-      (AllSound-append buffer bound old (tasks_of before node parts first depth leads) h ((texts.1.0, inner), (lower, tt)))
+      (AllSound-append buffer bound old (tasks_of before node parts first depth leads) h ((texts.1, inner), (lower, tt)))
+
+-- the tasks of what a node holds
+module _ (new old : List Task) (label : Label) (held : Bor (List Node)) (leads : Bool) (depth : ℕ) (e : new ≡ old ++ task.Close ∷ (task.Row held false (depth + 1) ∷ [])) where
+  pub pieces_one : (form : Form) (nesting : ℕ) (buffer : List ℕ) →
+      pieces_left form nesting buffer new ≡ task_rest form nesting buffer (task.One label held leads depth) ++ pieces_left form nesting buffer old
+  pieces_one form nesting buffer = ap (pieces_left form nesting buffer) e ∙ pieces_left-append form nesting buffer old (task.Close ∷ (task.Row held false (depth + 1) ∷ []))
+
+  pub steps_one : steps_left new < steps_of (task.One label held leads depth) + steps_left old
+  steps_one = omega (arith, ap steps_left e, steps_left-append old (task.Close ∷ (task.Row held false (depth + 1) ∷ [])))
+
+  pub sound_one : (buffer : List ℕ) (bound : ℕ) → IsSound buffer bound (task.One label held leads depth) → AllSound buffer bound old → AllSound buffer bound new
+  sound_one buffer bound is h =
+      subst (AllSound buffer bound) (sym e)
+      (AllSound-append buffer bound old (task.Close ∷ (task.Row held false (depth + 1) ∷ [])) h (tt, (is.1, tt)))
 
 -- ---- the top of a stack
 

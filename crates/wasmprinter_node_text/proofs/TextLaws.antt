@@ -218,6 +218,10 @@ made_adds s t layout m =
       is_text = subst IsUtf8 same a.is_text;
     }
 
+-- a text
+pub text_adds : (s t : View) (text : List ℕ) → IsUtf8 text → t ≡ with_text s text → Adds s (Text text ∷ []) t
+text_adds s t text u e = run_adds s (Text text ∷ []) t (t, record { step = (e, u); kept = refl }, refl)
+
 -- ---- what stays, whether the calls succeeded or not
 
 -- bytes are added alone, and with or without sequences as before

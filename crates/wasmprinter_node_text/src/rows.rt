@@ -1,5 +1,6 @@
 //! Nodes written to any printer, without recursion.
-ghost use Rattle.std.specs.Prelude.{◌≡◌, ◌+◌, ◌&&◌, [], ◌∷◌, ◌++◌, ℕ, true, Some, IfOk};
+ghost use Rattle.std.specs.Prelude.{◌≡◌, ◌+◌, ◌&&◌, ◌||◌, [], ◌∷◌, ◌++◌, ℕ, true, Some, IfOk};
+ghost use Rattle.std.specs.Option.{is_none};
 ghost use Rattle.wasmprinter_spec.specs.Options.{Options, defaults};
 ghost use Rattle.wasmprinter_spec.specs.Piece.{Break, Word, HintNote, OpenPlain, text as text_by};
 ghost use Rattle.wasmprinter_spec.specs.Layout.Groups.{has_break};
@@ -131,6 +132,13 @@ fn write_text<P: Print>(p: &mut P, text: &str, label: &Label) -> io::Result<()>
     open_plain(p, label_text(text, label))
 }
 
+/// Whether a node stands first, with no hint before it.
+fn leads_unhinted(leads: bool, hint: Option<bool>) -> bool
+    ensures { result ≡ (leads && is_none hint) }
+{
+    leads && hint.is_none()
+}
+
 /// Writes a node up to the nodes that it holds.
 fn write_node<P: Print>(
     p: &mut P,
@@ -147,15 +155,8 @@ fn write_node<P: Print>(
     ensures { Prints P.meaning options.now p.old p.new result (node_front (form_view form) leads leaf (nesting + depth) (shown_in text.now label.now)) }
 {
     write_hint(p, options, form, leads, label, nesting, depth)?;
-    write_before(
-        p,
-        options,
-        form,
-        leads && label.hint.is_none(),
-        label.place,
-        nesting,
-        depth,
-    )?;
+    let first = leads_unhinted(leads, label.hint);
+    write_before(p, options, form, first, label.place, nesting, depth)?;
     write_text(p, text, label)?;
     end_comment(p, options, leaf, label, nesting, depth)
 }
@@ -199,6 +200,13 @@ fn write_front<P: Print>(
     }
 }
 
+/// Whether a line began before or just now.
+fn either(before: bool, now: bool) -> bool
+    ensures { result ≡ (before || now) }
+{
+    before || now
+}
+
 /// Writes nodes, nested so deep, with their texts from `text`, and tells whether a line began.
 ///
 /// # Errors
@@ -226,7 +234,7 @@ pub fn write_nodes<P: Print>(
     while let Some(task) = tasks.pop() {
         put_rest(&mut tasks, &task)?;
         let began = write_front(p, options, form, nesting, text, &task)?;
-        lines = lines || began;
+        lines = either(lines, began);
     }
     Ok(lines)
 }

@@ -1,5 +1,5 @@
 //! What is still to be written of nodes.
-ghost use Rattle.std.specs.Prelude.{◌≡◌, ℕ, ◌+◌, ◌*◌, ◌≤◌, ◌<◌, ◌^◌, ◌++◌, List, length, OnOk};
+ghost use Rattle.std.specs.Prelude.{◌≡◌, ℕ, ◌+◌, ◌*◌, ◌≤◌, ◌<◌, ◌^◌, ◌++◌, ◌&&◌, ◌==◌, List, length, OnOk};
 ghost use Rattle.wasmprinter_spec.specs.Layout.Operators.{Form};
 ghost use Rattle.wasmprinter_nodes.specs.Postorder.{IsPostorder};
 ghost use Rattle.wasmprinter_node_text.specs.Tasks.{pieces_of_row, pieces_left, task_rest, IsSound, IsSoundRow, AllSound, steps_left, steps_of};
@@ -18,6 +18,13 @@ pub enum Task<'a> {
     Close,
 }
 
+/// Whether a node behind these is the first of its line.
+fn leads(first: bool, before: &[Node]) -> bool
+    ensures { result ≡ (first && (length before.now == 0)) }
+{
+    first && before.is_empty()
+}
+
 /// Puts the tasks of a row of nodes on top of the others.
 pub fn put_row<'a>(
     tasks: &mut Vec<Task<'a>>,
@@ -31,13 +38,14 @@ pub fn put_row<'a>(
     ensures steps { OnOk result (steps_left tasks.new.items ≤ 4 * length nodes.now + steps_left tasks.old.items) }
     ensures sound { OnOk result ((buffer : List ℕ) (bound : ℕ) → IsSoundRow buffer bound nodes.now depth → AllSound buffer bound tasks.old.items → AllSound buffer bound tasks.new.items) }
 {
-    if let Some(last) = last_group(nodes) {
-        let leads = first && last.before.is_empty();
-        tasks.extend_from_slice(&[
-            Task::One(last.node.label, last.parts, leads, depth),
-            Task::Row(last.before, first, depth),
-        ])?;
-    }
+    let Some(last) = last_group(nodes) else {
+        return Ok(());
+    };
+    let leads = leads(first, last.before);
+    tasks.extend_from_slice(&[
+        Task::One(last.node.label, last.parts, leads, depth),
+        Task::Row(last.before, first, depth),
+    ])?;
     Ok(())
 }
 
