@@ -3,3 +3,4 @@ pub mod TaskLaws
 pub mod TextLaws
 pub mod LabelLaws
 pub mod Constants
+pub mod LoopLaws

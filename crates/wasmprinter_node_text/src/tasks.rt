@@ -38,15 +38,17 @@ pub fn put_row<'a>(
     ensures steps { OnOk result (steps_left tasks.new.items ≤ 4 * length nodes.now + steps_left tasks.old.items) }
     ensures sound { OnOk result ((buffer : List ℕ) (bound : ℕ) → IsSoundRow buffer bound nodes.now depth → AllSound buffer bound tasks.old.items → AllSound buffer bound tasks.new.items) }
 {
-    let Some(last) = last_group(nodes) else {
-        return Ok(());
-    };
-    let leads = leads(first, last.before);
-    tasks.extend_from_slice(&[
-        Task::One(last.node.label, last.parts, leads, depth),
-        Task::Row(last.before, first, depth),
-    ])?;
-    Ok(())
+    match last_group(nodes) {
+        Some(last) => {
+            let leads = leads(first, last.before);
+            tasks.extend_from_slice(&[
+                Task::One(last.node.label, last.parts, leads, depth),
+                Task::Row(last.before, first, depth),
+            ])?;
+            Ok(())
+        }
+        None => Ok(()),
+    }
 }
 
 /// Puts what is left of a task, once its front is written, on top of the others.

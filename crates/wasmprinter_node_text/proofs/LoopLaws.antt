@@ -1,0 +1,26 @@
+-- A loop that writes the front of one task after another.
+use Rattle.std.proofs.Common.{◌≡◌, ◌||◌, Bool, true, false, List, ◌++◌, refl, sym, ◌∙◌, ap, subst}
+use Rattle.wasmprinter_spec.specs.Meaning.{Meaning}
+use Rattle.wasmprinter_spec.specs.Options.{Options}
+use Rattle.wasmprinter_spec.specs.Piece.{Piece}
+use Rattle.wasmprinter_spec.specs.Layout.Groups.{has_break}
+use Rattle.wasmprinter_print.specs.Prints.{Lacks}
+use Rattle.wasmprinter_node_text.proofs.RowLaws.{has_break-append}
+
+-- what is lacking, in other words
+pub lacks_as : {P : Type 0} (m : Meaning P) (o : Options) (a s : P) (whole xs ys : List Piece) → xs ≡ ys → Lacks m o a s whole xs → Lacks m o a s whole ys
+lacks_as m o a s whole xs ys e l = subst (λ (zs : List Piece). Lacks m o a s whole zs) e l
+
+or_assoc : (a b c : Bool) → ((a || b) || c) ≡ (a || (b || c))
+or_assoc true b c = refl
+or_assoc false b c = refl
+
+-- whether lines began so far, once a front was written
+pub began_more : (lines now new w : Bool) (front rest all left : List Piece) → new ≡ (lines || now) → now ≡ has_break front → all ≡ front ++ rest → left ≡ rest →
+    (lines || has_break all) ≡ w → (new || has_break left) ≡ w
+began_more lines now new w front rest all left n f e l inv =
+    rw (n, f, l)
+    (or_assoc lines (has_break front) (has_break rest)
+    ∙ ap (λ x. lines || x) (sym (has_break-append front rest))
+    ∙ ap (λ (ps : List Piece). lines || has_break ps) (sym e)
+    ∙ inv)
