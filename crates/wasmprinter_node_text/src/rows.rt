@@ -37,33 +37,38 @@ fn label_text<'t>(text: &'t str, label: &Label) -> &'t str
     &text[label.start..label.stop]
 }
 
-/// Begins a line that is nested so deep, and so much deeper.
-fn break_inside<P: Print>(
-    p: &mut P,
-    options: &PrintOptions,
+/// Where a node stands.
+#[derive(Clone, Copy)]
+struct Spot {
+    /// Over lines or in one line.
+    form: Form,
+    /// The place of what it stands for.
     place: u64,
+    /// How deep the nodes are nested among which it stands.
     nesting: u64,
+    /// By how many nodes it is nested deeper.
     depth: u64,
-) -> io::Result<()>
-    ensures { Prints P.meaning options.now p.old p.new result (Break (Some place) (nesting + depth) ∷ []) }
+}
+
+/// Begins a line.
+fn break_inside<P: Print>(p: &mut P, options: &PrintOptions, spot: Spot) -> io::Result<()>
+    ensures { Prints P.meaning options.now p.old p.new result (Break (Some spot.place) (spot.nesting + spot.depth) ∷ []) }
 {
-    break_line(p, options, Some(place), nesting.saturating_add(depth))
+    let nesting = spot.nesting.saturating_add(spot.depth);
+    break_line(p, options, Some(spot.place), nesting)
 }
 
 /// Writes what stands before a node or its hint.
 fn write_before<P: Print>(
     p: &mut P,
     options: &PrintOptions,
-    form: Form,
+    spot: Spot,
     first: bool,
-    place: u64,
-    nesting: u64,
-    depth: u64,
 ) -> io::Result<()>
-    ensures { Prints P.meaning options.now p.old p.new result (before_word (form_view form) first place (nesting + depth)) }
+    ensures { Prints P.meaning options.now p.old p.new result (before_word (form_view spot.form) first spot.place (spot.nesting + spot.depth)) }
 {
-    match form {
-        Form::OverLines => break_inside(p, options, place, nesting, depth),
+    match spot.form {
+        Form::OverLines => break_inside(p, options, spot),
         Form::InLine => {
             if first {
                 return Ok(());
@@ -74,7 +79,6 @@ fn write_before<P: Print>(
 }
 
 /// Writes the annotation of a hint, without a style.
-#[tactic(auto, using(crate::proofs::Constants::taken_note, crate::proofs::Constants::not_taken_note))]
 fn write_note<P: Print>(p: &mut P, taken: bool) -> io::Result<()>
     ensures { (o : Options) → Prints P.meaning o p.old p.new result (Word (text_by defaults (HintNote taken)) ∷ []) }
 {
@@ -89,38 +93,18 @@ fn write_note<P: Print>(p: &mut P, taken: bool) -> io::Result<()>
 fn write_hint<P: Print>(
     p: &mut P,
     options: &PrintOptions,
-    form: Form,
-    first: bool,
-    label: &Label,
-    nesting: u64,
-    depth: u64,
+    spot: Spot,
+    leads: bool,
+    hint: Option<bool>,
 ) -> io::Result<()>
-    ensures { Prints P.meaning options.now p.old p.new result (shown_hint (form_view form) first label.now.place (nesting + depth) label.now.hint) }
+    ensures { Prints P.meaning options.now p.old p.new result (shown_hint (form_view spot.form) leads spot.place (spot.nesting + spot.depth) hint) }
 {
-    match label.hint {
+    match hint {
         Some(taken) => {
-            write_before(p, options, form, first, label.place, nesting, depth)?;
+            write_before(p, options, spot, leads)?;
             write_note(p, taken)
         }
         None => Ok(()),
-    }
-}
-
-/// Ends the line behind a text with a comment up to the end of the line, where a parenthesis would follow.
-fn end_comment<P: Print>(
-    p: &mut P,
-    options: &PrintOptions,
-    leaf: bool,
-    label: &Label,
-    nesting: u64,
-    depth: u64,
-) -> io::Result<()>
-    ensures { Prints P.meaning options.now p.old p.new result (comment_break leaf label.now.comment label.now.place (nesting + depth)) }
-{
-    if leaf && label.comment {
-        break_inside(p, options, label.place, nesting, depth)
-    } else {
-        Ok(())
     }
 }
 
@@ -130,6 +114,23 @@ fn write_text<P: Print>(p: &mut P, text: &str, label: &Label) -> io::Result<()>
     ensures { (o : Options) → Prints P.meaning o p.old p.new result (OpenPlain (shown_in text.now label.now).text ∷ []) }
 {
     open_plain(p, label_text(text, label))
+}
+
+/// Ends the line behind a text with a comment up to the end of the line, where a parenthesis would follow.
+fn end_comment<P: Print>(
+    p: &mut P,
+    options: &PrintOptions,
+    spot: Spot,
+    leaf: bool,
+    comment: bool,
+) -> io::Result<()>
+    ensures { Prints P.meaning options.now p.old p.new result (comment_break leaf comment spot.place (spot.nesting + spot.depth)) }
+{
+    if leaf && comment {
+        break_inside(p, options, spot)
+    } else {
+        Ok(())
+    }
 }
 
 /// Whether a node stands first, with no hint before it.
@@ -143,22 +144,22 @@ fn leads_unhinted(leads: bool, hint: Option<bool>) -> bool
 fn write_node<P: Print>(
     p: &mut P,
     options: &PrintOptions,
-    form: Form,
+    spot: Spot,
     leads: bool,
     leaf: bool,
     text: &str,
     label: &Label,
-    nesting: u64,
-    depth: u64,
 ) -> io::Result<()>
-    requires { IsIn text.now label.now }
-    ensures { Prints P.meaning options.now p.old p.new result (node_front (form_view form) leads leaf (nesting + depth) (shown_in text.now label.now)) }
+    requires inside { IsIn text.now label.now }
+    requires place { spot.place ≡ label.now.place }
+    ensures { Prints P.meaning options.now p.old p.new result
+        (node_front (form_view spot.form) leads leaf (spot.nesting + spot.depth) (shown_in text.now label.now)) }
 {
-    write_hint(p, options, form, leads, label, nesting, depth)?;
+    write_hint(p, options, spot, leads, label.hint)?;
     let first = leads_unhinted(leads, label.hint);
-    write_before(p, options, form, first, label.place, nesting, depth)?;
+    write_before(p, options, spot, first)?;
     write_text(p, text, label)?;
-    end_comment(p, options, leaf, label, nesting, depth)
+    end_comment(p, options, spot, leaf, label.comment)
 }
 
 /// Whether a line begins in a node before the nodes that it holds.
@@ -188,9 +189,13 @@ fn write_front<P: Print>(
         Task::Row(_, _, _) => Ok(false),
         Task::One(label, held, leads, depth) => {
             let leaf = held.is_empty();
-            write_node(
-                p, options, form, *leads, leaf, text, label, nesting, *depth,
-            )?;
+            let spot = Spot {
+                form,
+                place: label.place,
+                nesting,
+                depth: *depth,
+            };
+            write_node(p, options, spot, *leads, leaf, text, label)?;
             Ok(begins_line(form, leaf, label.comment))
         }
         Task::Close => {
