@@ -1,5 +1,5 @@
 -- Labels: their texts in a buffer, also in one that grew, and whether these hold a comment up to the end of the line.
-use Rattle.std.proofs.Common.{◌≡◌, ℕ, ◌+◌, ◌-◌, ◌==◌, ◌&&◌, ◌||◌, Bool, true, false, List, [], ◌∷◌, ◌++◌, length, take, drop, refl, sym, ◌∙◌, ap, ap₂, subst, append_assoc, arith, length-append}
+use Rattle.std.proofs.Common.{◌≡◌, ℕ, ◌-◌, ◌==◌, ◌&&◌, ◌||◌, Bool, true, false, List, [], ◌∷◌, ◌++◌, length, take, drop, refl, sym, ◌∙◌, ap, ap₂, subst, append_assoc, arith, length-append}
 use Rattle.std.proofs.lemmas.List.{take_at, drop_at, append-nil}
 use Rattle.std.proofs.lemmas.Str.{IsCharBoundary-at_seam, IsUtf8-append, IsUtf8-nil}
 use Rattle.std.proofs.lemmas.Bool.{eqb-true}
@@ -8,12 +8,11 @@ use Rattle.std.specs.Str.{IsCharBoundary}
 use Rattle.wasmprinter_spec.specs.Call.{Call, text_of}
 use Rattle.wasmprinter_spec.specs.Layout.Folded.{painted, has_line_comment}
 use Rattle.wasmprinter_spec.specs.Folding.Tree.{NodesOf, Nil, Snoc}
-use Rattle.wasmprinter_print.specs.Emits.{Made, Through}
 use Rattle.wasmprinter_nodes.specs.declared.Label.{Label}
 use Rattle.wasmprinter_nodes.specs.Mapping.{map_nodes}
 use Rattle.wasmprinter_node_text.specs.declared.semicolons.Semicolons.{Semicolons}
 use Rattle.wasmprinter_node_text.specs.Shown.{Shown, shown, shown_in, IsIn, AreIn}
-use Rattle.wasmprinter_node_text.specs.Buffers.{View, unseen, see, see_all, begun, texts_meaning, Grows}
+use Rattle.wasmprinter_node_text.specs.Buffers.{View, unseen, see, see_all, begun, Grows}
 use Rattle.wasmprinter_node_text.proofs.TextLaws.{Adds}
 
 -- ---- where a text lies

@@ -1,5 +1,5 @@
 -- The layout of nodes: by what is printed of each, and by the last one of a row.
-use Rattle.std.proofs.Common.{◌≡◌, ℕ, ◌+◌, ◌&&◌, ◌||◌, Bool, true, false, List, [], ◌∷◌, ◌++◌, refl, sym, ◌∙◌, ap, append_assoc, arith}
+use Rattle.std.proofs.Common.{◌≡◌, ℕ, ◌+◌, ◌&&◌, ◌||◌, Bool, true, false, List, [], ◌∷◌, ◌++◌, refl, append_assoc}
 use Rattle.std.specs.Prelude.{Option, Some, None, option_map, cond}
 use Rattle.std.specs.Option.{is_none}
 use Rattle.wasmprinter_spec.specs.Grammar.{Placed}
@@ -10,7 +10,7 @@ use Rattle.wasmprinter_spec.specs.Layout.Operators.{Form, OverLines, InLine, bef
 use Rattle.wasmprinter_spec.specs.Layout.Groups.{has_break, breaks}
 use Rattle.wasmprinter_spec.specs.Layout.Folded.{head_place, head_hint, head_calls, head_text, painted, has_line_comment, comment_end, node_hint, node_pieces}
 use Rattle.wasmprinter_spec.specs.Layout.Folded as folded
-use Rattle.wasmprinter_spec.specs.Folding.Tree.{Head, NodesOf, Nodes, Nil, Snoc, is_nil}
+use Rattle.wasmprinter_spec.specs.Folding.Tree.{NodesOf, Nodes, Nil, Snoc, is_nil}
 use Rattle.wasmprinter_nodes.specs.Mapping.{map_nodes}
 use Rattle.wasmprinter_node_text.specs.Shown.{Shown, shown_head, shown_hint, comment_break, node_front, begins_line, row_pieces}
 

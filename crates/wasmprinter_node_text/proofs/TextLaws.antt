@@ -1,5 +1,5 @@
 -- What calls make of a buffer of texts: it grows by their text, with the sequences of their styles where they are wanted.
-use Rattle.std.proofs.Common.{◌≡◌, ℕ, ◌+◌, ◌-◌, ◌==◌, ◌&&◌, ◌||◌, Bool, true, false, List, [], ◌∷◌, ◌++◌, length, take, drop, refl, sym, ◌∙◌, ap, ap₂, subst, append_assoc, arith, map, length-append, ltb, ◌<◌, true≢false, if◌then◌else◌}
+use Rattle.std.proofs.Common.{◌≡◌, ℕ, Bool, true, false, List, [], ◌∷◌, ◌++◌, refl, sym, ◌∙◌, ap, ap₂, subst, append_assoc, map, ltb, ◌<◌, true≢false, if◌then◌else◌}
 use Rattle.std.proofs.lemmas.List.{append-nil}
 use Rattle.std.proofs.lemmas.Str.{IsUtf8-append, IsUtf8-nil, IsUtf8-from_ascii}
 use Rattle.std.proofs.lemmas.Str.Ascii.{IsAscii-nil, IsAscii-cons}
@@ -10,9 +10,9 @@ use Rattle.std.specs.Fmt.{digits}
 use Rattle.std.specs.declared.io.Error.{Error as IoError}
 use Rattle.wasmprinter_spec.specs.Call.{Call, Text, Newline, Line, Start, Claim, Style, Literal, Name, Keyword, TypeName, Comment, Reset, call_text, text_of, cut_call, atoms}
 use Rattle.wasmprinter_spec.specs.Coloured.{coloured_bytes, coloured_text}
-use Rattle.wasmprinter_spec.specs.Meaning.{Run, Failed}
+use Rattle.wasmprinter_spec.specs.Meaning.{Run}
 use Rattle.wasmprinter_spec.specs.Layout.Folded.{painted}
-use Rattle.wasmprinter_print.specs.Emits.{Made, Through, AtCall, Stopped, ending}
+use Rattle.wasmprinter_print.specs.Emits.{Made, Through, ending}
 use Rattle.wasmprinter_node_text.specs.declared.semicolons.Semicolons.{Semicolons}
 use Rattle.wasmprinter_node_text.specs.Buffers.{View, see, see_all, with_text, with_sequences, after, IsTextual, texts_meaning, Grows}
 

@@ -1,4 +1,4 @@
-use Rattle.std.proofs.Common.{length, [], ◌++◌, true, sym, arith}
+use Rattle.std.proofs.Common.{length, [], ◌++◌, sym, arith}
 use Rattle.wasmprinter_error.specs.declared.error.Error.TheVariants.{Memory, Printer}
 use Rattle.wasmprinter_print.specs.PrintsLaws.{stops_before, last_pieces_halt, next_halts, next_written}
 use Rattle.wasmprinter_flat.specs.Settings.{form_view}
