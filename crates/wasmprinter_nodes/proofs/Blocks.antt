@@ -1,8 +1,8 @@
 -- What each operator does to the lists.
-use Rattle.std.proofs.Common.{◌≡◌, ℕ, suc, ◌+◌, ◌-◌, ◌≤◌, List, [], ◌∷◌, ◌++◌, length, drop, refl, sym, ◌∙◌, ap, subst, arith, append_assoc, length-append}
+use Rattle.std.proofs.Common.{◌≡◌, ℕ, suc, ◌+◌, ◌-◌, ◌≤◌, List, [], ◌∷◌, ◌++◌, length, drop, refl, sym, ◌∙◌, ap, subst, ◌⊎◌, inl, inr, arith, append_assoc, length-append}
 use Rattle.std.proofs.lemmas.List.{same_from_push, drop_at, append-nil}
 use Rattle.wasmprinter_spec.specs.Folding.Arities.{greatest}
-use Rattle.wasmprinter_spec.specs.Folding.Tree.{NodesOf, Nil, Snoc, joined, front, last, count, OperandsOf, Fit, Passed, Short, operands, with_operands}
+use Rattle.wasmprinter_spec.specs.Folding.Tree.{NodesOf, Nil, Snoc, front, last, count, OperandsOf, Fit, Passed, Short, operands, with_operands}
 use Rattle.wasmprinter_spec.proofs.Folding.{joined-front-last, AreLast, AreLast-operands}
 use Rattle.wasmprinter_nodes.specs.declared.Label.{Label}
 use Rattle.wasmprinter_nodes.specs.declared.Node.{Node}
@@ -242,11 +242,9 @@ module _ (nodes : List Node) (blocks rest : List Frame) (t : Frame) (s : State) 
   pub closes_block : t.arm ≡ arm.Block → ClosesBlock nodes rest t (closed s.outer s.groups)
   closes_block = block_top s.outer s.groups nodes rest t h.rows top
 
-  pub closes_then : (case : Label) → t.arm ≡ arm.Then case → ClosesIf nodes rest t case (closed s.outer s.groups)
-  closes_then case = then_top s.outer s.groups nodes rest t case h.rows top
-
-  pub closes_else : (case : Label) → t.arm ≡ arm.Else case → ClosesIf nodes rest t case (closed s.outer s.groups)
-  closes_else case = else_top s.outer s.groups nodes rest t case h.rows top
+  pub closes_if : (case : Label) → (t.arm ≡ arm.Then case) ⊎ (t.arm ≡ arm.Else case) → ClosesIf nodes rest t case (closed s.outer s.groups)
+  closes_if case (inl a) = then_top s.outer s.groups nodes rest t case h.rows top a
+  closes_if case (inr a) = else_top s.outer s.groups nodes rest t case h.rows top a
 
   pub turns : (case otherwise : Label) → t.arm ≡ arm.Then case → Turned nodes rest t case otherwise (turned otherwise s.outer s.groups)
   turns case otherwise = turn_top s.outer s.groups nodes rest t case otherwise h.rows top

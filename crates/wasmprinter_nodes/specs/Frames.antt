@@ -1,6 +1,5 @@
 -- The lists of a builder, as functions of the state that they stand for.
 use Rattle.std.specs.Prelude.{◌≡◌, ℕ, suc, ◌-◌, List, [], ◌∷◌, ◌++◌, length}
-use Rattle.wasmprinter_spec.specs.Folding.Tree.{NodesOf}
 use Rattle.wasmprinter_nodes.specs.declared.Label.{Label}
 use Rattle.wasmprinter_nodes.specs.declared.Node.{Node}
 use Rattle.wasmprinter_nodes.specs.declared.builder.Arm.{Arm}

@@ -1,5 +1,4 @@
 -- The same nodes, with something else first in each.
-use Rattle.std.specs.Prelude.{ℕ}
 use Rattle.wasmprinter_spec.specs.Folding.Tree.{NodesOf, Nil, Snoc, OperandsOf, Fit, Passed, Short}
 use Rattle.wasmprinter_nodes.specs.Building.{Open, Top, InBlock, InThen, InElse, StateOf, Step, Plain, Opens, OpensIf, Turns, Ends}
 
