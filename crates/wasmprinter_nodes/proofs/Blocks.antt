@@ -53,7 +53,9 @@ start_none o all e h = sym (length-frames o (sym (ap length e) ∙ h))
 -- ---- one node more
 
 -- a node that is put behind those that it holds
-wrapped : (before : List Node) (b parts : NodesOf Label) (x : Label) (r from : ℕ) (nodes : List Node) → nodes ≡ (before ++ postorder b) ++ postorder parts → from ≡ length (before ++ postorder b) → with_node nodes x r from ≡ before ++ postorder (Snoc b x r parts)
+wrapped : (before : List Node) (b parts : NodesOf Label) (x : Label) (r from : ℕ) (nodes : List Node)
+    → nodes ≡ (before ++ postorder b) ++ postorder parts → from ≡ length (before ++ postorder b)
+    → with_node nodes x r from ≡ before ++ postorder (Snoc b x r parts)
 wrapped before b parts x r from nodes e at =
     let size : length nodes - from ≡ count parts =
     omega (arith, ap length e, length-append (before ++ postorder b) (postorder parts), length-postorder parts, at) in
@@ -75,7 +77,10 @@ module _ (nodes before : List Node) (f : NodesOf Label) (e : nodes ≡ before ++
 -- ---- a plain operator
 
 -- wherever its operands begin
-placed : (nodes before : List Node) (f : NodesOf Label) (x : Label) (gives from results : ℕ) (o : OperandsOf Label) → AreLast f o → nodes ≡ before ++ postorder f → IsPlace (length before) (length nodes) gives (outcome o) from results → with_node nodes x results from ≡ before ++ postorder (with_operands f x gives o)
+placed : (nodes before : List Node) (f : NodesOf Label) (x : Label) (gives from results : ℕ) (o : OperandsOf Label)
+    → AreLast f o → nodes ≡ before ++ postorder f
+    → IsPlace (length before) (length nodes) gives (outcome o) from results
+    → with_node nodes x results from ≡ before ++ postorder (with_operands f x gives o)
 placed nodes before f x gives from results (Fit b run) h e p =
     let split : nodes ≡ (before ++ postorder b) ++ postorder run =
     e
@@ -90,12 +95,15 @@ placed nodes before f x gives from results Passed h e p =
 placed nodes before f x gives from results Short h e p =
     rw p.1 (wrapped before f Nil x gives from nodes (e ∙ sym (append-nil (before ++ postorder f))) (p.0 ∙ ap length e))
 
-place_fits : (start len gives from results : ℕ) (f : NodesOf Label) (o : OperandsOf Label) → AreLast f o → start + count f ≡ len → IsPlace start len gives (outcome o) from results → from ≤ len
+place_fits : (start len gives from results : ℕ) (f : NodesOf Label) (o : OperandsOf Label) → AreLast f o
+    → start + count f ≡ len → IsPlace start len gives (outcome o) from results → from ≤ len
 place_fits start len gives from results f (Fit b run) h e p = omega (arith, p.0, e, ap count h, count-joined b run)
 place_fits start len gives from results f Passed h e p = omega (arith, p.0)
 place_fits start len gives from results f Short h e p = omega (arith, p.0)
 
-module _ (nodes : List Node) (blocks : List Frame) (s : State) (h : StandsAt nodes blocks s) (start takes gives from results : ℕ) (begins : start ≡ length (base s.outer)) (p : IsPlace start (length nodes) gives (outcome (operands takes (forest_of (drop start nodes)))) from results) where
+module _ (nodes : List Node) (blocks : List Frame) (s : State) (h : StandsAt nodes blocks s)
+    (start takes gives from results : ℕ) (begins : start ≡ length (base s.outer))
+    (p : IsPlace start (length nodes) gives (outcome (operands takes (forest_of (drop start nodes)))) from results) where
   here : IsPlace (length (base s.outer)) (length nodes) gives (outcome (operands takes s.groups)) from results
   here =
       let P : ℕ → NodesOf Label → Type 0 = λ n g. IsPlace n (length nodes) gives (outcome (operands takes g)) from results in
@@ -108,7 +116,8 @@ module _ (nodes : List Node) (blocks : List Frame) (s : State) (h : StandsAt nod
       (sym (ap length h.rows ∙ (length-append (base s.outer) (postorder s.groups) ∙ ap (λ (n : ℕ). length (base s.outer) + n) (length-postorder s.groups))))
       here
 
-  pub plain_stands : (x : Label) (new : List Node) → new ≡ with_node nodes x results from → StandsAt new blocks (state_at s.outer (with_operands s.groups x gives (operands takes s.groups)))
+  pub plain_stands : (x : Label) (new : List Node) → new ≡ with_node nodes x results from
+      → StandsAt new blocks (state_at s.outer (with_operands s.groups x gives (operands takes s.groups)))
   plain_stands x new e =
       record {
         rows =
@@ -119,7 +128,10 @@ module _ (nodes : List Node) (blocks : List Frame) (s : State) (h : StandsAt nod
 
 -- ---- the beginning of a block
 
-pub opens_block : (nodes : List Node) (blocks : List Frame) (s : State) → StandsAt nodes blocks s → (start gives : ℕ) (x : Label) → start ≡ length nodes → (new : List Frame) → new ≡ blocks ++ record { arm = arm.Block; label = x; gives = gives; from = start; start = start } ∷ [] → StandsAt nodes new (state_at (InBlock s.outer s.groups x gives) Nil)
+pub opens_block : (nodes : List Node) (blocks : List Frame) (s : State) → StandsAt nodes blocks s
+    → (start gives : ℕ) (x : Label) → start ≡ length nodes → (new : List Frame)
+    → new ≡ blocks ++ record { arm = arm.Block; label = x; gives = gives; from = start; start = start } ∷ []
+    → StandsAt nodes new (state_at (InBlock s.outer s.groups x gives) Nil)
 opens_block nodes blocks s h start gives x here new e =
     let all : List Node = base s.outer ++ postorder s.groups in
     let frame : ℕ → ℕ → Frame = λ a b. record { arm = arm.Block; label = x; gives = gives; from = a; start = b } in
@@ -132,7 +144,11 @@ opens_block nodes blocks s h start gives x here new e =
           ∙ ap (λ (n : ℕ). frames s.outer ++ frame (length all) n ∷ []) (ap length (sym (append-nil all)))));
     }
 
-pub opens_if : (nodes : List Node) (blocks : List Frame) (s : State) → StandsAt nodes blocks s → (outer from start gives : ℕ) (x y : Label) → outer ≡ length (base s.outer) → from ≡ outer + count (front (forest_of (drop outer nodes))) → start ≡ length nodes → (new : List Frame) → new ≡ blocks ++ record { arm = arm.Then y; label = x; gives = gives; from = from; start = start } ∷ [] → StandsAt nodes new (state_at (InThen s.outer (front s.groups) (last s.groups) x y gives) Nil)
+pub opens_if : (nodes : List Node) (blocks : List Frame) (s : State) → StandsAt nodes blocks s
+    → (outer from start gives : ℕ) (x y : Label) → outer ≡ length (base s.outer)
+    → from ≡ outer + count (front (forest_of (drop outer nodes))) → start ≡ length nodes → (new : List Frame)
+    → new ≡ blocks ++ record { arm = arm.Then y; label = x; gives = gives; from = from; start = start } ∷ []
+    → StandsAt nodes new (state_at (InThen s.outer (front s.groups) (last s.groups) x y gives) Nil)
 opens_if nodes blocks s h outer from start gives x y begins at here new e =
     let g = s.groups in
     let split : nodes ≡ (base s.outer ++ postorder (front g)) ++ postorder (last g) =
@@ -169,16 +185,21 @@ pub record ClosesIf (nodes : List Node) (rest : List Frame) (t : Frame) (case : 
 
 pub record Turned (nodes : List Node) (rest : List Frame) (t : Frame) (case otherwise : Label) (s : State) : Type 0 where
   pub fits : t.start ≤ length nodes
-  pub stands : (mid : List Node) → mid ≡ with_node nodes case 0 t.start → StandsAt mid (rest ++ record t { arm = arm.Else otherwise; start = length mid } ∷ []) s
+  pub stands : (mid : List Node) → mid ≡ with_node nodes case 0 t.start
+      → StandsAt mid (rest ++ record t { arm = arm.Else otherwise; start = length mid } ∷ []) s
 
-ClosesBlock-at : (o : Open Label) (b f : NodesOf Label) (x : Label) (q : ℕ) (nodes : List Node) → nodes ≡ (base o ++ postorder b) ++ postorder f → ClosesBlock nodes (frames o) (frame_behind (base o ++ postorder b) [] arm.Block x q) (closed (InBlock o b x q) f)
+ClosesBlock-at : (o : Open Label) (b f : NodesOf Label) (x : Label) (q : ℕ) (nodes : List Node)
+    → nodes ≡ (base o ++ postorder b) ++ postorder f
+    → ClosesBlock nodes (frames o) (frame_behind (base o ++ postorder b) [] arm.Block x q) (closed (InBlock o b x q) f)
 ClosesBlock-at o b f x q nodes e =
     record {
       fits = omega (arith, ap length e, length-append (base o ++ postorder b) (postorder f));
       stands = λ new n. record { rows = n ∙ wrapped (base o) b f x q _ nodes e refl; open_blocks = refl };
     }
 
-ClosesIf-at : (o : Open Label) (b d f : NodesOf Label) (a : Arm) (x y : Label) (q : ℕ) (nodes : List Node) → nodes ≡ ((base o ++ postorder b) ++ postorder d) ++ postorder f → ClosesIf nodes (frames o) (frame_behind (base o ++ postorder b) (postorder d) a x q) y (state_at o (Snoc b x q (Snoc d y 0 f)))
+ClosesIf-at : (o : Open Label) (b d f : NodesOf Label) (a : Arm) (x y : Label) (q : ℕ) (nodes : List Node)
+    → nodes ≡ ((base o ++ postorder b) ++ postorder d) ++ postorder f
+    → ClosesIf nodes (frames o) (frame_behind (base o ++ postorder b) (postorder d) a x q) y (state_at o (Snoc b x q (Snoc d y 0 f)))
 ClosesIf-at o b d f a x y q nodes e =
     let case : with_node nodes y 0 (length ((base o ++ postorder b) ++ postorder d)) ≡ (base o ++ postorder b) ++ postorder (Snoc d y 0 f) =
     wrapped (base o ++ postorder b) d f y 0 _ nodes e refl in
@@ -189,7 +210,9 @@ ClosesIf-at o b d f a x y q nodes e =
           λ new n. record { rows = n ∙ wrapped (base o) b (Snoc d y 0 f) x q _ _ case refl; open_blocks = refl };
     }
 
-Turned-at : (o : Open Label) (b d f : NodesOf Label) (x y z : Label) (q : ℕ) (nodes : List Node) → nodes ≡ ((base o ++ postorder b) ++ postorder d) ++ postorder f → Turned nodes (frames o) (frame_behind (base o ++ postorder b) (postorder d) (arm.Then y) x q) y z (turned z (InThen o b d x y q) f)
+Turned-at : (o : Open Label) (b d f : NodesOf Label) (x y z : Label) (q : ℕ) (nodes : List Node)
+    → nodes ≡ ((base o ++ postorder b) ++ postorder d) ++ postorder f
+    → Turned nodes (frames o) (frame_behind (base o ++ postorder b) (postorder d) (arm.Then y) x q) y z (turned z (InThen o b d x y q) f)
 Turned-at o b d f x y z q nodes e =
     let case : with_node nodes y 0 (length ((base o ++ postorder b) ++ postorder d)) ≡ (base o ++ postorder b) ++ postorder (Snoc d y 0 f) =
     wrapped (base o ++ postorder b) d f y 0 _ nodes e refl in
@@ -205,13 +228,15 @@ Turned-at o b d f x y z q nodes e =
     }
 
 -- by the frame that was last
-block_top : (o : Open Label) (f : NodesOf Label) (nodes : List Node) (rest : List Frame) (t : Frame) → nodes ≡ base o ++ postorder f → IsTop o rest t → t.arm ≡ arm.Block → ClosesBlock nodes rest t (closed o f)
+block_top : (o : Open Label) (f : NodesOf Label) (nodes : List Node) (rest : List Frame) (t : Frame)
+    → nodes ≡ base o ++ postorder f → IsTop o rest t → t.arm ≡ arm.Block → ClosesBlock nodes rest t (closed o f)
 block_top Top f nodes rest t e h a = absurd h
 block_top (InBlock o b x q) f nodes rest t e h a = rw (h.0, h.1) (ClosesBlock-at o b f x q nodes e)
 block_top (InThen o b d x y q) f nodes rest t e h a = absurd (cc (ap (λ (u : Frame). u.arm) h.1))
 block_top (InElse o b d x y q) f nodes rest t e h a = absurd (cc (ap (λ (u : Frame). u.arm) h.1))
 
-then_top : (o : Open Label) (f : NodesOf Label) (nodes : List Node) (rest : List Frame) (t : Frame) (z : Label) → nodes ≡ base o ++ postorder f → IsTop o rest t → t.arm ≡ arm.Then z → ClosesIf nodes rest t z (closed o f)
+then_top : (o : Open Label) (f : NodesOf Label) (nodes : List Node) (rest : List Frame) (t : Frame) (z : Label)
+    → nodes ≡ base o ++ postorder f → IsTop o rest t → t.arm ≡ arm.Then z → ClosesIf nodes rest t z (closed o f)
 then_top Top f nodes rest t z e h a = absurd h
 then_top (InBlock o b x q) f nodes rest t z e h a = absurd (cc (ap (λ (u : Frame). u.arm) h.1))
 then_top (InThen o b d x y q) f nodes rest t z e h a =
@@ -219,7 +244,8 @@ then_top (InThen o b d x y q) f nodes rest t z e h a =
     rw (h.0, h.1, same) (ClosesIf-at o b d f (arm.Then y) x y q nodes e)
 then_top (InElse o b d x y q) f nodes rest t z e h a = absurd (cc (ap (λ (u : Frame). u.arm) h.1))
 
-else_top : (o : Open Label) (f : NodesOf Label) (nodes : List Node) (rest : List Frame) (t : Frame) (z : Label) → nodes ≡ base o ++ postorder f → IsTop o rest t → t.arm ≡ arm.Else z → ClosesIf nodes rest t z (closed o f)
+else_top : (o : Open Label) (f : NodesOf Label) (nodes : List Node) (rest : List Frame) (t : Frame) (z : Label)
+    → nodes ≡ base o ++ postorder f → IsTop o rest t → t.arm ≡ arm.Else z → ClosesIf nodes rest t z (closed o f)
 else_top Top f nodes rest t z e h a = absurd h
 else_top (InBlock o b x q) f nodes rest t z e h a = absurd (cc (ap (λ (u : Frame). u.arm) h.1))
 else_top (InThen o b d x y q) f nodes rest t z e h a = absurd (cc (ap (λ (u : Frame). u.arm) h.1))
@@ -227,7 +253,9 @@ else_top (InElse o b d x y q) f nodes rest t z e h a =
     let same : z ≡ y = cc (ap (λ (u : Frame). u.arm) h.1) in
     rw (h.0, h.1, same) (ClosesIf-at o b d f (arm.Else y) x y q nodes e)
 
-turn_top : (o : Open Label) (f : NodesOf Label) (nodes : List Node) (rest : List Frame) (t : Frame) (z otherwise : Label) → nodes ≡ base o ++ postorder f → IsTop o rest t → t.arm ≡ arm.Then z → Turned nodes rest t z otherwise (turned otherwise o f)
+turn_top : (o : Open Label) (f : NodesOf Label) (nodes : List Node) (rest : List Frame) (t : Frame) (z otherwise : Label)
+    → nodes ≡ base o ++ postorder f → IsTop o rest t → t.arm ≡ arm.Then z
+    → Turned nodes rest t z otherwise (turned otherwise o f)
 turn_top Top f nodes rest t z w e h a = absurd h
 turn_top (InBlock o b x q) f nodes rest t z w e h a = absurd (cc (ap (λ (u : Frame). u.arm) h.1))
 turn_top (InThen o b d x y q) f nodes rest t z w e h a =

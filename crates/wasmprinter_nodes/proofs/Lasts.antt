@@ -44,7 +44,8 @@ module _ (row rest : List Node) (node : Node) (h : IsPostorder row) (e : row ≡
   pub size_fits : node.size - 1 ≤ length rest
   size_fits = omega (arith, last_of.is_size, lengths_of)
 
-  pub is_last : (before parts : List Node) → before ≡ take (length rest - (node.size - 1)) rest → parts ≡ drop (length rest - (node.size - 1)) rest → IsLast row before node parts
+  pub is_last : (before parts : List Node) → before ≡ take (length rest - (node.size - 1)) rest
+      → parts ≡ drop (length rest - (node.size - 1)) rest → IsLast row before node parts
   is_last before parts eb ep =
       let k : ℕ = length rest - (node.size - 1) in
       let at : length (postorder last_of.before) ≡ k =
@@ -67,6 +68,7 @@ module _ (row rest : List Node) (node : Node) (h : IsPostorder row) (e : row ≡
       }
 
 -- where the last node begins
-pub front_count : (row before : List Node) (node : Node) (parts : List Node) → IsLast row before node parts → length before ≡ count (front (forest_of row))
+pub front_count : (row before : List Node) (node : Node) (parts : List Node) → IsLast row before node parts
+    → length before ≡ count (front (forest_of row))
 front_count row before node parts is =
     length-row before is.before_row ∙ ap (λ (f : NodesOf Label). count (front f)) (sym is.whole)

@@ -4,3 +4,4 @@ pub mod Searches
 pub mod Blocks
 pub mod Runs
 pub mod Maps
+pub mod AllHeads

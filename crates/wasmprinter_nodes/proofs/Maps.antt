@@ -14,7 +14,8 @@ module _ {H K : Type 0} (v : H → K) where
   last-map Nil = refl
   last-map (Snoc b h r held) = refl
 
-  with_last-map : (h : H) (r : ℕ) (held : NodesOf H) (o : OperandsOf H) → with_last (v h) r (map_nodes v held) (map_operands v o) ≡ map_operands v (with_last h r held o)
+  with_last-map : (h : H) (r : ℕ) (held : NodesOf H) (o : OperandsOf H)
+      → with_last (v h) r (map_nodes v held) (map_operands v o) ≡ map_operands v (with_last h r held o)
   with_last-map h r held (Fit before run) = refl
   with_last-map h r held Passed = refl
   with_last-map h r held Short = refl
@@ -23,7 +24,8 @@ module _ {H K : Type 0} (v : H → K) where
   cond-map true o p = refl
   cond-map false o p = refl
 
-  operands_from-map : (wanted sum : ℕ) (f : NodesOf H) → operands_from wanted sum (map_nodes v f) ≡ map_operands v (operands_from wanted sum f)
+  operands_from-map : (wanted sum : ℕ) (f : NodesOf H)
+      → operands_from wanted sum (map_nodes v f) ≡ map_operands v (operands_from wanted sum f)
   operands_from-map wanted sum Nil = refl
   operands_from-map wanted sum (Snoc b h r held) =
       let next : ℕ = saturated sum r in
@@ -38,17 +40,20 @@ module _ {H K : Type 0} (v : H → K) where
   operands-map zero f = refl
   operands-map (suc n) f = operands_from-map (suc n) 0 f
 
-  with_operands-map : (f : NodesOf H) (h : H) (gives : ℕ) (o : OperandsOf H) → with_operands (map_nodes v f) (v h) gives (map_operands v o) ≡ map_nodes v (with_operands f h gives o)
+  with_operands-map : (f : NodesOf H) (h : H) (gives : ℕ) (o : OperandsOf H)
+      → with_operands (map_nodes v f) (v h) gives (map_operands v o) ≡ map_nodes v (with_operands f h gives o)
   with_operands-map f h gives (Fit before run) = refl
   with_operands-map f h gives Passed = refl
   with_operands-map f h gives Short = refl
 
   -- an operator with its operands
-  pub folded-map : (f : NodesOf H) (h : H) (takes gives : ℕ) → with_operands (map_nodes v f) (v h) gives (operands takes (map_nodes v f)) ≡ map_nodes v (with_operands f h gives (operands takes f))
+  pub folded-map : (f : NodesOf H) (h : H) (takes gives : ℕ)
+      → with_operands (map_nodes v f) (v h) gives (operands takes (map_nodes v f)) ≡ map_nodes v (with_operands f h gives (operands takes f))
   folded-map f h takes gives =
       ap (with_operands (map_nodes v f) (v h) gives) (operands-map takes f) ∙ with_operands-map f h gives (operands takes f)
 
-  turned-map : (otherwise : H) (o : Open H) (f : NodesOf H) → map_state v (turned otherwise o f) ≡ turned (v otherwise) (map_open v o) (map_nodes v f)
+  turned-map : (otherwise : H) (o : Open H) (f : NodesOf H)
+      → map_state v (turned otherwise o f) ≡ turned (v otherwise) (map_open v o) (map_nodes v f)
   turned-map otherwise Top f = refl
   turned-map otherwise (InBlock o b x q) f = refl
   turned-map otherwise (InThen o b d x y q) f = refl

@@ -46,7 +46,8 @@ stands_whole nodes blocks s h =
     (IsPostorder-postorder (joined (base_row s.outer) s.groups))
 
 -- where no block is open, it stands for those of the state
-pub stands_closed : (nodes : List Node) (blocks : List Frame) (s : State) → StandsAt nodes blocks s → s.outer ≡ Top → forest_of nodes ≡ s.groups
+pub stands_closed : (nodes : List Node) (blocks : List Frame) (s : State) → StandsAt nodes blocks s → s.outer ≡ Top
+    → forest_of nodes ≡ s.groups
 stands_closed nodes blocks s h e =
     ap forest_of (h.rows ∙ ap (λ (o : Open Label). base o ++ postorder s.groups) e) ∙ forest_of-postorder s.groups
 
@@ -63,17 +64,20 @@ module _ {H : Type 0} (v : Head → H) where
   steps-append (x ∷ a) b = ap (λ (l : List (Step H)). step_of v (role x) x ∷ l) (steps-append a b)
 
   -- one item, then others
-  run-item : (s : StateOf H) (x : Item) (xs : List Item) (r : row.Role) → role x ≡ r → run_all s (steps v (x ∷ xs)) ≡ run_all (step s (step_of v r x)) (steps v xs)
+  run-item : (s : StateOf H) (x : Item) (xs : List Item) (r : row.Role) → role x ≡ r
+      → run_all s (steps v (x ∷ xs)) ≡ run_all (step s (step_of v r x)) (steps v xs)
   run-item s x xs r e = ap (λ (q : row.Role). run_all (step s (step_of v q x)) (steps v xs)) e
 
   -- code, then others
-  run-behind : (s t : StateOf H) (code : Code) (xs : List Item) → run_all s (steps v (flat code)) ≡ t → run_all s (steps v (flat code ++ xs)) ≡ run_all t (steps v xs)
+  run-behind : (s t : StateOf H) (code : Code) (xs : List Item) → run_all s (steps v (flat code)) ≡ t
+      → run_all s (steps v (flat code ++ xs)) ≡ run_all t (steps v xs)
   run-behind s t code xs e =
       ap (run_all s) (steps-append (flat code) xs)
       ∙ (run_all-append s (steps v (flat code)) (steps v xs) ∙ ap (λ (u : StateOf H). run_all u (steps v xs)) e)
 
   -- well-nested operators leave the open blocks as they are, and their nodes behind those that were there
-  pub run-flat : (o : Open H) (f : Nodes) (code : Code) → IsFit code → run_all (state_at o (map_nodes v f)) (steps v (flat code)) ≡ state_at o (map_nodes v (tree_behind f code))
+  pub run-flat : (o : Open H) (f : Nodes) (code : Code) → IsFit code
+      → run_all (state_at o (map_nodes v f)) (steps v (flat code)) ≡ state_at o (map_nodes v (tree_behind f code))
   run-flat o f Done h = refl
   run-flat o f (Plain x rest) h =
       run-item (state_at o (map_nodes v f)) x (flat rest) row.Plain h.0

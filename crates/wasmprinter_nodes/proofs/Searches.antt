@@ -21,7 +21,8 @@ pub operands-positive : (takes : ℕ) (f : NodesOf Label) → takes ≢ 0 → op
 operands-positive zero f ne = absurd (ne refl)
 operands-positive (suc n) f ne = refl
 
-module _ (takes sum next : ℕ) (row before : List Node) (node : Node) (parts : List Node) (is : IsLast row before node parts) (sums : next ≡ saturated sum node.results) where
+module _ (takes sum next : ℕ) (row before : List Node) (node : Node) (parts : List Node)
+    (is : IsLast row before node parts) (sums : next ≡ saturated sum node.results) where
   fits : OperandsOf Label
   fits = Fit (forest_of before) (Snoc Nil node.label node.results (forest_of parts))
 
@@ -45,7 +46,8 @@ module _ (takes sum next : ℕ) (row before : List Node) (node : Node) (parts : 
       ∙ (cond-false (eqb next takes) fits (cond (ltb takes next) Passed deeper) (ne_eqb next takes ne)
       ∙ cond-true (ltb takes next) Passed deeper (lt-ltb takes next lt)))
 
-  pub found_less : next ≢ takes → next ≤ takes → outcome (operands_from takes sum (forest_of row)) ≡ outcome (operands_from takes next (forest_of before))
+  pub found_less : next ≢ takes → next ≤ takes
+      → outcome (operands_from takes sum (forest_of row)) ≡ outcome (operands_from takes next (forest_of before))
   unfolding deeper
   found_less ne le =
       ap outcome
@@ -66,6 +68,7 @@ within f (Fit before run) n h e =
 within f Passed n h e = absurd (cc)
 within f Short n h e = absurd (cc)
 
-pub outcome_within : (takes n : ℕ) (row : List Node) → IsPostorder row → taken.From n ≡ outcome (operands takes (forest_of row)) → n ≤ length row
+pub outcome_within : (takes n : ℕ) (row : List Node) → IsPostorder row
+    → taken.From n ≡ outcome (operands takes (forest_of row)) → n ≤ length row
 outcome_within takes n row h e =
     omega (arith, within (forest_of row) (operands takes (forest_of row)) n (AreLast-operands takes (forest_of row)) e, ap length h.whole, length-postorder (forest_of row))

@@ -3,3 +3,4 @@ pub mod Rows
 pub mod Mapping
 pub mod Building
 pub mod Frames
+pub mod Heads
