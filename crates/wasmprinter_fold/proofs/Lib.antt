@@ -1,0 +1,3 @@
+mod Texts
+mod Growing
+mod Walks
