@@ -1,3 +1,4 @@
 mod Texts
 mod Growing
 mod Walks
+mod Lists
