@@ -1,8 +1,9 @@
 -- A tree grows by the steps of its operators.
 use Rattle.std.proofs.Common.{◌≡◌, ℕ, List, refl, sym, ◌∙◌, ap, subst, Option, Result, OnOk, ◌⊎◌, ⊎_elim}
+use Rattle.wasmprinter_spec.specs.Row as row
 use Rattle.wasmprinter_spec.specs.Row.{Role}
-use Rattle.wasmprinter_spec.specs.Folding.Arities.{label_counts_after}
-use Rattle.wasmprinter_spec.specs.Folding.Tree.{NodesOf, Nil, Snoc}
+use Rattle.wasmprinter_spec.specs.Folding.Arities.{Counts, label_counts_after}
+use Rattle.wasmprinter_spec.specs.Folding.Tree.{NodesOf}
 use Rattle.wasmprinter_ops.specs.declared.opcode.Role.{Role as OpsRole}
 use Rattle.wasmprinter_ops.specs.declared.opcode.Role.TheVariants as ops
 use Rattle.wasmprinter_ops.specs.Shapes.{role_view}
@@ -10,8 +11,8 @@ use Rattle.wasmprinter_nodes.specs.declared.Label.{Label}
 use Rattle.wasmprinter_nodes.specs.declared.Node.{Node}
 use Rattle.wasmprinter_nodes.specs.declared.builder.Builder.{Builder}
 use Rattle.wasmprinter_nodes.specs.Building.{Open, Top, InBlock, InThen, InElse, StateOf, Step, Ends, start, state_at, step}
-use Rattle.wasmprinter_nodes.specs.Heads.{AllNodes, AllState, AllStep}
-use Rattle.wasmprinter_nodes.specs.Mapping.{map_nodes, map_open, map_state, map_step}
+use Rattle.wasmprinter_nodes.specs.Heads.{AllStep}
+use Rattle.wasmprinter_nodes.specs.Mapping.{map_nodes, map_open, map_step}
 use Rattle.wasmprinter_nodes.specs.Frames.{State, Stands}
 use Rattle.wasmprinter_nodes.specs.Postorder.{IsPostorder, forest_of}
 use Rattle.wasmprinter_nodes.proofs.Maps.{step-map}
@@ -20,7 +21,7 @@ use Rattle.wasmprinter_node_text.specs.Shown.{Shown, shown_in, IsIn, AreIn}
 use Rattle.wasmprinter_node_text.specs.Buffers.{Grows}
 use Rattle.wasmprinter_fold.specs.declared.tree.GrowingTree.{GrowingTree}
 use Rattle.wasmprinter_fold.specs.Growing.{ShowsIn, Steps, shown_step}
-use Rattle.wasmprinter_fold.proofs.Texts.{in_grown, shown_grown}
+use Rattle.wasmprinter_node_text.proofs.LabelLaws.{in_grown, shown_grown}
 
 -- what is printed stays the same where the buffer grows
 pub shows-more : (old new : List ℕ) (b : Builder) (s : StateOf Shown) → Grows old new → ShowsIn old b s → ShowsIn new b s
@@ -75,28 +76,25 @@ whole buffer b nodes f p q h =
 
 -- ---- by role
 
--- the same step, by another name of the role
-pub same_role : {T E : Type 0} (r : Result T E) (old new : GrowingTree) (a b : Role) (x then otherwise : Shown) (takes gives : ℕ) → a ≡ b →
-    OnOk r (Steps old new (shown_step a x then otherwise takes gives)) → OnOk r (Steps old new (shown_step b x then otherwise takes gives))
-same_role r old new a b x then otherwise takes gives e h = subst (λ (q : Role). OnOk r (Steps old new (shown_step q x then otherwise takes gives))) e h
+-- the same step
+pub same_step : {T E : Type 0} (r : Result T E) (old new : GrowingTree) (a b : Step Shown) → a ≡ b → OnOk r (Steps old new a) → OnOk r (Steps old new b)
+same_step r old new a b e h = subst (λ (x : Step Shown). OnOk r (Steps old new x)) e h
+
+-- the step by the operator's role
+pub by_role : (r s : Role) (x then otherwise : Shown) (counts : Counts) → r ≡ s → shown_step r x then otherwise counts ≡ shown_step s x then otherwise counts
+by_role r s x then otherwise counts e = ap (λ (q : Role). shown_step q x then otherwise counts) e
+
+-- what is of no other role ends a block
+pub ends_role : (r : OpsRole) (s : Role) (x then otherwise : Shown) (counts : Counts) →
+    (r ≡ ops.OpensTry) ⊎ ((r ≡ ops.Catches) ⊎ ((r ≡ ops.CatchesAll) ⊎ ((r ≡ ops.Delegates) ⊎ (r ≡ ops.Ends)))) → role_view r ≡ s →
+    Ends ≡ shown_step s x then otherwise counts
+ends_role r s x then otherwise counts h e =
+    ⊎_elim (λ q. by_role row.OpensTry s x then otherwise counts (ap role_view (sym q) ∙ e)) (λ h.
+    ⊎_elim (λ q. by_role row.Catches s x then otherwise counts (ap role_view (sym q) ∙ e)) (λ h.
+    ⊎_elim (λ q. by_role row.CatchesAll s x then otherwise counts (ap role_view (sym q) ∙ e)) (λ h.
+    ⊎_elim (λ q. by_role row.Delegates s x then otherwise counts (ap role_view (sym q) ∙ e))
+    (λ q. by_role row.Ends s x then otherwise counts (ap role_view (sym q) ∙ e)) h) h) h) h
 
 -- the same counts of labels
 pub same_counts : (a b : Role) (x y : Option ℕ) (k l : List (Option ℕ)) → a ≡ b → x ≡ y → k ≡ l → label_counts_after a x k ≡ label_counts_after b y l
 same_counts a b x y k l p q r = rw (p, q, r) refl
-
--- what isn't of another role ends a block
-pub ends_role : (r : OpsRole) (s : Role) (x then otherwise : Shown) (takes gives : ℕ) →
-    (r ≡ ops.OpensTry) ⊎ ((r ≡ ops.Catches) ⊎ ((r ≡ ops.CatchesAll) ⊎ ((r ≡ ops.Delegates) ⊎ (r ≡ ops.Ends)))) → role_view r ≡ s →
-    Ends ≡ shown_step s x then otherwise takes gives
-ends_role r s x then otherwise takes gives h e =
-    ⊎_elim (λ q. ap by (ap role_view (sym q) ∙ e)) (λ h1.
-    ⊎_elim (λ q. ap by (ap role_view (sym q) ∙ e)) (λ h2.
-    ⊎_elim (λ q. ap by (ap role_view (sym q) ∙ e)) (λ h3.
-    ⊎_elim (λ q. ap by (ap role_view (sym q) ∙ e)) (λ q. ap by (ap role_view (sym q) ∙ e)) h3) h2) h1) h
-  where
-    by : Role → Step Shown
-    by q = shown_step q x then otherwise takes gives
-
--- the same step
-pub same_step : {T E : Type 0} (r : Result T E) (old new : GrowingTree) (a b : Step Shown) → a ≡ b → OnOk r (Steps old new a) → OnOk r (Steps old new b)
-same_step r old new a b e h = subst (λ (x : Step Shown). OnOk r (Steps old new x)) e h

@@ -1,4 +1,3 @@
-mod Texts
 mod Growing
 mod Walks
 mod Lists

@@ -1,6 +1,6 @@
 -- The operators of a list, one by one.
-use Rattle.std.specs.Prelude.{◌≡◌, ℕ, ◌+◌, ◌-◌, ◌<◌, ◌^◌, List, [], ◌∷◌, ◌++◌, length, map, codes, Bool, true, false, Option, Some, None, option_map}
-use Rattle.std.proofs.Common.{refl, sym, ap, ap₂, ◌∙◌, subst, arith}
+use Rattle.std.specs.Prelude.{◌≡◌, ℕ, ◌+◌, ◌-◌, ◌<◌, ◌^◌, List, [], ◌∷◌, length, map, codes, Bool, true, false, Option, Some, None, option_map}
+use Rattle.std.proofs.Common.{refl, sym, ap, ◌∙◌, subst, arith}
 use Rattle.wasmprinter_spec.specs.Grammar.{Placed}
 use Rattle.wasmprinter_spec.specs.Row as row
 use Rattle.wasmprinter_spec.specs.Row.{Role}
@@ -11,10 +11,9 @@ use Rattle.wasmprinter_spec.specs.Nesting.{Nests, Sequence}
 use Rattle.wasmprinter_spec.specs.Instructions.{role_at, roles}
 use Rattle.wasmprinter_spec.specs.Labels.{Label, labels_after, count_after}
 use Rattle.wasmprinter_spec.specs.Options.{defaults}
-use Rattle.wasmprinter_spec.specs.Piece.{Piece}
 use Rattle.wasmprinter_spec.specs.Customs.Hints.{Hint, next_hint, hint_behind}
 use Rattle.wasmprinter_spec.specs.Layout.Operators.{Setting}
-use Rattle.wasmprinter_spec.specs.Layout.Folded.{item, items, node_pieces, folded_pieces, if_folded}
+use Rattle.wasmprinter_spec.specs.Layout.Folded.{item, items, folded_pieces, if_folded}
 use Rattle.wasmprinter_spec.specs.Folding.Arities.{Signatures, Counts, counts_of, label_of_block, label_counts_after}
 use Rattle.wasmprinter_spec.specs.Folding.Code.{Item, Code, code_of, role as item_role, is_try, AreWithoutTry, flat, IsFit}
 use Rattle.wasmprinter_spec.specs.Folding.Tree.{tree}
@@ -28,8 +27,8 @@ use Rattle.wasmprinter_nodes.specs.Mapping.{map_nodes}
 use Rattle.wasmprinter_nodes.proofs.Runs.{run-tree}
 use Rattle.wasmprinter_node_text.specs.Shown.{Shown, shown_head, row_pieces}
 use Rattle.wasmprinter_fold.specs.declared.tree.GrowingTree.{GrowingTree}
-use Rattle.wasmprinter_fold.specs.Growing.{Shows, Steps, shown_step, shown_operator, shown_keyword, IsGrown}
-use Rattle.wasmprinter_fold.proofs.Texts.{rows_shown}
+use Rattle.wasmprinter_fold.specs.Growing.{Shows, Steps, shown_step, shown_operator, shown_keyword, operator_step, IsGrown}
+use Rattle.wasmprinter_node_text.proofs.RowLaws.{rows_shown}
 
 -- ---- places and operators
 
@@ -52,7 +51,7 @@ step-shown : (paints : Bool) (s : Setting) (t : Signatures) (hint : Option (Plac
     let counts : Counts = counts_of t ls o.value in
     step_of (shown_head paints) r (item s t hint (own_label l) l.labels ls o)
     ≡ shown_step r (shown_operator paints s l o.place (option_map (λ h. h.value.taken) hint) o.value)
-    (shown_keyword paints o.place (codes "then")) (shown_keyword paints o.place (codes "else")) counts.takes counts.gives
+    (shown_keyword paints o.place (codes "then")) (shown_keyword paints o.place (codes "else")) counts
 step-shown paints s t hint l ls o row.Plain = refl
 step-shown paints s t hint l ls o row.Opens = refl
 step-shown paints s t hint l ls o row.OpensIf = refl
@@ -68,12 +67,12 @@ step-next : (paints other : Bool) (s : Setting) (t : Signatures) (next : Option 
     other ≡ paints → names ≡ s.names → hint ≡ option_map (λ h. h.value.taken) next →
     step_of (shown_head paints) r (item s t next (own_label l) l.labels ls o)
     ≡ shown_step r (shown_operator other (record s { names = names }) l o.place hint o.value)
-    (shown_keyword other o.place (codes "then")) (shown_keyword other o.place (codes "else")) (counts_of t ls o.value).takes (counts_of t ls o.value).gives
+    (shown_keyword other o.place (codes "then")) (shown_keyword other o.place (codes "else")) (counts_of t ls o.value)
 step-next paints other s t next hint names l ls o r e n q =
     let counts : Counts = counts_of t ls o.value in
     step-shown paints s t next l ls o r
     ∙ (ap (λ (ns : Names). shown_step r (shown_operator paints (record s { names = ns }) l o.place (option_map (λ h. h.value.taken) next) o.value)
-    (shown_keyword paints o.place (codes "then")) (shown_keyword paints o.place (codes "else")) counts.takes counts.gives) (sym n)
+    (shown_keyword paints o.place (codes "then")) (shown_keyword paints o.place (codes "else")) counts) (sym n)
     ∙ rw (e, q) refl)
 
 -- ---- a list of operators
@@ -167,9 +166,7 @@ module _ {paints : Bool} {s : Setting} {t : Signatures} {from : Scan} {hints : L
       pairs os ≡ x ∷ pairs rest → role ≡ role_of x.1.opcode → is_try role ≡ false → k ≡ advanced role l → behind ≡ hint_behind (x.0 - s.body) left →
       hint ≡ option_map (λ h. h.value.taken) (next_hint (x.0 - s.body) left) → n.texts.paints ≡ g.texts.paints →
       n.labels ≡ label_counts_after (role_of x.1.opcode) (label_of_block t x.1) g.labels →
-      Steps g n (shown_step (role_of x.1.opcode) (shown_operator g.texts.paints (record s { names = names_of l }) l x.0 hint x.1)
-      (shown_keyword g.texts.paints x.0 (codes "then")) (shown_keyword g.texts.paints x.0 (codes "else"))
-      (counts_of t g.labels x.1).takes (counts_of t g.labels x.1).gives) →
+      Steps g n (operator_step g.texts.paints (record s { names = names_of l }) l x.0 hint x.1 (counts_of t g.labels x.1)) →
       Progress paints s t from hints all rest behind k n
   goes_on rest x role k behind n hint e r y b h q w c f =
       let o : Placed Operator = placed_view x in

@@ -1,11 +1,13 @@
 -- A tree of nodes that grows with each operator, by what is printed of its nodes.
-use Rattle.std.specs.Prelude.{◌≡◌, ℕ, List, [], ◌∷◌, Bool, true, false, Option, Some, None}
+use Rattle.std.specs.Prelude.{◌≡◌, ℕ, List, [], ◌∷◌, Bool, true, false, Option, Some, None, codes}
 use Rattle.wasmprinter_spec.specs.Call.{Text}
 use Rattle.wasmprinter_spec.specs.Operator.{Operator}
 use Rattle.wasmprinter_spec.specs.Options.{defaults}
 use Rattle.wasmprinter_spec.specs.Piece.{all_calls}
 use Rattle.wasmprinter_spec.specs.Row as row
 use Rattle.wasmprinter_spec.specs.Row.{Role}
+use Rattle.wasmprinter_spec.specs.Table.{role_of}
+use Rattle.wasmprinter_spec.specs.Folding.Arities.{Counts}
 use Rattle.wasmprinter_spec.specs.Folding.Code.{Code}
 use Rattle.wasmprinter_spec.specs.Folding.Tree.{tree}
 use Rattle.wasmprinter_spec.specs.Layout.Operators.{Setting}
@@ -41,13 +43,18 @@ shown_operator paints s l place hint o = shown place hint paints (all_calls defa
 abbrev pub shown_keyword : Bool → ℕ → List ℕ → Shown
 shown_keyword paints place keyword = shown place None paints (Text keyword ∷ [])
 
--- the step of an operator by its role: by what is printed of it, of a `then` and of an `else`, and by the numbers of its operands and results
-abbrev pub shown_step : Role → Shown → Shown → Shown → ℕ → ℕ → Step Shown
-shown_step row.Plain x then otherwise takes gives = Plain x takes gives
-shown_step row.Opens x then otherwise takes gives = Opens x gives
-shown_step row.OpensIf x then otherwise takes gives = OpensIf x then gives
-shown_step row.Turns x then otherwise takes gives = Turns otherwise
-shown_step _ x then otherwise takes gives = Ends
+-- a step by its role: by what is printed of the operator, of a `then` and of an `else`, and by the numbers of its operands and results
+abbrev pub shown_step : Role → Shown → Shown → Shown → Counts → Step Shown
+shown_step row.Plain x then otherwise counts = Plain x counts.takes counts.gives
+shown_step row.Opens x then otherwise counts = Opens x counts.gives
+shown_step row.OpensIf x then otherwise counts = OpensIf x then counts.gives
+shown_step row.Turns x then otherwise counts = Turns otherwise
+shown_step _ x then otherwise counts = Ends
+
+-- the step of an operator, where these labels are open in front of it
+abbrev pub operator_step : Bool → Setting → Scan → ℕ → Option Bool → Operator → Counts → Step Shown
+operator_step paints s l place hint o counts =
+    shown_step (role_of o.opcode) (shown_operator paints s l place hint o) (shown_keyword paints place (codes "then")) (shown_keyword paints place (codes "else")) counts
 
 -- the tree is that of the code, if there is code
 abbrev pub IsGrown : Bool → GrowingTree → Bool → Option Code → Type 0

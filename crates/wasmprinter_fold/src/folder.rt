@@ -88,7 +88,10 @@ impl<'m, 'a> Folder<'m, 'a> {
         ensures invents { labels.new.invents ≡ labels.old.invents }
     {
         // A module with an operator of the older `try` is refused before anything is printed of it, so each list that comes here is folded.
-        if !self.tree.fold(&self.callees, setting, labels, own, hints, expression)? {
+        if !self
+            .tree
+            .fold(&self.callees, setting, labels, own, hints, expression)?
+        {
             return Ok(false);
         }
         let nodes = self.tree.builder.nodes();

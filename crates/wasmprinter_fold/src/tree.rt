@@ -1,17 +1,17 @@
 //! The tree of a list of operators, which grows with each of them.
-ghost use Rattle.std.specs.Prelude.{◌≡◌, ℕ, ◌+◌, ◌-◌, ◌<◌, ◌^◌, [], length, option_map, codes, IfOk, OnOk};
+ghost use Rattle.std.specs.Prelude.{◌≡◌, ◌+◌, ◌-◌, ◌<◌, ◌^◌, [], length, option_map, codes, IfOk, OnOk};
 ghost use Rattle.wasmprinter_spec.specs.Table.{role_of};
-ghost use Rattle.wasmprinter_spec.specs.Row.{Plain as PlainRole, Opens as OpensRole, OpensIf as OpensIfRole, Turns as TurnsRole, Ends as EndsRole};
 ghost use Rattle.wasmprinter_spec.specs.Customs.Hints.{next_hint, hint_behind};
 ghost use Rattle.wasmprinter_spec.specs.Folding.Arities.{signatures_within, counts_of, label_of_block, label_counts_after};
 ghost use Rattle.wasmprinter_spec.specs.Folding.Code.{is_try, code_of};
 ghost use Rattle.wasmprinter_spec.specs.Layout.Folded.{items};
-ghost use Rattle.wasmprinter_nodes.specs.Building.{StateOf, start};
+ghost use Rattle.wasmprinter_nodes.specs.Building.{StateOf, Plain, Opens, OpensIf, Turns, Ends, start};
 ghost use Rattle.wasmprinter_ops.specs.Shapes.{role_view};
 ghost use Rattle.wasmprinter_labels.specs.Scan.{names_of};
 ghost use Rattle.wasmprinter_flat.specs.Settings.{setting_view};
+ghost use Rattle.wasmprinter_arities.specs.Counted.{counts_view};
 ghost use Rattle.wasmprinter_node_text.specs.Shown.{Shown};
-ghost use Rattle.wasmprinter_fold.specs.Growing.{Shows, Steps, shown_step, shown_operator, shown_keyword, IsGrown};
+ghost use Rattle.wasmprinter_fold.specs.Growing.{Shows, Steps, operator_step, shown_operator, shown_keyword, IsGrown};
 
 use std::alloc::{AllocError, Global};
 use wasmprinter_arities::blocks::label_of_block;
@@ -95,11 +95,13 @@ impl GrowingTree {
         requires shows { (s : StateOf Shown) × Shows self.old s }
         ensures paints { self.new.texts.paints ≡ self.old.texts.paints }
         ensures labels { self.new.labels ≡ self.old.labels }
-        ensures steps { OnOk result (Steps self.old self.new (shown_step PlainRole
+        ensures steps { OnOk result (Steps self.old self.new (Plain
             (shown_operator self.old.texts.paints (setting_view S.signature_at setting.now (names_of labels.now)) labels.now place hint operator.now)
-            (shown_keyword self.old.texts.paints place (codes "then")) (shown_keyword self.old.texts.paints place (codes "else")) counts.takes counts.gives)) }
+            counts.takes counts.gives)) }
     {
-        let label = self.texts.write_operator(setting, labels, operator, place, hint)?;
+        let label = self
+            .texts
+            .write_operator(setting, labels, operator, place, hint)?;
         self.builder.plain(label, counts.takes, counts.gives)
     }
 
@@ -117,11 +119,13 @@ impl GrowingTree {
         requires shows { (s : StateOf Shown) × Shows self.old s }
         ensures paints { self.new.texts.paints ≡ self.old.texts.paints }
         ensures labels { self.new.labels ≡ self.old.labels }
-        ensures steps { OnOk result (Steps self.old self.new (shown_step OpensRole
+        ensures steps { OnOk result (Steps self.old self.new (Opens
             (shown_operator self.old.texts.paints (setting_view S.signature_at setting.now (names_of labels.now)) labels.now place hint operator.now)
-            (shown_keyword self.old.texts.paints place (codes "then")) (shown_keyword self.old.texts.paints place (codes "else")) counts.takes counts.gives)) }
+            counts.gives)) }
     {
-        let label = self.texts.write_operator(setting, labels, operator, place, hint)?;
+        let label = self
+            .texts
+            .write_operator(setting, labels, operator, place, hint)?;
         self.builder.open(label, counts.gives)
     }
 
@@ -139,11 +143,13 @@ impl GrowingTree {
         requires shows { (s : StateOf Shown) × Shows self.old s }
         ensures paints { self.new.texts.paints ≡ self.old.texts.paints }
         ensures labels { self.new.labels ≡ self.old.labels }
-        ensures steps { OnOk result (Steps self.old self.new (shown_step OpensIfRole
+        ensures steps { OnOk result (Steps self.old self.new (OpensIf
             (shown_operator self.old.texts.paints (setting_view S.signature_at setting.now (names_of labels.now)) labels.now place hint operator.now)
-            (shown_keyword self.old.texts.paints place (codes "then")) (shown_keyword self.old.texts.paints place (codes "else")) counts.takes counts.gives)) }
+            (shown_keyword self.old.texts.paints place (codes "then")) counts.gives)) }
     {
-        let label = self.texts.write_operator(setting, labels, operator, place, hint)?;
+        let label = self
+            .texts
+            .write_operator(setting, labels, operator, place, hint)?;
         let then = self.texts.write_keyword("then", place)?;
         self.builder.open_if(label, then, counts.gives)
     }
@@ -153,8 +159,8 @@ impl GrowingTree {
         requires { (s : StateOf Shown) × Shows self.old s }
         ensures paints { self.new.texts.paints ≡ self.old.texts.paints }
         ensures labels { self.new.labels ≡ self.old.labels }
-        ensures steps { (x then : Shown) (takes gives : ℕ) → OnOk result (Steps self.old self.new (shown_step TurnsRole
-            x then (shown_keyword self.old.texts.paints place (codes "else")) takes gives)) }
+        ensures steps { OnOk result (Steps self.old self.new (Turns
+            (shown_keyword self.old.texts.paints place (codes "else")))) }
     {
         let label = self.texts.write_keyword("else", place)?;
         self.builder.turn(label)
@@ -165,13 +171,13 @@ impl GrowingTree {
         requires { (s : StateOf Shown) × Shows self.old s }
         ensures paints { self.new.texts.paints ≡ self.old.texts.paints }
         ensures labels { self.new.labels ≡ self.old.labels }
-        ensures steps { (x then otherwise : Shown) (takes gives : ℕ) →
-            OnOk result (Steps self.old self.new (shown_step EndsRole x then otherwise takes gives)) }
+        ensures steps { OnOk result (Steps self.old self.new Ends) }
     {
         self.builder.end()
     }
 
-    /// An operator more, which takes and gives so many values. The operators of the older `try` are taken as ends: none of them is folded.
+    /// An operator more, which takes and gives so many values. Those of the older `try` are taken as ends: no list with one of them is folded.
+    /// A hint in front of an `else` or an `end` goes nowhere: a module with one is refused before anything is printed of it.
     fn add<S: Signatures>(
         &mut self,
         setting: &Setting<'_, S>,
@@ -185,9 +191,8 @@ impl GrowingTree {
         requires shows { (s : StateOf Shown) × Shows self.old s }
         ensures paints { self.new.texts.paints ≡ self.old.texts.paints }
         ensures labels { self.new.labels ≡ self.old.labels }
-        ensures steps { OnOk result (Steps self.old self.new (shown_step (role_of operator.now.opcode)
-            (shown_operator self.old.texts.paints (setting_view S.signature_at setting.now (names_of labels.now)) labels.now place hint operator.now)
-            (shown_keyword self.old.texts.paints place (codes "then")) (shown_keyword self.old.texts.paints place (codes "else")) counts.takes counts.gives)) }
+        ensures steps { OnOk result (Steps self.old self.new (operator_step self.old.texts.paints
+            (setting_view S.signature_at setting.now (names_of labels.now)) labels.now place hint operator.now (counts_view counts))) }
     {
         match operator.opcode.role() {
             Role::Plain => self.plain(setting, labels, operator, place, hint, counts),
@@ -216,15 +221,14 @@ impl GrowingTree {
         ensures paints { self.new.texts.paints ≡ self.old.texts.paints }
         ensures labels { OnOk result (self.new.labels ≡ label_counts_after (role_of operator.now.opcode)
             (label_of_block (signatures_within callees.now own) operator.now) self.old.labels) }
-        ensures steps { OnOk result (Steps self.old self.new (shown_step (role_of operator.now.opcode)
-            (shown_operator self.old.texts.paints (setting_view S.signature_at setting.now (names_of labels.now)) labels.now place hint operator.now)
-            (shown_keyword self.old.texts.paints place (codes "then")) (shown_keyword self.old.texts.paints place (codes "else"))
-            (counts_of (signatures_within callees.now own) self.old.labels operator.now).takes
-            (counts_of (signatures_within callees.now own) self.old.labels operator.now).gives)) }
+        ensures steps { OnOk result (Steps self.old self.new (operator_step self.old.texts.paints
+            (setting_view S.signature_at setting.now (names_of labels.now)) labels.now place hint operator.now
+            (counts_of (signatures_within callees.now own) self.old.labels operator.now))) }
     {
         let counts = counts(callees, own, &self.labels, operator);
         self.add(setting, labels, operator, place, hint, counts)?;
-        self.labels.advance(operator.opcode.role(), label_of_block(callees, operator))
+        self.labels
+            .advance(operator.opcode.role(), label_of_block(callees, operator))
     }
 
     /// Folds the operators of an expression, in a function of so many results. Answers whether they are folded: they aren't where one of

@@ -1,6 +1,5 @@
 use Rattle.std.proofs.Common.{sym, ap, ◌∙◌}
 use Rattle.wasmprinter_spec.specs.Operator.{Operator}
-use Rattle.wasmprinter_spec.specs.Row.{Role}
 use Rattle.wasmprinter_spec.specs.Table.{role_of}
 use Rattle.wasmprinter_spec.specs.Folding.Code.{is_try}
 use Rattle.wasmprinter_fold.proofs.Walks.{refuses, goes_on, all_folded}

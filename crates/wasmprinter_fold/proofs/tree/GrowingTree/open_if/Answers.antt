@@ -3,7 +3,7 @@ use Rattle.std.proofs.lemmas.Result.{on_ok_weaker}
 use Rattle.wasmprinter_nodes.specs.Building.{OpensIf}
 use Rattle.wasmprinter_node_text.specs.Shown.{Shown}
 use Rattle.wasmprinter_fold.specs.Growing.{shown_keyword}
-use Rattle.wasmprinter_fold.proofs.Texts.{in_grown, shown_grown}
+use Rattle.wasmprinter_node_text.proofs.LabelLaws.{in_grown, shown_grown}
 use Rattle.wasmprinter_fold.proofs.Growing.{shows-more, shows-step}
 use Rattle.wasmprinter_fold.proofs.tree.GrowingTree.open_if.Goals as goal
 

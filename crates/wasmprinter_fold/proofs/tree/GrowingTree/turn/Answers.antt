@@ -1,4 +1,4 @@
-use Rattle.std.proofs.Common.{ap, ◌∙◌}
+use Rattle.std.proofs.Common.{ap}
 use Rattle.std.proofs.lemmas.Result.{on_ok_weaker}
 use Rattle.wasmprinter_nodes.specs.Building.{Turns}
 use Rattle.wasmprinter_node_text.specs.Shown.{Shown}
@@ -6,7 +6,7 @@ use Rattle.wasmprinter_fold.proofs.Growing.{shows-more, shows-step}
 use Rattle.wasmprinter_fold.proofs.tree.GrowingTree.turn.Goals as goal
 
 pub returns-clause-steps : goal.returns-clause-steps
-returns-clause-steps c x then takes gives =
+returns-clause-steps c =
     let e = c.in_ok-label.ensures in
     on_ok_weaker c.turn.result (λ f s h.
     shows-step c.write_keyword.new.self.bytes c.args.self.now.builder c.turn.new.self (Turns c.in_ok-label.label) _ s e.inside
