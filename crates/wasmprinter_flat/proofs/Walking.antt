@@ -20,7 +20,7 @@ use Rattle.wasmprinter_print.specs.Prints.{Written, Lacks}
 use Rattle.wasmprinter_print.specs.PrintsLaws.{no_piece, next_written, lacks_none}
 use Rattle.wasmprinter_ops.specs.Operators.{placed_view, pairs}
 use Rattle.wasmprinter_labels.specs.Scan.{Scan, names_of, own_label, begun, advanced}
-use Rattle.wasmprinter_flat.specs.Settings.{over_lines}
+use Rattle.wasmprinter_flat.specs.Settings.{word_pieces, over_lines}
 use Rattle.wasmprinter_flat.proofs.Depths.{after-length, after-count}
 
 -- pairs of places and operators are operators with their places
@@ -39,8 +39,7 @@ no-pair os e = sym (seen-pairs os) ∙ ap (map placed_view) e
 pub operator-out : (s : Setting) (first : Bool) (own : Label) (xs : List Label) (place : ℕ) (o : Operator) (role : Role) (depth : ℕ) →
     role ≡ role_of o.opcode → depth ≡ level role (length xs) →
     operator_pieces s first own xs (record { place = place; value = o })
-    ≡ before_word s.form first place (s.nesting + depth)
-    ++ (Word (word_of o.opcode) ∷ pieces_by s (inside role xs) (outside role xs) own (shape_of o.opcode) o.immediates)
+    ≡ before_word s.form first place (s.nesting + depth) ++ word_pieces s own xs o
 unfolding operator_pieces
 operator-out s first own xs place o role depth r e = rw (e, r) refl
 

@@ -1,5 +1,5 @@
 -- A whole list of operators.
-use Rattle.std.proofs.Common.{◌≡◌, List, [], ◌∷◌, ◌++◌, refl, sym, ◌∙◌, ap, subst}
+use Rattle.std.proofs.Common.{◌≡◌, List, [], ◌∷◌, ◌++◌, map, refl, sym, ◌∙◌, ap, subst}
 use Rattle.wasmprinter_spec.specs.Row as row
 use Rattle.wasmprinter_spec.specs.Folding.Code.{Item, Code, Done, Plain, Block, If, IfElse, flat, role, IsFit}
 use Rattle.wasmprinter_spec.specs.Folding.Tree.{Head, Of, Then, Else, NodesOf, Nodes, Nil, Snoc, joined, front, last, folded, tree_behind, tree}
@@ -8,7 +8,7 @@ use Rattle.wasmprinter_nodes.specs.declared.Node.{Node}
 use Rattle.wasmprinter_nodes.specs.declared.builder.Frame.{Frame}
 use Rattle.wasmprinter_nodes.specs.Postorder.{postorder, forest_of, IsPostorder}
 use Rattle.wasmprinter_nodes.specs.Building.{Open, Top, InBlock, InThen, InElse, StateOf, Step, start, state_at, step, step_of, steps, run_all}
-use Rattle.wasmprinter_nodes.specs.Mapping.{map_nodes}
+use Rattle.wasmprinter_nodes.specs.Mapping.{map_nodes, map_step}
 use Rattle.wasmprinter_nodes.specs.Frames.{State, base, StandsAt}
 use Rattle.wasmprinter_nodes.proofs.Postorders.{postorder-joined, forest_of-postorder, IsPostorder-postorder}
 use Rattle.wasmprinter_nodes.proofs.Maps.{front-map, last-map, folded-map}
@@ -57,6 +57,9 @@ module _ {H : Type 0} where
   pub run_all-append : (s : StateOf H) (a b : List (Step H)) → run_all s (a ++ b) ≡ run_all (run_all s a) b
   run_all-append s [] b = refl
   run_all-append s (t ∷ a) b = run_all-append (step s t) a b
+
+  pub run_all-push : (s : StateOf H) (ts : List (Step H)) (t : Step H) → run_all s (ts ++ t ∷ []) ≡ step (run_all s ts) t
+  run_all-push s ts t = run_all-append s ts (t ∷ [])
 
 module _ {H : Type 0} (v : Head → H) where
   pub steps-append : (a b : List Item) → steps v (a ++ b) ≡ steps v a ++ steps v b
@@ -116,3 +119,20 @@ module _ {H : Type 0} (v : Head → H) where
   -- code is folded into its nodes
   pub run-tree : (code : Code) → IsFit code → run_all start (steps v (flat code)) ≡ state_at Top (map_nodes v (tree code))
   run-tree code h = run-flat Top Nil code h
+
+-- steps with something else first in each node
+module _ {H K : Type 0} (v : Head → H) (w : H → K) where
+  pub step_of-map : (r : row.Role) (x : Item) → map_step w (step_of v r x) ≡ step_of (λ h. w (v h)) r x
+  step_of-map row.Plain x = refl
+  step_of-map row.Opens x = refl
+  step_of-map row.OpensIf x = refl
+  step_of-map row.OpensTry x = refl
+  step_of-map row.Turns x = refl
+  step_of-map row.Catches x = refl
+  step_of-map row.CatchesAll x = refl
+  step_of-map row.Delegates x = refl
+  step_of-map row.Ends x = refl
+
+  pub steps-map : (xs : List Item) → map (map_step w) (steps v xs) ≡ steps (λ h. w (v h)) xs
+  steps-map [] = refl
+  steps-map (x ∷ xs) = rw (step_of-map (role x) x, steps-map xs) refl

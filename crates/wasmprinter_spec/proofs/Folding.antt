@@ -6,7 +6,7 @@ use Rattle.wasmprinter_spec.specs.Row as row
 use Rattle.wasmprinter_spec.specs.Row.{Role, Opens, OpensIf, OpensTry, Turns, Catches, CatchesAll, Delegates, Ends}
 use Rattle.wasmprinter_spec.specs.Folding.Arities.{greatest, saturated}
 use Rattle.wasmprinter_spec.specs.Folding.Code.{Item, Code, Done, Plain, Block, If, IfElse, flat, role, IsFit}
-use Rattle.wasmprinter_spec.specs.Folding.Tree.{Head, Of, Then, Else, NodesOf, Nodes, Nil, Snoc, joined, front, last, OperandsOf, Operands, Fit, Passed, Short, with_last, operands_from, operands, with_operands, folded, results_of, IsFirst, IsAnswer, OperandRule, tree_behind}
+use Rattle.wasmprinter_spec.specs.Folding.Tree.{Of, Then, Else, NodesOf, Nodes, Nil, Snoc, joined, front, last, OperandsOf, Operands, Fit, Passed, Short, with_last, operands_from, operands, with_operands, folded, results_of, IsFirst, IsAnswer, tree_behind}
 use Rattle.wasmprinter_spec.specs.Folding.Unfolding.{Told, told_as, told, unfolded, UnfoldingRule}
 
 saturated-zero : (s : ℕ) → s ≤ greatest → saturated s 0 ≡ s

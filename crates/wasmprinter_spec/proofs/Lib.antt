@@ -48,3 +48,4 @@ pub mod FoldingCode
 pub mod FoldingItems
 pub mod ArityRows
 pub mod FoldingRows
+pub mod FoldedTextRows

@@ -8,6 +8,7 @@ use Rattle.wasmprinter_spec.specs.Indexed.{IsIndexed}
 use Rattle.wasmprinter_spec.specs.Limits.{HasNoEmptyInit}
 use Rattle.wasmprinter_spec.specs.Call.{Call, atoms, text_of}
 use Rattle.wasmprinter_spec.specs.Colour.{uncolour}
+use Rattle.wasmprinter_spec.specs.Coloured.{coloured_text}
 use Rattle.wasmprinter_spec.specs.Plain.{IsPlainText}
 use Rattle.wasmprinter_spec.specs.Options.{Options, Answers, AreUnclaimed, IsBlank}
 use Rattle.wasmprinter_spec.specs.Layout.{layout, refusal}
@@ -85,6 +86,13 @@ PaintsAddColours =
     (bytes : List ℕ) (m : PlacedModule) (o : Options) (answers : Answers) →
     Spells bytes m → IsBlank o.indent →
     uncolour (text_of (layout o answers m)) ≡ text_of (layout (record o { paints = false }) answers m)
+
+-- So are those of every style, which a printer in colours writes: what stays when all are deleted is the text without any.
+abbrev pub ColouredTextKeeps : Type 0
+ColouredTextKeeps =
+    (bytes : List ℕ) (m : PlacedModule) (o : Options) (answers : Answers) →
+    Spells bytes m → IsBlank o.indent →
+    uncolour (coloured_text (layout o answers m)) ≡ text_of (layout (record o { paints = false }) answers m)
 
 -- Plain text is UTF-8.
 abbrev pub PlainTextIsUtf8 : Type 0

@@ -1,6 +1,7 @@
 //! A printer in colours.
 ghost use Rattle.std.specs.Prelude.{◌≡◌, ◌&&◌, IsTrue, true, not};
-ghost use Rattle.wasmprinter_writers.specs.ColourCalls.{coloured_meaning, colour_look, strong_look};
+ghost use Rattle.wasmprinter_spec.specs.Coloured.{colour_look, strong_look};
+ghost use Rattle.wasmprinter_writers.specs.ColourCalls.{coloured_meaning};
 ghost use Rattle.wasmprinter_writers.specs.Numbers.{number_of};
 
 use crate::{Color, ColorSpec, WriteBytes, WriteColor};

@@ -1,0 +1,5 @@
+pub mod Painted
+pub mod Nodes
+pub mod Fields
+pub mod Modules
+pub mod Texts
