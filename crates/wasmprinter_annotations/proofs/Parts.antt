@@ -9,9 +9,9 @@ use Rattle.wasmprinter_spec.specs.Options.{Options}
 use Rattle.wasmprinter_spec.specs.Piece.{Piece}
 use Rattle.wasmprinter_spec.specs.Layout.Groups.{has_break}
 use Rattle.wasmprinter_spec.specs.Layout.Customs.{Part, Shown, Stops, Laid, before_laid, laid_parts}
-use Rattle.wasmprinter_print.specs.Emits.{Through, AtCall, Never}
+use Rattle.wasmprinter_print.specs.Emits.{Through, AtCall, Stopped, Never}
 use Rattle.wasmprinter_print.specs.Prints.{Written}
-use Rattle.wasmprinter_print.specs.PrintsLaws.{written, no_piece, both_pieces, pieces_end}
+use Rattle.wasmprinter_print.specs.PrintsLaws.{written, no_piece, both_pieces, pieces_end, pieces_halt}
 use Rattle.wasmprinter_lines.proofs.Groups.{has_break-append}
 use Rattle.wasmprinter_annotations.specs.Parts.{PrintsLaid, PrintsParts}
 use Rattle.wasmprinter_annotations.specs.Lines.{PrintsPartLines}
@@ -98,6 +98,10 @@ module _ {P : Type 0} (m : Meaning P) {o : Options} where
   call_ends ps None l v = shown_ends l v
   call_ends ps (Some id) l v = record { written = v; refused = tt }
 
+  stop_ends : {T : Type 0} {a t : P} (ps : List Piece) (refused : Option ℕ) (k : Laid) → Written m o a t Stopped ps → PrintsLaid {T = T} m o a t (Err Memory) (laid_behind ps refused k)
+  stop_ends {T} ps None k v = let stopped : Result T Error = Err Memory in record { written = pieces_halt m stopped Memory k.pieces refl v; refused = tt }
+  stop_ends ps (Some id) k v = record { written = v; refused = tt }
+
   laid_ends : {T U : Type 0} {a t : P} (e : Error) (l k : Laid) → PrintsLaid {T = T} m o a t (Err e) l → PrintsLaid {T = U} m o a t (Err e) (laid_behind l.pieces l.refused k)
   laid_ends (Malformed place) l k v = absurd (never v.written)
   laid_ends Component l k v = absurd (never v.written)
@@ -109,7 +113,7 @@ module _ {P : Type 0} (m : Meaning P) {o : Options} where
   laid_ends (DylinkSubsection id) l k v = refused_ends l.pieces l.refused k v.refused v.written
   laid_ends Unreadable l k v = absurd (never v.written)
   laid_ends (Printer e) l k v = call_ends l.pieces l.refused k v.written
-  laid_ends Memory l k v = absurd (never v.written)
+  laid_ends Memory l k v = stop_ends l.pieces l.refused k v.written
 
   -- parts at which it ended, whatever parts would have come after them
   pub parts_end : {T U : Type 0} {a t : P} (r : Result U Error) {e : Error} (xs ys : List Part) →

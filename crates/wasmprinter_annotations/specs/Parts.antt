@@ -5,10 +5,10 @@ use Rattle.wasmprinter_error.specs.declared.error.Error.TheVariants.{Malformed, 
 use Rattle.wasmprinter_spec.specs.Meaning.{Meaning}
 use Rattle.wasmprinter_spec.specs.Options.{Options}
 use Rattle.wasmprinter_spec.specs.Layout.Customs.{Part, Laid, laid_parts}
-use Rattle.wasmprinter_print.specs.Emits.{Ending, Through, AtCall, Never}
+use Rattle.wasmprinter_print.specs.Emits.{Ending, Through, AtCall, Stopped, Never}
 use Rattle.wasmprinter_print.specs.Prints.{Written}
 
--- how the calls of a function end that answers this error: a refusal comes behind all calls up to it
+-- how the calls of a function end that answers this error: a refusal comes behind all calls up to it, want of memory between two calls
 abbrev pub stop_of : Error → Ending
 stop_of (Malformed place) = Never
 stop_of Component = Never
@@ -20,7 +20,7 @@ stop_of (FoldHint place) = Never
 stop_of (DylinkSubsection id) = Through
 stop_of Unreadable = Never
 stop_of (Printer e) = AtCall e
-stop_of Memory = Never
+stop_of Memory = Stopped
 
 abbrev pub stop : {T : Type 0} → Result T Error → Ending
 stop (Ok x) = Through
@@ -35,8 +35,8 @@ abbrev pub IsRefused : {T : Type 0} → Result T Error → Option ℕ → Type 0
 IsRefused (Ok x) refused = refused ≡ None
 IsRefused (Err e) refused = IsRefusedAs e refused
 
--- The calls made are those of the pieces, or a beginning of them where a call failed, whose error is then answered; behind them the refusal is
--- answered, if there is one. Nothing else is.
+-- The calls made are those of the pieces, or a beginning of them where a call failed, whose error is then answered, or where a growth was refused;
+-- behind them the refusal is answered, if there is one. Nothing else is.
 pub record PrintsLaid {P T : Type 0} (m : Meaning P) (o : Options) (old new : P) (r : Result T Error) (l : Laid) : Type 0 where
   pub written : Written m o old new (stop r) l.pieces
   pub refused : IsRefused r l.refused
