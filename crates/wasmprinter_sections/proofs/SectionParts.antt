@@ -3,16 +3,17 @@ use Rattle.std.specs.Prelude.{◌≡◌, List, ◌∷◌, Bool, true, false, ◌
 use Rattle.std.proofs.Common.{sym, ap, ◌∙◌, subst}
 use Rattle.std.specs.declared.io.Error.{Error as IoError}
 use Rattle.wasmprinter_error.specs.declared.error.Error.{Error}
-use Rattle.wasmprinter_error.specs.declared.error.Error.TheVariants.{Printer}
+use Rattle.wasmprinter_error.specs.declared.error.Error.TheVariants.{Malformed, Component, TooManyLocals, TooManyFunctions, EmptyTableInit, FoldLegacy, FoldHint, DylinkSubsection, Unreadable, Printer, Memory}
 use Rattle.wasmprinter_spec.specs.Meaning.{Meaning}
 use Rattle.wasmprinter_spec.specs.Options.{Options}
 use Rattle.wasmprinter_spec.specs.Piece.{Piece}
 use Rattle.wasmprinter_spec.specs.Layout.Groups.{has_break}
-use Rattle.wasmprinter_spec.specs.Layout.Customs.{Part, Shown, laid_parts}
-use Rattle.wasmprinter_print.specs.Emits.{Through, AtCall}
+use Rattle.wasmprinter_spec.specs.Layout.Customs.{Part, Shown, Laid, before_laid, laid_parts}
+use Rattle.wasmprinter_print.specs.Emits.{Through, AtCall, halt_of}
 use Rattle.wasmprinter_print.specs.Prints.{Written}
-use Rattle.wasmprinter_print.specs.PrintsLaws.{both_pieces}
+use Rattle.wasmprinter_print.specs.PrintsLaws.{written, both_pieces, pieces_halt}
 use Rattle.wasmprinter_lines.proofs.Groups.{has_break-append}
+use Rattle.wasmprinter_annotations.specs.Parts.{PrintsLaid}
 use Rattle.wasmprinter_annotations.specs.Lines.{PrintsPartLines}
 use Rattle.wasmprinter_annotations.proofs.Parts.{shown_then, shown_fails}
 
@@ -38,6 +39,26 @@ module _ {P : Type 0} (m : Meaning P) (o : Options) where
   section_ended (Ok x) parts f v w = absurd f
   section_ended {a} {s} {t} (Err y) {ps = ps} parts f v w =
       subst (λ (z : Error). PrintsPartLines m o a t (Err z) (Shown ps ∷ parts)) (sym f) (record { prints = shown_then m parts v w.prints; lines = tt })
+
+  -- it ended amid the fields
+  pub section_halts : {a t : P} (r : Result Bool Error) (e : Error) {ps : List Piece} (parts : List Part) → IsErrAnd r (λ y. y ≡ e) →
+      Written m o a t (halt_of e) ps → PrintsPartLines m o a t r (Shown ps ∷ parts)
+  section_halts (Ok x) e parts f v = absurd f
+  section_halts {a} {t} (Err y) e {ps} parts f v =
+      record { prints = halted y ps (laid_parts parts) (subst (λ (z : Error). Written m o a t (halt_of z) ps) (sym f) v); lines = tt }
+    where
+      halted : (y : Error) (ps : List Piece) (l : Laid) → Written m o a t (halt_of y) ps → PrintsLaid {T = Bool} m o a t (Err y) (before_laid ps l)
+      halted (Malformed place) ps l v = absurd (written m v).made
+      halted Component ps l v = absurd (written m v).made
+      halted (TooManyLocals place) ps l v = absurd (written m v).made
+      halted (TooManyFunctions count) ps l v = absurd (written m v).made
+      halted (EmptyTableInit place) ps l v = absurd (written m v).made
+      halted (FoldLegacy place) ps l v = absurd (written m v).made
+      halted (FoldHint place) ps l v = absurd (written m v).made
+      halted (DylinkSubsection id) ps l v = absurd (written m v).made
+      halted Unreadable ps l v = absurd (written m v).made
+      halted (Printer x) ps l v = let r : Result Bool Error = Err (Printer x) in record { written = pieces_halt m r (Printer x) l.pieces refl v; refused = tt }
+      halted Memory ps l v = let r : Result Bool Error = Err Memory in record { written = pieces_halt m r Memory l.pieces refl v; refused = tt }
 
   -- a call failed amid the fields
   pub section_failed : {a t : P} (r : Result Bool Error) {e : IoError} {ps : List Piece} (parts : List Part) → IsErrAnd r (λ y. y ≡ Printer e) →

@@ -7,16 +7,16 @@ ghost use Rattle.wasmprinter_spec.specs.Layout.Declarations.{Scope as FieldScope
 ghost use Rattle.wasmprinter_spec.specs.Layout.DataSegments.{data_pieces};
 ghost use Rattle.wasmprinter_spec.specs.Layout.Functions.{functions_pieces};
 ghost use Rattle.wasmprinter_spec.specs.Layout.Groups.{has_break, numbered};
-ghost use Rattle.wasmprinter_print.specs.Prints.{Prints};
+ghost use Rattle.wasmprinter_print.specs.Prints.{PrintsOrStops};
 ghost use Rattle.wasmprinter_entries.specs.Externs.{kind_view, imported_count};
 ghost use Rattle.wasmprinter_entries.specs.Places.{section_kind_view};
 ghost use Rattle.wasmprinter_scope.specs.Scopes.{scope_view, within};
 ghost use Rattle.wasmprinter_fields.specs.Parts.{field_line};
 ghost use Rattle.wasmprinter_sections.specs.Sections.{fields_of};
 
-use std::io;
 use wasmprinter_bodies::functions::write_function;
 use wasmprinter_customs::{Hints, is_hint_section};
+use wasmprinter_error::Error;
 use wasmprinter_fields::fields::{Field, first_number, write_each};
 use wasmprinter_fields::imports::write_imports;
 use wasmprinter_fields::start::write_start;
@@ -52,8 +52,8 @@ fn write_functions<P: Print>(
     options: &PrintOptions,
     module: &Module<'_>,
     scope: &mut Scope<'_, '_>,
-) -> io::Result<()>
-    ensures pieces { Prints P.meaning options.now p.old p.new result
+) -> Result<(), Error>
+    ensures pieces { PrintsOrStops P.meaning options.now p.old p.new result
         (functions_pieces options.now (scope_view scope.old) (hints_of module.now.customs) (imported_count FuncKind module.now.imports)
         module.now.functions) }
     ensures scope { scope_view scope.new ≡ scope_view scope.old }
@@ -81,8 +81,8 @@ fn write_datas<P: Print>(
     options: &PrintOptions,
     module: &Module<'_>,
     scope: &mut Scope<'_, '_>,
-) -> io::Result<()>
-    ensures pieces { Prints P.meaning options.now p.old p.new result
+) -> Result<(), Error>
+    ensures pieces { PrintsOrStops P.meaning options.now p.old p.new result
         (numbered (data_pieces options.now.skeleton
         (within (scope_view scope.old) (imported_count FuncKind module.now.imports + length module.now.functions))) 0 module.now.datas) }
     ensures scope { scope_view scope.new ≡ scope_view scope.old }
@@ -102,9 +102,9 @@ fn write_defined<P: Print, F: Field>(
     scope: &mut Scope<'_, '_>,
     kind: ExternKind,
     fields: &[F],
-) -> io::Result<()>
+) -> Result<(), Error>
     requires { length fields.now < 2 ^ 32 }
-    ensures pieces { Prints P.meaning options.now p.old p.new result
+    ensures pieces { PrintsOrStops P.meaning options.now p.old p.new result
         (numbered (field_line F.keyword F.line_place (F.parts options.now (scope_view scope.old)))
         (imported_count (kind_view kind) module.now.imports) fields.now) }
     ensures scope { scope_view scope.new ≡ scope_view scope.old }
@@ -119,8 +119,8 @@ pub(crate) fn write_fields_of<P: Print>(
     module: &Module<'_>,
     scope: &mut Scope<'_, '_>,
     kind: SectionKind,
-) -> io::Result<()>
-    ensures pieces { Prints P.meaning options.now p.old p.new result
+) -> Result<(), Error>
+    ensures pieces { PrintsOrStops P.meaning options.now p.old p.new result
         (fields_of options.now (scope_view scope.old) module.now (section_kind_view kind)) }
     ensures scope { scope_view scope.new ≡ scope_view scope.old }
 {
@@ -128,7 +128,10 @@ pub(crate) fn write_fields_of<P: Print>(
     use SectionKind as Kind;
 
     match kind {
-        Kind::Type => write_type_groups(p, options, scope, module.types()),
+        Kind::Type => {
+            write_type_groups(p, options, scope, module.types())?;
+            Ok(())
+        }
         Kind::Import => write_imports(p, options, scope, module.imports()),
         Kind::Function => Ok(()),
         Kind::Table => write_defined(p, options, module, scope, Extern::Table, module.tables()),
