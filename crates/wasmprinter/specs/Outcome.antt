@@ -85,12 +85,16 @@ causes growth placed = record {
   memory = growth;
 }
 
+-- something is kept in memory while the module is printed
+abbrev pub MayGrow : Options → PlacedModule → Type 0
+MayGrow o m = HoldsSome m ⊎ (o.folds ≡ true)
+
 -- The error is answered for a cause, if bytes spell a module at all: such a one, where growths are refused only for a module that holds
--- something; a `dylink.0` section has the subsection that is refused; something can't be folded; or a call on the printer failed with the error that
+-- something, or where operators are folded; a `dylink.0` section has the subsection that is refused; something can't be folded; or a call on the printer failed with the error that
 -- is answered.
 abbrev pub HasCause : {P : Type 0} → Meaning P → Options → List ℕ → P → P → Error → Type 0
 HasCause m o bytes old new e =
-    (placed : PlacedModule) → Spells bytes placed → HasPrintReason (print_reasons o placed (PrinterFailed m old new)) (causes (HoldsSome placed) placed) e
+    (placed : PlacedModule) → Spells bytes placed → HasPrintReason (print_reasons o placed (PrinterFailed m old new)) (causes (MayGrow o placed) placed) e
 
 -- The same where the text is made in memory: a growth may be refused for any module, and no printer fails.
 abbrev pub HasTextCause : Options → List ℕ → Error → Type 0
@@ -123,10 +127,14 @@ bytes_reasons o bytes failed = record {
   hint = λ place. HaveSome bytes (λ m. IsMisplacedAt o m place);
 }
 
+-- A growth is refused to the decoder, or where operators are folded and a module within the limits is spelled.
+abbrev pub folding_reasons : Options → List ℕ → Reasons → Reasons
+folding_reasons o bytes decoding = record decoding { memory = decoding.memory ⊎ ((o.folds ≡ true) × ArePrintable bytes) }
+
 -- Of any bytes: the decoder's refusal is true; the printer's, that of a `dylink.0` section, and of what can't be folded, come only where a module
 -- within the limits is spelled, of a section only where it has one, of what can't be folded only where it stands there.
 abbrev pub IsTrueOf : Options → List ℕ → Error → Type 0
-IsTrueOf o bytes e = HasPrintReason (bytes_reasons o bytes (λ x. ArePrintable bytes)) (module_reasons bytes (IsComponent bytes)) e
+IsTrueOf o bytes e = HasPrintReason (bytes_reasons o bytes (λ x. ArePrintable bytes)) (folding_reasons o bytes (module_reasons bytes (IsComponent bytes))) e
 
 -- The same where the text is made in memory: a growth is refused to the decoder, or where a module within the limits is spelled.
 abbrev pub text_reasons : List ℕ → Reasons → Reasons
