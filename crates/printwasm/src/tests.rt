@@ -23,7 +23,7 @@ const MANY_LOCALS: [u8; 28] = [
     0x01, 0x00, 0x0a, 0x08, 0x01, 0x06, 0x01, 0xd1, 0x86, 0x03, 0x7f, 0x0b,
 ];
 
-const USAGE: &str = "usage: printwasm [--offsets] [--skeleton] [--name-unnamed] [--color] FILE\n";
+const USAGE: &str = "usage: printwasm [--offsets] [--skeleton] [--name-unnamed] [--fold] [--color] FILE\n";
 
 /// What a run wrote, and its status.
 #[derive(Drop)]

@@ -2,18 +2,14 @@
 //! the printer is in them: they relate the definitions.
 #![tactic(auto)]
 
-ghost use Rattle.wasmprinter_spec.specs.Laws.{PrintsPlainText, PaintsAddColours, ColouredTextKeeps};
-ghost use Rattle.wasmprinter_colours.specs.PlainLaws.{PaintsAddColoursTo, ColouredTextKeepsTo};
+ghost use Rattle.wasmprinter_spec.specs.Laws.{PaintsAddColours, ColouredTextKeeps};
 
-/// Colours in the text of folded operators are sequences, and nothing else: what stays when they are deleted is the text without them, where
-/// that is plain. So it is for each module that bytes spell, if the text of each is plain.
+/// Colours in the text of folded operators are sequences, and nothing else: what stays when they are deleted is the text without them.
 pub fn paints_add_colors()
-    ensures to_plain { PaintsAddColoursTo }
-    ensures to_all { PrintsPlainText → PaintsAddColours }
+    ensures { PaintsAddColours }
 {}
 
 /// So are those of every style, which a printer in colours writes.
 pub fn colored_text_keeps()
-    ensures to_plain { ColouredTextKeepsTo }
-    ensures to_all { PrintsPlainText → ColouredTextKeeps }
+    ensures { ColouredTextKeeps }
 {}
