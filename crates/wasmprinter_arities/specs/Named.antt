@@ -6,28 +6,28 @@ use Rattle.wasmprinter_spec.specs.Operator.{Immediates, Block, TryTable, Index, 
 use Rattle.wasmprinter_spec.specs.Placed.{PlacedModule}
 use Rattle.wasmprinter_spec.specs.Folding.Arities.{Signatures, types_of, function_type, tag_type, block_gives, label_count}
 
--- the index, where there is one alone
+-- the index, where there is nothing but one
 abbrev pub index_in : Immediates → Option ℕ
 index_in (Index n) = Some n
 index_in _ = None
 
--- the index of a type, alone or in front of another index
+-- the index of a type, by itself or in front of another index
 abbrev pub type_in : Immediates → Option ℕ
 type_in (Index t) = Some t
 type_in (Indices t n) = Some t
 type_in _ = None
 
--- the last label of a branch by a table
+-- the last label of `br_table`, for all other numbers
 abbrev pub last_label_in : Immediates → Option ℕ
 last_label_in (BranchTable ls l) = Some l
 last_label_in _ = None
 
--- the label of a branch on a cast
+-- the label of a branch that depends on a cast
 abbrev pub cast_label_in : Immediates → Option ℕ
 cast_label_in (Cast l from to) = Some l
 cast_label_in _ = None
 
--- the number behind a type
+-- the number behind the index of a type
 abbrev pub count_in : Immediates → Option ℕ
 count_in (Indices t n) = Some n
 count_in _ = None

@@ -34,7 +34,11 @@ impl<'m, 'a> Model for Callees<'m, 'a> {
 }
 
 impl<'m, 'a> Callees<'m, 'a> {
-    /// Gathers what is imported, in time proportional to the number of imports. A look-up then takes the same time for each index.
+    /// Gathers what is imported, in time in proportion to the number of imports. A look-up then takes the same time for each index.
+    ///
+    /// # Errors
+    ///
+    /// Where a growth is refused, which is never wanted without imports.
     pub fn new(alloc: Global, module: &'m Module<'a>) -> Result<Self, AllocError>
         ensures ok { IfOk result (λ c. c ≡ «module».now) }
         ensures memory { OnErr result (0 < length «module».now.imports) }

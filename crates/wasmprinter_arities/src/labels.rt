@@ -1,5 +1,5 @@
 //! How many values the labels of open blocks take (section 3.4 of the WebAssembly Core Specification, "Control Instructions").
-ghost use Rattle.std.specs.Prelude.{◌≡◌, [], ◌∷◌, OnOk, OnErr, IsTrue};
+ghost use Rattle.std.specs.Prelude.{◌≡◌, [], OnOk, OnErr};
 ghost use Rattle.wasmprinter_spec.specs.Folding.Arities.{label_counts_after, label_count};
 ghost use Rattle.wasmprinter_ops.specs.Shapes.{role_view};
 ghost use Rattle.wasmprinter_arities.specs.Counted.{Pushes};
@@ -41,8 +41,11 @@ impl LabelCounts {
         self.counts.clear();
     }
 
-    /// Goes on behind an operator of the role. If it opens a block, the block's label takes `opened` values. Memory is wanted only for an
-    /// operator that opens a block.
+    /// Goes on behind an operator of the role. If it opens a block, the block's label takes `opened` values.
+    ///
+    /// # Errors
+    ///
+    /// Where a growth is refused, which only an operator wants that opens a block. Nothing has changed then.
     pub fn advance(&mut self, role: Role, opened: Option<u32>) -> Result<(), AllocError>
         ensures ok { OnOk result (self.new ≡ label_counts_after (role_view role) opened self.old) }
         ensures memory { OnErr result (Pushes (role_view role)) }
@@ -73,6 +76,7 @@ impl LabelCounts {
             None
         }
     }
+
     /// The same of a label that may be missing.
     pub(crate) fn find_if_any(&self, own: Option<u32>, label: Option<u32>) -> Option<u32>
         ensures { result ≡ count_if_any self.now own label }
