@@ -89,8 +89,7 @@ fn write_parts<'s, 'a, P: Print>(
     labels: OpenLabels<'s, 'a>,
     folder: Option<Folder<'s, 'a>>,
 ) -> Result<bool, Error>
-    requires { Folds options.now folder.entry module.now }
-    ensures { (answers : Answers) × PrintsPartLines P.meaning options.now p.old p.new result
+    ensures { Folds options.now folder.entry module.now → (answers : Answers) × PrintsPartLines P.meaning options.now p.old p.new result
         (Shown (leading_mark_pieces (names_of labels.entry).module_name)
         ∷ module_parts (painting options.now folder.entry) answers (names_of labels.entry) module.now) }
 {
@@ -130,8 +129,7 @@ fn write_whole<'s, 'a, P: Print>(
     labels: OpenLabels<'s, 'a>,
     folder: Option<Folder<'s, 'a>>,
 ) -> Result<(), Error>
-    requires { Folds options.now folder.entry module.now }
-    ensures { (answers : Answers) × PrintsLaid P.meaning options.now p.old p.new result
+    ensures { Folds options.now folder.entry module.now → (answers : Answers) × PrintsLaid P.meaning options.now p.old p.new result
         (module_laid (painting options.now folder.entry) answers (names_of labels.entry) module.now) }
 {
     begin(p, 0)?;

@@ -17,7 +17,7 @@ use Rattle.wasmprinter_sections.proofs.SectionParts.{section_failed}
 use Rattle.wasmprinter_sections.proofs.modules.write_parts.Goals as goal
 
 pub returns-in_err-write_leading_mark : goal.returns-in_err-write_leading_mark
-returns-in_err-write_leading_mark g c =
+returns-in_err-write_leading_mark g c folds =
     let o = c.args.options.now in
     let by = painting o c.args.folder in (
       (λ n. false),
@@ -26,13 +26,13 @@ returns-in_err-write_leading_mark g c =
     )
 
 pub returns : goal.returns
-returns g c =
+returns g c folds =
     let o = c.args.options.now in
     let by = painting o c.args.folder in
     let names = names_of c.args.labels in
     let m = c.args.module.now in
     let sections = rw c.first_number.ensures.is at c.write_sections.ensures in
-    let folding : option_map _ c.args.folder ≡ folding_of by m = folding-of o c.args.folder m c.requires in
+    let folding : option_map _ c.args.folder ≡ folding_of by m = folding-of o c.args.folder m folds in
     let same = sections-paint o (paints_of c.args.folder) (scope_of (types_of m) names (imported_count FuncKind m.imports) (folding_of by m)) m sections.1 kinds in
     let written = rw same at (rw folding at sections.3) in
     let walk = module_walk g.P.Print.meaning o by names m c.write_sections.result sections.0 sections.1 sections.2 written in (
