@@ -1,9 +1,5 @@
 use Rattle.std.specs.Prelude.{option_map}
-<<<<<<< HEAD
-use Rattle.std.proofs.Common.{sym, ap}
-=======
 use Rattle.std.proofs.Common.{ap}
->>>>>>> 8324c7fa254b4cd073e1a21498ba1c4f8905addc
 use Rattle.wasmprinter_spec.specs.Types.{signature_at}
 use Rattle.wasmprinter_print.specs.PrintsLaws.{last_pieces_halt}
 use Rattle.wasmprinter_fold.specs.Views.{folding_view}

@@ -1,8 +1,4 @@
-<<<<<<< HEAD
-use Rattle.std.proofs.Common.{◌≡◌, true, false, rules, refl}
-=======
 use Rattle.std.proofs.Common.{◌≡◌, true, false, rules}
->>>>>>> 8324c7fa254b4cd073e1a21498ba1c4f8905addc
 use Rattle.wasmprinter_print.specs.PrintsLaws.{last_pieces_halt}
 use Rattle.wasmprinter_scope.specs.Scopes.{scope_view, within}
 use Rattle.wasmprinter_bodies.proofs.Outlines.{skeleton-group, whole-group}
