@@ -82,7 +82,7 @@ impl<'m, 'a> Folder<'m, 'a> {
         hints: FunctionHints<'_>,
         expression: &Expression<'_>,
     ) -> Result<bool, Error>
-        ensures prints { PrintsOrStops P.meaning options.now p.old p.new result
+        ensures prints { PrintsOrStops P.meaning options.now p.old p.new true result
             (folded_list (folding_view self.old) own (setting_view S.signature_at setting.now (names_of labels.old)) hints.entry expression.now.items) }
         ensures lines { IfOk result (λ lines. lines ≡
             has_break (folded_list (folding_view self.old) own (setting_view S.signature_at setting.now (names_of labels.old)) hints.entry expression.now.items)) }
