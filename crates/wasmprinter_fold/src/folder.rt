@@ -1,5 +1,5 @@
 //! What folds the operators of a module, list by list.
-ghost use Rattle.std.specs.Prelude.{◌≡◌, ℕ, Option, length, option_map, IfOk};
+ghost use Rattle.std.specs.Prelude.{◌≡◌, ℕ, true, Option, length, option_map, IfOk};
 ghost use Rattle.wasmprinter_spec.specs.Layout.Folded.{folded_list};
 ghost use Rattle.wasmprinter_spec.specs.Layout.Groups.{has_break};
 ghost use Rattle.wasmprinter_print.specs.Prints.{PrintsOrStops};

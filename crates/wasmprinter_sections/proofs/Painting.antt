@@ -1,6 +1,6 @@
 -- The parts of a module don't depend on the option of colours but by the scope.
-use Rattle.std.specs.Prelude.{◌≡◌, ℕ, ◌+◌, List, [], ◌∷◌, ◌++◌, Bool, true, false, Option, Some, None, option_map, refl}
-use Rattle.std.proofs.Common.{ap, ap₂, ◌∙◌}
+use Rattle.std.specs.Prelude.{◌≡◌, ℕ, ◌+◌, List, [], ◌∷◌, ◌++◌, Bool, true, false, Option, Some, None, option_map, is_some, refl}
+use Rattle.std.proofs.Common.{sym, ap, ap₂, ◌∙◌}
 use Rattle.wasmprinter_spec.specs.Kinds.{Kind, TypeSection, ImportSection, FunctionSection, TableSection, MemorySection, TagSection, GlobalSection, ExportSection, StartSection, ElementSection, CodeSection, DataSection, CustomSection, DataCountSection}
 use Rattle.wasmprinter_spec.specs.Customs.Hints.{FunctionHints, next_hints, hints_behind, hints_of}
 use Rattle.wasmprinter_spec.specs.Placed.{PlacedFunction, PlacedModule}
@@ -61,3 +61,12 @@ pub numbered-agree : {A : Type 0} (f g : ℕ → A → List Piece) → ((i : ℕ
 unfolding numbered
 numbered-agree f g e i [] = refl
 numbered-agree f g e i (x ∷ xs) = ap₂ (λ (ps qs : List Piece). ps ++ qs) (e i x) (numbered-agree f g e (i + 1) xs)
+
+-- something is kept in memory exactly where operators are folded
+pub keeps-folding : (folder : Option FolderView) → is_some (option_map folding_view folder) ≡ is_some folder
+keeps-folding None = refl
+keeps-folding (Some f) = refl
+
+pub keeps-folds : (o : Options) (folder : Option FolderView) (m : PlacedModule) → Folds o folder m → is_some folder ≡ o.folds
+keeps-folds o None m e = sym e
+keeps-folds o (Some f) m e = sym e.0

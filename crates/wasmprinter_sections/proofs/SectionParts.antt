@@ -11,7 +11,7 @@ use Rattle.wasmprinter_spec.specs.Layout.Groups.{has_break}
 use Rattle.wasmprinter_spec.specs.Layout.Customs.{Part, Shown, Laid, before_laid, laid_parts}
 use Rattle.wasmprinter_print.specs.Emits.{Through, AtCall, halt_of}
 use Rattle.wasmprinter_print.specs.Prints.{Written}
-use Rattle.wasmprinter_print.specs.PrintsLaws.{written, both_pieces, pieces_halt}
+use Rattle.wasmprinter_print.specs.PrintsLaws.{written, both_pieces, pieces_halt, stops_before}
 use Rattle.wasmprinter_lines.proofs.Groups.{has_break-append}
 use Rattle.wasmprinter_annotations.specs.Parts.{PrintsLaid}
 use Rattle.wasmprinter_annotations.specs.Lines.{PrintsPartLines}
@@ -65,3 +65,10 @@ module _ {P : Type 0} (m : Meaning P) {keeps : Bool} (o : Options) where
       Written m o a t (AtCall e) ps → PrintsPartLines m o a t keeps r (Shown ps ∷ parts)
   section_failed (Ok x) parts f v = absurd f
   section_failed (Err y) parts f v = record { prints = shown_fails m (Err y) parts f v; lines = tt }
+
+  -- a growth was refused before the first call
+  pub stops_first : {T : Type 0} {a : P} (r : Result T Error) {e : Error} (l : Laid) → keeps ≡ true → e ≡ Memory → IsErrAnd r (λ y. y ≡ e) → PrintsLaid m o a a keeps r l
+  stops_first (Ok x) l k s f = absurd f
+  stops_first {T} {a} (Err y) l k s f =
+      subst (λ (b : Bool). PrintsLaid {T = T} m o a a b (Err y) l) (sym k)
+      (subst (λ (z : Error). PrintsLaid {T = T} m o a a true (Err z) l) (sym (f ∙ s)) (record { written = stops_before m o a l.pieces; refused = tt }))

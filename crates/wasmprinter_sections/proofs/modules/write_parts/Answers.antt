@@ -12,7 +12,7 @@ use Rattle.wasmprinter_scope.specs.Scopes.{types_of}
 use Rattle.wasmprinter_sections.specs.Sections.{painting, paints_of, sections_parts, kinds}
 use Rattle.wasmprinter_sections.proofs.Breaking.{leading-line}
 use Rattle.wasmprinter_sections.proofs.ModuleParts.{module_walk}
-use Rattle.wasmprinter_sections.proofs.Painting.{sections-paint, folding-of}
+use Rattle.wasmprinter_sections.proofs.Painting.{sections-paint, folding-of, keeps-folding}
 use Rattle.wasmprinter_sections.proofs.SectionParts.{section_failed}
 use Rattle.wasmprinter_sections.proofs.modules.write_parts.Goals as goal
 
@@ -34,7 +34,8 @@ returns g c folds =
     let sections = rw c.first_number.ensures.is at c.write_sections.ensures in
     let folding : option_map _ c.args.folder ≡ folding_of by m = folding-of o c.args.folder m folds in
     let same = sections-paint o (paints_of c.args.folder) (scope_of (types_of m) names (imported_count FuncKind m.imports) (folding_of by m)) m sections.1 kinds in
-    let written = rw same at (rw folding at sections.3) in
+    let keeps = keeps-folding c.args.folder in
+    let written = rw same at (rw folding at (rw keeps at sections.3)) in
     let walk = module_walk g.P.Print.meaning o by names m c.write_sections.result sections.0 sections.1 sections.2 written in (
       walk.0,
       part_lines_behind g.P.Print.meaning c.write_sections.result (module_parts by walk.0 names m) (leading-line names.module_name)
