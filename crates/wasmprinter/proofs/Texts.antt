@@ -64,7 +64,7 @@ pub record IsPlainly (o : Options) (calls : List Call) (placed : PlacedModule) :
   pub alike : atoms calls ≡ atoms (layout (in_colours o false) unclaimed placed)
 
 no_colours : (b : Bool) → (IsTrue b → ⊥) → b ≡ false
-no_colours true h = absurd (h tt)
+no_colours true h = absurd (h refl)
 no_colours false h = refl
 
 -- what was printed to a printer that claims nothing and can't write colours
