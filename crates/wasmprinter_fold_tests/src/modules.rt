@@ -50,7 +50,8 @@ pub fn add_code(wasm: &mut Vec<u8>, operators: &[u8]) -> Result<(), AllocError> 
     let size = operators.len().min(100) as u8 + 2;
     wasm.extend_from_slice(&[0x0a, size + 2, 0x01, size, 0x00])?;
     wasm.extend_from_slice(operators)?;
-    wasm.push(0x0b)
+    wasm.push(0x0b)?;
+    Ok(())
 }
 
 /// A module with these types (the content of a type section), and a function of the first type with these operators.
