@@ -1,6 +1,8 @@
 //! How a module is printed.
-ghost use Rattle.std.specs.Prelude.{◌≡◌, ◌↔◌, OnOk, IfOk, IfErr, IsErrOf, string_bytes};
+ghost use Rattle.std.specs.Prelude.{◌≡◌, ◌↔◌, true, OnOk, IfOk, IfErr, IsErrOf, string_bytes};
 ghost use Rattle.wasmprinter_spec.specs.Binary.{IsComponent};
+ghost use Rattle.wasmprinter_spec.specs.Folding.Refusals.{IsFoldable};
+ghost use Rattle.wasmprinter_foldable.specs.Refused.{HasFoldReason};
 ghost use Rattle.wasmprinter.specs.Printed.{Printed, HasTextBy};
 ghost use Rattle.wasmprinter.specs.Outcome.{HasCause, HasTextCause, IsTrueOf, IsTrueOfText, Leaves};
 
@@ -14,7 +16,7 @@ use wasmprinter_lines::options::PrintOptions;
 use wasmprinter_names::Identifiers;
 use wasmprinter_print::{Print, PrintFmtWrite};
 use wasmprinter_sections::modules::write_module;
-use wasmprinter_wasm::decode;
+use wasmprinter_wasm::{Module, decode};
 
 /// What is printed of a module, and how.
 #[derive(Debug, Drop)]
@@ -89,6 +91,18 @@ impl Config {
         self
     }
 
+    /// Refuses a module of which something is to be folded that can't be.
+    fn check(&self, module: &Module<'_>) -> Result<(), Error>
+        ensures foldable { OnOk result (IsFoldable self.now «module».now) }
+        ensures refused { IfErr result (λ e. (self.now.folds ≡ true) × HasFoldReason self.now «module».now e) }
+    {
+        if self.options.folds {
+            check_folding(&self.options, module)
+        } else {
+            Ok(())
+        }
+    }
+
     /// Prints the text of a module in the binary format to a printer.
     ///
     /// The module is read and checked whole, and its names are read, before the first call on the printer. Each custom section is offered
@@ -109,9 +123,7 @@ impl Config {
         ensures component { IsErrOf result Error.Component ↔ IsComponent wasm.now }
     {
         let module = decode(alloc, wasm)?;
-        if self.options.folds {
-            check_folding(&self.options, &module)?;
-        }
+        self.check(&module)?;
         let names = module.names(alloc)?;
         let identifiers = Identifiers {
             names: &names,

@@ -1,5 +1,5 @@
 -- Parts of a layout at which it may end: what was made of one part, and of those behind it.
-use Rattle.std.specs.Prelude.{◌≡◌, List, [], ◌∷◌, ◌++◌, Bool, false, ◌||◌, Option, Some, None, Result, Ok, Err, IsErrAnd, IfOk, refl}
+use Rattle.std.specs.Prelude.{◌≡◌, List, [], ◌∷◌, ◌++◌, Bool, true, false, ◌||◌, Option, Some, None, Result, Ok, Err, IsErrAnd, IfOk, refl}
 use Rattle.std.proofs.Common.{ℕ, sym, ap, ◌∙◌, subst, append_assoc}
 use Rattle.std.specs.declared.io.Error.{Error as IoError}
 use Rattle.wasmprinter_error.specs.declared.error.Error.{Error}
@@ -99,7 +99,7 @@ module _ {P : Type 0} (m : Meaning P) {o : Options} where
   call_ends ps (Some id) l v = record { written = v; refused = tt }
 
   stop_ends : {T : Type 0} {a t : P} (ps : List Piece) (refused : Option ℕ) (k : Laid) → Written m o a t Stopped ps → PrintsLaid {T = T} m o a t (Err Memory) (laid_behind ps refused k)
-  stop_ends {T} ps None k v = let stopped : Result T Error = Err Memory in record { written = pieces_halt m stopped Memory k.pieces refl v; refused = tt }
+  stop_ends {T} ps None k v = let stopped : Result T Error = Err Memory in record { written = pieces_halt m true stopped Memory k.pieces refl v; refused = tt }
   stop_ends ps (Some id) k v = record { written = v; refused = tt }
 
   laid_ends : {T U : Type 0} {a t : P} (e : Error) (l k : Laid) → PrintsLaid {T = T} m o a t (Err e) l → PrintsLaid {T = U} m o a t (Err e) (laid_behind l.pieces l.refused k)

@@ -4,7 +4,7 @@ ghost use Rattle.wasmprinter_spec.specs.Options.{Options};
 ghost use Rattle.wasmprinter_spec.specs.Layout.Functions.{result_count, body_pieces, inner_pieces, function_group, function_pieces};
 ghost use Rattle.wasmprinter_spec.specs.Layout.Groups.{has_break, line_group_gap, group_gap_at};
 ghost use Rattle.wasmprinter_print.specs.Prints.{Prints, PrintsOrStops};
-ghost use Rattle.wasmprinter_scope.specs.Scopes.{scope_view, within};
+ghost use Rattle.wasmprinter_scope.specs.Scopes.{scope_view, within, folds_in};
 ghost use Rattle.wasmprinter_bodies.specs.Functions.{parameter_count_of, outline_parts, definition_parts};
 
 use crate::locals::{has_locals, write_locals};
@@ -87,7 +87,7 @@ fn write_body<P: Print>(
     hints: FunctionHints<'_>,
     body: &Body<'_>,
 ) -> Result<bool, Error>
-    ensures pieces { PrintsOrStops P.meaning options.now p.old p.new result
+    ensures pieces { PrintsOrStops P.meaning options.now p.old p.new (folds_in (scope_view scope.old)) result
         (body_pieces (within (scope_view scope.old) number) type_index hints.entry body.now) }
     ensures lines { IfOk result (λ lines. lines ≡ has_break (body_pieces (within (scope_view scope.old) number) type_index hints.entry body.now)) }
     ensures scope { scope_view scope.new ≡ scope_view scope.old }
@@ -121,7 +121,7 @@ fn write_inner<P: Print>(
     hints: FunctionHints<'_>,
     function: &Function<'_>,
 ) -> Result<bool, Error>
-    ensures pieces { PrintsOrStops P.meaning options.now p.old p.new result
+    ensures pieces { PrintsOrStops P.meaning options.now p.old p.new (folds_in (scope_view scope.old)) result
         (inner_pieces (within (scope_view scope.old) number) hints.entry function.now) }
     ensures lines { IfOk result (λ lines. lines ≡ has_break (inner_pieces (within (scope_view scope.old) number) hints.entry function.now)) }
     ensures scope { scope_view scope.new ≡ scope_view scope.old }
@@ -144,7 +144,7 @@ fn write_definition<P: Print>(
     hints: FunctionHints<'_>,
     function: &Function<'_>,
 ) -> Result<bool, Error>
-    ensures pieces { PrintsOrStops P.meaning options.now p.old p.new result
+    ensures pieces { PrintsOrStops P.meaning options.now p.old p.new (folds_in (scope_view scope.old)) result
         (definition_parts (within (scope_view scope.old) number) hints.entry function.now) }
     ensures lines { IfOk result (λ lines. lines ≡ has_break (definition_parts (within (scope_view scope.old) number) hints.entry function.now)) }
     ensures scope { scope_view scope.new ≡ scope_view scope.old }
@@ -163,7 +163,7 @@ fn write_definition_group<P: Print>(
     hints: FunctionHints<'_>,
     function: &Function<'_>,
 ) -> Result<(), Error>
-    ensures pieces { PrintsOrStops P.meaning options.now p.old p.new result
+    ensures pieces { PrintsOrStops P.meaning options.now p.old p.new (folds_in (scope_view scope.old)) result
         (group_gap_at options.now.offsets function.now.body.value.end 1 (codes "func")
         (definition_parts (within (scope_view scope.old) number) hints.entry function.now)) }
     ensures scope { scope_view scope.new ≡ scope_view scope.old }
@@ -184,7 +184,7 @@ fn write_function_group<P: Print>(
     hints: FunctionHints<'_>,
     function: &Function<'_>,
 ) -> Result<(), Error>
-    ensures pieces { PrintsOrStops P.meaning options.now p.old p.new result
+    ensures pieces { PrintsOrStops P.meaning options.now p.old p.new (folds_in (scope_view scope.old)) result
         (function_group options.now.skeleton options.now.offsets (within (scope_view scope.old) number) hints.entry function.now) }
     ensures scope { scope_view scope.new ≡ scope_view scope.old }
 {
@@ -210,7 +210,7 @@ pub fn write_function<P: Print>(
     hints: FunctionHints<'_>,
     function: &Function<'_>,
 ) -> Result<(), Error>
-    ensures pieces { PrintsOrStops P.meaning options.now p.old p.new result
+    ensures pieces { PrintsOrStops P.meaning options.now p.old p.new (folds_in (scope_view scope.old)) result
         (function_pieces options.now (scope_view scope.old) number hints.entry function.now) }
     ensures scope { scope_view scope.new ≡ scope_view scope.old }
 {

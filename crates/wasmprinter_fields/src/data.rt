@@ -5,7 +5,7 @@ ghost use Rattle.wasmprinter_spec.specs.Options.{Options};
 ghost use Rattle.wasmprinter_spec.specs.Layout.DataSegments.{named_memory, data_mode_pieces};
 ghost use Rattle.wasmprinter_print.specs.Prints.{Prints, PrintsOrStops};
 ghost use Rattle.wasmprinter_segments.specs.Segments.{data_mode_view};
-ghost use Rattle.wasmprinter_scope.specs.Scopes.{scope_view};
+ghost use Rattle.wasmprinter_scope.specs.Scopes.{scope_view, folds_in};
 ghost use Rattle.wasmprinter_fields.specs.Parts.{data_parts};
 
 use crate::fields::Field;
@@ -39,7 +39,7 @@ fn write_data_mode<P: Print>(
     scope: &mut Scope<'_, '_>,
     mode: &DataMode<'_>,
 ) -> Result<bool, Error>
-    ensures pieces { PrintsOrStops P.meaning options.now p.old p.new result
+    ensures pieces { PrintsOrStops P.meaning options.now p.old p.new (folds_in (scope_view scope.old)) result
         (data_mode_pieces (scope_view scope.old) (data_mode_view mode.now)) }
     ensures lines { IfOk result (λ lines. lines ≡ has_break (data_mode_pieces (scope_view scope.old) (data_mode_view mode.now))) }
     ensures scope { scope_view scope.new ≡ scope_view scope.old }

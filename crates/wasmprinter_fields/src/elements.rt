@@ -10,7 +10,7 @@ ghost use Rattle.wasmprinter_spec.specs.Layout.Elements.{named_table, mode_piece
 ghost use Rattle.wasmprinter_spec.specs.Layout.Elements.{items_pieces, shown_items};
 ghost use Rattle.wasmprinter_print.specs.Prints.{Prints, PrintsOrStops};
 ghost use Rattle.wasmprinter_segments.specs.Segments.{element_mode_view, element_items_view, constants_of};
-ghost use Rattle.wasmprinter_scope.specs.Scopes.{scope_view};
+ghost use Rattle.wasmprinter_scope.specs.Scopes.{scope_view, folds_in};
 ghost use Rattle.wasmprinter_fields.specs.Parts.{element_parts};
 
 use crate::fields::Field;
@@ -53,7 +53,7 @@ fn write_element_mode<P: Print>(
     names_table: bool,
     mode: &ElementMode<'_>,
 ) -> Result<bool, Error>
-    ensures pieces { PrintsOrStops P.meaning options.now p.old p.new result
+    ensures pieces { PrintsOrStops P.meaning options.now p.old p.new (folds_in (scope_view scope.old)) result
         (mode_pieces (scope_view scope.old) names_table (element_mode_view mode.now)) }
     ensures lines { IfOk result (λ lines. lines ≡ has_break (mode_pieces (scope_view scope.old) names_table (element_mode_view mode.now))) }
     ensures scope { scope_view scope.new ≡ scope_view scope.old }
@@ -103,7 +103,7 @@ fn write_expression_item<P: Print>(
     scope: &mut Scope<'_, '_>,
     expression: &Expression<'_>,
 ) -> Result<bool, Error>
-    ensures pieces { PrintsOrStops P.meaning options.now p.old p.new result
+    ensures pieces { PrintsOrStops P.meaning options.now p.old p.new (folds_in (scope_view scope.old)) result
         (Gap ∷ constant_group (scope_view scope.old) 2 (codes "item") expression.now.items) }
     ensures lines { IfOk result (λ lines. lines ≡ has_break (Gap ∷ constant_group (scope_view scope.old) 2 (codes "item") expression.now.items)) }
     ensures scope { scope_view scope.new ≡ scope_view scope.old }
@@ -119,7 +119,7 @@ fn write_expression_items<P: Print>(
     scope: &mut Scope<'_, '_>,
     expressions: &[Expression<'_>],
 ) -> Result<bool, Error>
-    ensures pieces { PrintsOrStops P.meaning options.now p.old p.new result
+    ensures pieces { PrintsOrStops P.meaning options.now p.old p.new (folds_in (scope_view scope.old)) result
         (expression_items (scope_view scope.old) (constants_of expressions.now)) }
     ensures lines { IfOk result (λ lines. lines ≡ has_break (expression_items (scope_view scope.old) (constants_of expressions.now))) }
     ensures scope { scope_view scope.new ≡ scope_view scope.old }
@@ -139,7 +139,7 @@ fn write_items<P: Print>(
     scope: &mut Scope<'_, '_>,
     items: &ElementItems<'_>,
 ) -> Result<bool, Error>
-    ensures pieces { PrintsOrStops P.meaning options.now p.old p.new result
+    ensures pieces { PrintsOrStops P.meaning options.now p.old p.new (folds_in (scope_view scope.old)) result
         (items_pieces (scope_view scope.old) (element_items_view items.now)) }
     ensures lines { IfOk result (λ lines. lines ≡ has_break (items_pieces (scope_view scope.old) (element_items_view items.now))) }
     ensures scope { scope_view scope.new ≡ scope_view scope.old }
@@ -164,7 +164,7 @@ fn write_shown_items<P: Print>(
     scope: &mut Scope<'_, '_>,
     items: &ElementItems<'_>,
 ) -> Result<bool, Error>
-    ensures pieces { PrintsOrStops P.meaning options.now p.old p.new result
+    ensures pieces { PrintsOrStops P.meaning options.now p.old p.new (folds_in (scope_view scope.old)) result
         (shown_items options.now.skeleton (scope_view scope.old) (element_items_view items.now)) }
     ensures lines { IfOk result (λ lines. lines ≡ has_break (shown_items options.now.skeleton (scope_view scope.old) (element_items_view items.now))) }
     ensures scope { scope_view scope.new ≡ scope_view scope.old }

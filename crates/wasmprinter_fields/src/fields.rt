@@ -3,7 +3,7 @@ ghost use Rattle.std.specs.Prelude.{◌≡◌, ◌+◌, ◌<◌, ◌^◌, length
 ghost use Rattle.wasmprinter_spec.specs.Layout.Groups.{has_break, numbered};
 ghost use Rattle.wasmprinter_print.specs.Prints.{PrintsOrStops};
 ghost use Rattle.wasmprinter_entries.specs.Externs.{kind_view, imported_count};
-ghost use Rattle.wasmprinter_scope.specs.Scopes.{scope_view};
+ghost use Rattle.wasmprinter_scope.specs.Scopes.{scope_view, folds_in};
 ghost use Rattle.wasmprinter_fields.specs.Parts.{field_line};
 
 use wasmprinter_error::Error;
@@ -44,7 +44,7 @@ pub trait Field {
         scope: &mut Scope<'_, '_>,
         number: u64,
     ) -> Result<bool, Error>
-        ensures pieces { PrintsOrStops P.meaning options.now p.old p.new result
+        ensures pieces { PrintsOrStops P.meaning options.now p.old p.new (folds_in (scope_view scope.old)) result
             (parts options.now (scope_view scope.old) number self.now) }
         ensures lines { IfOk result (λ lines. lines ≡ has_break (parts options.now (scope_view scope.old) number self.now)) }
         ensures scope { scope_view scope.new ≡ scope_view scope.old };
@@ -58,7 +58,7 @@ pub(crate) fn write_field<P: Print, F: Field>(
     number: u64,
     field: &F,
 ) -> Result<(), Error>
-    ensures pieces { PrintsOrStops P.meaning options.now p.old p.new result
+    ensures pieces { PrintsOrStops P.meaning options.now p.old p.new (folds_in (scope_view scope.old)) result
         (field_line F.keyword F.line_place (F.parts options.now (scope_view scope.old)) number field.now) }
     ensures scope { scope_view scope.new ≡ scope_view scope.old }
 {
@@ -82,7 +82,7 @@ pub fn write_each<P: Print, F: Field>(
     fields: &[F],
 ) -> Result<(), Error>
     requires { first + length fields.now < 2 ^ 64 }
-    ensures pieces { PrintsOrStops P.meaning options.now p.old p.new result
+    ensures pieces { PrintsOrStops P.meaning options.now p.old p.new (folds_in (scope_view scope.old)) result
         (numbered (field_line F.keyword F.line_place (F.parts options.now (scope_view scope.old))) first fields.now) }
     ensures scope { scope_view scope.new ≡ scope_view scope.old }
 {

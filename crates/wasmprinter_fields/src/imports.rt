@@ -5,7 +5,7 @@ ghost use Rattle.wasmprinter_spec.specs.Layout.Imports.{number_of, numbers_behin
 ghost use Rattle.wasmprinter_spec.specs.Layout.Imports.{extern_pieces, imports_pieces};
 ghost use Rattle.wasmprinter_print.specs.Prints.{Prints, PrintsOrStops};
 ghost use Rattle.wasmprinter_entries.specs.Externs.{extern_view, HasPage};
-ghost use Rattle.wasmprinter_scope.specs.Scopes.{scope_view};
+ghost use Rattle.wasmprinter_scope.specs.Scopes.{scope_view, folds_in};
 ghost use Rattle.wasmprinter_fields.specs.Parts.{extern_parts, import_parts};
 
 use crate::exports::kind_word;
@@ -169,7 +169,7 @@ pub fn write_imports<P: Print>(
     imports: &[Import<'_>],
 ) -> Result<(), Error>
     requires { length imports.now < 2 ^ 32 }
-    ensures pieces { PrintsOrStops P.meaning options.now p.old p.new result
+    ensures pieces { PrintsOrStops P.meaning options.now p.old p.new (folds_in (scope_view scope.old)) result
         (imports_pieces (scope_view scope.old) no_numbers imports.now) }
     ensures scope { scope_view scope.new ≡ scope_view scope.old }
 {

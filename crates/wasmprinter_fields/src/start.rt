@@ -4,7 +4,7 @@ ghost use Rattle.wasmprinter_spec.specs.Row as row;
 ghost use Rattle.wasmprinter_spec.specs.Layout.{start_pieces};
 ghost use Rattle.wasmprinter_spec.specs.Layout.Declarations.{item_index};
 ghost use Rattle.wasmprinter_print.specs.Prints.{PrintsOrStops};
-ghost use Rattle.wasmprinter_scope.specs.Scopes.{scope_view};
+ghost use Rattle.wasmprinter_scope.specs.Scopes.{scope_view, folds_in};
 
 use crate::fields::{Field, write_field};
 use wasmprinter_error::Error;
@@ -53,7 +53,7 @@ pub fn write_start<P: Print>(
     scope: &mut Scope<'_, '_>,
     start: Option<Start>,
 ) -> Result<(), Error>
-    ensures pieces { PrintsOrStops P.meaning options.now p.old p.new result (start_pieces (scope_view scope.old) start) }
+    ensures pieces { PrintsOrStops P.meaning options.now p.old p.new (folds_in (scope_view scope.old)) result (start_pieces (scope_view scope.old) start) }
     ensures scope { scope_view scope.new ≡ scope_view scope.old }
 {
     match start {

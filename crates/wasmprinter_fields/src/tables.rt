@@ -6,7 +6,7 @@ ghost use Rattle.wasmprinter_spec.specs.Layout.Tables.{table_type_pieces, init_p
 ghost use Rattle.wasmprinter_print.specs.Prints.{Prints, PrintsOrStops};
 ghost use Rattle.wasmprinter_entries.specs.Externs.{table_type_view};
 ghost use Rattle.wasmprinter_labels.specs.Scan.{names_of};
-ghost use Rattle.wasmprinter_scope.specs.Scopes.{scope_view};
+ghost use Rattle.wasmprinter_scope.specs.Scopes.{scope_view, folds_in};
 ghost use Rattle.wasmprinter_fields.specs.Parts.{declared_table, table_parts};
 
 use crate::fields::Field;
@@ -60,7 +60,7 @@ fn write_init<P: Print>(
     scope: &mut Scope<'_, '_>,
     table: &Table<'_>,
 ) -> Result<bool, Error>
-    ensures pieces { PrintsOrStops P.meaning options.now p.old p.new result (init_pieces (scope_view scope.old) table.now.value.init) }
+    ensures pieces { PrintsOrStops P.meaning options.now p.old p.new (folds_in (scope_view scope.old)) result (init_pieces (scope_view scope.old) table.now.value.init) }
     ensures lines { IfOk result (λ lines. lines ≡ has_break (init_pieces (scope_view scope.old) table.now.value.init)) }
     ensures scope { scope_view scope.new ≡ scope_view scope.old }
 {

@@ -64,7 +64,10 @@ impl<'m, 'a> Folder<'m, 'a> {
         result_count(&self.callees, type_index)
     }
 
-    /// Writes the operators of an expression, folded, in a function of so many results. Answers whether a line began.
+    /// Writes the operators of an expression, folded. The function around has `own` results: 0 in a constant expression, `None` where nothing
+    /// is known of its type. `labels` may be anywhere before; its identifiers are those that are printed. Answers whether a line began.
+    ///
+    /// Nothing is written of a list with an operator of the older `try`, which isn't folded.
     ///
     /// # Errors
     ///
@@ -79,7 +82,7 @@ impl<'m, 'a> Folder<'m, 'a> {
         hints: FunctionHints<'_>,
         expression: &Expression<'_>,
     ) -> Result<bool, Error>
-        ensures prints { PrintsOrStops P.meaning options.now p.old p.new result
+        ensures prints { PrintsOrStops P.meaning options.now p.old p.new true result
             (folded_list (folding_view self.old) own (setting_view S.signature_at setting.now (names_of labels.old)) hints.entry expression.now.items) }
         ensures lines { IfOk result (λ lines. lines ≡
             has_break (folded_list (folding_view self.old) own (setting_view S.signature_at setting.now (names_of labels.old)) hints.entry expression.now.items)) }

@@ -231,8 +231,8 @@ impl GrowingTree {
             .advance(operator.opcode.role(), label_of_block(callees, operator))
     }
 
-    /// Folds the operators of an expression, in a function of so many results. Answers whether they are folded: they aren't where one of
-    /// them is of the older `try`.
+    /// Folds the operators of an expression, where the function around has `own` results: 0 in a constant expression, `None` where nothing is
+    /// known of its type. Answers whether they are folded: they aren't where one of them is of the older `try`.
     pub fn fold<S: Signatures>(
         &mut self,
         callees: &Callees<'_, '_>,

@@ -235,4 +235,4 @@ adds_keeps s t calls a = record { paints = a.paints; grows = record { more = pai
 pub made_keeps : {T : Type 0} (s t : View) (layout : List Call) (r : Result T IoError) → Made texts_meaning s t (ending r) layout → Keeps s t
 made_keeps s t layout (Ok x) m = adds_keeps s t m.made.calls (run_adds s m.made.calls t m.made.run)
 made_keeps s t layout (Err e) m =
-    subst (λ (u : View). Keeps s u) (sym m.made.failed.left) (adds_keeps s m.made.before m.made.calls (run_adds s m.made.calls m.made.before m.made.run))
+    subst (λ (u : View). Keeps s u) (sym m.made.failed.left.1) (adds_keeps s m.made.before m.made.calls (run_adds s m.made.calls m.made.before m.made.run))

@@ -1,5 +1,7 @@
 -- The texts of nodes in one buffer, as a printer: what calls make of it.
 use Rattle.std.specs.Prelude.{◌≡◌, ℕ, ◌==◌, ◌&&◌, ◌||◌, List, [], ◌∷◌, ◌++◌, Bool, true, false, None, IsUtf8}
+use Rattle.std.specs.IoError.{error_kind}
+use Rattle.std.specs.declared.io.ErrorKind.TheVariants.{OutOfMemory}
 use Rattle.wasmprinter_spec.specs.Call.{Call, Text, Newline, Line, Start, Claim}
 use Rattle.wasmprinter_spec.specs.Coloured.{coloured_bytes}
 use Rattle.wasmprinter_spec.specs.Meaning.{Meaning}
@@ -58,12 +60,12 @@ WantsMemory Newline = Unit {0}
 WantsMemory (Start style) = Unit {0}
 WantsMemory _ = ⊥
 
--- the meaning of a buffer: a call that fails leaves it as it was
+-- the meaning of a buffer: a call that fails wants memory, and leaves it as it was
 abbrev pub texts_meaning : Meaning View
 texts_meaning = record {
   after = λ old call new. (new ≡ after old call) × IsTextual call;
   may_fail = λ old call. WantsMemory call;
-  partly = λ old call error new. new ≡ old;
+  partly = λ old call error new. (error_kind error ≡ OutOfMemory) × (new ≡ old);
   faults = λ v. None;
 }
 

@@ -228,7 +228,7 @@ pub fn write_nodes<P: Print>(
 ) -> Result<bool, Error>
     requires whole { IsPostorder nodes.now }
     requires texts { AreIn text.now (forest_of nodes.now) }
-    ensures prints { PrintsOrStops P.meaning options.now p.old p.new result
+    ensures prints { PrintsOrStops P.meaning options.now p.old p.new true result
         (row_pieces (form_view form) true nesting (map_nodes (shown_in text.now) (forest_of nodes.now))) }
     ensures lines { IfOk result (λ lines. lines ≡ has_break
         (row_pieces (form_view form) true nesting (map_nodes (shown_in text.now) (forest_of nodes.now)))) }

@@ -1,5 +1,5 @@
 -- What generic code has made of a layout: all of it, or a beginning of it whose last call failed.
-use Rattle.std.specs.Prelude.{◌≡◌, ℕ, Bool, List, [], ◌∷◌, ◌++◌, Result, Ok, Err}
+use Rattle.std.specs.Prelude.{◌≡◌, ℕ, Bool, true, false, List, [], ◌∷◌, ◌++◌, Result, Ok, Err}
 use Rattle.std.specs.declared.io.Error.{Error as IoError}
 use Rattle.wasmprinter_spec.specs.Call.{Call, Claim, atoms}
 use Rattle.wasmprinter_spec.specs.Meaning.{Meaning, Run, Succeeded, Failed}
@@ -71,24 +71,29 @@ abbrev pub outcome : {T : Type 0} → Result T Error → Ending
 outcome (Ok x) = Through
 outcome (Err e) = moment_of e
 
--- when each error comes of a function that keeps something in memory while it prints
-abbrev pub halt_of : Error → Ending
-halt_of (Malformed place) = Never
-halt_of Component = Never
-halt_of (TooManyLocals place) = Never
-halt_of (TooManyFunctions count) = Never
-halt_of (EmptyTableInit place) = Never
-halt_of (FoldLegacy place) = Never
-halt_of (FoldHint place) = Never
-halt_of (DylinkSubsection id) = Never
-halt_of Unreadable = Never
-halt_of (Printer e) = AtCall e
-halt_of Memory = Stopped
+-- where something is kept in memory while it is printed, and where nothing is
+abbrev pub at_growth : Bool → Ending
+at_growth true = Stopped
+at_growth false = Never
+
+-- when each error comes of a function that may keep something in memory while it prints
+abbrev pub halt_of : Bool → Error → Ending
+halt_of keeps (Malformed place) = Never
+halt_of keeps Component = Never
+halt_of keeps (TooManyLocals place) = Never
+halt_of keeps (TooManyFunctions count) = Never
+halt_of keeps (EmptyTableInit place) = Never
+halt_of keeps (FoldLegacy place) = Never
+halt_of keeps (FoldHint place) = Never
+halt_of keeps (DylinkSubsection id) = Never
+halt_of keeps Unreadable = Never
+halt_of keeps (Printer e) = AtCall e
+halt_of keeps Memory = at_growth keeps
 
 -- the end of such a function
-abbrev pub halt : {T : Type 0} → Result T Error → Ending
-halt (Ok x) = Through
-halt (Err e) = halt_of e
+abbrev pub halt : {T : Type 0} → Bool → Result T Error → Ending
+halt keeps (Ok x) = Through
+halt keeps (Err e) = halt_of keeps e
 
 abbrev pub Calls : {P : Type 0} → Meaning P → P → P → Ending → List Call → Type 0
 Calls m old new Through layout = Whole m old new layout

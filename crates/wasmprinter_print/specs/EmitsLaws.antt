@@ -1,5 +1,5 @@
 -- What follows from `Made` and `Owes`, for any printer: how the parts of a layout go together.
-use Rattle.std.specs.Prelude.{◌≡◌, ℕ, List, [], ◌∷◌, ◌++◌, Result, Ok, Err, IsErrAnd}
+use Rattle.std.specs.Prelude.{◌≡◌, ℕ, Bool, true, false, List, [], ◌∷◌, ◌++◌, Result, Ok, Err, IsErrAnd}
 use Rattle.std.proofs.Common.{refl, sym, ap, ap₂, ◌∙◌, subst, append_assoc, append-nil}
 use Rattle.std.proofs.lemmas.List.{map-append}
 use Rattle.std.specs.declared.io.Error.{Error as IoError}
@@ -82,18 +82,19 @@ begun_longer m a t l k v = record {
 }
 
 -- where a function has stopped or failed with an error, what would have come after it
-pub halts : {P : Type 0} (m : Meaning P) {a t : P} (e : Error) (l k : List Call) → Made m a t (halt_of e) l → Made m a t (halt_of e) (l ++ k)
-halts m (Malformed place) l k v = absurd v.made
-halts m Component l k v = absurd v.made
-halts m (TooManyLocals place) l k v = absurd v.made
-halts m (TooManyFunctions count) l k v = absurd v.made
-halts m (EmptyTableInit place) l k v = absurd v.made
-halts m (FoldLegacy place) l k v = absurd v.made
-halts m (FoldHint place) l k v = absurd v.made
-halts m (DylinkSubsection id) l k v = absurd v.made
-halts m Unreadable l k v = absurd v.made
-halts m {a} {t} (Printer e) l k v = record { made = broken_longer m a t e l k v.made }
-halts m {a} {t} Memory l k v = record { made = begun_longer m a t l k v.made }
+pub halts : {P : Type 0} (m : Meaning P) {a t : P} (keeps : Bool) (e : Error) (l k : List Call) → Made m a t (halt_of keeps e) l → Made m a t (halt_of keeps e) (l ++ k)
+halts m keeps (Malformed place) l k v = absurd v.made
+halts m keeps Component l k v = absurd v.made
+halts m keeps (TooManyLocals place) l k v = absurd v.made
+halts m keeps (TooManyFunctions count) l k v = absurd v.made
+halts m keeps (EmptyTableInit place) l k v = absurd v.made
+halts m keeps (FoldLegacy place) l k v = absurd v.made
+halts m keeps (FoldHint place) l k v = absurd v.made
+halts m keeps (DylinkSubsection id) l k v = absurd v.made
+halts m keeps Unreadable l k v = absurd v.made
+halts m {a} {t} keeps (Printer e) l k v = record { made = broken_longer m a t e l k v.made }
+halts m {a} {t} true Memory l k v = record { made = begun_longer m a t l k v.made }
+halts m false Memory l k v = absurd v.made
 
 -- where a growth was refused before the first call
 pub stops_first : {P : Type 0} (m : Meaning P) (a : P) (l : List Call) → Made m a a Stopped l

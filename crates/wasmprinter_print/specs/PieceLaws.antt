@@ -43,24 +43,24 @@ module _ {P : Type 0} (m : Meaning P) where
   abbrev pub NoPieces : Type 0
   NoPieces = (o : Options) (a : P) → Written m o a a Through []
 
-  -- ---- of functions that keep something in memory, and answer whether a line begins in the pieces
+  -- ---- of functions that may keep something in memory, and answer whether a line begins in the pieces
 
   -- a piece that failed, whatever would have come after it
   abbrev pub PieceHandsOn : Type 0
-  PieceHandsOn = (o : Options) (a t : P) (r : Result Bool Error) (e : IoError) (x : Piece) (xs : List Piece) → Written m o a t (AtCall e) (x ∷ []) → Ends r (Printer e) → PrintsOrStops m o a t r (x ∷ xs)
+  PieceHandsOn = (o : Options) (a t : P) (keeps : Bool) (r : Result Bool Error) (e : IoError) (x : Piece) (xs : List Piece) → Written m o a t (AtCall e) (x ∷ []) → Ends r (Printer e) → PrintsOrStops m o a t keeps r (x ∷ xs)
 
   -- pieces of which one failed, whatever would have come after them
   abbrev pub PiecesHandOn : Type 0
-  PiecesHandOn = (o : Options) (a t : P) (r : Result Bool Error) (e : IoError) (xs ys : List Piece) → Written m o a t (AtCall e) xs → Ends r (Printer e) → PrintsOrStops m o a t r (xs ++ ys)
+  PiecesHandOn = (o : Options) (a t : P) (keeps : Bool) (r : Result Bool Error) (e : IoError) (xs ys : List Piece) → Written m o a t (AtCall e) xs → Ends r (Printer e) → PrintsOrStops m o a t keeps r (xs ++ ys)
 
   -- the last pieces, of which one failed
   abbrev pub PiecesHandOnAtLast : Type 0
-  PiecesHandOnAtLast = (o : Options) (a t : P) (r : Result Bool Error) (e : IoError) (xs : List Piece) → Written m o a t (AtCall e) xs → Ends r (Printer e) → PrintsOrStops m o a t r xs
+  PiecesHandOnAtLast = (o : Options) (a t : P) (keeps : Bool) (r : Result Bool Error) (e : IoError) (xs : List Piece) → Written m o a t (AtCall e) xs → Ends r (Printer e) → PrintsOrStops m o a t keeps r xs
 
   -- pieces at which a function ended, whatever would have come after them
   abbrev pub PiecesHalt : Type 0
-  PiecesHalt = (o : Options) (a t : P) (r : Result Bool Error) (e : Error) (xs ys : List Piece) → Written m o a t (halt_of e) xs → Ends r e → PrintsOrStops m o a t r (xs ++ ys)
+  PiecesHalt = (o : Options) (a t : P) (keeps : Bool) (r : Result Bool Error) (e : Error) (xs ys : List Piece) → Written m o a t (halt_of keeps e) xs → Ends r e → PrintsOrStops m o a t keeps r (xs ++ ys)
 
   -- the last pieces, at which it ended
   abbrev pub PiecesHaltAtLast : Type 0
-  PiecesHaltAtLast = (o : Options) (a t : P) (r : Result Bool Error) (e : Error) (xs : List Piece) → Written m o a t (halt_of e) xs → Ends r e → PrintsOrStops m o a t r xs
+  PiecesHaltAtLast = (o : Options) (a t : P) (keeps : Bool) (r : Result Bool Error) (e : Error) (xs : List Piece) → Written m o a t (halt_of keeps e) xs → Ends r e → PrintsOrStops m o a t keeps r xs

@@ -1,5 +1,5 @@
 -- Constant expressions, flat and folded.
-use Rattle.std.specs.Prelude.{◌≡◌, ℕ, ◌+◌, List, [], ◌∷◌, ◌++◌, Bool, true, false, Option, Some, None, refl}
+use Rattle.std.specs.Prelude.{◌≡◌, ℕ, ◌+◌, List, [], ◌∷◌, ◌++◌, Bool, true, false, Option, Some, None, option_map, is_some, refl}
 use Rattle.std.proofs.Common.{sym, ap, ◌∙◌}
 use Rattle.wasmprinter_spec.specs.Grammar.{Placed}
 use Rattle.wasmprinter_spec.specs.Operator.{Operator}
@@ -11,7 +11,9 @@ use Rattle.wasmprinter_spec.specs.Layout.Folded.{folded_list}
 use Rattle.wasmprinter_spec.specs.Layout.Expressions.{in_line, constant_by, constant_pieces, held_pieces, group_parts, constant_group}
 use Rattle.wasmprinter_places.proofs.OneLine.{stays_unbroken}
 use Rattle.wasmprinter_places.proofs.OperatorLines.{expression_stays}
-use Rattle.wasmprinter_scope.specs.Scopes.{is_one}
+use Rattle.wasmprinter_fold.specs.Views.{FolderView, folding_view}
+use Rattle.wasmprinter_scope.specs.declared.scope.Scope.{Scope as ProgramScope}
+use Rattle.wasmprinter_scope.specs.Scopes.{is_one, scope_view, folds_in}
 use Rattle.wasmprinter_scope.proofs.Groups.{closed-breaks}
 
 module _ (s : Scope) (nesting : ℕ) (os : List (Placed Operator)) where
@@ -40,3 +42,7 @@ pub constant_group-breaks : (s : Scope) (nesting : ℕ) (w : List ℕ) (os : Lis
     has_break (constant_group s nesting w os) ≡ has_break (group_parts s (nesting + 1) w os)
 unfolding constant_group
 constant_group-breaks s nesting w os = closed-breaks None nesting (group_parts s (nesting + 1) w os)
+
+-- what folds is there
+pub folds-some : (s : ProgramScope) {f : FolderView} → s.folder ≡ Some f → folds_in (scope_view s) ≡ true
+folds-some s e = ap (λ (x : Option FolderView). is_some (option_map folding_view x)) e

@@ -1,5 +1,5 @@
 -- The program's scope, as the definitions see it, and what fields take from it.
-use Rattle.std.specs.Prelude.{ℕ, Bool, true, false, List, [], ◌∷◌, Option, option_map}
+use Rattle.std.specs.Prelude.{ℕ, Bool, true, false, List, [], ◌∷◌, Option, option_map, is_some}
 use Rattle.wasmprinter_spec.specs.Types.{SubType, all_types}
 use Rattle.wasmprinter_spec.specs.Labels.{Named}
 use Rattle.wasmprinter_spec.specs.Names.{name_in}
@@ -20,6 +20,10 @@ types_of m = all_types (groups_of m.types)
 
 abbrev pub scope_view : Scope → layout.Scope
 scope_view s = scope_of (types_of s.types.module.now) (names_of s.labels) s.function (option_map folding_view s.folder)
+
+-- whether operators are folded
+abbrev pub folds_in : layout.Scope → Bool
+folds_in s = is_some s.folding
 
 -- the same types and identifiers, for the locals and labels of a function
 abbrev pub within : layout.Scope → ℕ → layout.Scope

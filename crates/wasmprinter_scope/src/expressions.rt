@@ -5,7 +5,7 @@ ghost use Rattle.wasmprinter_spec.specs.Layout.Groups.{has_break};
 ghost use Rattle.wasmprinter_spec.specs.Layout.Operators.{expression_pieces};
 ghost use Rattle.wasmprinter_spec.specs.Layout.Expressions.{in_line, constant_pieces, word_unless_one, held_pieces, group_parts, constant_group};
 ghost use Rattle.wasmprinter_print.specs.Prints.{Prints, PrintsOrStops};
-ghost use Rattle.wasmprinter_scope.specs.Scopes.{scope_view, is_one};
+ghost use Rattle.wasmprinter_scope.specs.Scopes.{scope_view, is_one, folds_in};
 
 use crate::scope::Scope;
 use std::io;
@@ -66,7 +66,7 @@ fn write_nested<P: Print>(
     nesting: u64,
     expression: &Expression<'_>,
 ) -> Result<bool, Error>
-    ensures pieces { PrintsOrStops P.meaning options.now p.old p.new result
+    ensures pieces { PrintsOrStops P.meaning options.now p.old p.new (folds_in (scope_view scope.old)) result
         (constant_pieces (scope_view scope.old) nesting expression.now.items) }
     ensures lines { IfOk result (λ lines. lines ≡ has_break (constant_pieces (scope_view scope.old) nesting expression.now.items)) }
     ensures scope { scope_view scope.new ≡ scope_view scope.old }
@@ -109,7 +109,7 @@ pub fn write_constant<P: Print>(
     scope: &mut Scope<'_, '_>,
     expression: &Expression<'_>,
 ) -> Result<bool, Error>
-    ensures pieces { PrintsOrStops P.meaning options.now p.old p.new result
+    ensures pieces { PrintsOrStops P.meaning options.now p.old p.new (folds_in (scope_view scope.old)) result
         (constant_pieces (scope_view scope.old) 2 expression.now.items) }
     ensures lines { IfOk result (λ lines. lines ≡ has_break (constant_pieces (scope_view scope.old) 2 expression.now.items)) }
     ensures scope { scope_view scope.new ≡ scope_view scope.old }
@@ -148,7 +148,7 @@ fn write_held<P: Print>(
     scope: &mut Scope<'_, '_>,
     expression: &Expression<'_>,
 ) -> Result<bool, Error>
-    ensures pieces { PrintsOrStops P.meaning options.now p.old p.new result
+    ensures pieces { PrintsOrStops P.meaning options.now p.old p.new (folds_in (scope_view scope.old)) result
         (held_pieces (scope_view scope.old) 3 expression.now.items) }
     ensures lines { IfOk result (λ lines. lines ≡ has_break (held_pieces (scope_view scope.old) 3 expression.now.items)) }
     ensures scope { scope_view scope.new ≡ scope_view scope.old }
@@ -168,7 +168,7 @@ fn write_group_parts<P: Print>(
     keyword: &str,
     expression: &Expression<'_>,
 ) -> Result<bool, Error>
-    ensures pieces { PrintsOrStops P.meaning options.now p.old p.new result
+    ensures pieces { PrintsOrStops P.meaning options.now p.old p.new (folds_in (scope_view scope.old)) result
         (group_parts (scope_view scope.old) 3 keyword.now expression.now.items) }
     ensures lines { IfOk result (λ lines. lines ≡ has_break (group_parts (scope_view scope.old) 3 keyword.now expression.now.items)) }
     ensures scope { scope_view scope.new ≡ scope_view scope.old }
@@ -190,7 +190,7 @@ pub fn write_constant_group<P: Print>(
     keyword: &str,
     expression: &Expression<'_>,
 ) -> Result<bool, Error>
-    ensures pieces { PrintsOrStops P.meaning options.now p.old p.new result
+    ensures pieces { PrintsOrStops P.meaning options.now p.old p.new (folds_in (scope_view scope.old)) result
         (constant_group (scope_view scope.old) 2 keyword.now expression.now.items) }
     ensures lines { IfOk result (λ lines. lines ≡ has_break (constant_group (scope_view scope.old) 2 keyword.now expression.now.items)) }
     ensures scope { scope_view scope.new ≡ scope_view scope.old }

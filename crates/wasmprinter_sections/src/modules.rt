@@ -1,6 +1,6 @@
 //! Modules (section 6.6 of the WebAssembly Core Specification, "Modules"): the fields of each section, and behind them the custom sections
 //! that stand there.
-ghost use Rattle.std.specs.Prelude.{◌≡◌, ◌∷◌, ◌++◌, List, Bool, true, None, length, IsTrue, IfOk, IfErr};
+ghost use Rattle.std.specs.Prelude.{◌≡◌, ◌∷◌, ◌++◌, List, Bool, true, None, length, IsTrue, IfOk, IfErr, is_some};
 ghost use Rattle.wasmprinter_error.specs.declared.error.Error.TheVariants.{Memory};
 ghost use Rattle.wasmprinter_spec.specs.Options.{Answers};
 ghost use Rattle.wasmprinter_spec.specs.Layout.{module_parts};
@@ -10,7 +10,7 @@ ghost use Rattle.wasmprinter_entries.specs.Places.{section_kind_view};
 ghost use Rattle.wasmprinter_labels.specs.Scan.{names_of};
 ghost use Rattle.wasmprinter_annotations.specs.Parts.{PrintsLaid};
 ghost use Rattle.wasmprinter_annotations.specs.Lines.{PrintsPartLines};
-ghost use Rattle.wasmprinter_scope.specs.Scopes.{scope_view};
+ghost use Rattle.wasmprinter_scope.specs.Scopes.{scope_view, folds_in};
 ghost use Rattle.wasmprinter_sections.specs.Sections.{section_parts, sections_parts, kinds, module_laid, Folds, paints_of, painting};
 
 use crate::sections::{has_fields, write_fields_of};
@@ -54,6 +54,7 @@ fn write_section<P: Print>(
 ) -> Result<bool, Error>
     ensures parts { (answers : Answers) × PrintsPartLines P.meaning options.now p.old p.new result
         (section_parts options.now (scope_view scope.old) module.now answers (section_kind_view kind)) }
+    ensures memory { IfErr result (λ e. e ≡ Memory → folds_in (scope_view scope.old) ≡ true) }
     ensures scope { scope_view scope.new ≡ scope_view scope.old }
 {
     write_fields_of(p, options, module, scope, kind)?;
@@ -68,10 +69,11 @@ fn write_sections<P: Print>(
     module: &Module<'_>,
     scope: &mut Scope<'_, '_>,
 ) -> Result<bool, Error>
-    ensures { (first : Answers) × (answers : List Answers) × (length answers ≡ length kinds)
+    ensures parts { (first : Answers) × (answers : List Answers) × (length answers ≡ length kinds)
         × PrintsPartLines P.meaning options.now p.old p.new result
         (parts_at options.now.skeleton first None 0 module.now.customs
         ++ sections_parts options.now (scope_view scope.old) module.now answers kinds) }
+    ensures memory { IfErr result (λ e. e ≡ Memory → folds_in (scope_view scope.old) ≡ true) }
 {
     let mut lines = write_customs(p, options, module.customs(), None)?;
     for kind in &KINDS {
@@ -89,10 +91,10 @@ fn write_parts<'s, 'a, P: Print>(
     labels: OpenLabels<'s, 'a>,
     folder: Option<Folder<'s, 'a>>,
 ) -> Result<bool, Error>
-    requires { Folds options.now folder.entry module.now }
-    ensures { (answers : Answers) × PrintsPartLines P.meaning options.now p.old p.new result
+    ensures parts { Folds options.now folder.entry module.now → (answers : Answers) × PrintsPartLines P.meaning options.now p.old p.new result
         (Shown (leading_mark_pieces (names_of labels.entry).module_name)
         ∷ module_parts (painting options.now folder.entry) answers (names_of labels.entry) module.now) }
+    ensures memory { IfErr result (λ e. e ≡ Memory → is_some folder.entry ≡ true) }
 {
     write_leading_mark(p, labels.identifiers().module())?;
     let mut scope = Scope {
@@ -113,7 +115,7 @@ fn folder_of<'s, 'a, P: Print>(
 ) -> Result<Option<Folder<'s, 'a>>, Error>
     ensures folds { IfOk result (λ folder. Folds options.now folder module.now) }
     ensures paints { IfOk result (λ folder. IsTrue (paints_of folder) → P.colors p.now) }
-    ensures memory { IfErr result (λ e. e ≡ Memory) }
+    ensures memory { IfErr result (λ e. (e ≡ Memory) × (options.now.folds ≡ true)) }
 {
     if !options.folds {
         return Ok(None);
@@ -130,9 +132,9 @@ fn write_whole<'s, 'a, P: Print>(
     labels: OpenLabels<'s, 'a>,
     folder: Option<Folder<'s, 'a>>,
 ) -> Result<(), Error>
-    requires { Folds options.now folder.entry module.now }
-    ensures { (answers : Answers) × PrintsLaid P.meaning options.now p.old p.new result
+    ensures laid { Folds options.now folder.entry module.now → (answers : Answers) × PrintsLaid P.meaning options.now p.old p.new result
         (module_laid (painting options.now folder.entry) answers (names_of labels.entry) module.now) }
+    ensures memory { IfErr result (λ e. e ≡ Memory → is_some folder.entry ≡ true) }
 {
     begin(p, 0)?;
     open(p, "module")?;

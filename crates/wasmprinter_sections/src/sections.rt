@@ -10,7 +10,7 @@ ghost use Rattle.wasmprinter_spec.specs.Layout.Groups.{has_break, numbered};
 ghost use Rattle.wasmprinter_print.specs.Prints.{PrintsOrStops};
 ghost use Rattle.wasmprinter_entries.specs.Externs.{kind_view, imported_count};
 ghost use Rattle.wasmprinter_entries.specs.Places.{section_kind_view};
-ghost use Rattle.wasmprinter_scope.specs.Scopes.{scope_view, within};
+ghost use Rattle.wasmprinter_scope.specs.Scopes.{scope_view, within, folds_in};
 ghost use Rattle.wasmprinter_fields.specs.Parts.{field_line};
 ghost use Rattle.wasmprinter_sections.specs.Sections.{fields_of};
 
@@ -53,7 +53,7 @@ fn write_functions<P: Print>(
     module: &Module<'_>,
     scope: &mut Scope<'_, '_>,
 ) -> Result<(), Error>
-    ensures pieces { PrintsOrStops P.meaning options.now p.old p.new result
+    ensures pieces { PrintsOrStops P.meaning options.now p.old p.new (folds_in (scope_view scope.old)) result
         (functions_pieces options.now (scope_view scope.old) (hints_of module.now.customs) (imported_count FuncKind module.now.imports)
         module.now.functions) }
     ensures scope { scope_view scope.new ≡ scope_view scope.old }
@@ -82,7 +82,7 @@ fn write_datas<P: Print>(
     module: &Module<'_>,
     scope: &mut Scope<'_, '_>,
 ) -> Result<(), Error>
-    ensures pieces { PrintsOrStops P.meaning options.now p.old p.new result
+    ensures pieces { PrintsOrStops P.meaning options.now p.old p.new (folds_in (scope_view scope.old)) result
         (numbered (data_pieces options.now.skeleton
         (within (scope_view scope.old) (imported_count FuncKind module.now.imports + length module.now.functions))) 0 module.now.datas) }
     ensures scope { scope_view scope.new ≡ scope_view scope.old }
@@ -104,7 +104,7 @@ fn write_defined<P: Print, F: Field>(
     fields: &[F],
 ) -> Result<(), Error>
     requires { length fields.now < 2 ^ 32 }
-    ensures pieces { PrintsOrStops P.meaning options.now p.old p.new result
+    ensures pieces { PrintsOrStops P.meaning options.now p.old p.new (folds_in (scope_view scope.old)) result
         (numbered (field_line F.keyword F.line_place (F.parts options.now (scope_view scope.old)))
         (imported_count (kind_view kind) module.now.imports) fields.now) }
     ensures scope { scope_view scope.new ≡ scope_view scope.old }
@@ -120,7 +120,7 @@ pub(crate) fn write_fields_of<P: Print>(
     scope: &mut Scope<'_, '_>,
     kind: SectionKind,
 ) -> Result<(), Error>
-    ensures pieces { PrintsOrStops P.meaning options.now p.old p.new result
+    ensures pieces { PrintsOrStops P.meaning options.now p.old p.new (folds_in (scope_view scope.old)) result
         (fields_of options.now (scope_view scope.old) module.now (section_kind_view kind)) }
     ensures scope { scope_view scope.new ≡ scope_view scope.old }
 {

@@ -3,7 +3,7 @@ use Rattle.std.proofs.Common.{◌∙◌}
 use Rattle.wasmprinter_spec.specs.Piece.{Gap}
 use Rattle.wasmprinter_spec.specs.Layout.Expressions.{constant_group}
 use Rattle.wasmprinter_print.specs.PrintsLaws.{lacks_none, next_written, next_halts}
-use Rattle.wasmprinter_scope.specs.Scopes.{scope_view}
+use Rattle.wasmprinter_scope.specs.Scopes.{scope_view, folds_in}
 use Rattle.wasmprinter_spec.specs.Layout.Elements.{expression_items}
 use Rattle.wasmprinter_segments.specs.Segments.{constant_of, constants_of}
 use Rattle.wasmprinter_fields.proofs.Constants.{expressions-none, expressions-next}
@@ -16,7 +16,7 @@ returns-in_err-lines g c =
     let step = expressions-next (scope_view c.args.scope.now) c.loop-expression.expression-index c.args.expressions.now item item c.loop-expression-test.true c.expression-item.is in
     let made = rw c.loop-expression.invariant.scope at c.in_err-lines.ensures.pieces in
     record {
-      pieces = next_halts g.P.Print.meaning _ _ c.from_residual.result _ (rw step at c.loop-expression.invariant.lacks) made c.from_residual.ensures.1;
+      pieces = next_halts g.P.Print.meaning _ _ (folds_in (scope_view c.args.scope.now)) c.from_residual.result _ (rw step at c.loop-expression.invariant.lacks) made c.from_residual.ensures.1;
       lines = no_answer _ _ c.from_residual.result c.from_residual.ensures.1;
       scope = c.in_err-lines.ensures.scope ∙ c.loop-expression.invariant.scope;
     }

@@ -1,4 +1,4 @@
-use Rattle.std.proofs.Common.{length, [], ◌++◌, sym, arith}
+use Rattle.std.proofs.Common.{true, length, [], ◌++◌, sym, arith}
 use Rattle.wasmprinter_error.specs.declared.error.Error.TheVariants.{Memory, Printer}
 use Rattle.wasmprinter_print.specs.PrintsLaws.{stops_before, last_pieces_halt, next_halts, next_written}
 use Rattle.wasmprinter_flat.specs.Settings.{form_view}
@@ -9,7 +9,7 @@ use Rattle.wasmprinter_node_text.proofs.rows.write_nodes.Goals as goal
 
 pub returns-in_err-push-clause-prints : goal.returns-in_err-push-clause-prints
 returns-in_err-push-clause-prints g c =
-    last_pieces_halt g.P.Print.meaning c.from_residual.result Memory c.from_residual.ensures.1 (stops_before g.P.Print.meaning _ _ _)
+    last_pieces_halt g.P.Print.meaning true c.from_residual.result Memory c.from_residual.ensures.1 (stops_before g.P.Print.meaning _ _ _)
 
 pub put_rest-requires : goal.put_rest-requires
 put_rest-requires g c =
@@ -18,7 +18,7 @@ put_rest-requires g c =
 pub returns-in_err-put_rest-clause-prints : goal.returns-in_err-put_rest-clause-prints
 returns-in_err-put_rest-clause-prints g c =
     next_halts g.P.Print.meaning [] (pieces_left (form_view c.args.form) c.args.nesting c.args.text.now c.loop-task.tasks.items)
-    c.from_residual-in_err-put_rest.result Memory c.loop-task.invariant.lacks (stops_before g.P.Print.meaning _ _ []) c.from_residual-in_err-put_rest.ensures.1
+    true c.from_residual-in_err-put_rest.result Memory c.loop-task.invariant.lacks (stops_before g.P.Print.meaning _ _ []) c.from_residual-in_err-put_rest.ensures.1
 
 pub write_front-requires : goal.write_front-requires
 write_front-requires g c = (length c.args.nodes.now, sound_top _ _ _ c.in-Some.ensures.items _ _ c.loop-task.invariant.sound)
@@ -28,7 +28,7 @@ returns-in_err-began-clause-prints g c =
     next_halts g.P.Print.meaning (task_front (form_view c.args.form) c.args.nesting c.args.text.now c.in-Some.task)
     (task_rest (form_view c.args.form) c.args.nesting c.args.text.now c.in-Some.task
     ++ pieces_left (form_view c.args.form) c.args.nesting c.args.text.now c.pop.new.self.items)
-    c.from_residual-in_err-began.result (Printer c.in_err-began.field-0.0)
+    true c.from_residual-in_err-began.result (Printer c.in_err-began.field-0.0)
     (lacks_as g.P.Print.meaning _ _ _ _ _ _ (pieces_top _ _ _ c.in-Some.ensures.items (form_view c.args.form) c.args.nesting c.args.text.now) c.loop-task.invariant.lacks)
     c.in_err-began.ensures.prints c.from_residual-in_err-began.ensures.1
 

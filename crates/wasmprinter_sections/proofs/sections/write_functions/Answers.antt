@@ -2,7 +2,7 @@ use Rattle.std.proofs.Common.{◌+◌, ◌≤◌, ◌∙◌, ◌≡◌, length, 
 use Rattle.wasmprinter_spec.specs.Types.{FuncKind}
 use Rattle.wasmprinter_print.specs.PrintsLaws.{lacks_none, next_written, next_halts}
 use Rattle.wasmprinter_entries.specs.Externs.{imported_count}
-use Rattle.wasmprinter_scope.specs.Scopes.{scope_view}
+use Rattle.wasmprinter_scope.specs.Scopes.{scope_view, folds_in}
 use Rattle.wasmprinter_sections.proofs.Walking.{functions-found, functions-none}
 use Rattle.wasmprinter_sections.proofs.sections.write_functions.Goals as goal
 
@@ -11,7 +11,7 @@ returns-in_err-write_function-clause-pieces g c =
     let first = imported_count FuncKind c.args.module.now.imports in
     let step = functions-found c.args.options.now (scope_view c.args.scope.now) c.loop-index.hints (first + c.loop-index.index) c.loop-index.index c.args.module.now.functions c.function-function.result c.function-function.ensures in
     let made = rw (c.next_function.ensures.gives, c.from.ensures, c.first_number-first.ensures.is, c.loop-index.invariant.scope) at c.in_err-write_function.ensures.pieces in
-    next_halts g.P.Print.meaning _ _ c.from_residual.result _ (rw step at c.loop-index.invariant.lacks) made c.from_residual.ensures.1
+    next_halts g.P.Print.meaning _ _ (folds_in (scope_view c.args.scope.now)) c.from_residual.result _ (rw step at c.loop-index.invariant.lacks) made c.from_residual.ensures.1
 
 pub loop-index-preserved : goal.loop-index-preserved
 loop-index-preserved g c =

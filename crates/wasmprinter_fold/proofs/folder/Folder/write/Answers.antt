@@ -1,5 +1,5 @@
 use Rattle.std.specs.Prelude.{◌≡◌, List, IfOk}
-use Rattle.std.proofs.Common.{sym, ap, subst}
+use Rattle.std.proofs.Common.{true, sym, ap, subst}
 use Rattle.wasmprinter_spec.specs.Piece.{Piece}
 use Rattle.wasmprinter_spec.specs.Layout.Groups.{has_break}
 use Rattle.wasmprinter_error.specs.declared.error.Error.TheVariants.{Memory}
@@ -13,7 +13,7 @@ use Rattle.wasmprinter_fold.proofs.folder.Folder.write.Goals as goal
 
 pub returns-in_err-fold-clause-prints : goal.returns-in_err-fold-clause-prints
 returns-in_err-fold-clause-prints g c =
-    last_pieces_halt g.P.Print.meaning c.from_residual.result Memory c.from_residual.ensures.1 (stops_before g.P.Print.meaning _ _ _)
+    last_pieces_halt g.P.Print.meaning true c.from_residual.result Memory c.from_residual.ensures.1 (stops_before g.P.Print.meaning _ _ _)
 
 pub returns-then-not-branch-clause-prints : goal.returns-then-not-branch-clause-prints
 returns-then-not-branch-clause-prints g c =
@@ -42,7 +42,7 @@ write_nodes-requires-clause-texts g c =
 pub returns-clause-prints : goal.returns-clause-prints
 returns-clause-prints g c =
     let s = setting_view g.S.Signatures.signature_at c.args.setting.now (names_of c.args.labels.now) in
-    subst (λ (xs : List Piece). PrintsOrStops g.P.Print.meaning c.args.options.now c.args.p.now c.write_nodes.new.p c.write_nodes.result xs)
+    subst (λ (xs : List Piece). PrintsOrStops g.P.Print.meaning c.args.options.now c.args.p.now c.write_nodes.new.p true c.write_nodes.result xs)
     (layout_of c.self.inside.tree.texts.paints c.self.inside.callees c.args.self.now c.self.view_is c.args.own s c.args.hints
     c.args.expression.now.items c.fold.new.self c.in_ok-fold.field-0 c.if-not-branch.false c.in_ok-fold.ensures.grown c.as_str-texts.result.now
     c.as_str-texts.ensures c.nodes-nodes.result.now c.nodes-nodes.ensures.whole c.nodes-nodes.ensures.closed) c.write_nodes.ensures.prints
