@@ -4,7 +4,7 @@ use crate::modules::{NO_PARAMS, around, folded, with_body};
 use std::test::Fail;
 
 /// Operators of a function without parameters and results, and their lines.
-const BLOCKS: [(&[u8], &str); 15] = [
+const BLOCKS: [(&[u8], &str); 17] = [
     // behind the comment of a label without a node a line begins
     (&[0x02, 0x40, 0x0b], "    (block ;; label = @1\n    )\n"),
     (
@@ -17,6 +17,26 @@ const BLOCKS: [(&[u8], &str); 15] = [
     (
         &[0x1f, 0x40, 0x01, 0x02, 0x00, 0x0b],
         "    (try_table (catch_all 0) ;; label = @1\n    )\n",
+    ),
+    // labels of what it catches stand outside of it
+    (
+        &[
+            0x02, 0x40, 0x1f, 0x40, 0x01, 0x02, 0x00, 0x0c, 0x00, 0x0b, 0x0b,
+        ],
+        r#"    (block ;; label = @1
+      (try_table (catch_all 0 (;@1;)) ;; label = @2
+        (br 0 (;@2;))))
+"#,
+    ),
+    // a branch takes a reference, which is the label's only value
+    (
+        &[0x02, 0x6e, 0xd0, 0x70, 0xd6, 0x00, 0xd0, 0x6e, 0x0b, 0x1a],
+        r#"    (drop
+      (block (result anyref) ;; label = @1
+        (br_on_non_null 0 (;@1;)
+          (ref.null func))
+        (ref.null any)))
+"#,
     ),
     // an `if` without a node in front of it
     (

@@ -7,7 +7,7 @@ use std::test::Fail;
 use wasmprinter_samples::PREAMBLE;
 
 /// Operators of a function without parameters and results, and their lines.
-const BODIES: [(&[u8], &str); 13] = [
+const BODIES: [(&[u8], &str); 15] = [
     // operands stand in the order in which they are made
     (
         &[0x41, 0x01, 0x41, 0x02, 0x6a],
@@ -116,6 +116,19 @@ const BODIES: [(&[u8], &str); 13] = [
         &[0x41, 0x00, 0x0d, 0x01],
         r#"    (i32.const 0)
     (br_if 1 (; INVALID ;))
+"#,
+    ),
+    // of a table of branches the last counts
+    (
+        &[0x41, 0x00, 0x0e, 0x01, 0x00, 0x05],
+        r#"    (i32.const 0)
+    (br_table 0 5 (; INVALID ;))
+"#,
+    ),
+    (
+        &[0x41, 0x00, 0x0e, 0x01, 0x05, 0x00],
+        r#"    (br_table 5 (; INVALID ;) 0
+      (i32.const 0))
 "#,
     ),
 ];
@@ -250,6 +263,37 @@ fn knows_operands_of_types(rt: HostRuntime) -> Result<(), Fail> {
     (return_call_ref 1)
     (return_call 9)
     (throw 9)
+  )
+)
+"#
+    );
+    Ok(())
+}
+
+/// A function whose type is one of arrays: of its results nothing is known, and what names them takes nothing.
+#[test]
+fn takes_nothing_where_the_type_is_of_another_kind(rt: HostRuntime) -> Result<(), Fail> {
+    let alloc = rt.alloc();
+    let wasm = with_body(
+        alloc,
+        &[0x01, 0x5e, 0x7f, 0x00],
+        &[
+            0x41, 0x00, 0x0d, 0x00, 0x0f, 0x0e, 0x00, 0x00, 0xd5, 0x00, 0xd6, 0x00, 0x10, 0x00,
+        ],
+    )?;
+    let text = folded(alloc, &wasm)?;
+    assert_eq!(rt;
+        text.as_str(),
+        r#"(module
+  (type (;0;) (array i32))
+  (func (;0;) (type 0)
+    (i32.const 0)
+    (br_if 0)
+    (return)
+    (br_table 0)
+    (br_on_null 0)
+    (br_on_non_null 0)
+    (call 0)
   )
 )
 "#

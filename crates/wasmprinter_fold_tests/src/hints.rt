@@ -86,6 +86,30 @@ fn prints_hints_in_front_of_nodes(rt: HostRuntime) -> Result<(), Fail> {
     Ok(())
 }
 
+/// The line of a hint has the place of its node.
+#[test]
+fn places_hints_as_nodes(rt: HostRuntime) -> Result<(), Fail> {
+    let alloc = rt.alloc();
+    let wasm = hinted(alloc, &[0x01, 0x00, 0x01, 0x03, 0x01, 0x01], &TESTED)?;
+    let mut config = Config::new();
+    config.fold_instructions(true).print_offsets(true);
+    let text = config.print_to_string(alloc, &wasm)?;
+    assert_eq!(rt;
+        text.as_str(),
+        r#"(module
+(;@b     ;)  (type (;0;) (func (param i32)))
+(;@39    ;)  (func (;0;) (type 0) (param i32)
+(;@3c    ;)    (@metadata.code.branch_hint "\01")
+(;@3c    ;)    (if ;; label = @1
+(;@3a    ;)      (local.get 0)
+(;@3c    ;)      (then))
+(;@3f    ;)  )
+(;@40    ;))
+"#
+    );
+    Ok(())
+}
+
 /// Hints of a branch, and of the operator that takes its value.
 #[test]
 fn prints_hints_of_operands(rt: HostRuntime) -> Result<(), Fail> {

@@ -110,3 +110,44 @@ fn prints_names_of_labels_and_locals(rt: HostRuntime) -> Result<(), Fail> {
     );
     Ok(())
 }
+
+/// Labels of initialisers, and of what stands in front of the bodies, have the names of function 0; behind its body they have none.
+#[test]
+fn prints_names_of_labels_in_expressions(rt: HostRuntime) -> Result<(), Fail> {
+    let alloc = rt.alloc();
+    let mut wasm = Vec::from_slice(alloc, &PREAMBLE)?;
+    add_section(&mut wasm, TYPE, &[0x01, 0x60, 0x00, 0x00])?;
+    add_section(&mut wasm, FUNCTION, &[0x01, 0x00])?;
+    add_section(
+        &mut wasm,
+        GLOBAL,
+        &[0x01, 0x7f, 0x00, 0x02, 0x7f, 0x41, 0x01, 0x0b, 0x0b],
+    )?;
+    add_code(&mut wasm, &[0x02, 0x40, 0x0b])?;
+    add_section(
+        &mut wasm,
+        DATA,
+        &[0x01, 0x00, 0x02, 0x7f, 0x41, 0x01, 0x0b, 0x0b, 0x00],
+    )?;
+    // label 0 of function 0 is called x
+    add_custom(
+        alloc,
+        &mut wasm,
+        "name",
+        &[0x03, 0x06, 0x01, 0x00, 0x01, 0x00, 0x01, 0x78],
+    )?;
+    let text = folded(alloc, &wasm)?;
+    assert_eq!(rt;
+        text.as_str(),
+        r#"(module
+  (type (;0;) (func))
+  (global (;0;) i32 (block $x (result i32) (i32.const 1)))
+  (func (;0;) (type 0)
+    (block $x)
+  )
+  (data (;0;) (offset (block (result i32)  (; label = @1 ;) (i32.const 1))) "")
+)
+"#
+    );
+    Ok(())
+}
