@@ -128,13 +128,13 @@ module _ {P : Type 0} (m : Meaning P) (colours : Type 0) (o : Options) (paints :
 
   -- how printing ended
   abbrev Ended : Result (Unit {0}) Error → Type 0
-  Ended r = PrintsLaid m o old new r (own_laid by answers placed)
+  Ended r = PrintsLaid m o old new keeps r (own_laid by answers placed)
 
   -- written by the names that the module's sections give
   pub own_ended : (r : Result (Unit {0}) Error) (s : Scan) (items : List NamedItem) → s.named ≡ items → s.invents ≡ o.invents →
       ((t outer index : ℕ) → name_at items t outer index ≡ name_of (name_entries placed.customs) t outer index) →
-      PrintsLaid m o old new r (module_laid by answers (names_of s) placed) → Ended r
-  own_ended r s items same invents given v = subst (λ (l : Laid). PrintsLaid m o old new r l) (own_layout by answers placed s items same invents given) v
+      PrintsLaid m o old new keeps r (module_laid by answers (names_of s) placed) → Ended r
+  own_ended r s items same invents given v = subst (λ (l : Laid). PrintsLaid m o old new keeps r l) (own_layout by answers placed s items same invents given) v
 
   never : Written m o old new Never (module_pieces by answers placed) → ⊥
   never v = (made Never v).made

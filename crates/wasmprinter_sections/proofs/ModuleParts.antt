@@ -82,11 +82,11 @@ module _ (o : Options) (answers : Answers) (names : Names) (m : PlacedModule) wh
       ∙ ap laid_parts (sym (one_by_one-in_turn (customs_of None) all))
 
 -- sections that were written one behind the other, each by its own answers; their lines are printed by options that may differ
-pub module_walk : {P : Type 0} (n : Meaning P) (p o : Options) (names : Names) (m : PlacedModule) {a t : P} (r : Result Bool Error) →
+pub module_walk : {P : Type 0} (n : Meaning P) (p o : Options) (names : Names) (m : PlacedModule) {keeps : Bool} {a t : P} (r : Result Bool Error) →
     (first : Answers) (several : List Answers) → length several ≡ length kinds →
-    PrintsPartLines n p a t r (parts_at o.skeleton first None 0 m.customs ++ sections_parts o (first_scope o names m) m several kinds) →
-    (answers : Answers) × PrintsPartLines n p a t r (module_parts o answers names m)
-module_walk n p o names m {a} {t} r first several many written =
+    PrintsPartLines n p a t keeps r (parts_at o.skeleton first None 0 m.customs ++ sections_parts o (first_scope o names m) m several kinds) →
+    (answers : Answers) × PrintsPartLines n p a t keeps r (module_parts o answers names m)
+module_walk n p o names m {keeps} {a} {t} r first several many written =
     let s : Scope = first_scope o names m in
     let by : Option Kind → List Part = λ place. parts_at o.skeleton (table_of first several place) place 0 m.customs in
     let one = one_table o.skeleton (table_of first several) m.customs in

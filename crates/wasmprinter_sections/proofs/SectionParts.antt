@@ -1,5 +1,5 @@
 -- What was made of the section of a kind: its fields, and the custom sections behind it.
-use Rattle.std.specs.Prelude.{◌≡◌, List, ◌∷◌, Bool, true, false, ◌||◌, Result, Ok, Err, IfErr, IsErrAnd, refl}
+use Rattle.std.specs.Prelude.{◌≡◌, List, ◌∷◌, Bool, true, false, ◌||◌, Result, Ok, Err, IsErrAnd, refl}
 use Rattle.std.proofs.Common.{sym, ap, ◌∙◌, subst}
 use Rattle.std.specs.declared.io.Error.{Error as IoError}
 use Rattle.wasmprinter_error.specs.declared.error.Error.{Error}
@@ -9,7 +9,7 @@ use Rattle.wasmprinter_spec.specs.Options.{Options}
 use Rattle.wasmprinter_spec.specs.Piece.{Piece}
 use Rattle.wasmprinter_spec.specs.Layout.Groups.{has_break}
 use Rattle.wasmprinter_spec.specs.Layout.Customs.{Part, Shown, Laid, before_laid, laid_parts}
-use Rattle.wasmprinter_print.specs.Emits.{Through, AtCall, halt_of, halt}
+use Rattle.wasmprinter_print.specs.Emits.{Through, AtCall, halt_of}
 use Rattle.wasmprinter_print.specs.Prints.{Written}
 use Rattle.wasmprinter_print.specs.PrintsLaws.{written, both_pieces, pieces_halt}
 use Rattle.wasmprinter_lines.proofs.Groups.{has_break-append}
@@ -23,10 +23,10 @@ either-way true false = refl
 either-way false true = refl
 either-way false false = refl
 
-module _ {P : Type 0} (m : Meaning P) (o : Options) where
+module _ {P : Type 0} (m : Meaning P) {keeps : Bool} (o : Options) where
   -- both went through
   pub section_written : {a s t : P} {b f : Bool} {ps : List Piece} (parts : List Part) → Written m o a s Through ps → f ≡ has_break ps →
-      PrintsPartLines m o s t (Ok b) parts → PrintsPartLines m o a t (Ok (b || f)) (Shown ps ∷ parts)
+      PrintsPartLines m o s t keeps (Ok b) parts → PrintsPartLines m o a t keeps (Ok (b || f)) (Shown ps ∷ parts)
   section_written {b = b} {f} {ps} parts v breaks w = record {
     prints = record { written = both_pieces m v w.prints.written; refused = w.prints.refused };
     lines =
@@ -35,43 +35,33 @@ module _ {P : Type 0} (m : Meaning P) (o : Options) where
 
   -- the custom sections ended
   pub section_ended : {a s t : P} (r : Result Bool Error) {e : Error} {ps : List Piece} (parts : List Part) → IsErrAnd r (λ y. y ≡ e) →
-      Written m o a s Through ps → PrintsPartLines m o s t (Err e) parts → PrintsPartLines m o a t r (Shown ps ∷ parts)
+      Written m o a s Through ps → PrintsPartLines m o s t keeps (Err e) parts → PrintsPartLines m o a t keeps r (Shown ps ∷ parts)
   section_ended (Ok x) parts f v w = absurd f
   section_ended {a} {s} {t} (Err y) {ps = ps} parts f v w =
-      subst (λ (z : Error). PrintsPartLines m o a t (Err z) (Shown ps ∷ parts)) (sym f) (record { prints = shown_then m parts v w.prints; lines = tt })
+      subst (λ (z : Error). PrintsPartLines m o a t keeps (Err z) (Shown ps ∷ parts)) (sym f) (record { prints = shown_then m parts v w.prints; lines = tt })
 
   -- it ended amid the fields
-  pub section_halts : {a t : P} (keeps : Bool) (r : Result Bool Error) (e : Error) {ps : List Piece} (parts : List Part) → IsErrAnd r (λ y. y ≡ e) →
-      Written m o a t (halt_of keeps e) ps → PrintsPartLines m o a t r (Shown ps ∷ parts)
-  section_halts keeps (Ok x) e parts f v = absurd f
-  section_halts {a} {t} keeps (Err y) e {ps} parts f v =
-      record { prints = halted keeps y ps (laid_parts parts) (subst (λ (z : Error). Written m o a t (halt_of keeps z) ps) (sym f) v); lines = tt }
+  pub section_halts : {a t : P} (r : Result Bool Error) (e : Error) {ps : List Piece} (parts : List Part) → IsErrAnd r (λ y. y ≡ e) →
+      Written m o a t (halt_of keeps e) ps → PrintsPartLines m o a t keeps r (Shown ps ∷ parts)
+  section_halts (Ok x) e parts f v = absurd f
+  section_halts {a} {t} (Err y) e {ps} parts f v =
+      record { prints = halted y ps (laid_parts parts) (subst (λ (z : Error). Written m o a t (halt_of keeps z) ps) (sym f) v); lines = tt }
     where
-      halted : (keeps : Bool) (y : Error) (ps : List Piece) (l : Laid) → Written m o a t (halt_of keeps y) ps → PrintsLaid {T = Bool} m o a t (Err y) (before_laid ps l)
-      halted keeps (Malformed place) ps l v = absurd (written m v).made
-      halted keeps Component ps l v = absurd (written m v).made
-      halted keeps (TooManyLocals place) ps l v = absurd (written m v).made
-      halted keeps (TooManyFunctions count) ps l v = absurd (written m v).made
-      halted keeps (EmptyTableInit place) ps l v = absurd (written m v).made
-      halted keeps (FoldLegacy place) ps l v = absurd (written m v).made
-      halted keeps (FoldHint place) ps l v = absurd (written m v).made
-      halted keeps (DylinkSubsection id) ps l v = absurd (written m v).made
-      halted keeps Unreadable ps l v = absurd (written m v).made
-      halted keeps (Printer x) ps l v = let r : Result Bool Error = Err (Printer x) in record { written = pieces_halt m true r (Printer x) l.pieces refl v; refused = tt }
-      halted true Memory ps l v = let r : Result Bool Error = Err Memory in record { written = pieces_halt m true r Memory l.pieces refl v; refused = tt }
-      halted false Memory ps l v = absurd (written m v).made
-
-  -- only what folds wants memory
-  pub only_folding : {T : Type 0} {a t : P} (keeps : Bool) (r : Result T Error) {ps : List Piece} → Written m o a t (halt keeps r) ps → IfErr r (λ e. e ≡ Memory → keeps ≡ true)
-  only_folding keeps (Ok x) v = tt
-  only_folding {T} {a} {t} keeps (Err y) {ps} v = λ e. by keeps (subst (λ (z : Error). Written m o a t (halt_of keeps z) ps) e v)
-    where
-      by : (keeps : Bool) → Written m o a t (halt_of keeps Memory) ps → keeps ≡ true
-      by true v = refl
-      by false v = absurd (written m v).made
+      halted : (y : Error) (ps : List Piece) (l : Laid) → Written m o a t (halt_of keeps y) ps → PrintsLaid {T = Bool} m o a t keeps (Err y) (before_laid ps l)
+      halted (Malformed place) ps l v = absurd (written m v).made
+      halted Component ps l v = absurd (written m v).made
+      halted (TooManyLocals place) ps l v = absurd (written m v).made
+      halted (TooManyFunctions count) ps l v = absurd (written m v).made
+      halted (EmptyTableInit place) ps l v = absurd (written m v).made
+      halted (FoldLegacy place) ps l v = absurd (written m v).made
+      halted (FoldHint place) ps l v = absurd (written m v).made
+      halted (DylinkSubsection id) ps l v = absurd (written m v).made
+      halted Unreadable ps l v = absurd (written m v).made
+      halted (Printer x) ps l v = let r : Result Bool Error = Err (Printer x) in record { written = pieces_halt m keeps r (Printer x) l.pieces refl v; refused = tt }
+      halted Memory ps l v = let r : Result Bool Error = Err Memory in record { written = pieces_halt m keeps r Memory l.pieces refl v; refused = tt }
 
   -- a call failed amid the fields
   pub section_failed : {a t : P} (r : Result Bool Error) {e : IoError} {ps : List Piece} (parts : List Part) → IsErrAnd r (λ y. y ≡ Printer e) →
-      Written m o a t (AtCall e) ps → PrintsPartLines m o a t r (Shown ps ∷ parts)
+      Written m o a t (AtCall e) ps → PrintsPartLines m o a t keeps r (Shown ps ∷ parts)
   section_failed (Ok x) parts f v = absurd f
   section_failed (Err y) parts f v = record { prints = shown_fails m (Err y) parts f v; lines = tt }

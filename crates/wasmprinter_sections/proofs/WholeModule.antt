@@ -66,23 +66,23 @@ module-whole o answers names m =
 abbrev pub failed : IoError → Result (Unit {0}) IoError
 failed e = Err e
 
-module _ {P : Type 0} (n : Meaning P) (p o : Options) (answers : Answers) (names : Names) (m : PlacedModule) where
-  as_module : {a t : P} {r : Result (Unit {0}) Error} → PrintsParts n p a t r (whole_parts o answers names m) → PrintsLaid n p a t r (module_laid o answers names m)
-  as_module {a} {t} {r} v = subst (λ (l : Laid). PrintsLaid n p a t r l) (module-whole o answers names m) v
+module _ {P : Type 0} (n : Meaning P) {keeps : Bool} (p o : Options) (answers : Answers) (names : Names) (m : PlacedModule) where
+  as_module : {a t : P} {r : Result (Unit {0}) Error} → PrintsParts n p a t keeps r (whole_parts o answers names m) → PrintsLaid n p a t keeps r (module_laid o answers names m)
+  as_module {a} {t} {r} v = subst (λ (l : Laid). PrintsLaid n p a t keeps r l) (module-whole o answers names m) v
 
   abbrev last_parts : Bool → List Part
   last_parts lines = Shown (closing o m.size lines) ∷ []
 
   -- a call failed amid the opening
   pub opening_fails : {a t : P} (r : Result (Unit {0}) Error) {e : IoError} → IsErrAnd r (λ y. y ≡ Printer e) → Written n p a t (AtCall e) opening →
-      PrintsLaid n p a t r (module_laid o answers names m)
+      PrintsLaid n p a t keeps r (module_laid o answers names m)
   opening_fails r f v =
       let inner : List Part = inner_parts o answers names m in
       as_module (shown_fails n r (inner ++ last_parts (has_break (laid_parts inner).pieces)) f v)
 
   -- the parts ended
   pub inner_ends : {a s t : P} (r : Result (Unit {0}) Error) {e : Error} → IsErrAnd r (λ y. y ≡ e) → Written n p a s Through opening →
-      PrintsPartLines n p s t (Err e) (inner_parts o answers names m) → PrintsLaid n p a t r (module_laid o answers names m)
+      PrintsPartLines n p s t keeps (Err e) (inner_parts o answers names m) → PrintsLaid n p a t keeps r (module_laid o answers names m)
   inner_ends r f v w =
       let inner : List Part = inner_parts o answers names m in
       let last : List Part = last_parts (has_break (laid_parts inner).pieces) in
@@ -90,16 +90,16 @@ module _ {P : Type 0} (n : Meaning P) (p o : Options) (answers : Answers) (names
 
   -- a call failed amid the closing
   pub closing_fails : {a s u t : P} {lines : Bool} (r : Result (Unit {0}) Error) {e : IoError} → IsErrAnd r (λ y. y ≡ Printer e) →
-      Written n p a s Through opening → PrintsPartLines n p s u (Ok lines) (inner_parts o answers names m) → Written n p u t (AtCall e) (closing o m.size lines) →
-      PrintsLaid n p a t r (module_laid o answers names m)
+      Written n p a s Through opening → PrintsPartLines n p s u keeps (Ok lines) (inner_parts o answers names m) → Written n p u t (AtCall e) (closing o m.size lines) →
+      PrintsLaid n p a t keeps r (module_laid o answers names m)
   closing_fails r f v w x =
       let inner : List Part = inner_parts o answers names m in
       let last : List Part = last_parts (has_break (laid_parts inner).pieces) in
       as_module (shown_then n (inner ++ last) v (parts_then n inner last w.prints (shown_fails n r [] f (rw w.lines at x))))
 
   -- all was written
-  pub module_written : {a s u t : P} {lines : Bool} {x : Unit {0}} → Written n p a s Through opening → PrintsPartLines n p s u (Ok lines) (inner_parts o answers names m) →
-      Written n p u t Through (closing o m.size lines) → PrintsLaid n p a t (Ok x) (module_laid o answers names m)
+  pub module_written : {a s u t : P} {lines : Bool} {x : Unit {0}} → Written n p a s Through opening → PrintsPartLines n p s u keeps (Ok lines) (inner_parts o answers names m) →
+      Written n p u t Through (closing o m.size lines) → PrintsLaid n p a t keeps (Ok x) (module_laid o answers names m)
   module_written v w y =
       let inner : List Part = inner_parts o answers names m in
       let last : List Part = last_parts (has_break (laid_parts inner).pieces) in

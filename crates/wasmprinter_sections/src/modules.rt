@@ -52,9 +52,8 @@ fn write_section<P: Print>(
     scope: &mut Scope<'_, '_>,
     kind: SectionKind,
 ) -> Result<bool, Error>
-    ensures parts { (answers : Answers) × PrintsPartLines P.meaning options.now p.old p.new result
+    ensures parts { (answers : Answers) × PrintsPartLines P.meaning options.now p.old p.new (folds_in (scope_view scope.old)) result
         (section_parts options.now (scope_view scope.old) module.now answers (section_kind_view kind)) }
-    ensures memory { IfErr result (λ e. e ≡ Memory → folds_in (scope_view scope.old) ≡ true) }
     ensures scope { scope_view scope.new ≡ scope_view scope.old }
 {
     write_fields_of(p, options, module, scope, kind)?;
@@ -69,11 +68,10 @@ fn write_sections<P: Print>(
     module: &Module<'_>,
     scope: &mut Scope<'_, '_>,
 ) -> Result<bool, Error>
-    ensures parts { (first : Answers) × (answers : List Answers) × (length answers ≡ length kinds)
-        × PrintsPartLines P.meaning options.now p.old p.new result
+    ensures { (first : Answers) × (answers : List Answers) × (length answers ≡ length kinds)
+        × PrintsPartLines P.meaning options.now p.old p.new (folds_in (scope_view scope.old)) result
         (parts_at options.now.skeleton first None 0 module.now.customs
         ++ sections_parts options.now (scope_view scope.old) module.now answers kinds) }
-    ensures memory { IfErr result (λ e. e ≡ Memory → folds_in (scope_view scope.old) ≡ true) }
 {
     let mut lines = write_customs(p, options, module.customs(), None)?;
     for kind in &KINDS {
@@ -91,10 +89,9 @@ fn write_parts<'s, 'a, P: Print>(
     labels: OpenLabels<'s, 'a>,
     folder: Option<Folder<'s, 'a>>,
 ) -> Result<bool, Error>
-    ensures parts { Folds options.now folder.entry module.now → (answers : Answers) × PrintsPartLines P.meaning options.now p.old p.new result
+    ensures { Folds options.now folder.entry module.now → (answers : Answers) × PrintsPartLines P.meaning options.now p.old p.new (is_some folder.entry) result
         (Shown (leading_mark_pieces (names_of labels.entry).module_name)
         ∷ module_parts (painting options.now folder.entry) answers (names_of labels.entry) module.now) }
-    ensures memory { IfErr result (λ e. e ≡ Memory → is_some folder.entry ≡ true) }
 {
     write_leading_mark(p, labels.identifiers().module())?;
     let mut scope = Scope {
@@ -132,9 +129,8 @@ fn write_whole<'s, 'a, P: Print>(
     labels: OpenLabels<'s, 'a>,
     folder: Option<Folder<'s, 'a>>,
 ) -> Result<(), Error>
-    ensures laid { Folds options.now folder.entry module.now → (answers : Answers) × PrintsLaid P.meaning options.now p.old p.new result
+    ensures { Folds options.now folder.entry module.now → (answers : Answers) × PrintsLaid P.meaning options.now p.old p.new (is_some folder.entry) result
         (module_laid (painting options.now folder.entry) answers (names_of labels.entry) module.now) }
-    ensures memory { IfErr result (λ e. e ≡ Memory → is_some folder.entry ≡ true) }
 {
     begin(p, 0)?;
     open(p, "module")?;
@@ -158,9 +154,9 @@ pub fn write_module<'s, 'a, P: Print>(
     module: &'s Module<'a>,
     labels: OpenLabels<'s, 'a>,
 ) -> Result<(), Error>
-    ensures laid { (paints : Bool) × (answers : Answers) × (IsTrue paints → P.colors p.old)
-        × PrintsLaid P.meaning options.now p.old p.new result (module_laid (record options.now { paints = paints }) answers (names_of labels.entry) module.now) }
-    ensures memory { IfErr result (λ e. e ≡ Memory → options.now.folds ≡ true) }
+    ensures { (paints : Bool) × (answers : Answers) × (IsTrue paints → P.colors p.old)
+        × PrintsLaid P.meaning options.now p.old p.new options.now.folds result
+        (module_laid (record options.now { paints = paints }) answers (names_of labels.entry) module.now) }
 {
     let folder = folder_of(alloc, p, options, module)?;
     write_whole(p, options, module, labels, folder)

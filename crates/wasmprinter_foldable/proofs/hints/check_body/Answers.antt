@@ -1,12 +1,7 @@
-use Rattle.std.proofs.Common.{◌≡◌, ◌∙◌, sym, ap, ap₂, Option}
+use Rattle.std.proofs.Common.{◌∙◌, sym, ap}
 use Rattle.wasmprinter_error.specs.declared.error.Error.TheVariants.{FoldHint}
-use Rattle.wasmprinter_spec.specs.Grammar.{Placed}
-use Rattle.wasmprinter_spec.specs.Row.{Role}
 use Rattle.wasmprinter_spec.specs.Operator.{Operator}
 use Rattle.wasmprinter_spec.specs.Table.{role_of}
-use Rattle.wasmprinter_spec.specs.Customs.Hints.{Hint}
-use Rattle.wasmprinter_spec.specs.Folding.Refusals.{misplaced}
-use Rattle.wasmprinter_foldable.specs.Refused.{refused_at}
 use Rattle.wasmprinter_foldable.proofs.Steps.{front_refused, front_passed, handed_on, misplaced_next}
 use Rattle.wasmprinter_foldable.proofs.hints.check_body.Goals as goal
 

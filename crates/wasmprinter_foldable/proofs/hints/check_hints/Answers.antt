@@ -1,4 +1,4 @@
-use Rattle.std.proofs.Common.{◌≡◌, ◌∙◌, ◌+◌, sym}
+use Rattle.std.proofs.Common.{◌∙◌, sym}
 use Rattle.wasmprinter_error.specs.declared.error.Error.TheVariants.{FoldHint}
 use Rattle.wasmprinter_spec.specs.Types.{FuncKind}
 use Rattle.wasmprinter_entries.specs.Externs.{imported_count}

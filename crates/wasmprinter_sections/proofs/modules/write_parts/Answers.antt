@@ -16,8 +16,8 @@ use Rattle.wasmprinter_sections.proofs.Painting.{sections-paint, folding-of}
 use Rattle.wasmprinter_sections.proofs.SectionParts.{section_failed}
 use Rattle.wasmprinter_sections.proofs.modules.write_parts.Goals as goal
 
-pub returns-in_err-write_leading_mark-clause-parts : goal.returns-in_err-write_leading_mark-clause-parts
-returns-in_err-write_leading_mark-clause-parts g c folds =
+pub returns-in_err-write_leading_mark : goal.returns-in_err-write_leading_mark
+returns-in_err-write_leading_mark g c folds =
     let o = c.args.options.now in
     let by = painting o c.args.folder in (
       (λ n. false),
@@ -25,13 +25,13 @@ returns-in_err-write_leading_mark-clause-parts g c folds =
           c.from_residual.ensures.1 (rw (c.module.ensures, c.identifiers.ensures.named) at (c.in_err-write_leading_mark.ensures o)),
     )
 
-pub returns-clause-parts : goal.returns-clause-parts
-returns-clause-parts g c folds =
+pub returns : goal.returns
+returns g c folds =
     let o = c.args.options.now in
     let by = painting o c.args.folder in
     let names = names_of c.args.labels in
     let m = c.args.module.now in
-    let sections = rw c.first_number.ensures.is at c.write_sections.ensures.parts in
+    let sections = rw c.first_number.ensures.is at c.write_sections.ensures in
     let folding : option_map _ c.args.folder ≡ folding_of by m = folding-of o c.args.folder m folds in
     let same = sections-paint o (paints_of c.args.folder) (scope_of (types_of m) names (imported_count FuncKind m.imports) (folding_of by m)) m sections.1 kinds in
     let written = rw same at (rw folding at sections.3) in

@@ -2,17 +2,18 @@ use Rattle.std.proofs.Common.{List, length, replicate, false, refl, ◌<◌, ◌
 use Rattle.wasmprinter_entries.specs.Places.{section_kind_view}
 use Rattle.wasmprinter_entries.specs.declared.places.SectionKind.TheVariants as k
 use Rattle.wasmprinter_spec.specs.Options.{Answers}
-use Rattle.wasmprinter_annotations.proofs.Parts.{no_part_lines, part_lines_end}
-use Rattle.wasmprinter_scope.specs.Scopes.{scope_view}
+use Rattle.wasmprinter_annotations.proofs.Parts.{no_part_lines, part_lines_end, may_keep}
+use Rattle.wasmprinter_scope.specs.Scopes.{scope_view, folds_in}
 use Rattle.wasmprinter_sections.specs.Sections.{sections_parts, kinds}
 use Rattle.wasmprinter_sections.proofs.SectionWalk.{program_kinds, kind_at, walk_fails, walk_writes}
 use Rattle.wasmprinter_sections.proofs.modules.write_sections.Goals as goal
 
-pub returns-in_err-lines-clause-parts : goal.returns-in_err-lines-clause-parts
-returns-in_err-lines-clause-parts g c =
+pub returns-in_err-lines : goal.returns-in_err-lines
+returns-in_err-lines g c =
     let o = c.args.options.now in
     let rest : List Answers = replicate (length kinds) (λ n. false) in
-    let customs = rw c.customs.ensures at c.in_err-lines.ensures.1 in (
+    let keeps = folds_in (scope_view c.args.scope.now) in
+    let customs = may_keep g.P.Print.meaning keeps c.in_err-lines.result (rw c.customs.ensures at c.in_err-lines.ensures.1) in (
       c.in_err-lines.ensures.0,
       rest,
       refl,
@@ -20,8 +21,8 @@ returns-in_err-lines-clause-parts g c =
           (no_part_lines g.P.Print.meaning) customs,
     )
 
-pub returns-in_err-lines-2-clause-parts : goal.returns-in_err-lines-2-clause-parts
-returns-in_err-lines-2-clause-parts g c =
+pub returns-in_err-lines-2 : goal.returns-in_err-lines-2
+returns-in_err-lines-2 g c =
     let i = c.loop-kind.kind-index in
     let h : i < length kinds = c.loop-kind-test.true in
     let written = rw c.loop-kind.invariant.scope at c.in_err-lines-2.ensures.parts.1 in

@@ -7,8 +7,8 @@ use Rattle.wasmprinter_sections.specs.Sections.{painting}
 use Rattle.wasmprinter_sections.proofs.WholeModule.{opening_fails, inner_ends, closing_fails, module_written, failed}
 use Rattle.wasmprinter_sections.proofs.modules.write_whole.Goals as goal
 
-pub returns-in_err-begin-clause-laid : goal.returns-in_err-begin-clause-laid
-returns-in_err-begin-clause-laid g c folds =
+pub returns-in_err-begin : goal.returns-in_err-begin
+returns-in_err-begin g c folds =
     let m = g.P.Print.meaning in
     let o = c.args.options.now in
     let begun = pieces_end m (failed c.in_err-begin.field-0.0) (Open (codes "module") ∷ []) refl (c.in_err-begin.ensures o) in (
@@ -16,8 +16,8 @@ returns-in_err-begin-clause-laid g c folds =
       opening_fails m o (painting o c.args.folder) (λ n. false) (names_of c.args.labels) c.args.module.now c.from_residual.result c.from_residual.ensures.1 begun,
     )
 
-pub returns-in_err-open-clause-laid : goal.returns-in_err-open-clause-laid
-returns-in_err-open-clause-laid g c folds =
+pub returns-in_err-open : goal.returns-in_err-open
+returns-in_err-open g c folds =
     let m = g.P.Print.meaning in
     let o = c.args.options.now in
     let opened = both_pieces m (c.in_ok-begin.ensures o) (c.in_err-open.ensures o) in (
@@ -25,44 +25,44 @@ returns-in_err-open-clause-laid g c folds =
       opening_fails m o (painting o c.args.folder) (λ n. false) (names_of c.args.labels) c.args.module.now c.from_residual-in_err-open.result c.from_residual-in_err-open.ensures.1 opened,
     )
 
-pub returns-in_err-lines-clause-laid : goal.returns-in_err-lines-clause-laid
-returns-in_err-lines-clause-laid g c folds =
+pub returns-in_err-lines : goal.returns-in_err-lines
+returns-in_err-lines g c folds =
     let m = g.P.Print.meaning in
     let o = c.args.options.now in
     let opened = both_pieces m (c.in_ok-begin.ensures o) (c.in_ok-open.ensures o) in
-    let parts = c.in_err-lines.ensures.parts folds in (
+    let parts = c.in_err-lines.ensures folds in (
       parts.0,
       inner_ends m o (painting o c.args.folder) parts.0 (names_of c.args.labels) c.args.module.now c.from_residual-in_err-lines.result c.from_residual-in_err-lines.ensures.1 opened parts.1,
     )
 
-pub returns-in_err-close_at-clause-laid : goal.returns-in_err-close_at-clause-laid
-returns-in_err-close_at-clause-laid g c folds =
+pub returns-in_err-close_at : goal.returns-in_err-close_at
+returns-in_err-close_at g c folds =
     let m = g.P.Print.meaning in
     let o = c.args.options.now in
     let opened = both_pieces m (c.in_ok-begin.ensures o) (c.in_ok-open.ensures o) in
-    let parts = c.in_ok-lines.ensures.parts folds in
+    let parts = c.in_ok-lines.ensures folds in
     let closed = pieces_end m (failed c.in_err-close_at.field-0.0) (Feed ∷ []) refl (rw c.size.ensures at c.in_err-close_at.ensures) in (
       parts.0,
       closing_fails m o (painting o c.args.folder) parts.0 (names_of c.args.labels) c.args.module.now c.from_residual-in_err-close_at.result c.from_residual-in_err-close_at.ensures.1 opened parts.1 closed,
     )
 
-pub returns-in_err-end-clause-laid : goal.returns-in_err-end-clause-laid
-returns-in_err-end-clause-laid g c folds =
+pub returns-in_err-end : goal.returns-in_err-end
+returns-in_err-end g c folds =
     let m = g.P.Print.meaning in
     let o = c.args.options.now in
     let opened = both_pieces m (c.in_ok-begin.ensures o) (c.in_ok-open.ensures o) in
-    let parts = c.in_ok-lines.ensures.parts folds in
+    let parts = c.in_ok-lines.ensures folds in
     let closed = both_pieces m (rw c.size.ensures at c.in_ok-close_at.ensures) (c.in_err-end.ensures o) in (
       parts.0,
       closing_fails m o (painting o c.args.folder) parts.0 (names_of c.args.labels) c.args.module.now c.from_residual-in_err-end.result c.from_residual-in_err-end.ensures.1 opened parts.1 closed,
     )
 
-pub returns-clause-laid : goal.returns-clause-laid
-returns-clause-laid g c folds =
+pub returns : goal.returns
+returns g c folds =
     let m = g.P.Print.meaning in
     let o = c.args.options.now in
     let opened = both_pieces m (c.in_ok-begin.ensures o) (c.in_ok-open.ensures o) in
-    let parts = c.in_ok-lines.ensures.parts folds in
+    let parts = c.in_ok-lines.ensures folds in
     let closed = both_pieces m (rw c.size.ensures at c.in_ok-close_at.ensures) (c.in_ok-end.ensures o) in (
       parts.0,
       module_written m o (painting o c.args.folder) parts.0 (names_of c.args.labels) c.args.module.now opened parts.1 closed,
