@@ -1,0 +1,166 @@
+//! A printer that writes down each call as it is made, and refuses one if it is told to.
+
+ghost use Rattle.std.specs.Prelude.{None};
+
+use std::alloc::{AllocError, Global};
+use std::io;
+use std::io::ErrorKind;
+use wasmprinter::print::Print;
+
+/// Stands behind a call that was refused.
+pub const REFUSED: &str = "{!}";
+
+/// The calls so far, in their order:
+///
+/// - text as it is, but with a backslash in front of braces, brackets and backslashes, and `\n` for a line feed, so that only calls stand
+///   as what follows;
+/// - a line feed for `newline`;
+/// - `[0x1f]` or `[]` for the beginning of a line;
+/// - `{L}`, `{N}`, `{K}`, `{T}`, `{C}` and `{R}` for styles;
+/// - `{? "name" 0x8 [1, 2]}` for the question whether a custom section is taken;
+/// - `{!}` behind the call that was refused.
+#[derive(Drop)]
+pub struct Recorder {
+    calls: String,
+    /// How many calls that can fail were made.
+    made: u32,
+    /// Which of them is refused, and how.
+    refusal: Option<(u32, ErrorKind)>,
+    /// A call could not be written down.
+    lost: bool,
+}
+
+impl Recorder {
+    pub fn new(alloc: Global) -> Recorder {
+        Recorder {
+            calls: String::new(alloc),
+            made: 0,
+            refusal: None,
+            lost: false,
+        }
+    }
+
+    /// Refuses the call with the number among those that can fail, the first of which is 1.
+    pub fn refusing(alloc: Global, call: u32, kind: ErrorKind) -> Recorder {
+        let mut recorder = Recorder::new(alloc);
+        recorder.refusal = Some((call, kind));
+        recorder
+    }
+
+    /// What was written down.
+    pub fn calls(&self) -> &str {
+        self.calls.as_str()
+    }
+
+    /// How many calls that can fail were made.
+    pub fn made(&self) -> u32 {
+        self.made
+    }
+
+    /// Whether each call was written down.
+    pub fn is_complete(&self) -> bool {
+        !self.lost
+    }
+
+    fn write_text(&mut self, s: &str) -> Result<(), AllocError> {
+        for c in s.chars() {
+            match c {
+                '\n' => self.calls.push_str("\\n")?,
+                '{' | '}' | '[' | ']' | '\\' => write!(self.calls, "\\{c}")?,
+                _ => write!(self.calls, "{c}")?,
+            }
+        }
+        Ok(())
+    }
+
+    fn write_line(&mut self, place: Option<u64>) -> Result<(), AllocError> {
+        match place {
+            Some(place) => write!(self.calls, "[{place:#x}]"),
+            None => self.calls.push_str("[]"),
+        }
+    }
+
+    /// The answer to a call that was written down so.
+    fn answer(&mut self, written: Result<(), AllocError>) -> io::Result<()> {
+        self.made = self.made.saturating_add(1);
+        if written.is_err() {
+            self.lost = true;
+        }
+        match self.refusal {
+            Some((call, kind)) if call == self.made => {
+                if self.calls.push_str(REFUSED).is_err() {
+                    self.lost = true;
+                }
+                Err(io::Error::from(kind))
+            }
+            _ => Ok(()),
+        }
+    }
+
+    fn style(&mut self, word: &str) -> io::Result<()> {
+        let written = self.calls.push_str(word);
+        self.answer(written)
+    }
+}
+
+impl Print for Recorder {
+    ghost meaning = { record {
+      after = λ _ _ _. Unit {0};
+      may_fail = λ _ _. Unit {0};
+      partly = λ _ _ _ _. Unit {0};
+      faults = λ _. None;
+    } };
+
+    ghost colors = { λ _. ⊥ };
+
+    fn write_str(&mut self, s: &str) -> io::Result<()> {
+        let written = self.write_text(s);
+        self.answer(written)
+    }
+
+    fn newline(&mut self) -> io::Result<()> {
+        let written = self.calls.push_str("\n");
+        self.answer(written)
+    }
+
+    fn start_line(&mut self, binary_offset: Option<u64>) {
+        if self.write_line(binary_offset).is_err() {
+            self.lost = true;
+        }
+    }
+
+    fn print_custom_section(
+        &mut self,
+        name: &str,
+        binary_offset: u64,
+        bytes: &[u8],
+    ) -> io::Result<bool> {
+        let written = write!(self.calls, "{{? {name:?} {binary_offset:#x} {bytes:?}}}");
+        self.answer(written)?;
+        Ok(false)
+    }
+
+    fn start_literal(&mut self) -> io::Result<()> {
+        self.style("{L}")
+    }
+
+    fn start_name(&mut self) -> io::Result<()> {
+        self.style("{N}")
+    }
+
+    fn start_keyword(&mut self) -> io::Result<()> {
+        self.style("{K}")
+    }
+
+    fn start_type(&mut self) -> io::Result<()> {
+        self.style("{T}")
+    }
+
+    fn start_comment(&mut self) -> io::Result<()> {
+        self.style("{C}")
+    }
+
+    fn reset_color(&mut self) -> io::Result<()> {
+        self.style("{R}")
+    }
+}
