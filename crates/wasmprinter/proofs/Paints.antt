@@ -1,5 +1,5 @@
 -- What of a layout doesn't depend on whether texts of folded operators carry sequences of colours: where it is refused, and the calls of its pieces.
-use Rattle.std.specs.Prelude.{◌≡◌, ℕ, List, [], ◌∷◌, ◌++◌, Bool, Option, Some, None, refl}
+use Rattle.std.specs.Prelude.{◌≡◌, ℕ, List, [], ◌∷◌, ◌++◌, Bool, true, false, Option, Some, None, refl}
 use Rattle.std.proofs.Common.{sym, ap, ap₂, ◌∙◌}
 use Rattle.wasmprinter_spec.specs.Kinds.{Kind, TypeSection, ImportSection, FunctionSection, TableSection, MemorySection, TagSection, GlobalSection, ExportSection, StartSection, ElementSection, CodeSection, DataSection}
 use Rattle.wasmprinter_spec.specs.Placed.{PlacedModule}
@@ -61,27 +61,28 @@ calls-paints o b (p ∷ ps) = ap₂ (λ (xs ys : List Call). xs ++ ys) (piece-pa
 
 -- ---- refusals
 
-abbrev HaveSameEnd : List Part → List Part → Type 0
-HaveSameEnd xs ys = (laid_parts xs).refused ≡ (laid_parts ys).refused
+record HaveSameEnd (xs ys : List Part) : Type 0 where
+  end : (laid_parts xs).refused ≡ (laid_parts ys).refused
 
 behind_end : (ps : List Piece) (r : Option ℕ) (l k : Laid) (qs : List Piece) → l.refused ≡ k.refused → (laid_behind ps r l).refused ≡ (laid_behind qs r k).refused
 behind_end ps None l k qs e = e
 behind_end ps (Some id) l k qs e = refl
 
 both_end : {xs ys zs ws : List Part} → HaveSameEnd xs ys → HaveSameEnd zs ws → HaveSameEnd (xs ++ zs) (ys ++ ws)
-both_end {xs} {ys} {zs} {ws} f g =
-    ap (λ (l : Laid). l.refused) (joined-append xs zs)
-    ∙ ap (λ (r : Option ℕ). (laid_behind (laid_parts xs).pieces r (laid_parts zs)).refused) f
-    ∙ behind_end (laid_parts xs).pieces (laid_parts ys).refused (laid_parts zs) (laid_parts ws) (laid_parts ys).pieces g
-    ∙ sym (ap (λ (l : Laid). l.refused) (joined-append ys ws))
+both_end {xs} {ys} {zs} {ws} f g = record {
+  end = ap (λ (l : Laid). l.refused) (joined-append xs zs)
+      ∙ ap (λ (r : Option ℕ). (laid_behind (laid_parts xs).pieces r (laid_parts zs)).refused) f.end
+      ∙ behind_end (laid_parts xs).pieces (laid_parts ys).refused (laid_parts zs) (laid_parts ws) (laid_parts ys).pieces g.end
+      ∙ sym (ap (λ (l : Laid). l.refused) (joined-append ys ws));
+}
 
 module _ (o : Options) (b c : Bool) (answers : Answers) (names : Names) (m : PlacedModule) where
   customs_end : (place : Option Kind) → HaveSameEnd (parts_at o.skeleton answers place 0 m.customs) (parts_at o.skeleton answers place 0 m.customs)
-  customs_end place = refl
+  customs_end place = record { end = refl }
 
   section_end : (k : Kind) → HaveSameEnd (section_parts (in_colours o b) (first_scope (in_colours o b) names m) m answers k)
       (section_parts (in_colours o c) (first_scope (in_colours o c) names m) m answers k)
-  section_end k = refl
+  section_end k = record { end = refl }
 
   parts_end : HaveSameEnd (module_parts (in_colours o b) answers names m) (module_parts (in_colours o c) answers names m)
   parts_end =
@@ -92,4 +93,4 @@ module _ (o : Options) (b c : Bool) (answers : Answers) (names : Names) (m : Pla
 
 -- a layout is refused in colours where it is without
 pub refusal-paints : (o : Options) (b c : Bool) (answers : Answers) (m : PlacedModule) → refusal (in_colours o b) answers m ≡ refusal (in_colours o c) answers m
-refusal-paints o b c answers m = parts_end o b c answers (module_names o.invents m) m
+refusal-paints o b c answers m = (parts_end o b c answers (module_names o.invents m) m).end
