@@ -11,7 +11,7 @@ use Rattle.wasmprinter_spec.specs.Options.{Options, Answers}
 use Rattle.wasmprinter_spec.specs.Names.{Names}
 use Rattle.wasmprinter_spec.specs.Layout.{module_pieces, layout, refusal}
 use Rattle.wasmprinter_spec.specs.Layout.Customs.{Laid}
-use Rattle.wasmprinter_print.specs.Emits.{Made, Broken, Begun, Ending, Through, AtCall, Stopped, Never}
+use Rattle.wasmprinter_print.specs.Emits.{Made, Broken, Begun, Ending, Through, AtCall, Stopped, Never, at_growth}
 use Rattle.wasmprinter_print.specs.Prints.{Written}
 use Rattle.wasmprinter_print.specs.PrintsLaws.{written}
 use Rattle.wasmprinter_error.specs.declared.error.Error.{Error}
@@ -128,41 +128,45 @@ module _ {P : Type 0} (m : Meaning P) (colours : Type 0) (o : Options) (paints :
 
   -- how printing ended
   abbrev Ended : Result (Unit {0}) Error → Type 0
-  Ended r = PrintsLaid m o old new keeps r (own_laid by answers placed)
+  Ended r = PrintsLaid m o old new o.folds r (own_laid by answers placed)
 
   -- written by the names that the module's sections give
   pub own_ended : (r : Result (Unit {0}) Error) (s : Scan) (items : List NamedItem) → s.named ≡ items → s.invents ≡ o.invents →
       ((t outer index : ℕ) → name_at items t outer index ≡ name_of (name_entries placed.customs) t outer index) →
-      PrintsLaid m o old new keeps r (module_laid by answers (names_of s) placed) → Ended r
-  own_ended r s items same invents given v = subst (λ (l : Laid). PrintsLaid m o old new keeps r l) (own_layout by answers placed s items same invents given) v
+      PrintsLaid m o old new o.folds r (module_laid by answers (names_of s) placed) → Ended r
+  own_ended r s items same invents given v = subst (λ (l : Laid). PrintsLaid m o old new o.folds r l) (own_layout by answers placed s items same invents given) v
 
   never : Written m o old new Never (module_pieces by answers placed) → ⊥
   never v = (made Never v).made
 
   -- What is so where a call failed, where a section was refused, and where a growth was refused, is so of every error of printing. Only what folds can
   -- want memory.
-  module _ (r : Result (Unit {0}) Error) (memory : IfErr r (λ e. e ≡ Memory → o.folds ≡ true)) where
+  module _ (r : Result (Unit {0}) Error) where
     with_folds : (Q : Error → Type 0) → ((x : IoError) → Broken m old new x (layout by answers placed) → Q (Printer x)) →
         ((id : ℕ) → MadeUpTo m old new id by placed answers → Q (DylinkSubsection id)) → (o.folds ≡ true → Begun m old new (layout by answers placed) → Q Memory) →
         Ended r → IfErr r Q
-    with_folds Q failed refused stopped v = by_result r memory v
+    with_folds Q failed refused stopped v = by_result r v
       where
-        by_error : (e : Error) → (e ≡ Memory → o.folds ≡ true) → Ended (Err e) → Q e
-        by_error Memory h v = stopped (h refl) (made Stopped v.written).made
-        by_error (Malformed place) h v = absurd (never v.written)
-        by_error Component h v = absurd (never v.written)
-        by_error (TooManyLocals place) h v = absurd (never v.written)
-        by_error (TooManyFunctions count) h v = absurd (never v.written)
-        by_error (EmptyTableInit place) h v = absurd (never v.written)
-        by_error (FoldLegacy place) h v = absurd (never v.written)
-        by_error (FoldHint place) h v = absurd (never v.written)
-        by_error (DylinkSubsection id) h v = refused id (record { ends = v.refused; made = (made Through v.written).made })
-        by_error Unreadable h v = absurd (never v.written)
-        by_error (Printer x) h v = failed x (made (AtCall x) v.written).made
+        by_growth : (b : Bool) → o.folds ≡ b → Written m o old new (at_growth b) (module_pieces by answers placed) → Q Memory
+        by_growth true k v = stopped k (made Stopped v).made
+        by_growth false k v = absurd (never v)
 
-        by_result : (r : Result (Unit {0}) Error) → IfErr r (λ e. e ≡ Memory → o.folds ≡ true) → Ended r → IfErr r Q
-        by_result (Ok x) h v = tt
-        by_result (Err e) h v = by_error e h v
+        by_error : (e : Error) → Ended (Err e) → Q e
+        by_error Memory v = by_growth o.folds refl v.written
+        by_error (Malformed place) v = absurd (never v.written)
+        by_error Component v = absurd (never v.written)
+        by_error (TooManyLocals place) v = absurd (never v.written)
+        by_error (TooManyFunctions count) v = absurd (never v.written)
+        by_error (EmptyTableInit place) v = absurd (never v.written)
+        by_error (FoldLegacy place) v = absurd (never v.written)
+        by_error (FoldHint place) v = absurd (never v.written)
+        by_error (DylinkSubsection id) v = refused id (record { ends = v.refused; made = (made Through v.written).made })
+        by_error Unreadable v = absurd (never v.written)
+        by_error (Printer x) v = failed x (made (AtCall x) v.written).made
+
+        by_result : (r : Result (Unit {0}) Error) → Ended r → IfErr r Q
+        by_result (Ok x) v = tt
+        by_result (Err e) v = by_error e v
 
     -- a failed call is the cause, or a section, or want of memory
     pub ended_caused : Ended r → IfErr r (HasCause m o bytes old new)

@@ -83,18 +83,17 @@ returns g c =
     let old = c.args.printer.now in
     let new = c.write_module.new.p in
     let r = c.write_module.result in
-    let laid = rw c.self.view_is at c.write_module.ensures.laid in
+    let laid = rw c.self.view_is at c.write_module.ensures in
     let paints = laid.0 in
     let answers = laid.1 in
     let coloured = laid.2 in
-    let memory = rw c.self.view_is at c.write_module.ensures.memory in
     let start = c.in_ok-labels.ensures.start in
     let invents = ap (λ s. s.invents) start ∙ ap (λ i. i.options.invents) c.self-inside.view_is ∙ ap (λ o. o.invents) c.self.view_is in
     let ended = own_ended m colours o paints coloured bytes placed spelled within foldable old new answers r c.in_ok-labels.labels c.in_ok-names.names (ap (λ s. s.named) start) invents c.in_ok-names.ensures.names laid.3 in
     record {
       printed = ended_printed m colours o paints coloured bytes placed spelled within foldable old new answers r ended;
-      caused = ended_caused m colours o paints coloured bytes placed spelled within foldable old new answers r memory ended;
-      refused = ended_true m colours o paints coloured bytes placed spelled within foldable old new answers r memory ended;
-      left = ended_left m colours o paints coloured bytes placed spelled within foldable old new answers r memory ended;
+      caused = ended_caused m colours o paints coloured bytes placed spelled within foldable old new answers r ended;
+      refused = ended_true m colours o paints coloured bytes placed spelled within foldable old new answers r ended;
+      left = ended_left m colours o paints coloured bytes placed spelled within foldable old new answers r ended;
       component = ended_unmarked m colours o paints coloured bytes placed spelled within foldable old new answers r ended;
     }
