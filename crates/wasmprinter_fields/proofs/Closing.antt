@@ -1,5 +1,6 @@
 -- A field as a group, from its four parts: where its line begins, its keyword, what stands in it, and where it closes.
 use Rattle.std.specs.Prelude.{◌≡◌, ℕ, List, [], ◌∷◌, ◌++◌, Bool, Option, None, Result, IsErrAnd}
+use Rattle.std.proofs.Common.{subst}
 use Rattle.std.specs.declared.io.Error.{Error as IoError}
 use Rattle.wasmprinter_error.specs.declared.error.Error.{Error}
 use Rattle.wasmprinter_error.specs.declared.error.Error.TheVariants.{Printer}
@@ -42,3 +43,8 @@ module _ {P : Type 0} (m : Meaning P) {o : Options} {a s t : P} (place : Option 
           Written m o u v Through (close None nesting (has_break ps)) → Written m o a v Through (own_line place nesting w ps)
       unfolding group_gap
       group_closed broken opened written closed = both_pieces m broken (both_pieces m opened (both_pieces m written closed))
+
+-- what one step may keep, all may
+pub as_kept : {P U : Type 0} (m : Meaning P) {o : Options} {a t : P} (r : Result U Error) {ps : List Piece} (k l : Bool) → k ≡ l →
+    PrintsOrStops m o a t k r ps → PrintsOrStops m o a t l r ps
+as_kept m {o} {a} {t} r {ps} k l e v = subst (λ (b : Bool). PrintsOrStops m o a t b r ps) e v

@@ -1,5 +1,5 @@
 use Rattle.std.specs.Prelude.{◌∷◌, ◌+◌, codes, drop}
-use Rattle.std.proofs.Common.{◌∙◌}
+use Rattle.std.proofs.Common.{ap, ◌∙◌}
 use Rattle.wasmprinter_spec.specs.Piece.{Gap}
 use Rattle.wasmprinter_spec.specs.Layout.Expressions.{constant_group}
 use Rattle.wasmprinter_print.specs.PrintsLaws.{lacks_none, next_written, next_halts}
@@ -7,6 +7,7 @@ use Rattle.wasmprinter_scope.specs.Scopes.{scope_view, folds_in}
 use Rattle.wasmprinter_spec.specs.Layout.Elements.{expression_items}
 use Rattle.wasmprinter_segments.specs.Segments.{constant_of, constants_of}
 use Rattle.wasmprinter_fields.proofs.Constants.{expressions-none, expressions-next}
+use Rattle.wasmprinter_fields.proofs.Closing.{as_kept}
 use Rattle.wasmprinter_fields.proofs.Unbroken.{no_answer, more_lines, last_lines}
 use Rattle.wasmprinter_fields.proofs.elements.write_expression_items.Goals as goal
 
@@ -16,7 +17,8 @@ returns-in_err-lines g c =
     let step = expressions-next (scope_view c.args.scope.now) c.loop-expression.expression-index c.args.expressions.now item item c.loop-expression-test.true c.expression-item.is in
     let made = rw c.loop-expression.invariant.scope at c.in_err-lines.ensures.pieces in
     record {
-      pieces = next_halts g.P.Print.meaning _ _ (folds_in (scope_view c.args.scope.now)) c.from_residual.result _ (rw step at c.loop-expression.invariant.lacks) made c.from_residual.ensures.1;
+      pieces = as_kept g.P.Print.meaning c.from_residual.result (folds_in (scope_view c.loop-expression.scope)) (folds_in (scope_view c.args.scope.now)) (ap folds_in c.loop-expression.invariant.scope)
+          (next_halts g.P.Print.meaning _ _ (folds_in (scope_view c.loop-expression.scope)) c.from_residual.result _ (rw step at c.loop-expression.invariant.lacks) made c.from_residual.ensures.1);
       lines = no_answer _ _ c.from_residual.result c.from_residual.ensures.1;
       scope = c.in_err-lines.ensures.scope ∙ c.loop-expression.invariant.scope;
     }
