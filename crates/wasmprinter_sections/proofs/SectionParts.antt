@@ -72,3 +72,8 @@ module _ {P : Type 0} (m : Meaning P) {keeps : Bool} (o : Options) where
   stops_first {T} {a} (Err y) l k s f =
       subst (λ (b : Bool). PrintsLaid {T = T} m o a a b (Err y) l) (sym k)
       (subst (λ (z : Error). PrintsLaid {T = T} m o a a true (Err z) l) (sym (f ∙ s)) (record { written = stops_before m o a l.pieces; refused = tt }))
+
+-- what one step may keep, all may
+pub lines_kept : {P : Type 0} (m : Meaning P) {o : Options} {a t : P} (r : Result Bool Error) {parts : List Part} (k l : Bool) → k ≡ l →
+    PrintsPartLines m o a t k r parts → PrintsPartLines m o a t l r parts
+lines_kept m {o} {a} {t} r {parts} k l e v = subst (λ (b : Bool). PrintsPartLines m o a t b r parts) e v

@@ -29,6 +29,17 @@ module _ (o : Options) (s : Scope) (m : PlacedModule) where
       ap (λ (ps : List Part). section_parts o s m x y ++ ps) (sections-split xs a bs ks k e)
       ∙ sym (append_assoc (section_parts o s m x y) (sections_parts o s m xs (take (length xs) ks)) (section_parts o s m a k ++ sections_parts o s m bs (drop (suc (length xs)) ks)))
 
+  pub take-some : (ks : List Kind) (i : ℕ) (k : Kind) → slice_get ks i ≡ Some k → (xs : List Answers) (a : Answers) → length xs ≡ i →
+      sections_parts o s m (xs ++ (a ∷ [])) (take (suc i) ks) ≡ sections_parts o s m xs (take i ks) ++ section_parts o s m a k
+  take-some [] i k e [] a l = absurd cc
+  take-some [] i k e (x ∷ xs) a l = absurd cc
+  take-some (y ∷ ks) zero k e [] a l = append-nil (section_parts o s m a y) ∙ ap (λ (z : Kind). section_parts o s m a z) cc
+  take-some (y ∷ ks) (suc i) k e [] a l = absurd cc
+  take-some (y ∷ ks) zero k e (x ∷ xs) a l = absurd cc
+  take-some (y ∷ ks) (suc i) k e (x ∷ xs) a l =
+      ap (λ (ps : List Part). section_parts o s m x y ++ ps) (take-some ks i k e xs a cc)
+      ∙ sym (append_assoc (section_parts o s m x y) (sections_parts o s m xs (take i ks)) (section_parts o s m a k))
+
 -- the program's kinds are those of the definitions
 abbrev pub program_kinds : List SectionKind
 program_kinds = k.Type ∷ k.Import ∷ k.Function ∷ k.Table ∷ k.Memory ∷ k.Tag ∷ k.Global ∷ k.Export ∷ k.Start ∷ k.Element ∷ k.Code ∷ k.Data ∷ []
@@ -58,17 +69,6 @@ module _ {P : Type 0} (n : Meaning P) {keeps : Bool} (o : Options) (s : Scope) (
     written = subst (λ (ps : List Part). PrintsPartLines n o a t keeps (Ok lines) ps) (sym (append-nil (parts_at o.skeleton first None 0 m.customs))) w;
   }
 
-  take-some : (ks : List Kind) (i : ℕ) (k : Kind) → slice_get ks i ≡ Some k → (xs : List Answers) (a : Answers) → length xs ≡ i →
-      sections_parts o s m (xs ++ (a ∷ [])) (take (suc i) ks) ≡ sections_parts o s m xs (take i ks) ++ section_parts o s m a k
-  take-some [] i k e [] a l = absurd cc
-  take-some [] i k e (x ∷ xs) a l = absurd cc
-  take-some (y ∷ ks) zero k e [] a l = append-nil (section_parts o s m a y) ∙ ap (λ (z : Kind). section_parts o s m a z) cc
-  take-some (y ∷ ks) (suc i) k e [] a l = absurd cc
-  take-some (y ∷ ks) zero k e (x ∷ xs) a l = absurd cc
-  take-some (y ∷ ks) (suc i) k e (x ∷ xs) a l =
-      ap (λ (ps : List Part). section_parts o s m x y ++ ps) (take-some ks i k e xs a cc)
-      ∙ sym (append_assoc (section_parts o s m x y) (sections_parts o s m xs (take i ks)) (section_parts o s m a k))
-
   -- one more, and the custom sections behind it
   pub walk_writes : {a b t : P} {i : ℕ} {lines more : Bool} (k : Kind) → slice_get kinds i ≡ Some k → Walked n o s m keeps a b i lines →
       (answers : Answers) → PrintsPartLines n o b t keeps (Ok more) (section_parts o s m answers k) → Walked n o s m keeps a t (i + 1) (lines || more)
@@ -76,7 +76,7 @@ module _ {P : Type 0} (n : Meaning P) {keeps : Bool} (o : Options) (s : Scope) (
       let front : List Part = parts_at o.skeleton w.first None 0 m.customs in
       let done : List Part = sections_parts o s m w.answers (take i kinds) in
       let joined : (front ++ done) ++ section_parts o s m answers k ≡ front ++ sections_parts o s m (w.answers ++ (answers ∷ [])) (take (suc i) kinds) =
-      append_assoc front done (section_parts o s m answers k) ∙ ap (λ (ps : List Part). front ++ ps) (sym (take-some kinds i k e w.answers answers w.many)) in
+      append_assoc front done (section_parts o s m answers k) ∙ ap (λ (ps : List Part). front ++ ps) (sym (take-some o s m kinds i k e w.answers answers w.many)) in
       record {
         first = w.first;
         answers = w.answers ++ (answers ∷ []);

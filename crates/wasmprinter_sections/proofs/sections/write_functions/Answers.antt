@@ -1,8 +1,9 @@
-use Rattle.std.proofs.Common.{◌+◌, ◌≤◌, ◌∙◌, ◌≡◌, length, arith}
+use Rattle.std.proofs.Common.{ap, ◌+◌, ◌≤◌, ◌∙◌, ◌≡◌, length, arith}
 use Rattle.wasmprinter_spec.specs.Types.{FuncKind}
 use Rattle.wasmprinter_print.specs.PrintsLaws.{lacks_none, next_written, next_halts}
 use Rattle.wasmprinter_entries.specs.Externs.{imported_count}
 use Rattle.wasmprinter_scope.specs.Scopes.{scope_view, folds_in}
+use Rattle.wasmprinter_fields.proofs.Closing.{as_kept}
 use Rattle.wasmprinter_sections.proofs.Walking.{functions-found, functions-none}
 use Rattle.wasmprinter_sections.proofs.sections.write_functions.Goals as goal
 
@@ -11,7 +12,8 @@ returns-in_err-write_function-clause-pieces g c =
     let first = imported_count FuncKind c.args.module.now.imports in
     let step = functions-found c.args.options.now (scope_view c.args.scope.now) c.loop-index.hints (first + c.loop-index.index) c.loop-index.index c.args.module.now.functions c.function-function.result c.function-function.ensures in
     let made = rw (c.next_function.ensures.gives, c.from.ensures, c.first_number-first.ensures.is, c.loop-index.invariant.scope) at c.in_err-write_function.ensures.pieces in
-    next_halts g.P.Print.meaning _ _ (folds_in (scope_view c.args.scope.now)) c.from_residual.result _ (rw step at c.loop-index.invariant.lacks) made c.from_residual.ensures.1
+    as_kept g.P.Print.meaning c.from_residual.result (folds_in (scope_view c.loop-index.scope)) (folds_in (scope_view c.args.scope.now)) (ap folds_in c.loop-index.invariant.scope)
+    (next_halts g.P.Print.meaning _ _ (folds_in (scope_view c.loop-index.scope)) c.from_residual.result _ (rw step at c.loop-index.invariant.lacks) made c.from_residual.ensures.1)
 
 pub loop-index-preserved : goal.loop-index-preserved
 loop-index-preserved g c =
