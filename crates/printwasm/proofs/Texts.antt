@@ -13,7 +13,7 @@ gives_text choice view gives wasm (Ok t) g h = (wasm, g, h)
 gives_text choice view gives wasm (Err e) g h = tt
 
 -- why there is none
-pub gives_no_text : {T : Type 0} (gives : Reading) (wasm : List ℕ) (r : Result T Error) →
-    gives (Some wasm) → IfErr r (IsTrueOfText wasm) → IfErr r (HasTextCause wasm) → IfErr r (GivesNoText gives)
-gives_no_text gives wasm (Ok t) g a b = tt
-gives_no_text gives wasm (Err e) g a b = inr (wasm, g, a, b)
+pub gives_no_text : {T : Type 0} (choice : Choice) (gives : Reading) (wasm : List ℕ) (r : Result T Error) →
+    gives (Some wasm) → IfErr r (IsTrueOfText choice.options wasm) → IfErr r (HasTextCause choice.options wasm) → IfErr r (GivesNoText choice gives)
+gives_no_text choice gives wasm (Ok t) g a b = tt
+gives_no_text choice gives wasm (Err e) g a b = inr (wasm, g, a, b)

@@ -32,9 +32,9 @@ abbrev pub GivesText : Choice → Reading → List ℕ → Type 0
 GivesText c gives text = (wasm : List ℕ) × gives (Some wasm) × IsTextBy c wasm text
 
 -- there is no text of the file: it can't be read, or its module can't be printed for a cause that is true of its bytes
-abbrev pub GivesNoText : Reading → Error → Type 0
-GivesNoText gives error =
-    (gives None × (error ≡ Unreadable)) ⊎ ((wasm : List ℕ) × gives (Some wasm) × IsTrueOfText wasm error × HasTextCause wasm error)
+abbrev pub GivesNoText : Choice → Reading → Error → Type 0
+GivesNoText c gives error =
+    (gives None × (error ≡ Unreadable)) ⊎ ((wasm : List ℕ) × gives (Some wasm) × IsTrueOfText c.options wasm error × HasTextCause c.options wasm error)
 
 -- the text of the file's module was written once, and the write answered this
 abbrev pub WritesText : {W : Type 0} → Choice → Reading → Writing W → W → W → Result (Unit {0}) IoError → Type 0
@@ -42,7 +42,7 @@ WritesText c gives takes old new answer = (text : List ℕ) × GivesText c gives
 
 -- the module isn't printed: there is no text of it, and nothing was written; or the one write of its text failed
 abbrev pub FailsToWrite : {W : Type 0} → Choice → Reading → Writing W → W → W → Error → Type 0
-FailsToWrite c gives takes old new error = (GivesNoText gives error × (new ≡ old))
+FailsToWrite c gives takes old new error = (GivesNoText c gives error × (new ≡ old))
     ⊎ ((failure : IoError) × WritesText c gives takes old new (Err failure) × (error ≡ Printer failure))
 
 -- the text was written once, whatever the write answered
@@ -51,7 +51,7 @@ Tells takes old new text = (answer : Result (Unit {0}) IoError) × takes old tex
 
 -- the line that tells how the program is used
 abbrev pub usage_line : List ℕ
-usage_line = codes "usage: printwasm [--offsets] [--skeleton] [--name-unnamed] [--color] FILE" ++ (10 ∷ [])
+usage_line = codes "usage: printwasm [--offsets] [--skeleton] [--name-unnamed] [--fold] [--color] FILE" ++ (10 ∷ [])
 
 -- the line that tells an error, where the error's text is told
 abbrev pub error_line : Option (List ℕ) → Option (List ℕ)

@@ -25,12 +25,15 @@ skeleton_option = codes "--skeleton"
 abbrev pub name_unnamed_option : List ℕ
 name_unnamed_option = codes "--name-unnamed"
 
+abbrev pub fold_option : List ℕ
+fold_option = codes "--fold"
+
 abbrev pub color_option : List ℕ
 color_option = codes "--color"
 
 -- an option that there is, or a file
 abbrev pub is_known : List ℕ → Bool
-is_known word = not (is_option word) || has (offsets_option ∷ (skeleton_option ∷ (name_unnamed_option ∷ (color_option ∷ [])))) word
+is_known word = not (is_option word) || has (offsets_option ∷ (skeleton_option ∷ (name_unnamed_option ∷ (fold_option ∷ (color_option ∷ []))))) word
 
 -- the words that are files
 abbrev pub files : List (List ℕ) → List (List ℕ)
@@ -56,6 +59,7 @@ chosen words = record {
     offsets = has words offsets_option;
     skeleton = has words skeleton_option;
     invents = has words name_unnamed_option;
+    folds = has words fold_option;
   };
   coloured = has words color_option;
 }

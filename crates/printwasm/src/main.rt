@@ -1,4 +1,4 @@
-//! `printwasm [--offsets] [--skeleton] [--name-unnamed] [--color] FILE` prints a WebAssembly module as text.
+//! `printwasm [--offsets] [--skeleton] [--name-unnamed] [--fold] [--color] FILE` prints a WebAssembly module as text.
 #![tactic(auto)]
 
 mod program;

@@ -16,7 +16,8 @@ use std::path::Path;
 use std::process::ExitCode;
 use wasmprinter::{Config, Error};
 
-const USAGE: &str = "usage: printwasm [--offsets] [--skeleton] [--name-unnamed] [--color] FILE\n";
+const USAGE: &str =
+    "usage: printwasm [--offsets] [--skeleton] [--name-unnamed] [--fold] [--color] FILE\n";
 
 /// The module was printed.
 const PRINTED: u8 = 0;
@@ -39,11 +40,14 @@ const SKELETON: &str = "--skeleton";
 /// Identifiers are made up for items without a name.
 const NAME_UNNAMED: &str = "--name-unnamed";
 
+/// Each operator stands in parentheses with its operands.
+const FOLD: &str = "--fold";
+
 /// The text is coloured for a terminal.
 const COLOR: &str = "--color";
 
 /// All options that there are.
-const OPTIONS: [&str; 4] = [OFFSETS, SKELETON, NAME_UNNAMED, COLOR];
+const OPTIONS: [&str; 5] = [OFFSETS, SKELETON, NAME_UNNAMED, FOLD, COLOR];
 
 /// What the words choose.
 #[derive(Drop)]
@@ -165,7 +169,8 @@ fn choice_of(words: &[String]) -> Choice
     config
         .print_offsets(has(words, OFFSETS))
         .print_skeleton(has(words, SKELETON))
-        .name_unnamed(has(words, NAME_UNNAMED));
+        .name_unnamed(has(words, NAME_UNNAMED))
+        .fold_instructions(has(words, FOLD));
     Choice {
         config,
         is_colored: has(words, COLOR),
@@ -195,7 +200,7 @@ fn print_file<S: Source>(
     file: &str,
 ) -> Result<Vec<u8>, Error>
     ensures printed { IfOk result (λ text. GivesText choice.now (S.gives source.now file.now) text.items) }
-    ensures refused { IfErr result (GivesNoText (S.gives source.now file.now)) }
+    ensures refused { IfErr result (GivesNoText choice.now (S.gives source.now file.now)) }
 {
     let wasm = source.read(Path::new(file)).map_err(|_| Error::Unreadable)?;
     print(alloc, choice, &wasm)
@@ -204,8 +209,8 @@ fn print_file<S: Source>(
 /// The text of a module.
 fn print(alloc: Global, choice: &Choice, wasm: &[u8]) -> Result<Vec<u8>, Error>
     ensures printed { IfOk result (λ text. IsTextBy choice.now wasm.now text.items) }
-    ensures caused { IfErr result (HasTextCause wasm.now) }
-    ensures refused { IfErr result (IsTrueOfText wasm.now) }
+    ensures caused { IfErr result (HasTextCause choice.now.options wasm.now) }
+    ensures refused { IfErr result (IsTrueOfText choice.now.options wasm.now) }
 {
     if choice.is_colored {
         choice.config.print_to_ansi(alloc, wasm)

@@ -23,7 +23,8 @@ const MANY_LOCALS: [u8; 28] = [
     0x01, 0x00, 0x0a, 0x08, 0x01, 0x06, 0x01, 0xd1, 0x86, 0x03, 0x7f, 0x0b,
 ];
 
-const USAGE: &str = "usage: printwasm [--offsets] [--skeleton] [--name-unnamed] [--color] FILE\n";
+const USAGE: &str =
+    "usage: printwasm [--offsets] [--skeleton] [--name-unnamed] [--fold] [--color] FILE\n";
 
 /// What a run wrote, and its status.
 #[derive(Drop)]
@@ -118,7 +119,7 @@ fn prints_by_its_options(rt: HostRuntime) -> Result<(), Fail> {
 }
 
 /// The identity by each option alone.
-const BY_ONE_OPTION: [(&str, &str); 4] = [
+const BY_ONE_OPTION: [(&str, &str); 5] = [
     (
         "--offsets",
         r#"(module
@@ -146,6 +147,17 @@ const BY_ONE_OPTION: [(&str, &str); 4] = [
   (export "f" (func $#func0))
   (func $#func0 (;0;) (type $#type0) (param $#local0 i32) (result i32)
     local.get $#local0
+  )
+)
+"#,
+    ),
+    (
+        "--fold",
+        r#"(module
+  (type (;0;) (func (param i32) (result i32)))
+  (export "f" (func 0))
+  (func (;0;) (type 0) (param i32) (result i32)
+    (local.get 0)
   )
 )
 "#,
@@ -237,6 +249,34 @@ fn refuses_too_many_locals(rt: HostRuntime) -> Result<(), Fail> {
         refused.err.as_slice(),
         b"error: function at byte 0x16 has more than 50000 locals\n".as_slice()
     );
+    Ok(())
+}
+
+/// A function with a `try` of the older kind, at byte 23.
+const OLDER_TRY: [u8; 28] = [
+    0x00, 0x61, 0x73, 0x6d, 0x01, 0x00, 0x00, 0x00, 0x01, 0x04, 0x01, 0x60, 0x00, 0x00, 0x03, 0x02,
+    0x01, 0x00, 0x0a, 0x08, 0x01, 0x06, 0x00, 0x06, 0x40, 0x19, 0x0b, 0x0b,
+];
+
+#[test]
+fn refuses_what_cannot_be_folded_in_colors_or_without(rt: HostRuntime) -> Result<(), Fail> {
+    let file = "try.wasm";
+    fs::write(&rt, file, &OLDER_TRY)?;
+    let orders: [&[&str]; 2] = [&["--fold", file], &["--color", "--fold", file]];
+    for words in orders {
+        let refused = run_with(&rt, words)?;
+        assert_eq!(rt; refused.status, 1);
+        assert_eq!(rt; refused.out.len(), 0);
+        assert_eq!(rt;
+            refused.err.as_slice(),
+            b"error: legacy exception operator at byte 0x17 can't be folded\n".as_slice()
+        );
+    }
+    // a skeleton holds no bodies
+    let printed = run_with(&rt, &["--fold", "--skeleton", file])?;
+    assert_eq!(rt; printed.status, 0);
+    assert_eq!(rt; printed.err.len(), 0);
+    fs::remove_file(&rt, file)?;
     Ok(())
 }
 

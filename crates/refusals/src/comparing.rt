@@ -1,6 +1,6 @@
 //! A printer that compares what it is handed with the text that is wanted. It needs no memory.
 
-ghost use Rattle.std.specs.Prelude.{None};
+ghost use Rattle.std.specs.Prelude.{None, false};
 
 use std::io;
 use wasmprinter::Print;
@@ -48,7 +48,7 @@ impl<'a> Print for Comparing<'a> {
       faults = λ _. None;
     } };
 
-    ghost colors = { λ _. ⊥ };
+    ghost colors = { λ _. false };
 
     fn write_str(&mut self, s: &str) -> io::Result<()> {
         self.compare(s);
@@ -93,5 +93,9 @@ impl<'a> Print for Comparing<'a> {
 
     fn reset_color(&mut self) -> io::Result<()> {
         Ok(())
+    }
+
+    fn supports_async_color(&self) -> bool {
+        false
     }
 }

@@ -73,10 +73,10 @@ fn by_print_bytes(alloc: Global, shape: &Shape) -> Ending {
     }
 }
 
-/// By a printer that needs no memory.
-fn by_config(alloc: Global, shape: &Shape) -> Ending {
+/// With these options, by a printer that needs no memory.
+fn by_config(alloc: Global, config: &Config, shape: &Shape) -> Ending {
     let mut printer = Comparing::new(shape.text);
-    match Config::new().print(alloc, shape.wasm, &mut printer) {
+    match config.print(alloc, shape.wasm, &mut printer) {
         Ok(()) => Ending::of(printer.is_whole(), "wrong calls"),
         Err(error) => Ending::of(printer.is_beginning(), "wrong calls").or(Ending::of_error(error)),
     }
@@ -92,7 +92,7 @@ fn by_decode(alloc: Global, shape: &Shape) -> Ending {
 /// The worst ending of the three calls that take a module.
 pub fn ending_of(alloc: Global, shape: &Shape) -> Ending {
     by_print_bytes(alloc, shape)
-        .or(by_config(alloc, shape))
+        .or(by_config(alloc, &Config::new(), shape))
         .or(by_decode(alloc, shape))
 }
 
@@ -124,4 +124,15 @@ pub fn ending_of_colors(alloc: Global, shape: &Shape) -> Ending {
         Ok(text) => Ending::of(text.len() > shape.text.len(), "no colours"),
         Err(error) => Ending::of_error(error),
     }
+}
+
+/// By the calls that take a module, with its operators folded.
+pub fn ending_of_folded(alloc: Global, shape: &Shape) -> Ending {
+    let mut config = Config::new();
+    config.fold_instructions(true);
+    let by_text = match config.print_to_string(alloc, shape.wasm) {
+        Ok(text) => Ending::of(text.as_str() == shape.text, "wrong text"),
+        Err(error) => Ending::of_error(error),
+    };
+    by_text.or(by_config(alloc, &config, shape))
 }

@@ -1,4 +1,4 @@
-//! Prints modules of every shape, one also in lines and in colours, and tells of each how it ended: `printed`, `out of memory`, or what
+//! Prints modules of every shape, one also in lines and in colours, and one with its operators folded, and tells of each how it ended: `printed`, `out of memory`, or what
 //! else came.
 //!
 //! It shows what comes of a refused request for memory (tools/refusals.sh refuses each in turn). So it asks for no memory itself, but for
@@ -10,8 +10,8 @@ mod comparing;
 mod ending;
 mod shapes;
 
-use ending::{Ending, ending_of, ending_of_colors, ending_of_lines};
-use shapes::{LINED, SHAPES};
+use ending::{Ending, ending_of, ending_of_colors, ending_of_folded, ending_of_lines};
+use shapes::{FOLDED, LINED, SHAPES};
 use std::alloc::{AllocError, Global};
 use std::io;
 use std::io::Read;
@@ -57,7 +57,7 @@ fn tell(rt: &HostRuntime, name: &str, ending: Ending) -> io::Result<u8> {
     Ok(ending.status())
 }
 
-/// Prints each module, and one also in lines and in colours, writes how each ended, and answers the status of the worst ending.
+/// Prints each module, one also in lines and in colours, and one folded, writes how each ended, and answers the status of the worst ending.
 fn print_all(rt: &HostRuntime) -> io::Result<u8> {
     if !are_granted(rt.alloc(), wanted_requests(&mut rt.stdin())?) {
         return Ok(Ending::Other("own request").status());
@@ -68,6 +68,7 @@ fn print_all(rt: &HostRuntime) -> io::Result<u8> {
     }
     status = status.max(tell(rt, "lines", ending_of_lines(rt.alloc(), &LINED))?);
     status = status.max(tell(rt, "colours", ending_of_colors(rt.alloc(), &LINED))?);
+    status = status.max(tell(rt, FOLDED.name, ending_of_folded(rt.alloc(), &FOLDED))?);
     Ok(status)
 }
 

@@ -1,6 +1,7 @@
 //! Modules of every shape, with their texts. Bytes and texts are typed by hand.
 
 /// A module, and what is wanted of it.
+#[derive(Drop)]
 pub struct Shape {
     pub name: &'static str,
     pub wasm: &'static [u8],
@@ -14,6 +15,14 @@ pub const LINED: Shape = Shape {
     name: "blocks",
     wasm: &BLOCKS,
     text: BLOCKS_TEXT,
+    functions: 1,
+};
+
+/// The module that is printed with its operators folded.
+pub const FOLDED: Shape = Shape {
+    name: "folded",
+    wasm: &OPERANDS,
+    text: FOLDED_TEXT,
     functions: 1,
 };
 
@@ -304,3 +313,32 @@ const EVERYTHING_TEXT: &str = r#"(module
   )
 )
 "#;
+
+const OPERANDS: [u8; 56] = [
+    0x00, 0x61, 0x73, 0x6d, 0x01, 0x00, 0x00, 0x00, // preamble
+    0x01, 0x06, 0x01, 0x60, 0x01, 0x7f, 0x01, 0x7f, // types
+    0x02, 0x05, 0x01, 0x00, 0x00, 0x00, 0x00, // imports
+    0x03, 0x02, 0x01, 0x00, // functions
+    0x06, 0x06, 0x01, 0x7f, 0x00, 0x41, 0x07, 0x0b, // globals
+    0x0a, 0x13, 0x01, 0x11, 0x00, // code
+    0x20, 0x00, 0x04, 0x7f, 0x41, 0x01, 0x05, // local.get, if, i32.const, else
+    0x41, 0x02, 0x41, 0x03, 0x6a, 0x0b, 0x10, 0x00, 0x0b, // i32.const twice, i32.add, end, call
+];
+
+const FOLDED_TEXT: &str = "(module
+  (type (;0;) (func (param i32) (result i32)))
+  (import \"\" \"\" (func (;0;) (type 0) (param i32) (result i32)))
+  (global (;0;) i32 (i32.const 7))
+  (func (;1;) (type 0) (param i32) (result i32)
+    (call 0
+      (if (result i32) ;; label = @1
+        (local.get 0)
+        (then
+          (i32.const 1))
+        (else
+          (i32.add
+            (i32.const 2)
+            (i32.const 3)))))
+  )
+)
+";

@@ -121,8 +121,8 @@ module _ (o : Options) where
     customs_same : (place : Option Kind) → IsSameIf (parts_at o.skeleton answers place 0 m.customs) (parts_at o.skeleton unclaimed place 0 m.customs)
     customs_same place h = place_same answers place 0 m.customs h
 
-    section_same : (k : Kind) → IsSameIf (section_parts o (first_scope names m) m answers k) (section_parts o (first_scope names m) m unclaimed k)
-    section_same k = field_same (Shown (fields_of o (first_scope names m) m k)) (customs_same (Some k))
+    section_same : (k : Kind) → IsSameIf (section_parts o (first_scope o names m) m answers k) (section_parts o (first_scope o names m) m unclaimed k)
+    section_same k = field_same (Shown (fields_of o (first_scope o names m) m k)) (customs_same (Some k))
 
     parts_same : IsSameIf (module_parts o answers names m) (module_parts o unclaimed names m)
     parts_same =

@@ -1,20 +1,21 @@
 -- The text of a module in colours.
-use Rattle.std.specs.Prelude.{◌≡◌, ℕ, List, [], ◌∷◌, ◌++◌, map, Some, Ok, refl}
+use Rattle.std.specs.Prelude.{◌≡◌, ℕ, List, [], ◌∷◌, ◌++◌, true, false, map, Some, None, Ok, refl}
 use Rattle.std.proofs.Common.{sym, ap, ◌∙◌, append_assoc, append-nil}
 use Rattle.wasmprinter_spec.specs.Call.{Call, Text, Newline, Line, Start, Claim, cut_call, atoms}
 use Rattle.wasmprinter_spec.specs.Colour.{uncolour}
 use Rattle.wasmprinter_spec.specs.Meaning.{Meaning}
+use Rattle.wasmprinter_spec.specs.Coloured.{coloured_bytes, coloured_text}
 use Rattle.wasmprinter_spec.specs.Options.{Options}
-use Rattle.wasmprinter_spec.specs.Layout.{layout}
+use Rattle.wasmprinter_spec.specs.Layout.{layout, refusal}
 use Rattle.wasmprinter_writers.specs.Writing.{Writing, TakesWhole}
 use Rattle.wasmprinter_writers.specs.ColourCalls.{Painting, PaintsBySequences, WritesInColour, coloured_meaning}
-use Rattle.wasmprinter_writers.specs.Sequences.{coloured_bytes, coloured_text}
 use Rattle.wasmprinter_writers.proofs.Runs.{coloured_run}
-use Rattle.wasmprinter_writers.proofs.Uncoloured.{colours_keep_text}
 use Rattle.wasmprinter_reading.proofs.Main.{prints_plain_text}
-use Rattle.wasmprinter.specs.Printed.{Printed, unclaimed, IsUnclaimed}
+use Rattle.wasmprinter_colours.proofs.Texts.{coloured_text_keeps}
+use Rattle.wasmprinter.specs.Printed.{Printed, in_colours, unclaimed, IsUnclaimed}
 use Rattle.wasmprinter.specs.Coloured.{HasColouredTextBy}
 use Rattle.wasmprinter.proofs.Claims.{IsSame}
+use Rattle.wasmprinter.proofs.Paints.{refusal-paints}
 use Rattle.wasmprinter.proofs.Texts.{unclaimed_printed, module_text}
 
 -- ---- cutting text into pieces changes no text in colours
@@ -51,29 +52,32 @@ takes_no_section takes paints s (Line place) t h = tt
 takes_no_section takes paints s (Start style) t h = tt
 takes_no_section takes paints s (Claim name place bytes answer) t h = h.0
 
--- what was printed to a writer of sequences over one that was empty is the module's text in colours
+-- What was printed to a writer of sequences over one that was empty is the module's text in colours.
 pub printed_in_colours : {P T U : Type 0} (writer_of : P → T) (inner_of : T → U) (contents : U → List ℕ) (o : Options) (bytes : List ℕ) (old new : P) →
     contents (inner_of (writer_of old)) ≡ [] →
-    Printed (coloured_meaning writer_of (TakesWhole (λ w. Some (contents (inner_of w)))) (PaintsBySequences inner_of (TakesWhole (λ u. Some (contents u))))) o bytes old new →
+    Printed (coloured_meaning writer_of (TakesWhole (λ w. Some (contents (inner_of w)))) (PaintsBySequences inner_of (TakesWhole (λ u. Some (contents u))))) true o bytes old new →
     HasColouredTextBy o bytes (contents (inner_of (writer_of new)))
 printed_in_colours {P} {T} {U} writer_of inner_of contents o bytes old new empty v =
     let takes : Writing T = TakesWhole (λ w. Some (contents (inner_of w))) in
     let paints : Painting T = PaintsBySequences inner_of (TakesWhole (λ u. Some (contents u))) in
     let m : Meaning P = coloured_meaning writer_of takes paints in
-    let own : IsSame o v.answers v.placed =
-    unclaimed_printed m o (λ s c t h. takes_no_section takes paints (writer_of s) c (writer_of t) h) bytes old new v in
-    let laid : List Call = layout o unclaimed v.placed in
+    let by : Options = in_colours o true in
+    let own : IsSame by v.answers v.placed =
+    unclaimed_printed m true o (λ s c t h. takes_no_section takes paints (writer_of s) c (writer_of t) h) bytes old new v in
+    let laid : List Call = layout by unclaimed v.placed in
     let text : List ℕ = contents (inner_of (writer_of new)) in
     let handed : text ≡ coloured_text v.calls =
     coloured_run writer_of inner_of (λ u. Some (contents u)) old new v.calls v.run ∙ ap (λ t. t ++ coloured_text v.calls) empty in
     let is : text ≡ coloured_text laid = handed ∙ alike_coloured v.calls laid (v.alike ∙ ap atoms own.layout) in
+    let accepted : refusal (in_colours o false) unclaimed v.placed ≡ None = refusal-paints o false true unclaimed v.placed ∙ own.refusal in
     record {
       placed = v.placed;
       spelled = v.spelled;
       within = v.within;
+      foldable = v.foldable;
       accepted = own.refusal;
       is = is;
       bare = λ blank.
-          module_text o bytes v.placed v.spelled v.within own.refusal (uncolour text)
-          (ap uncolour is ∙ colours_keep_text laid (prints_plain_text bytes v.placed o unclaimed v.spelled blank));
+          module_text o bytes v.placed v.spelled v.within v.foldable accepted (uncolour text)
+          (ap uncolour is ∙ coloured_text_keeps prints_plain_text bytes v.placed by unclaimed v.spelled blank);
     }

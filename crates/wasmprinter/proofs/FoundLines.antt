@@ -59,7 +59,7 @@ all_found m lines i j h =
     let same : own ≡ m = one_module h.bytes own m h.given.printed.spelled h.spelled in (
       λ a e.
           let f = bind_some (slice_get own.functions i) (λ f. slice_get f.body.value.operators j) a (ap (λ (x : PlacedModule). operator_at x i j) same ∙ e) in
-          let line = ((h.given.functions h.whole i f.0 f.1).at_operator j a f.2).among_all in
+          let line = ((h.given.functions h.whole h.flat i f.0 f.1).at_operator j a f.2).among_all in
           only_found m lines i j line.0 a e line.1,
       λ e. ap (λ (x : Option (Placed Operator)). x >>= λ o. line_from 0 o.place lines >>= λ k. Some (k, o.place)) e,
     )

@@ -1,3 +1,4 @@
+pub mod Paints
 pub mod Headline
 pub mod Outcomes
 pub mod Texts

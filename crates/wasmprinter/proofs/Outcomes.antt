@@ -1,6 +1,6 @@
 -- What a printing function's end comes to, from what the decoder and the writer of modules promise.
-use Rattle.std.specs.Prelude.{◌≡◌, ℕ, List, ◌∷◌, ◌++◌, true, bytes_eq, Some, Result, Ok, Err, IfErr, IsErrAnd, OnOk, ◌↔◌, refl}
-use Rattle.std.proofs.Common.{sym, ap, ◌∙◌, subst, inl, inr}
+use Rattle.std.specs.Prelude.{◌≡◌, ℕ, List, ◌∷◌, ◌++◌, Bool, true, false, bytes_eq, Some, Result, Ok, Err, IfErr, IsErrAnd, OnOk, ◌↔◌, refl}
+use Rattle.std.proofs.Common.{sym, ap, ◌∙◌, subst, inl, inr, true≢false}
 use Rattle.std.proofs.lemmas.Slice.Eq.{bytes_eq-Decides}
 use Rattle.wasmprinter_spec.specs.Choices.{tested}
 use Rattle.wasmprinter_spec.specs.Binary.{Spells, IsComponent, magic, preamble_bytes}
@@ -11,7 +11,7 @@ use Rattle.wasmprinter_spec.specs.Options.{Options, Answers}
 use Rattle.wasmprinter_spec.specs.Names.{Names}
 use Rattle.wasmprinter_spec.specs.Layout.{module_pieces, layout, refusal}
 use Rattle.wasmprinter_spec.specs.Layout.Customs.{Laid}
-use Rattle.wasmprinter_print.specs.Emits.{Made, Broken, Ending, Through, AtCall, Never}
+use Rattle.wasmprinter_print.specs.Emits.{Made, Broken, Begun, Ending, Through, AtCall, Stopped, Never, at_growth}
 use Rattle.wasmprinter_print.specs.Prints.{Written}
 use Rattle.wasmprinter_print.specs.PrintsLaws.{written}
 use Rattle.wasmprinter_error.specs.declared.error.Error.{Error}
@@ -20,12 +20,16 @@ use Rattle.std.specs.declared.io.Error.{Error as IoError}
 use Rattle.wasmprinter_wasm.specs.Decoding.{IsRefusal}
 use Rattle.wasmprinter_annotations.specs.Parts.{PrintsLaid}
 use Rattle.wasmprinter_sections.specs.Sections.{module_laid}
-use Rattle.wasmprinter.specs.Printed.{Printed}
-use Rattle.wasmprinter.specs.Outcome.{HasCause, HasTextCause, IsTrueOf, IsTrueOfText, AnyIsUnknown, MadeUpTo, Leaves, as_growth}
+use Rattle.wasmprinter_spec.specs.Call.{Call}
+use Rattle.wasmprinter_spec.specs.Folding.Refusals.{IsFoldable}
+use Rattle.wasmprinter_foldable.specs.Refused.{HasFoldReason}
+use Rattle.wasmprinter.specs.Printed.{Printed, in_colours}
+use Rattle.wasmprinter.specs.Outcome.{HasCause, HasTextCause, IsTrueOf, IsTrueOfText, IsLegacyAt, IsMisplacedAt, AnyIsUnknown, MadeUpTo, Leaves, as_growth}
 use Rattle.wasmprinter_spec.specs.Names.Content.{name_of}
 use Rattle.wasmprinter_spec.specs.ModuleNames.{name_entries, module_names}
 use Rattle.wasmprinter_names.specs.Views.{NamedItem, name_at}
 use Rattle.wasmprinter_labels.specs.Scan.{Scan, names_of}
+use Rattle.wasmprinter.proofs.Paints.{calls-paints}
 use Rattle.wasmprinter.proofs.Headline.{printed}
 use Rattle.wasmprinter.proofs.Named.{shown_names, one_module}
 use Rattle.wasmprinter.proofs.Subsections.{refusal_unknown}
@@ -42,30 +46,58 @@ not_component bytes placed s c =
     absurd cc
 
 -- the decoder's refusal has its cause
-pub refusal_cause : {P : Type 0} (m : Meaning P) (bytes : List ℕ) (old : P) (e : Error) → IsRefusal bytes e → HasCause m bytes old old e
-refusal_cause m bytes old (Malformed place) h = λ placed s. h.0 placed s
-refusal_cause m bytes old Component h = λ placed s. not_component bytes placed s h
-refusal_cause m bytes old (TooManyLocals place) h = λ placed s. h.1 placed s
-refusal_cause m bytes old (TooManyFunctions count) h = λ placed s. (h.2 placed s, h.1)
-refusal_cause m bytes old (EmptyTableInit place) h = λ placed s. h.1 placed s
-refusal_cause m bytes old Memory h = λ placed s. h.1 placed s
-refusal_cause m bytes old _ h = absurd h
+pub refusal_cause : {P : Type 0} (m : Meaning P) (o : Options) (bytes : List ℕ) (old : P) (e : Error) → IsRefusal bytes e → HasCause m o bytes old old e
+refusal_cause m o bytes old (Malformed place) h = λ placed s. h.0 placed s
+refusal_cause m o bytes old Component h = λ placed s. not_component bytes placed s h
+refusal_cause m o bytes old (TooManyLocals place) h = λ placed s. h.1 placed s
+refusal_cause m o bytes old (TooManyFunctions count) h = λ placed s. (h.2 placed s, h.1)
+refusal_cause m o bytes old (EmptyTableInit place) h = λ placed s. h.1 placed s
+refusal_cause m o bytes old Memory h = λ placed s. inl (h.1 placed s)
+refusal_cause m o bytes old _ h = absurd h
 
 -- it is true of the bytes
-pub refusal_true : (bytes : List ℕ) (e : Error) → IsRefusal bytes e → IsTrueOf bytes e
-refusal_true bytes (Printer x) h = absurd h
-refusal_true bytes (DylinkSubsection id) h = absurd h
-refusal_true bytes _ h = h
+pub refusal_true : (o : Options) (bytes : List ℕ) (e : Error) → IsRefusal bytes e → IsTrueOf o bytes e
+refusal_true o bytes (Printer x) h = absurd h
+refusal_true o bytes (DylinkSubsection id) h = absurd h
+refusal_true o bytes (FoldLegacy place) h = absurd h
+refusal_true o bytes (FoldHint place) h = absurd h
+refusal_true o bytes Memory h = inl h
+refusal_true o bytes _ h = h
 
 -- and leaves the printer as it was
-pub refusal_left : {P : Type 0} (m : Meaning P) (o : Options) (bytes : List ℕ) (old : P) (e : Error) → IsRefusal bytes e → Leaves m o bytes old old e
-refusal_left m o bytes old (Malformed place) h = refl
-refusal_left m o bytes old Component h = refl
-refusal_left m o bytes old (TooManyLocals place) h = refl
-refusal_left m o bytes old (TooManyFunctions count) h = refl
-refusal_left m o bytes old (EmptyTableInit place) h = refl
-refusal_left m o bytes old Memory h = refl
-refusal_left m o bytes old _ h = absurd h
+pub refusal_left : {P : Type 0} (m : Meaning P) (colours : Bool) (o : Options) (bytes : List ℕ) (old : P) (e : Error) → IsRefusal bytes e → Leaves m colours o bytes old old e
+refusal_left m colours o bytes old (Malformed place) h = refl
+refusal_left m colours o bytes old Component h = refl
+refusal_left m colours o bytes old (TooManyLocals place) h = refl
+refusal_left m colours o bytes old (TooManyFunctions count) h = refl
+refusal_left m colours o bytes old (EmptyTableInit place) h = refl
+refusal_left m colours o bytes old Memory h = inl refl
+refusal_left m colours o bytes old _ h = absurd h
+
+-- ---- what can't be folded
+
+module _ {P : Type 0} (m : Meaning P) (o : Options) (bytes : List ℕ) (placed : PlacedModule) (spelled : Spells bytes placed) (within : IsWithinLimits placed) (folds : o.folds ≡ true) (old : P) where
+  -- such a refusal has its cause
+  pub fold_cause : (e : Error) → HasFoldReason o placed e → HasCause m o bytes old old e
+  fold_cause (FoldLegacy place) h = λ other s. subst (λ (n : PlacedModule). IsLegacyAt o n place) (one_module bytes placed other spelled s) (folds, h)
+  fold_cause (FoldHint place) h = λ other s. subst (λ (n : PlacedModule). IsMisplacedAt o n place) (one_module bytes placed other spelled s) (folds, h)
+  fold_cause _ h = absurd h
+
+  -- it is true of the bytes
+  pub fold_true : (e : Error) → HasFoldReason o placed e → IsTrueOf o bytes e
+  fold_true (FoldLegacy place) h = record { placed = placed; spelled = spelled; within = within; so = (folds, h) }
+  fold_true (FoldHint place) h = record { placed = placed; spelled = spelled; within = within; so = (folds, h) }
+  fold_true _ h = absurd h
+
+  -- and leaves the printer as it was
+  pub fold_left : (colours : Bool) (e : Error) → HasFoldReason o placed e → Leaves m colours o bytes old old e
+  fold_left colours (FoldLegacy place) h = refl
+  fold_left colours (FoldHint place) h = refl
+  fold_left colours _ h = absurd h
+
+-- what isn't folded is foldable
+pub flat_foldable : (o : Options) (m : PlacedModule) → o.folds ≡ false → IsFoldable o m
+flat_foldable o m e = record { legacy = λ h. absurd (true≢false (sym h ∙ e)); hints = λ h. absurd (true≢false (sym h ∙ e)) }
 
 -- what is so of an error is so of a result that hands it on
 pub handed_on : (Q : Error → Type 0) (r : Result (Unit {0}) Error) (e : Error) → IsErrAnd r (λ y. y ≡ e) → Q e → IfErr r Q
@@ -85,66 +117,82 @@ module _ (o : Options) (answers : Answers) (m : PlacedModule) where
       ((t outer index : ℕ) → name_at items t outer index ≡ name_of (name_entries m.customs) t outer index) → module_laid o answers (names_of s) m ≡ own_laid o answers m
   own_layout s items same invents given = by_names (names_of s) (shown_names o m s items same invents given)
 
-module _ {P : Type 0} (m : Meaning P) (o : Options) (bytes : List ℕ) (placed : PlacedModule) (spelled : Spells bytes placed) (within : IsWithinLimits placed) (old new : P) (answers : Answers) where
-  made : (r : Ending) → Written m o old new r (module_pieces o answers placed) → Made m old new r (layout o answers placed)
+module _ {P : Type 0} (m : Meaning P) (colours : Bool) (o : Options) (bytes : List ℕ) (placed : PlacedModule)
+    (spelled : Spells bytes placed) (within : IsWithinLimits placed) (foldable : IsFoldable o placed) (old new : P) (answers : Answers) where
+  abbrev by : Options
+  by = in_colours o colours
+
+  made : (r : Ending) → Written m o old new r (module_pieces by answers placed) → Made m old new r (layout by answers placed)
   unfolding layout
-  made r v = written m v
+  made r v = subst (λ (l : List Call). Made m old new r l) (sym (calls-paints o colours (module_pieces by answers placed))) (written m v)
 
   -- how printing ended
   abbrev Ended : Result (Unit {0}) Error → Type 0
-  Ended r = PrintsLaid m o old new r (own_laid o answers placed)
+  Ended r = PrintsLaid m o old new o.folds r (own_laid by answers placed)
 
   -- written by the names that the module's sections give
   pub own_ended : (r : Result (Unit {0}) Error) (s : Scan) (items : List NamedItem) → s.named ≡ items → s.invents ≡ o.invents →
       ((t outer index : ℕ) → name_at items t outer index ≡ name_of (name_entries placed.customs) t outer index) →
-      PrintsLaid m o old new r (module_laid o answers (names_of s) placed) → Ended r
-  own_ended r s items same invents given v = subst (λ (l : Laid). PrintsLaid m o old new r l) (own_layout o answers placed s items same invents given) v
+      PrintsLaid m o old new o.folds r (module_laid by answers (names_of s) placed) → Ended r
+  own_ended r s items same invents given v = subst (λ (l : Laid). PrintsLaid m o old new o.folds r l) (own_layout by answers placed s items same invents given) v
 
-  never : Written m o old new Never (module_pieces o answers placed) → ⊥
+  never : Written m o old new Never (module_pieces by answers placed) → ⊥
   never v = (made Never v).made
 
-  -- what is so where a call failed, and where a section was refused, is so of every error of printing
-  module _ (Q : Error → Type 0) (failed : (x : IoError) → Broken m old new x (layout o answers placed) → Q (Printer x))
-      (refused : (id : ℕ) → MadeUpTo m o old new id placed answers → Q (DylinkSubsection id)) where
-    each_end : (e : Error) → Ended (Err e) → Q e
-    each_end (Malformed place) v = absurd (never v.written)
-    each_end Component v = absurd (never v.written)
-    each_end (TooManyLocals place) v = absurd (never v.written)
-    each_end (TooManyFunctions count) v = absurd (never v.written)
-    each_end (EmptyTableInit place) v = absurd (never v.written)
-    each_end (FoldLegacy place) v = absurd (never v.written)
-    each_end (FoldHint place) v = absurd (never v.written)
-    each_end (DylinkSubsection id) v = refused id (record { ends = v.refused; made = (made Through v.written).made })
-    each_end Unreadable v = absurd (never v.written)
-    each_end (Printer x) v = failed x (made (AtCall x) v.written).made
-    each_end Memory v = absurd (never v.written)
+  -- What is so where a call failed, where a section was refused, and where a growth was refused, is so of every error of printing. Only what folds can
+  -- want memory.
+  module _ (r : Result (Unit {0}) Error) where
+    with_folds : (Q : Error → Type 0) → ((x : IoError) → Broken m old new x (layout by answers placed) → Q (Printer x)) →
+        ((id : ℕ) → MadeUpTo m old new id by placed answers → Q (DylinkSubsection id)) → (o.folds ≡ true → Begun m old new (layout by answers placed) → Q Memory) →
+        Ended r → IfErr r Q
+    with_folds Q failed refused stopped v = by_result r v
+      where
+        by_growth : (b : Bool) → o.folds ≡ b → Written m o old new (at_growth b) (module_pieces by answers placed) → Q Memory
+        by_growth true k v = stopped k (made Stopped v).made
+        by_growth false k v = absurd (never v)
 
-    if_ended : (r : Result (Unit {0}) Error) → Ended r → IfErr r Q
-    if_ended (Ok x) v = tt
-    if_ended (Err e) v = each_end e v
+        by_error : (e : Error) → Ended (Err e) → Q e
+        by_error Memory v = by_growth o.folds refl v.written
+        by_error (Malformed place) v = absurd (never v.written)
+        by_error Component v = absurd (never v.written)
+        by_error (TooManyLocals place) v = absurd (never v.written)
+        by_error (TooManyFunctions count) v = absurd (never v.written)
+        by_error (EmptyTableInit place) v = absurd (never v.written)
+        by_error (FoldLegacy place) v = absurd (never v.written)
+        by_error (FoldHint place) v = absurd (never v.written)
+        by_error (DylinkSubsection id) v = refused id (record { ends = v.refused; made = (made Through v.written).made })
+        by_error Unreadable v = absurd (never v.written)
+        by_error (Printer x) v = failed x (made (AtCall x) v.written).made
+
+        by_result : (r : Result (Unit {0}) Error) → Ended r → IfErr r Q
+        by_result (Ok x) v = tt
+        by_result (Err e) v = by_error e v
+
+    -- a failed call is the cause, or a section, or want of memory
+    pub ended_caused : Ended r → IfErr r (HasCause m o bytes old new)
+    ended_caused v =
+        with_folds (HasCause m o bytes old new) (λ x b other s. record { calls = b.calls; before = b.before; run = b.run; call = b.call; failed = b.failed })
+        (λ id u other s. subst (λ (n : PlacedModule). AnyIsUnknown id n.customs) (one_module bytes placed other spelled s) (refusal_unknown by answers placed id u.ends))
+        (λ folds b other s. inr folds) v
+
+    -- the refusal is true of the bytes
+    pub ended_true : Ended r → IfErr r (IsTrueOf o bytes)
+    ended_true v =
+        with_folds (IsTrueOf o bytes) (λ x b. record { placed = placed; spelled = spelled; within = within })
+        (λ id u. record { placed = placed; spelled = spelled; within = within; so = refusal_unknown by answers placed id u.ends })
+        (λ folds b. inr (folds, record { placed = placed; spelled = spelled; within = within })) v
+
+    -- and leaves the calls up to it
+    pub ended_left : Ended r → IfErr r (Leaves m colours o bytes old new)
+    ended_left v =
+        with_folds (Leaves m colours o bytes old new) (λ x b. record { placed = placed; spelled = spelled; within = within; foldable = foldable; answers = answers; left = b })
+        (λ id u. record { placed = placed; spelled = spelled; within = within; foldable = foldable; answers = answers; left = u })
+        (λ folds b. inr (folds, record { placed = placed; spelled = spelled; within = within; foldable = foldable; answers = answers; left = b })) v
 
   -- what was written whole is printed
-  pub ended_printed : (r : Result (Unit {0}) Error) → Ended r → OnOk r (Printed m o bytes old new)
-  ended_printed (Ok x) v = printed m o bytes placed answers spelled within v.refused (made Through v.written).made
+  pub ended_printed : (r : Result (Unit {0}) Error) → Ended r → OnOk r (Printed m colours o bytes old new)
+  ended_printed (Ok x) v = printed m colours o bytes placed answers spelled within foldable v.refused (made Through v.written).made
   ended_printed (Err e) v = tt
-
-  -- a failed call is the cause, or a section
-  pub ended_caused : (r : Result (Unit {0}) Error) → Ended r → IfErr r (HasCause m bytes old new)
-  ended_caused r v =
-      if_ended (HasCause m bytes old new) (λ x b other s. record { calls = b.calls; before = b.before; run = b.run; call = b.call; failed = b.failed })
-      (λ id u other s. subst (λ (n : PlacedModule). AnyIsUnknown id n.customs) (one_module bytes placed other spelled s) (refusal_unknown o answers placed id u.ends)) r v
-
-  -- the refusal is true of the bytes
-  pub ended_true : (r : Result (Unit {0}) Error) → Ended r → IfErr r (IsTrueOf bytes)
-  ended_true r v =
-      if_ended (IsTrueOf bytes) (λ x b. record { placed = placed; spelled = spelled; within = within })
-      (λ id u. record { placed = placed; spelled = spelled; within = within; unknown = refusal_unknown o answers placed id u.ends }) r v
-
-  -- and leaves the calls up to it
-  pub ended_left : (r : Result (Unit {0}) Error) → Ended r → IfErr r (Leaves m o bytes old new)
-  ended_left r v =
-      if_ended (Leaves m o bytes old new) (λ x b. record { placed = placed; spelled = spelled; within = within; answers = answers; left = b })
-      (λ id u. record { placed = placed; spelled = spelled; within = within; answers = answers; left = u }) r v
 
   -- it isn't that the bytes are marked as a component
   not_marked : (r : Result (Unit {0}) Error) → Ended r → r ≡ Err Component → ⊥
@@ -153,14 +201,27 @@ module _ {P : Type 0} (m : Meaning P) (o : Options) (bytes : List ℕ) (placed :
   pub ended_unmarked : (r : Result (Unit {0}) Error) → Ended r → (r ≡ Err Component) ↔ IsComponent bytes
   ended_unmarked r v = (λ e. absurd (not_marked r v e), λ c. absurd (not_component bytes placed spelled c))
 
+-- what can't be folded is no component
+pub fold_unmarked : (o : Options) (bytes : List ℕ) (placed : PlacedModule) (r : Result (Unit {0}) Error) (e : Error) → Spells bytes placed → HasFoldReason o placed e →
+    IsErrAnd r (λ y. y ≡ e) → (r ≡ Err Component) ↔ IsComponent bytes
+fold_unmarked o bytes placed r e spelled h f = (λ q. absurd (unmarked r e h f q), λ c. absurd (not_component bytes placed spelled c))
+  where
+    no_reason : (e : Error) → e ≡ Component → HasFoldReason o placed e → ⊥
+    no_reason e q h = subst (HasFoldReason o placed) q h
+
+    unmarked : (r : Result (Unit {0}) Error) (e : Error) → HasFoldReason o placed e → IsErrAnd r (λ y. y ≡ e) → r ≡ Err Component → ⊥
+    unmarked (Ok x) e h f q = absurd f
+    unmarked (Err y) e h f q = let same : y ≡ Component = cc in no_reason e (sym f ∙ same) h
+
 -- where a printer that fails only by growth failed, a growth was refused
-pub growth_cause : {P : Type 0} (m : Meaning P) (bytes : List ℕ) (old new : P) (e : Error) → HasCause m bytes old new e → HasTextCause bytes (as_growth e)
-growth_cause m bytes old new (Printer x) h = λ placed s. tt
-growth_cause m bytes old new Memory h = λ placed s. tt
-growth_cause m bytes old new _ h = h
+pub growth_cause : {P : Type 0} (m : Meaning P) (o : Options) (bytes : List ℕ) (old new : P) (e : Error) → HasCause m o bytes old new e → HasTextCause o bytes (as_growth e)
+growth_cause m o bytes old new (Printer x) h = λ placed s. tt
+growth_cause m o bytes old new Memory h = λ placed s. tt
+growth_cause m o bytes old new _ h = h
 
 -- and the refusal is true of the bytes
-pub growth_true : (bytes : List ℕ) (e : Error) → IsTrueOf bytes e → IsTrueOfText bytes (as_growth e)
-growth_true bytes (Printer x) h = inr h
-growth_true bytes Memory h = inl h
-growth_true bytes _ h = h
+pub growth_true : (o : Options) (bytes : List ℕ) (e : Error) → IsTrueOf o bytes e → IsTrueOfText o bytes (as_growth e)
+growth_true o bytes (Printer x) h = inr h
+growth_true o bytes Memory (inl h) = inl h
+growth_true o bytes Memory (inr h) = inr h.1
+growth_true o bytes _ h = h

@@ -61,7 +61,7 @@ module _ (o : Options) (answers : Answers) (m : PlacedModule) (id : ℕ) where
   customs_if : (place : Option Kind) → IsUnknownIf (parts_at o.skeleton answers place 0 m.customs)
   customs_if place = record { stops = λ h. place_stops o.skeleton answers place id 0 m.customs h }
 
-  section_if : (names : Names) (k : Kind) → IsUnknownIf (section_parts o (first_scope names m) m answers k)
+  section_if : (names : Names) (k : Kind) → IsUnknownIf (section_parts o (first_scope o names m) m answers k)
   section_if names k = record { stops = (customs_if (Some k)).stops }
 
   module_if : (names : Names) → IsUnknownIf (module_parts o answers names m)

@@ -1,9 +1,9 @@
 -- The text that a printer over a writer of text hands over.
-use Rattle.std.specs.Prelude.{◌≡◌, ℕ, List, [], ◌∷◌, ◌++◌, None, Result, Ok, Err, IfOk, refl}
+use Rattle.std.specs.Prelude.{◌≡◌, ℕ, List, [], ◌∷◌, ◌++◌, Bool, false, None, Result, Ok, Err, IfOk, refl}
 use Rattle.std.specs.List.{AllByRecursion}
 use Rattle.wasmprinter_error.specs.declared.error.Error.{Error}
 use Rattle.std.proofs.Common.{sym, ap, subst, ◌∙◌, append_assoc, append-nil, inl}
-use Rattle.wasmprinter_spec.specs.Call.{Call, Text, Newline, Line, Start, Claim, call_text, text_of}
+use Rattle.wasmprinter_spec.specs.Call.{Call, Text, Newline, Line, Start, Claim, atoms, call_text, text_of}
 use Rattle.wasmprinter_spec.specs.Meaning.{Meaning, Run}
 use Rattle.wasmprinter_spec.specs.Options.{Options, defaults, IsBlank}
 use Rattle.wasmprinter_spec.specs.Plain.{IsPlainText}
@@ -11,14 +11,16 @@ use Rattle.wasmprinter_spec.specs.Binary.{Spells}
 use Rattle.wasmprinter_spec.specs.Placed.{PlacedModule}
 use Rattle.wasmprinter_spec.specs.Limits.{IsWithinLimits}
 use Rattle.wasmprinter_spec.specs.Layout.{layout, refusal}
+use Rattle.wasmprinter_spec.specs.Folding.Refusals.{IsFoldable}
 use Rattle.wasmprinter_print.specs.Writers.{FmtAfter}
 use Rattle.wasmprinter_lexical.proofs.Alike.{alike_texts}
 use Rattle.wasmprinter_reading.proofs.Main.{reads_back, prints_plain_text}
 use Rattle.wasmprinter_spec.specs.Read.{read}
 use Rattle.wasmprinter_reading.proofs.Hints.Kept.{hints_stay}
 use Rattle.wasmprinter_spec.specs.Text.Hints.{text_hints}
-use Rattle.wasmprinter.specs.Printed.{Printed, HasTextBy, HasText, unclaimed, IsUnclaimed}
+use Rattle.wasmprinter.specs.Printed.{Printed, HasTextBy, HasText, in_colours, unclaimed, IsUnclaimed}
 use Rattle.wasmprinter.proofs.Claims.{IsSame, alike_unclaimed, unclaimed_layout}
+use Rattle.wasmprinter.proofs.Headline.{foldable_in}
 
 -- a view that each call extends by its text is extended by the text of a run
 run_text : {P : Type 0} (m : Meaning P) (view : P → List ℕ) → ((s : P) (c : Call) (t : P) → m.after s c t → view t ≡ view s ++ call_text c) →
@@ -50,32 +52,51 @@ claims_never gives s (Start style) t h = tt
 claims_never gives s (Claim name place bytes answer) t h = h.0
 
 -- what was printed to a printer that claims nothing is the layout of which nothing is claimed
-pub unclaimed_printed : {P : Type 0} (m : Meaning P) (o : Options) → ((s : P) (c : Call) (t : P) → m.after s c t → IsUnclaimed c) → (bytes : List ℕ) (old new : P) →
-    (v : Printed m o bytes old new) → IsSame o v.answers v.placed
-unclaimed_printed m o never bytes old new v =
-    unclaimed_layout o v.answers v.placed v.accepted (alike_unclaimed v.calls (layout o v.answers v.placed) v.alike (none_claimed m never old new v.calls v.run))
+pub unclaimed_printed : {P : Type 0} (m : Meaning P) (colours : Bool) (o : Options) → ((s : P) (c : Call) (t : P) → m.after s c t → IsUnclaimed c) →
+    (bytes : List ℕ) (old new : P) → (v : Printed m colours o bytes old new) → IsSame (in_colours o colours) v.answers v.placed
+unclaimed_printed m colours o never bytes old new v =
+    unclaimed_layout (in_colours o colours) v.answers v.placed v.accepted
+    (alike_unclaimed v.calls (layout (in_colours o colours) v.answers v.placed) v.alike (none_claimed m never old new v.calls v.run))
+
+-- what was printed is, without colours, the layout of which nothing is claimed
+pub record IsPlainly (o : Options) (calls : List Call) (placed : PlacedModule) : Type 0 where
+  pub accepted : refusal (in_colours o false) unclaimed placed ≡ None
+  pub alike : atoms calls ≡ atoms (layout (in_colours o false) unclaimed placed)
+
+-- what was printed to a printer that claims nothing and can't write colours
+pub plainly_printed : {P : Type 0} (m : Meaning P) (o : Options) → ((s : P) (c : Call) (t : P) → m.after s c t → IsUnclaimed c) → (bytes : List ℕ) (old new : P) →
+    (v : Printed m false o bytes old new) → IsPlainly o v.calls v.placed
+plainly_printed m o never bytes old new v =
+    let own : IsSame (in_colours o false) v.answers v.placed = unclaimed_printed m false o never bytes old new v in
+    record { accepted = own.refusal; alike = v.alike ∙ ap atoms own.layout }
 
 -- the text of the layout of which nothing is claimed is that of the module
-abbrev pub module_text : (o : Options) (bytes : List ℕ) (placed : PlacedModule) → Spells bytes placed → IsWithinLimits placed → refusal o unclaimed placed ≡ None →
-    (text : List ℕ) → text ≡ text_of (layout o unclaimed placed) → HasTextBy o bytes text
-module_text o bytes placed spelled within accepted text is = record {
-  placed = placed;
-  spelled = spelled;
-  within = within;
-  accepted = accepted;
-  is = is;
-  plain = λ blank. subst IsPlainText (sym is) (prints_plain_text bytes placed o unclaimed spelled blank);
-  reads = λ indexed whole blank. ap read is ∙ reads_back bytes placed o unclaimed spelled indexed within.tables whole blank (λ n. refl) accepted;
-  hints = λ hs whole blank given. ap text_hints is ∙ hints_stay bytes placed o unclaimed hs spelled whole blank accepted given;
-}
+abbrev pub module_text : (o : Options) (bytes : List ℕ) (placed : PlacedModule) → Spells bytes placed → IsWithinLimits placed → IsFoldable o placed →
+    refusal (in_colours o false) unclaimed placed ≡ None → (text : List ℕ) → text ≡ text_of (layout (in_colours o false) unclaimed placed) → HasTextBy o bytes text
+module_text o bytes placed spelled within foldable accepted text is =
+    let by : Options = in_colours o false in
+    let can_fold : IsFoldable by placed = foldable_in o false placed foldable in
+    record {
+      placed = placed;
+      spelled = spelled;
+      within = within;
+      foldable = foldable;
+      accepted = accepted;
+      is = is;
+      plain = λ blank. subst IsPlainText (sym is) (prints_plain_text bytes placed by unclaimed spelled refl blank);
+      reads = λ indexed whole blank.
+          ap read is ∙ reads_back bytes placed by unclaimed spelled indexed within.tables whole refl blank (λ n. refl) can_fold accepted;
+      hints = λ hs whole blank given. ap text_hints is ∙ hints_stay bytes placed by unclaimed hs spelled whole refl blank can_fold accepted given;
+    }
 
 -- what was printed to a writer that was empty is its text
 pub printed_text : {P : Type 0} (m : Meaning P) (o : Options) (view : P → List ℕ) → ((s : P) (c : Call) (t : P) → m.after s c t → view t ≡ view s ++ call_text c) →
-    ((s : P) (c : Call) (t : P) → m.after s c t → IsUnclaimed c) → (bytes : List ℕ) (old new : P) → view old ≡ [] → Printed m o bytes old new → HasTextBy o bytes (view new)
+    ((s : P) (c : Call) (t : P) → m.after s c t → IsUnclaimed c) → (bytes : List ℕ) (old new : P) → view old ≡ [] → Printed m false o bytes old new → HasTextBy o bytes (view new)
 printed_text m o view grows never bytes old new empty v =
     let handed : view new ≡ text_of v.calls = run_text m view grows old new v.calls v.run ∙ ap (λ t. t ++ text_of v.calls) empty in
-    let own : IsSame o v.answers v.placed = unclaimed_printed m o never bytes old new v in
-    module_text o bytes v.placed v.spelled v.within own.refusal (view new) (handed ∙ alike_texts v.calls (layout o v.answers v.placed) v.alike ∙ ap text_of own.layout)
+    let own : IsPlainly o v.calls v.placed = plainly_printed m o never bytes old new v in
+    module_text o bytes v.placed v.spelled v.within v.foldable own.accepted (view new)
+    (handed ∙ alike_texts v.calls (layout (in_colours o false) unclaimed v.placed) own.alike)
 
 two_blanks : IsBlank defaults.indent
 two_blanks = (inl refl, (inl refl, tt))

@@ -1,9 +1,9 @@
 -- The text and the lines that a tracking printer keeps.
 use Rattle.std.specs.Prelude.{◌≡◌, ℕ, List, [], ◌++◌, false, Result, Ok, Err, MatchResult, IsErrAnd, IfOk, IfErr, OnOk, OnErr}
-use Rattle.std.proofs.Common.{sym, ap, ◌∙◌, subst, append-nil, inr}
+use Rattle.std.proofs.Common.{sym, ap, ◌∙◌, subst, append-nil, inl, inr}
 use Rattle.wasmprinter_error.specs.declared.error.Error.{Error}
-use Rattle.wasmprinter_error.specs.declared.error.Error.TheVariants.{Malformed, Component, TooManyLocals, TooManyFunctions, EmptyTableInit, DylinkSubsection, Printer, Memory}
-use Rattle.wasmprinter_spec.specs.Call.{Call, Text, Newline, Line, Start, Claim, atoms, text_of}
+use Rattle.wasmprinter_error.specs.declared.error.Error.TheVariants.{Malformed, Component, TooManyLocals, TooManyFunctions, EmptyTableInit, FoldLegacy, FoldHint, DylinkSubsection, Printer, Memory}
+use Rattle.wasmprinter_spec.specs.Call.{Call, Text, Newline, Line, Start, Claim, text_of}
 use Rattle.wasmprinter_spec.specs.Options.{Options}
 use Rattle.wasmprinter_spec.specs.Layout.{layout}
 use Rattle.wasmprinter_spec.specs.Lines.{TextLine, lines_of, joined_lines, line_places, hint_places, HasFunctionLines}
@@ -16,11 +16,10 @@ use Rattle.wasmprinter_tracker.proofs.LineLaws.{alike_lines}
 use Rattle.wasmprinter_tracker.proofs.Runs.{run_tracks, run_keeps, broken_keeps}
 use Rattle.wasmprinter_places.proofs.Starts.{lines_join}
 use Rattle.wasmprinter_places.proofs.FunctionLines.{function_lines}
-use Rattle.wasmprinter.specs.Printed.{Printed, unclaimed, IsUnclaimed}
-use Rattle.wasmprinter.specs.Outcome.{Leaves, IsTrueOfText}
+use Rattle.wasmprinter.specs.Printed.{Printed, in_colours, unclaimed, IsUnclaimed}
+use Rattle.wasmprinter.specs.Outcome.{Leaves, LeavesBeginning, IsTrueOfText}
 use Rattle.wasmprinter.specs.Lined.{HasLinesBy}
-use Rattle.wasmprinter.proofs.Claims.{IsSame}
-use Rattle.wasmprinter.proofs.Texts.{unclaimed_printed, module_text}
+use Rattle.wasmprinter.proofs.Texts.{IsPlainly, plainly_printed, module_text}
 
 -- it takes no custom section
 claims_never : (s : Tracked) (c : Call) (t : Tracked) → tracked_meaning.after s c t → IsUnclaimed c
@@ -31,40 +30,47 @@ claims_never s (Start style) t h = tt
 claims_never s (Claim name place bytes answer) t h = h.1
 
 -- what was printed whole, with no line lost
-pub printed_lines : (o : Options) (bytes base : List ℕ) (t : Tracked) → t.lost ≡ false → Printed tracked_meaning o bytes (without_lines base) t →
+pub printed_lines : (o : Options) (bytes base : List ℕ) (t : Tracked) → t.lost ≡ false → Printed tracked_meaning false o bytes (without_lines base) t →
     HasLinesBy o bytes base t.text t.lines
 printed_lines o bytes base t kept v =
-    let own : IsSame o v.answers v.placed = unclaimed_printed tracked_meaning o claims_never bytes (without_lines base) t v in
-    let laid : List Call = layout o unclaimed v.placed in
+    let by : Options = in_colours o false in
+    let own : IsPlainly o v.calls v.placed = plainly_printed tracked_meaning o claims_never bytes (without_lines base) t v in
+    let laid : List Call = layout by unclaimed v.placed in
     let tracks : Tracks base v.calls t = run_tracks base v.calls t v.run in
-    let alike : atoms v.calls ≡ atoms laid = v.alike ∙ ap atoms own.layout in
-    let same : text_of v.calls ≡ text_of laid = alike_texts v.calls laid alike in
-    let are : t.lines ≡ lines_of laid = tracks.lines kept ∙ alike_lines v.calls laid alike in
+    let same : text_of v.calls ≡ text_of laid = alike_texts v.calls laid own.alike in
+    let are : t.lines ≡ lines_of laid = tracks.lines kept ∙ alike_lines v.calls laid own.alike in
     record {
       text = text_of v.calls;
-      printed = module_text o bytes v.placed v.spelled v.within own.refusal (text_of v.calls) same;
+      printed = module_text o bytes v.placed v.spelled v.within v.foldable own.accepted (text_of v.calls) same;
       appended = tracks.text;
       are = are;
-      joined = ap joined_lines are ∙ lines_join o unclaimed v.placed ∙ sym same;
-      functions = λ whole i f e.
+      joined = ap joined_lines are ∙ lines_join by unclaimed v.placed ∙ sym same;
+      functions = λ whole flat i f e.
           subst (λ (ls : List TextLine). HasFunctionLines (hint_places v.placed) (line_places ls) f) (sym are)
-          (function_lines bytes v.placed o unclaimed v.spelled whole own.refusal i f e);
+          (function_lines bytes v.placed by unclaimed v.spelled whole flat own.accepted i f e);
     }
 
 -- what was never touched begins with itself
 untouched : (old new : Tracked) → new ≡ old → BeginsWith old.text new.text
 untouched old new e = ([], ap (λ (t : Tracked). t.text) e ∙ sym (append-nil old.text))
 
+-- no more does what was begun
+begun_keeps : (o : Options) (bytes : List ℕ) (old new : Tracked) → LeavesBeginning tracked_meaning false o bytes old new → BeginsWith old.text new.text
+begun_keeps o bytes old new (inl e) = untouched old new e
+begun_keeps o bytes old new (inr h) = run_keeps old h.1.left.calls new h.1.left.run
+
 -- a refusal leaves the old text in front
-pub refusal_keeps : (o : Options) (bytes : List ℕ) (old new : Tracked) (e : Error) → Leaves tracked_meaning o bytes old new e → BeginsWith old.text new.text
+pub refusal_keeps : (o : Options) (bytes : List ℕ) (old new : Tracked) (e : Error) → Leaves tracked_meaning false o bytes old new e → BeginsWith old.text new.text
 refusal_keeps o bytes old new (Malformed place) h = untouched old new h
 refusal_keeps o bytes old new Component h = untouched old new h
 refusal_keeps o bytes old new (TooManyLocals place) h = untouched old new h
 refusal_keeps o bytes old new (TooManyFunctions count) h = untouched old new h
 refusal_keeps o bytes old new (EmptyTableInit place) h = untouched old new h
+refusal_keeps o bytes old new (FoldLegacy place) h = untouched old new h
+refusal_keeps o bytes old new (FoldHint place) h = untouched old new h
 refusal_keeps o bytes old new (DylinkSubsection id) h = run_keeps old h.left.made.calls new h.left.made.run
-refusal_keeps o bytes old new (Printer x) h = broken_keeps old new x (layout o h.answers h.placed) h.left
-refusal_keeps o bytes old new Memory h = untouched old new h
+refusal_keeps o bytes old new (Printer x) h = broken_keeps old new x (layout (in_colours o false) h.answers h.placed) h.left
+refusal_keeps o bytes old new Memory h = begun_keeps o bytes old new h
 refusal_keeps o bytes old new _ h = absurd h
 
 -- ---- what `finish` gives is handed on, and its error as want of memory
@@ -92,18 +98,18 @@ module _ (o : Options) (bytes base text : List ℕ) (old t : Tracked) (is_old : 
   pub in_front : BeginsWith old.text t.text → BeginsWith base text
   in_front h = (h.0, is_text ∙ h.1 ∙ ap (λ (s : Tracked). s.text ++ h.0) is_old)
 
-  pub printed_behind : Printed tracked_meaning o bytes old t → BeginsWith base text
+  pub printed_behind : Printed tracked_meaning false o bytes old t → BeginsWith base text
   printed_behind v = in_front (run_keeps old v.calls t v.run)
 
   -- want of memory for a line is true of bytes that were printed
-  pub printable : Printed tracked_meaning o bytes old t → IsTrueOfText bytes Memory
+  pub printable : Printed tracked_meaning false o bytes old t → IsTrueOfText o bytes Memory
   printable v = inr (record { placed = v.placed; spelled = v.spelled; within = v.within })
 
   -- the lines that begin at these places are the module's
-  pub finished_lines : {T A : Type 0} (starts_of : T → List LineStart) (x : Result T A) → Printed tracked_meaning o bytes old t →
+  pub finished_lines : {T A : Type 0} (starts_of : T → List LineStart) (x : Result T A) → Printed tracked_meaning false o bytes old t →
       OnOk x (t.lost ≡ false) → IfOk x (λ starts. cut (starts_of starts) t.text ≡ t.lines) → IfOk x (λ starts. HasLinesBy o bytes base text (cut (starts_of starts) text))
   finished_lines starts_of (Ok starts) v kept lines =
-      let whole : HasLinesBy o bytes base t.text t.lines = printed_lines o bytes base t kept (subst (λ (s : Tracked). Printed tracked_meaning o bytes s t) is_old v) in
+      let whole : HasLinesBy o bytes base t.text t.lines = printed_lines o bytes base t kept (subst (λ (s : Tracked). Printed tracked_meaning false o bytes s t) is_old v) in
       subst (λ (x : List ℕ). HasLinesBy o bytes base x (cut (starts_of starts) x)) (sym is_text)
       (subst (λ (ls : List TextLine). HasLinesBy o bytes base t.text ls) (sym lines) whole)
   finished_lines starts_of (Err e) v kept lines = tt

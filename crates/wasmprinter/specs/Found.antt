@@ -23,12 +23,13 @@ NamesItsLine m lines function operator result =
     (number place : ℕ) → result ≡ Some (number, place) →
     (o : Placed Operator) × (operator_at m function operator ≡ Some o) × (place ≡ o.place) × (slice_get (line_places lines) number ≡ Some (Some place))
 
--- the lines are all that were given of bytes that spell the module, with its bodies
+-- the lines are all that were given of bytes that spell the module, with its bodies, which aren't folded
 pub record AreLinesOf (m : PlacedModule) (lines : List TextLine) : Type 0 where
   pub bytes : List ℕ
   pub spelled : Spells bytes m
   pub options : Options
   pub whole : options.skeleton ≡ false
+  pub flat : options.folds ≡ false
   pub old : List ℕ
   pub storage : List ℕ
   pub given : HasLinesBy options bytes old storage lines

@@ -1,5 +1,6 @@
 -- Why printing is refused, and what a refusal leaves of the printer, with a line for each error.
-use Rattle.std.specs.Prelude.{◌≡◌, ◌<◌, ◌⊎◌, List, [], ◌∷◌, ℕ, length, Some}
+use Rattle.std.specs.Prelude.{◌≡◌, ◌<◌, ◌⊎◌, List, [], ◌∷◌, ℕ, Bool, true, length, Some}
+use Rattle.std.specs.List.{Contains}
 use Rattle.std.specs.declared.io.Error.{Error as IoError}
 use Rattle.wasmprinter_spec.specs.Binary.{Spells, IsComponent}
 use Rattle.wasmprinter_spec.specs.Placed.{CustomEntry, PlacedModule}
@@ -9,33 +10,59 @@ use Rattle.wasmprinter_spec.specs.Call.{Call}
 use Rattle.wasmprinter_spec.specs.Meaning.{Meaning, Run, Failed}
 use Rattle.wasmprinter_spec.specs.Options.{Options, Answers}
 use Rattle.wasmprinter_spec.specs.Layout.{layout, refusal}
-use Rattle.wasmprinter_print.specs.Emits.{Whole, Broken}
+use Rattle.wasmprinter_spec.specs.Folding.Refusals.{legacy_places, misplaced_hints, IsFoldable}
+use Rattle.wasmprinter_print.specs.Emits.{Whole, Broken, Begun}
 use Rattle.wasmprinter_error.specs.Reasons.{Reasons}
 use Rattle.wasmprinter_error.specs.declared.error.Error.{Error}
 use Rattle.wasmprinter_error.specs.declared.error.Error.TheVariants.{Malformed, Component, TooManyLocals, TooManyFunctions, EmptyTableInit, FoldLegacy, FoldHint, DylinkSubsection, Unreadable, Printer, Memory}
 use Rattle.wasmprinter_wasm.specs.Modules.{bodies_of}
+use Rattle.wasmprinter.specs.Printed.{in_colours}
 use Rattle.wasmprinter_entries.specs.Refusals.{AnyIsOver, FirstIsEmpty}
 use Rattle.wasmprinter_wasm.specs.Decoding.{HoldsSome, module_reasons}
-
--- The reason for an error of printing: a call on the printer failed, and this is so of the printer's error; a `dylink.0` section is refused, and
--- this is so of the subsection's id; or one for which decoding may be refused.
-abbrev pub HasPrintReason : (IoError → Type 0) → (ℕ → Type 0) → Reasons → Error → Type 0
-HasPrintReason failed unknown reasons (Malformed place) = reasons.malformed place
-HasPrintReason failed unknown reasons Component = reasons.component
-HasPrintReason failed unknown reasons (TooManyLocals place) = reasons.locals place
-HasPrintReason failed unknown reasons (TooManyFunctions count) = reasons.functions count
-HasPrintReason failed unknown reasons (EmptyTableInit place) = reasons.tables place
-HasPrintReason failed unknown reasons (FoldLegacy place) = ⊥
-HasPrintReason failed unknown reasons (FoldHint place) = ⊥
-HasPrintReason failed unknown reasons (DylinkSubsection id) = unknown id
-HasPrintReason failed unknown reasons Unreadable = ⊥
-HasPrintReason failed unknown reasons (Printer e) = failed e
-HasPrintReason failed unknown reasons Memory = reasons.memory
 
 -- One of these is a `dylink.0` section in which a subsection with this id stands whole before any fault, and it is the first that isn't known.
 abbrev pub AnyIsUnknown : ℕ → List CustomEntry → Type 0
 AnyIsUnknown id [] = ⊥
 AnyIsUnknown id (c ∷ cs) = (role_of c.section.value ≡ Refused id) ⊎ AnyIsUnknown id cs
+
+-- The reasons for the errors of printing, beside those for which decoding may be refused: a call on the printer failed with this error; a `dylink.0`
+-- section is refused for a subsection with this id; at this place stands an operator of the older `try`, which can't be folded, or a branch hint.
+pub record PrintReasons : Type 1 where
+  pub failed : IoError → Type 0
+  pub unknown : ℕ → Type 0
+  pub legacy : ℕ → Type 0
+  pub hint : ℕ → Type 0
+
+-- the reason for an error of printing
+abbrev pub HasPrintReason : PrintReasons → Reasons → Error → Type 0
+HasPrintReason printing reasons (Malformed place) = reasons.malformed place
+HasPrintReason printing reasons Component = reasons.component
+HasPrintReason printing reasons (TooManyLocals place) = reasons.locals place
+HasPrintReason printing reasons (TooManyFunctions count) = reasons.functions count
+HasPrintReason printing reasons (EmptyTableInit place) = reasons.tables place
+HasPrintReason printing reasons (FoldLegacy place) = printing.legacy place
+HasPrintReason printing reasons (FoldHint place) = printing.hint place
+HasPrintReason printing reasons (DylinkSubsection id) = printing.unknown id
+HasPrintReason printing reasons Unreadable = ⊥
+HasPrintReason printing reasons (Printer e) = printing.failed e
+HasPrintReason printing reasons Memory = reasons.memory
+
+-- operators are folded, and at this place of a list that is printed stands one of the older `try`
+abbrev pub IsLegacyAt : Options → PlacedModule → ℕ → Type 0
+IsLegacyAt o m place = (o.folds ≡ true) × Contains (legacy_places o m) place
+
+-- operators are folded, and at this place of the bytes a hint is on an operator of a printed body that can't have one
+abbrev pub IsMisplacedAt : Options → PlacedModule → ℕ → Type 0
+IsMisplacedAt o m place = (o.folds ≡ true) × Contains (misplaced_hints o m) place
+
+-- those of a module by these options, where this is so of a failed call
+abbrev pub print_reasons : Options → PlacedModule → (IoError → Type 0) → PrintReasons
+print_reasons o m failed = record {
+  failed = failed;
+  unknown = λ id. AnyIsUnknown id m.customs;
+  legacy = IsLegacyAt o m;
+  hint = IsMisplacedAt o m;
+}
 
 -- After some list of calls one failed with this error, which it may in that state, and a count of faults below its greatest value rose by
 -- one.
@@ -58,15 +85,20 @@ causes growth placed = record {
   memory = growth;
 }
 
+-- something is kept in memory while the module is printed
+abbrev pub MayGrow : Options → PlacedModule → Type 0
+MayGrow o m = HoldsSome m ⊎ (o.folds ≡ true)
+
 -- The error is answered for a cause, if bytes spell a module at all: such a one, where growths are refused only for a module that holds
--- something; a `dylink.0` section has the subsection that is refused; or a call on the printer failed with the error that is answered.
-abbrev pub HasCause : {P : Type 0} → Meaning P → List ℕ → P → P → Error → Type 0
-HasCause m bytes old new e =
-    (placed : PlacedModule) → Spells bytes placed → HasPrintReason (PrinterFailed m old new) (λ id. AnyIsUnknown id placed.customs) (causes (HoldsSome placed) placed) e
+-- something, or where operators are folded; a `dylink.0` section has the subsection that is refused; something can't be folded; or a call on the printer failed with the error that
+-- is answered.
+abbrev pub HasCause : {P : Type 0} → Meaning P → Options → List ℕ → P → P → Error → Type 0
+HasCause m o bytes old new e =
+    (placed : PlacedModule) → Spells bytes placed → HasPrintReason (print_reasons o placed (PrinterFailed m old new)) (causes (MayGrow o placed) placed) e
 
 -- The same where the text is made in memory: a growth may be refused for any module, and no printer fails.
-abbrev pub HasTextCause : List ℕ → Error → Type 0
-HasTextCause bytes e = (placed : PlacedModule) → Spells bytes placed → HasPrintReason (λ x. ⊥) (λ id. AnyIsUnknown id placed.customs) (causes (Unit {0}) placed) e
+abbrev pub HasTextCause : Options → List ℕ → Error → Type 0
+HasTextCause o bytes e = (placed : PlacedModule) → Spells bytes placed → HasPrintReason (print_reasons o placed (λ x. ⊥)) (causes (Unit {0}) placed) e
 
 -- an error as a printer gives it that fails only where it can't grow
 abbrev pub as_growth : Error → Error
@@ -79,35 +111,50 @@ pub record ArePrintable (bytes : List ℕ) : Type 0 where
   pub spelled : Spells bytes placed
   pub within : IsWithinLimits placed
 
--- the same of one with a `dylink.0` section in which this is the first subsection that isn't known
-pub record HaveUnknown (bytes : List ℕ) (id : ℕ) : Type 0 where
+-- the same of one of which this is so
+pub record HaveSome (bytes : List ℕ) (So : PlacedModule → Type 0) : Type 0 where
   pub placed : PlacedModule
   pub spelled : Spells bytes placed
   pub within : IsWithinLimits placed
-  pub unknown : AnyIsUnknown id placed.customs
+  pub so : So placed
 
--- Of any bytes: the decoder's refusal is true; the printer's, and that of a `dylink.0` section, come only where a module within the limits is
--- spelled, of a section only where it has one.
-abbrev pub IsTrueOf : List ℕ → Error → Type 0
-IsTrueOf bytes e = HasPrintReason (λ x. ArePrintable bytes) (HaveUnknown bytes) (module_reasons bytes (IsComponent bytes)) e
+-- those of bytes, where this is so of a failed call
+abbrev pub bytes_reasons : Options → List ℕ → (IoError → Type 0) → PrintReasons
+bytes_reasons o bytes failed = record {
+  failed = failed;
+  unknown = λ id. HaveSome bytes (λ m. AnyIsUnknown id m.customs);
+  legacy = λ place. HaveSome bytes (λ m. IsLegacyAt o m place);
+  hint = λ place. HaveSome bytes (λ m. IsMisplacedAt o m place);
+}
+
+-- A growth is refused to the decoder, or where operators are folded and a module within the limits is spelled.
+abbrev pub folding_reasons : Options → List ℕ → Reasons → Reasons
+folding_reasons o bytes decoding = record decoding { memory = decoding.memory ⊎ ((o.folds ≡ true) × ArePrintable bytes) }
+
+-- Of any bytes: the decoder's refusal is true; the printer's, that of a `dylink.0` section, and of what can't be folded, come only where a module
+-- within the limits is spelled, of a section only where it has one, of what can't be folded only where it stands there.
+abbrev pub IsTrueOf : Options → List ℕ → Error → Type 0
+IsTrueOf o bytes e = HasPrintReason (bytes_reasons o bytes (λ x. ArePrintable bytes)) (folding_reasons o bytes (module_reasons bytes (IsComponent bytes))) e
 
 -- The same where the text is made in memory: a growth is refused to the decoder, or where a module within the limits is spelled.
 abbrev pub text_reasons : List ℕ → Reasons → Reasons
 text_reasons bytes decoding = record decoding { memory = decoding.memory ⊎ ArePrintable bytes }
 
-abbrev pub IsTrueOfText : List ℕ → Error → Type 0
-IsTrueOfText bytes e = HasPrintReason (λ x. ⊥) (HaveUnknown bytes) (text_reasons bytes (module_reasons bytes (IsComponent bytes))) e
+abbrev pub IsTrueOfText : Options → List ℕ → Error → Type 0
+IsTrueOfText o bytes e = HasPrintReason (bytes_reasons o bytes (λ x. ⊥)) (text_reasons bytes (module_reasons bytes (IsComponent bytes))) e
 
--- A module within the limits, which the bytes spell, was being printed, and this is so of it with the answers to its claims.
-pub record WhilePrinting (bytes : List ℕ) (Left : PlacedModule → Answers → Type 0) : Type 0 where
+-- A module within the limits, which the bytes spell and which can be folded, if it is, was being printed, and this is so of it with the answers to its
+-- claims.
+pub record WhilePrinting (o : Options) (bytes : List ℕ) (Left : PlacedModule → Answers → Type 0) : Type 0 where
   pub placed : PlacedModule
   pub spelled : Spells bytes placed
   pub within : IsWithinLimits placed
+  pub foldable : IsFoldable o placed
   pub answers : Answers
   pub left : Left placed answers
 
 -- the calls of a layout that ends at this refusal were made
-pub record MadeUpTo {P : Type 0} (m : Meaning P) (o : Options) (old new : P) (id : ℕ) (placed : PlacedModule) (answers : Answers) : Type 0 where
+pub record MadeUpTo {P : Type 0} (m : Meaning P) (old new : P) (id : ℕ) (o : Options) (placed : PlacedModule) (answers : Answers) : Type 0 where
   pub ends : refusal o answers placed ≡ Some id
   pub made : Whole m old new (layout o answers placed)
 
@@ -122,10 +169,23 @@ each_reason so = record {
   memory = so;
 }
 
+-- no call was made, or operators are folded, and the calls made are a beginning of the layout, up to cutting
+abbrev pub LeavesBeginning : {P : Type 0} → Meaning P → Bool → Options → List ℕ → P → P → Type 0
+LeavesBeginning m colours o bytes old new =
+    (new ≡ old) ⊎ ((o.folds ≡ true) × WhilePrinting o bytes (λ placed answers. Begun m old new (layout (in_colours o colours) answers placed)))
+
 -- What a refusal leaves. Where a call on the printer failed, a module was being printed: the calls before it, followed by it, are a
--- beginning of the layout, up to cutting. Where a `dylink.0` section was refused, the calls are those of the layout up to it. After any other
--- refusal no call was made.
-abbrev pub Leaves : {P : Type 0} → Meaning P → Options → List ℕ → P → P → Error → Type 0
-Leaves m o bytes old new e =
-    HasPrintReason (λ x. WhilePrinting bytes (λ placed answers. Broken m old new x (layout o answers placed)))
-    (λ id. WhilePrinting bytes (MadeUpTo m o old new id)) (each_reason (new ≡ old)) e
+-- beginning of the layout, up to cutting, which has sequences of colours in the texts of folded operators exactly where the printer can write them.
+-- Where a `dylink.0` section was refused, the calls are those of the layout up to it. Where a growth was refused to what folds, the calls made are a
+-- beginning of the layout. After any other refusal no call was made.
+abbrev pub Leaves : {P : Type 0} → Meaning P → Bool → Options → List ℕ → P → P → Error → Type 0
+Leaves m colours o bytes old new e =
+    HasPrintReason
+    (record {
+      failed = λ x. WhilePrinting o bytes (λ placed answers. Broken m old new x (layout (in_colours o colours) answers placed));
+      unknown = λ id. WhilePrinting o bytes (MadeUpTo m old new id (in_colours o colours));
+      legacy = λ place. new ≡ old;
+      hint = λ place. new ≡ old;
+    })
+    (record (each_reason (new ≡ old)) { memory = LeavesBeginning m colours o bytes old new })
+    e

@@ -18,8 +18,8 @@ impl Config {
     /// As [`Config::print_to_string`].
     pub fn print_to_ansi(&self, alloc: Global, wasm: &[u8]) -> Result<Vec<u8>, Error>
         ensures printed { IfOk result (λ text. HasColouredTextBy self.now wasm.now text.items) }
-        ensures caused { IfErr result (HasTextCause wasm.now) }
-        ensures refused { IfErr result (IsTrueOfText wasm.now) }
+        ensures caused { IfErr result (HasTextCause self.now wasm.now) }
+        ensures refused { IfErr result (IsTrueOfText self.now wasm.now) }
         ensures component { IsErrOf result Error.Component ↔ IsComponent wasm.now }
     {
         let mut printer = PrintTermcolor(Ansi::new(Vec::new(alloc)));

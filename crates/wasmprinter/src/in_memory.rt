@@ -1,6 +1,7 @@
 //! The text of a module as a string.
 ghost use Rattle.std.specs.Prelude.{◌≡◌, ◌↔◌, IfOk, IfErr, IsErrOf, string_bytes};
 ghost use Rattle.wasmprinter_spec.specs.Binary.{IsComponent};
+ghost use Rattle.wasmprinter_spec.specs.Options.{defaults};
 ghost use Rattle.wasmprinter.specs.Printed.{HasText};
 ghost use Rattle.wasmprinter.specs.Outcome.{as_growth, HasTextCause, IsTrueOfText};
 
@@ -25,8 +26,8 @@ pub(crate) fn without_printer(error: Error) -> Error
 /// As `Config::print_to_string`.
 pub fn print_bytes(alloc: Global, wasm: &[u8]) -> Result<String, Error>
     ensures printed { IfOk result (λ text. HasText wasm.now (string_bytes text)) }
-    ensures caused { IfErr result (HasTextCause wasm.now) }
-    ensures refused { IfErr result (IsTrueOfText wasm.now) }
+    ensures caused { IfErr result (HasTextCause defaults wasm.now) }
+    ensures refused { IfErr result (IsTrueOfText defaults wasm.now) }
     ensures component { IsErrOf result Error.Component ↔ IsComponent wasm.now }
 {
     Config::new().print_to_string(alloc, wasm)

@@ -24,8 +24,8 @@ impl Config {
         ensures lines { IfOk result (λ starts.
             HasLinesAt self.now wasm.now (string_bytes storage.old) (string_bytes storage.new) starts.items) }
         ensures cuttable { IfOk result (λ starts. IsCuttable starts.items (string_bytes storage.new)) }
-        ensures caused { IfErr result (HasTextCause wasm.now) }
-        ensures refused { IfErr result (IsTrueOfText wasm.now) }
+        ensures caused { IfErr result (HasTextCause self.now wasm.now) }
+        ensures refused { IfErr result (IsTrueOfText self.now wasm.now) }
         ensures component { IsErrOf result Error.Component ↔ IsComponent wasm.now }
         ensures left { OnErr result (BeginsWith (string_bytes storage.old) (string_bytes storage.new)) }
     {
@@ -55,8 +55,8 @@ impl Config {
         storage: &'a mut String,
     ) -> Result<OffsetsAndLines<'a>, Error>
         ensures lines { IfOk result (λ it. HasLinesBy self.now wasm.now (string_bytes storage.old) it.storage it.lines) }
-        ensures caused { IfErr result (HasTextCause wasm.now) }
-        ensures refused { IfErr result (IsTrueOfText wasm.now) }
+        ensures caused { IfErr result (HasTextCause self.now wasm.now) }
+        ensures refused { IfErr result (IsTrueOfText self.now wasm.now) }
         ensures component { IsErrOf result Error.Component ↔ IsComponent wasm.now }
     {
         let starts = self.tracked(alloc, wasm, storage)?;

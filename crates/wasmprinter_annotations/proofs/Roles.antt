@@ -49,19 +49,19 @@ module _ {P : Type 0} (m : Meaning P) (o : Options) where
 
   -- pieces that begin a line
   pub wrote_part : {a t : P} (answer : Result Bool Error) (r : Result (Unit {0}) IoError) {ps : List Piece} → answer ≡ lines_answer r →
-      has_break ps ≡ true → Prints m o a t r ps → PrintsPart m o a t answer (Shown ps)
-  wrote_part {a} {t} answer r {ps} e breaks v = subst (λ (q : Result Bool Error). PrintsPart m o a t q (Shown ps)) (sym e) (by r v)
+      has_break ps ≡ true → Prints m o a t r ps → PrintsPart m o a t false answer (Shown ps)
+  wrote_part {a} {t} answer r {ps} e breaks v = subst (λ (q : Result Bool Error). PrintsPart m o a t false q (Shown ps)) (sym e) (by r v)
     where
-      by : (r : Result (Unit {0}) IoError) → Prints m o a t r ps → PrintsPart m o a t (lines_answer r) (Shown ps)
+      by : (r : Result (Unit {0}) IoError) → Prints m o a t r ps → PrintsPart m o a t false (lines_answer r) (Shown ps)
       by (Ok x) v = record { prints = shown_then m [] v (no_parts m); lines = sym (ap has_break (append-nil ps) ∙ breaks) }
       by (Err e) v = record { prints = shown_fails m (Err (Printer e)) [] refl v; lines = tt }
 
   -- nothing
-  pub silent_part : (a : P) → PrintsPart m o a a (Ok false) (Shown [])
+  pub silent_part : (a : P) → PrintsPart m o a a false (Ok false) (Shown [])
   silent_part a = record { prints = record { written = no_piece m o a; refused = refl }; lines = refl }
 
   -- a refusal
-  pub refused_part : (a : P) (id : ℕ) → PrintsPart m o a a (Err (DylinkSubsection id)) (Stops [] id)
+  pub refused_part : (a : P) (id : ℕ) → PrintsPart m o a a false (Err (DylinkSubsection id)) (Stops [] id)
   refused_part a id = record { prints = record { written = no_piece m o a; refused = refl }; lines = tt }
 
   -- ---- the claim
@@ -73,24 +73,24 @@ module _ {P : Type 0} (m : Meaning P) (o : Options) where
 
     -- the printer takes the section
     pub taken : {a t : P} → let s : Custom = c.section.value in
-        Succeeded m a (Claim s.name s.bytes.place s.bytes.value true) t → PrintsPart m o a t (Ok false) (custom_part skeleton true c)
+        Succeeded m a (Claim s.name s.bytes.place s.bytes.value true) t → PrintsPart m o a t false (Ok false) (custom_part skeleton true c)
     taken v = record { prints = shown_then m [] (claimed true v) (no_parts m); lines = refl }
 
     -- it doesn't
     pub left_to_us : {a s t : P} {r : Result Bool Error} → let x : Custom = c.section.value in
-        Succeeded m a (Claim x.name x.bytes.place x.bytes.value false) s → PrintsPart m o s t r (unclaimed_part skeleton c (role_of x)) →
-        PrintsPart m o a t r (custom_part skeleton false c)
+        Succeeded m a (Claim x.name x.bytes.place x.bytes.value false) s → PrintsPart m o s t false r (unclaimed_part skeleton c (role_of x)) →
+        PrintsPart m o a t false r (custom_part skeleton false c)
     left_to_us {a} {s} {t} {r} v w =
         let x : Custom = c.section.value in
         let same = behind_claim skeleton (claim_of x false) c (role_of x) in
         record {
-          prints = subst (λ (l : Laid). PrintsLaid m o a t r l) (sym same) (laid_then m (claimed false v) w.prints);
+          prints = subst (λ (l : Laid). PrintsLaid m o a t false r l) (sym same) (laid_then m (claimed false v) w.prints);
           lines = subst (λ (l : Laid). IfOk r (λ lines. lines ≡ has_break l.pieces)) (sym same) w.lines;
         }
 
     -- the question failed
     pub unanswered : {a t : P} (r : Result Bool Error) {e : IoError} → let s : Custom = c.section.value in
-        IsErrAnd r (λ y. y ≡ Printer e) → Failed m a (Claim s.name s.bytes.place s.bytes.value true) e t → PrintsPart m o a t r (custom_part skeleton true c)
+        IsErrAnd r (λ y. y ≡ Printer e) → Failed m a (Claim s.name s.bytes.place s.bytes.value true) e t → PrintsPart m o a t false r (custom_part skeleton true c)
     unanswered (Ok x) f v = absurd f
     unanswered {a} {t} (Err y) {e} f v =
         let failed : Result (Unit {0}) IoError = Err e in

@@ -15,7 +15,7 @@ use Rattle.wasmprinter_annotations.proofs.Places.{with_answer, parts_at-passed, 
 -- Behind i sections: what was made of those at the place, which is a beginning of all parts, whatever is answered to the sections that come.
 pub record Walked {P : Type 0} (m : Meaning P) (o : Options) (old new : P) (place : Option Kind) (cs : List CustomEntry) (i : ℕ) (lines : Bool) : Type 0 where
   pub done : List Part
-  pub prints : PrintsPartLines m o old new (Ok lines) done
+  pub prints : PrintsPartLines m o old new false (Ok lines) done
   pub fits : (others : Answers) → (answers : Answers) × (parts_at o.skeleton answers place 0 cs ≡ done ++ parts_at o.skeleton others place i (drop i cs))
 
 module _ {P : Type 0} (m : Meaning P) (o : Options) (place : Option Kind) (cs : List CustomEntry) where
@@ -24,13 +24,13 @@ module _ {P : Type 0} (m : Meaning P) (o : Options) (place : Option Kind) (cs : 
 
   -- in the end
   pub walk_ends : {a t : P} {i : ℕ} {lines : Bool} → Walked m o a t place cs i lines → length cs ≤ i →
-      (answers : Answers) × PrintsPartLines m o a t (Ok lines) (parts_at o.skeleton answers place 0 cs)
+      (answers : Answers) × PrintsPartLines m o a t false (Ok lines) (parts_at o.skeleton answers place 0 cs)
   walk_ends {a} {t} {i} {lines} w le =
       let none : Answers = λ n. false in
       let f = w.fits none in
       let same : parts_at o.skeleton f.0 place 0 cs ≡ w.done =
       f.1 ∙ ap (λ (ps : List Part). w.done ++ ps) (at_drop_all (parts_at o.skeleton none place i) cs i le) ∙ append-nil w.done in
-      (f.0, subst (λ (ps : List Part). PrintsPartLines m o a t (Ok lines) ps) (sym same) w.prints)
+      (f.0, subst (λ (ps : List Part). PrintsPartLines m o a t false (Ok lines) ps) (sym same) w.prints)
 
   module _ {i : ℕ} (c d : CustomEntry) (lt : i < length cs) (is : c ≡ get_or cs i d) where
     next : (answers : Answers) → parts_at o.skeleton answers place i (drop i cs) ≡ parts_at o.skeleton answers place i (c ∷ drop (i + 1) cs)
@@ -59,7 +59,7 @@ module _ {P : Type 0} (m : Meaning P) (o : Options) (place : Option Kind) (cs : 
 
       -- it was written
       pub walk_writes : {a s t : P} {lines more : Bool} → Walked m o a s place cs i lines →
-          PrintsPart m o s t (Ok more) (custom_part o.skeleton answer c) → Walked m o a t place cs (i + 1) (lines || more)
+          PrintsPart m o s t false (Ok more) (custom_part o.skeleton answer c) → Walked m o a t place cs (i + 1) (lines || more)
       walk_writes w v = record {
         done = w.done ++ (custom_part o.skeleton answer c ∷ []);
         prints = part_lines_then m w.prints v;
@@ -70,12 +70,12 @@ module _ {P : Type 0} (m : Meaning P) (o : Options) (place : Option Kind) (cs : 
 
       -- writing it ended in an error
       pub walk_fails : {a s t : P} {lines : Bool} (r : Result Bool Error) {e : Error} → Walked m o a s place cs i lines →
-          PrintsPart m o s t (Err e) (custom_part o.skeleton answer c) → IsErrAnd r (λ y. y ≡ e) →
-          (answers : Answers) × PrintsPartLines m o a t r (parts_at o.skeleton answers place 0 cs)
+          PrintsPart m o s t false (Err e) (custom_part o.skeleton answer c) → IsErrAnd r (λ y. y ≡ e) →
+          (answers : Answers) × PrintsPartLines m o a t false r (parts_at o.skeleton answers place 0 cs)
       walk_fails {a} {t = t} r w v f =
           let none : Answers = λ n. false in
           let x = whole w none in (
             x.0,
-            subst (λ (ps : List Part). PrintsPartLines m o a t r ps) (sym x.1)
+            subst (λ (ps : List Part). PrintsPartLines m o a t false r ps) (sym x.1)
                 (part_lines_end m r (parts_at o.skeleton none place (i + 1) (drop (i + 1) cs)) f w.prints v),
           )

@@ -10,13 +10,13 @@ use Rattle.wasmprinter_spec.specs.Layout.Customs.{Part, laid_parts}
 use Rattle.wasmprinter_annotations.specs.Parts.{PrintsParts}
 
 -- The parts were written, up to a failed call or to a refusal, which is answered. Where neither comes, the answer is whether a line begins in them.
-pub record PrintsPartLines {P : Type 0} (m : Meaning P) (o : Options) (old new : P) (r : Result Bool Error) (parts : List Part) : Type 0 where
-  pub prints : PrintsParts m o old new r parts
+pub record PrintsPartLines {P : Type 0} (m : Meaning P) (o : Options) (old new : P) (keeps : Bool) (r : Result Bool Error) (parts : List Part) : Type 0 where
+  pub prints : PrintsParts m o old new keeps r parts
   pub lines : IfOk r (λ lines. lines ≡ has_break (laid_parts parts).pieces)
 
 -- the same of one part
-abbrev pub PrintsPart : {P : Type 0} → Meaning P → Options → P → P → Result Bool Error → Part → Type 0
-PrintsPart m o old new r part = PrintsPartLines m o old new r (part ∷ [])
+abbrev pub PrintsPart : {P : Type 0} → Meaning P → Options → P → P → Bool → Result Bool Error → Part → Type 0
+PrintsPart m o old new keeps r part = PrintsPartLines m o old new keeps r (part ∷ [])
 
 -- the answer where what was to be written begins a line
 abbrev pub lines_answer : Result (Unit {0}) IoError → Result Bool Error

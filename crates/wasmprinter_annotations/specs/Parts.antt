@@ -1,30 +1,31 @@
 -- What a function has made of parts of a layout, at one of which the layout may end: it answers the refusal then.
-use Rattle.std.specs.Prelude.{◌≡◌, ℕ, List, Option, Some, None, Result, Ok, Err}
+use Rattle.std.specs.Prelude.{◌≡◌, ℕ, List, Bool, Option, Some, None, Result, Ok, Err}
 use Rattle.wasmprinter_error.specs.declared.error.Error.{Error}
 use Rattle.wasmprinter_error.specs.declared.error.Error.TheVariants.{Malformed, Component, TooManyLocals, TooManyFunctions, EmptyTableInit, FoldLegacy, FoldHint, DylinkSubsection, Unreadable, Printer, Memory}
 use Rattle.wasmprinter_spec.specs.Meaning.{Meaning}
 use Rattle.wasmprinter_spec.specs.Options.{Options}
 use Rattle.wasmprinter_spec.specs.Layout.Customs.{Part, Laid, laid_parts}
-use Rattle.wasmprinter_print.specs.Emits.{Ending, Through, AtCall, Never}
+use Rattle.wasmprinter_print.specs.Emits.{Ending, Through, AtCall, Never, at_growth}
 use Rattle.wasmprinter_print.specs.Prints.{Written}
 
--- how the calls of a function end that answers this error: a refusal comes behind all calls up to it
-abbrev pub stop_of : Error → Ending
-stop_of (Malformed place) = Never
-stop_of Component = Never
-stop_of (TooManyLocals place) = Never
-stop_of (TooManyFunctions count) = Never
-stop_of (EmptyTableInit place) = Never
-stop_of (FoldLegacy place) = Never
-stop_of (FoldHint place) = Never
-stop_of (DylinkSubsection id) = Through
-stop_of Unreadable = Never
-stop_of (Printer e) = AtCall e
-stop_of Memory = Never
+-- How the calls of a function end that answers this error: a refusal comes behind all calls up to it, want of memory between two calls, and only where
+-- something is kept in memory.
+abbrev pub stop_of : Bool → Error → Ending
+stop_of keeps (Malformed place) = Never
+stop_of keeps Component = Never
+stop_of keeps (TooManyLocals place) = Never
+stop_of keeps (TooManyFunctions count) = Never
+stop_of keeps (EmptyTableInit place) = Never
+stop_of keeps (FoldLegacy place) = Never
+stop_of keeps (FoldHint place) = Never
+stop_of keeps (DylinkSubsection id) = Through
+stop_of keeps Unreadable = Never
+stop_of keeps (Printer e) = AtCall e
+stop_of keeps Memory = at_growth keeps
 
-abbrev pub stop : {T : Type 0} → Result T Error → Ending
-stop (Ok x) = Through
-stop (Err e) = stop_of e
+abbrev pub stop : {T : Type 0} → Bool → Result T Error → Ending
+stop keeps (Ok x) = Through
+stop keeps (Err e) = stop_of keeps e
 
 -- Whether the layout ends at a refusal: it does exactly where that is answered. (A failed call may stand in front of one.)
 abbrev pub IsRefusedAs : Error → Option ℕ → Type 0
@@ -35,11 +36,11 @@ abbrev pub IsRefused : {T : Type 0} → Result T Error → Option ℕ → Type 0
 IsRefused (Ok x) refused = refused ≡ None
 IsRefused (Err e) refused = IsRefusedAs e refused
 
--- The calls made are those of the pieces, or a beginning of them where a call failed, whose error is then answered; behind them the refusal is
--- answered, if there is one. Nothing else is.
-pub record PrintsLaid {P T : Type 0} (m : Meaning P) (o : Options) (old new : P) (r : Result T Error) (l : Laid) : Type 0 where
-  pub written : Written m o old new (stop r) l.pieces
+-- The calls made are those of the pieces, or a beginning of them where a call failed, whose error is then answered, or where something is kept in
+-- memory and a growth was refused; behind them the refusal is answered, if there is one. Nothing else is.
+pub record PrintsLaid {P T : Type 0} (m : Meaning P) (o : Options) (old new : P) (keeps : Bool) (r : Result T Error) (l : Laid) : Type 0 where
+  pub written : Written m o old new (stop keeps r) l.pieces
   pub refused : IsRefused r l.refused
 
-abbrev pub PrintsParts : {P T : Type 0} → Meaning P → Options → P → P → Result T Error → List Part → Type 0
-PrintsParts m o old new r parts = PrintsLaid m o old new r (laid_parts parts)
+abbrev pub PrintsParts : {P T : Type 0} → Meaning P → Options → P → P → Bool → Result T Error → List Part → Type 0
+PrintsParts m o old new keeps r parts = PrintsLaid m o old new keeps r (laid_parts parts)

@@ -1,5 +1,5 @@
 //! Custom sections in their places among the others: each is first offered to the printer.
-ghost use Rattle.std.specs.Prelude.{◌≡◌, ◌↔◌, Bool, IsTrue};
+ghost use Rattle.std.specs.Prelude.{◌≡◌, ◌↔◌, Bool, false, IsTrue};
 ghost use Rattle.wasmprinter_spec.specs.Options.{Answers};
 ghost use Rattle.wasmprinter_spec.specs.Customs.{role_of};
 ghost use Rattle.wasmprinter_spec.specs.Layout.Customs.{custom_part, parts_at};
@@ -43,7 +43,7 @@ fn write_role<P: Print>(
     entry: &CustomEntry<'_>,
     role: CustomRole<'_>,
 ) -> Result<bool, Error>
-    ensures { PrintsPart P.meaning options.now p.old p.new result
+    ensures { PrintsPart P.meaning options.now p.old p.new false result
         (unclaimed_part options.now.skeleton entry.now (role_view role.entry)) }
 {
     let place = entry.section.place();
@@ -68,7 +68,7 @@ pub fn write_custom<P: Print>(
     options: &PrintOptions,
     entry: &CustomEntry<'_>,
 ) -> Result<bool, Error>
-    ensures { (answer : Bool) × PrintsPart P.meaning options.now p.old p.new result
+    ensures { (answer : Bool) × PrintsPart P.meaning options.now p.old p.new false result
         (custom_part options.now.skeleton answer entry.now) }
 {
     let section = &entry.section;
@@ -96,7 +96,7 @@ pub fn write_customs<P: Print>(
     customs: &[CustomEntry<'_>],
     behind: Option<SectionKind>,
 ) -> Result<bool, Error>
-    ensures { (answers : Answers) × PrintsPartLines P.meaning options.now p.old p.new result
+    ensures { (answers : Answers) × PrintsPartLines P.meaning options.now p.old p.new false result
         (parts_at options.now.skeleton answers (place_view behind) 0 customs.now) }
 {
     let mut lines = false;

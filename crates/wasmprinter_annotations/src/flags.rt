@@ -11,7 +11,7 @@ ghost use Rattle.wasmprinter_customs.specs.FlagPieces.{words_pieces, others_piec
 use std::io;
 use wasmprinter_customs::SymbolFlags;
 use wasmprinter_print::{Print, text};
-use wasmprinter_words::numbers::{HEXADECIMAL, write_digits};
+use wasmprinter_words::numbers::write_hexadecimal;
 use wasmprinter_words::words::{gap, word};
 
 /// Writes a blank and a word.
@@ -33,11 +33,11 @@ fn write_words<P: Print>(p: &mut P, flags: SymbolFlags) -> io::Result<()>
 }
 
 /// Writes a number as a word in hexadecimal.
-fn write_hexadecimal<P: Print>(p: &mut P, bits: u32) -> io::Result<()>
+fn write_bits<P: Print>(p: &mut P, bits: u32) -> io::Result<()>
     ensures { (o : Options) → Prints P.meaning o p.old p.new result (Word (codes "0x" ++ digits 16 false bits) ∷ []) }
 {
     text(p, "0x")?;
-    write_digits(p, HEXADECIMAL, u64::from(bits))
+    write_hexadecimal(p, u64::from(bits))
 }
 
 /// Writes a blank and bits in hexadecimal, and nothing where there are none.
@@ -49,7 +49,7 @@ fn write_others<P: Print>(p: &mut P, bits: u32) -> io::Result<()>
         return Ok(());
     }
     gap(p)?;
-    write_hexadecimal(p, bits)
+    write_bits(p, bits)
 }
 
 /// Writes the words of the flags that are set, and then all other bits, a blank before each.

@@ -1,14 +1,16 @@
 -- The layouts of functions by their groups.
-use Rattle.std.specs.Prelude.{◌≡◌, ℕ, List, ◌∷◌, Bool, true, false, ◌||◌, codes, Option, Some, refl}
+use Rattle.std.specs.Prelude.{◌≡◌, ℕ, List, [], ◌∷◌, Bool, true, false, ◌||◌, codes, Option, Some, None, refl}
 use Rattle.std.proofs.Common.{ap, ◌∙◌}
 use Rattle.wasmprinter_spec.specs.Types.{signature_at}
 use Rattle.wasmprinter_spec.specs.Row.{Space, Func}
 use Rattle.wasmprinter_spec.specs.Grammar.{Placed}
 use Rattle.wasmprinter_spec.specs.Customs.Hints.{Hint}
-use Rattle.wasmprinter_spec.specs.Placed.{PlacedFunction}
+use Rattle.wasmprinter_spec.specs.Placed.{Body, PlacedFunction}
 use Rattle.wasmprinter_spec.specs.Piece.{Piece, Gap}
-use Rattle.wasmprinter_spec.specs.Layout.Declarations.{Scope, item_declaration, type_use}
-use Rattle.wasmprinter_spec.specs.Layout.Functions.{header_pieces, local_pieces, body_pieces, inner_pieces, function_group}
+use Rattle.wasmprinter_spec.specs.Layout.Declarations.{Scope, Folding, item_declaration, type_use}
+use Rattle.wasmprinter_spec.specs.Layout.Functions.{header_pieces, local_pieces, over_lines, result_count, body_by, body_pieces, inner_pieces, function_group}
+use Rattle.wasmprinter_spec.specs.Layout.Operators.{operators_pieces}
+use Rattle.wasmprinter_spec.specs.Layout.Folded.{folded_list}
 use Rattle.wasmprinter_spec.specs.Layout.Groups.{has_break, group_gap_at, line_group_gap}
 use Rattle.wasmprinter_lines.proofs.Groups.{has_break-append, line-append}
 use Rattle.wasmprinter_text.proofs.Signatures.{declaration-line, type_use-line}
@@ -41,12 +43,28 @@ pub whole-group : (skeleton offsets : Bool) (s : Scope) (hs : List (Placed Hint)
     function_group skeleton offsets s hs f ≡ group_gap_at offsets f.body.value.end 1 (codes "func") (definition_parts s hs f)
 whole-group skeleton offsets s hs f e = ap (λ b. function_group b offsets s hs f) e ∙ definition-out offsets s hs f
 
--- whether lines change for a function
-pub definition-break : (s : Scope) (hs : List (Placed Hint)) (f : PlacedFunction) → has_break (definition_parts s hs f)
-    ≡ (has_break (local_pieces s.names s.function (parameter_count_of s.types f.type_index) f.body.value.locals) || has_break (body_pieces s hs f.body))
-unfolding inner_pieces
+-- a function begins a line where what it holds does
+pub definition-break : (s : Scope) (hs : List (Placed Hint)) (f : PlacedFunction) → has_break (definition_parts s hs f) ≡ has_break (inner_pieces s hs f)
 definition-break s hs f =
     let head : List Piece = function_header s f in
     let inner : List Piece = inner_pieces s hs f in
     has_break-append head inner ∙ ap (λ b. b || has_break inner) (header-line s Func (Some s.function) s.function f.type_index)
-    ∙ has_break-append (local_pieces s.names s.function (parameter_count_of s.types f.type_index) f.body.value.locals) (body_pieces s hs f.body)
+
+-- whether lines change for what it holds
+pub inner-break : (s : Scope) (hs : List (Placed Hint)) (f : PlacedFunction) → has_break (inner_pieces s hs f)
+    ≡ (has_break (local_pieces s.names s.function (parameter_count_of s.types f.type_index) f.body.value.locals) || has_break (body_pieces s f.type_index hs f.body))
+unfolding inner_pieces
+inner-break s hs f =
+    has_break-append (local_pieces s.names s.function (parameter_count_of s.types f.type_index) f.body.value.locals) (body_pieces s f.type_index hs f.body)
+
+module _ (s : Scope) (type_index : ℕ) (hs : List (Placed Hint)) (b : Placed Body) where
+  -- a body where nothing is folded
+  pub body-flat : s.folding ≡ None → body_pieces s type_index hs b ≡ operators_pieces (over_lines s b.place) hs true 0 [] b.value.operators
+  unfolding body_pieces body_by
+  body-flat e = ap (λ (f : Option Folding). body_by f (result_count s type_index) (over_lines s b.place) hs b.value.operators) e
+
+  -- a body where operators are folded
+  pub body-folded : (f : Folding) → s.folding ≡ Some f →
+      body_pieces s type_index hs b ≡ folded_list f (result_count s type_index) (over_lines s b.place) hs b.value.operators
+  unfolding body_pieces body_by
+  body-folded f e = ap (λ (x : Option Folding). body_by x (result_count s type_index) (over_lines s b.place) hs b.value.operators) e

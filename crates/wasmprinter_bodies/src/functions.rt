@@ -1,18 +1,16 @@
 //! Functions (section 6.6 of the WebAssembly Core Specification, "Functions").
-ghost use Rattle.std.specs.Prelude.{◌≡◌, List, codes};
-ghost use Rattle.wasmprinter_spec.specs.Grammar.{Placed};
-ghost use Rattle.wasmprinter_spec.specs.Customs.Hints.{Hint};
+ghost use Rattle.std.specs.Prelude.{◌≡◌, IfOk, codes};
 ghost use Rattle.wasmprinter_spec.specs.Options.{Options};
-ghost use Rattle.wasmprinter_spec.specs.Layout.Declarations.{Scope as FieldScope};
-ghost use Rattle.wasmprinter_spec.specs.Layout.Functions.{body_pieces, inner_pieces, function_group, function_pieces};
+ghost use Rattle.wasmprinter_spec.specs.Layout.Functions.{result_count, body_pieces, inner_pieces, function_group, function_pieces};
 ghost use Rattle.wasmprinter_spec.specs.Layout.Groups.{has_break, line_group_gap, group_gap_at};
-ghost use Rattle.wasmprinter_print.specs.Prints.{Prints};
-ghost use Rattle.wasmprinter_scope.specs.Scopes.{scope_view, within};
+ghost use Rattle.wasmprinter_print.specs.Prints.{Prints, PrintsOrStops};
+ghost use Rattle.wasmprinter_scope.specs.Scopes.{scope_view, within, folds_in};
 ghost use Rattle.wasmprinter_bodies.specs.Functions.{parameter_count_of, outline_parts, definition_parts};
 
 use crate::locals::{has_locals, write_locals};
 use std::io;
 use wasmprinter_customs::FunctionHints;
+use wasmprinter_error::Error;
 use wasmprinter_flat::operators::{Form, Setting, has_operators, write_operators};
 use wasmprinter_lines::lines::{break_line, close_at};
 use wasmprinter_lines::options::PrintOptions;
@@ -58,14 +56,6 @@ fn write_outline_group<P: Print>(
     shut(p)
 }
 
-/// Whether a function has locals or operators, which begin lines.
-fn has_lines(function: &Function<'_>) -> bool
-    ensures { (s : FieldScope) (hints : List (Placed Hint)) → result ≡ has_break (definition_parts s hints function.now) }
-{
-    let body = function.body();
-    has_locals(&body.locals()) || has_operators(body.expression())
-}
-
 /// How many parameters a function of the type has: none unless it is a function type.
 fn parameter_count(scope: &Scope<'_, '_>, type_index: u32) -> u32
     ensures { result ≡ parameter_count_of (scope_view scope.now).types type_index }
@@ -76,20 +66,33 @@ fn parameter_count(scope: &Scope<'_, '_>, type_index: u32) -> u32
     }
 }
 
-/// Writes the operators of a body, each on a line of its own, behind its hint if it has one.
-#[tactic(auto, unfolding(wasmprinter_spec::specs::Layout::Functions::body_pieces))]
+/// How many results a function of the type has, if it is a function type.
+fn result_count(scope: &Scope<'_, '_>, type_index: u32) -> Option<u32>
+    ensures { result ≡ result_count (scope_view scope.now) type_index }
+{
+    match scope.types.signature(type_index) {
+        Some(signature) => Some(signature.results().len()),
+        None => None,
+    }
+}
+
+/// Writes the operators of a body, of a function of the type, behind their hints: each on a line of its own, or folded. Answers whether a line
+/// began.
 fn write_body<P: Print>(
     p: &mut P,
     options: &PrintOptions,
     scope: &mut Scope<'_, '_>,
     number: u64,
+    type_index: u32,
     hints: FunctionHints<'_>,
     body: &Body<'_>,
-) -> io::Result<()>
-    ensures pieces { Prints P.meaning options.now p.old p.new result
-        (body_pieces (within (scope_view scope.old) number) hints.entry body.now) }
+) -> Result<bool, Error>
+    ensures pieces { PrintsOrStops P.meaning options.now p.old p.new (folds_in (scope_view scope.old)) result
+        (body_pieces (within (scope_view scope.old) number) type_index hints.entry body.now) }
+    ensures lines { IfOk result (λ lines. lines ≡ has_break (body_pieces (within (scope_view scope.old) number) type_index hints.entry body.now)) }
     ensures scope { scope_view scope.new ≡ scope_view scope.old }
 {
+    let results = result_count(scope, type_index);
     let setting = Setting {
         form: Form::OverLines,
         types: &scope.types,
@@ -97,17 +100,18 @@ fn write_body<P: Print>(
         function: number,
         body: body.place(),
     };
-    write_operators(
-        p,
-        options,
-        &setting,
-        &mut scope.labels,
-        hints,
-        body.expression(),
-    )
+    let labels = &mut scope.labels;
+    let expression = body.expression();
+    match &mut scope.folder {
+        None => {
+            write_operators(p, options, &setting, labels, hints, expression)?;
+            Ok(has_operators(expression))
+        }
+        Some(folder) => folder.write(p, options, &setting, labels, results, hints, expression),
+    }
 }
 
-/// Writes what a function holds behind its type.
+/// Writes what a function holds behind its type. Answers whether a line began.
 #[tactic(auto, unfolding(wasmprinter_spec::specs::Layout::Functions::inner_pieces))]
 fn write_inner<P: Print>(
     p: &mut P,
@@ -116,18 +120,21 @@ fn write_inner<P: Print>(
     number: u64,
     hints: FunctionHints<'_>,
     function: &Function<'_>,
-) -> io::Result<()>
-    ensures pieces { Prints P.meaning options.now p.old p.new result
+) -> Result<bool, Error>
+    ensures pieces { PrintsOrStops P.meaning options.now p.old p.new (folds_in (scope_view scope.old)) result
         (inner_pieces (within (scope_view scope.old) number) hints.entry function.now) }
+    ensures lines { IfOk result (λ lines. lines ≡ has_break (inner_pieces (within (scope_view scope.old) number) hints.entry function.now)) }
     ensures scope { scope_view scope.new ≡ scope_view scope.old }
 {
-    let parameters = parameter_count(scope, function.type_index());
+    let type_index = function.type_index();
+    let parameters = parameter_count(scope, type_index);
     let body = function.body();
     write_locals(p, options, scope, number, parameters, &body.locals())?;
-    write_body(p, options, scope, number, hints, body)
+    let lines = write_body(p, options, scope, number, type_index, hints, body)?;
+    Ok(has_locals(&body.locals()) || lines)
 }
 
-/// Writes what stands for a function with its body.
+/// Writes what stands for a function with its body. Answers whether a line began.
 #[tactic(auto, unfolding(wasmprinter_spec::specs::Layout::Functions::header_pieces))]
 fn write_definition<P: Print>(
     p: &mut P,
@@ -136,9 +143,10 @@ fn write_definition<P: Print>(
     number: u64,
     hints: FunctionHints<'_>,
     function: &Function<'_>,
-) -> io::Result<()>
-    ensures pieces { Prints P.meaning options.now p.old p.new result
+) -> Result<bool, Error>
+    ensures pieces { PrintsOrStops P.meaning options.now p.old p.new (folds_in (scope_view scope.old)) result
         (definition_parts (within (scope_view scope.old) number) hints.entry function.now) }
+    ensures lines { IfOk result (λ lines. lines ≡ has_break (definition_parts (within (scope_view scope.old) number) hints.entry function.now)) }
     ensures scope { scope_view scope.new ≡ scope_view scope.old }
 {
     write_function_header(p, scope, number, function.type_index())?;
@@ -154,16 +162,17 @@ fn write_definition_group<P: Print>(
     number: u64,
     hints: FunctionHints<'_>,
     function: &Function<'_>,
-) -> io::Result<()>
-    ensures pieces { Prints P.meaning options.now p.old p.new result
+) -> Result<(), Error>
+    ensures pieces { PrintsOrStops P.meaning options.now p.old p.new (folds_in (scope_view scope.old)) result
         (group_gap_at options.now.offsets function.now.body.value.end 1 (codes "func")
         (definition_parts (within (scope_view scope.old) number) hints.entry function.now)) }
     ensures scope { scope_view scope.new ≡ scope_view scope.old }
 {
     let end = function.body().end();
     open_gap(p, "func")?;
-    write_definition(p, options, scope, number, hints, function)?;
-    close_at(p, options, end, FIELD_NESTING, has_lines(function))
+    let lines = write_definition(p, options, scope, number, hints, function)?;
+    close_at(p, options, end, FIELD_NESTING, lines)?;
+    Ok(())
 }
 
 /// Writes a function as a group, in a skeleton without its body.
@@ -174,19 +183,24 @@ fn write_function_group<P: Print>(
     number: u64,
     hints: FunctionHints<'_>,
     function: &Function<'_>,
-) -> io::Result<()>
-    ensures pieces { Prints P.meaning options.now p.old p.new result
+) -> Result<(), Error>
+    ensures pieces { PrintsOrStops P.meaning options.now p.old p.new (folds_in (scope_view scope.old)) result
         (function_group options.now.skeleton options.now.offsets (within (scope_view scope.old) number) hints.entry function.now) }
     ensures scope { scope_view scope.new ≡ scope_view scope.old }
 {
     if options.skeleton {
-        write_outline_group(p, scope, number, function)
+        write_outline_group(p, scope, number, function)?;
+        Ok(())
     } else {
         write_definition_group(p, options, scope, number, hints, function)
     }
 }
 
 /// Writes the function with the number, its operators with these hints.
+///
+/// # Errors
+///
+/// `Memory` where a growth was refused, `Printer` where a call on the printer failed, with that call's error. No other.
 #[tactic(auto, unfolding(wasmprinter_spec::specs::Layout::Functions::function_pieces))]
 pub fn write_function<P: Print>(
     p: &mut P,
@@ -195,8 +209,8 @@ pub fn write_function<P: Print>(
     number: u64,
     hints: FunctionHints<'_>,
     function: &Function<'_>,
-) -> io::Result<()>
-    ensures pieces { Prints P.meaning options.now p.old p.new result
+) -> Result<(), Error>
+    ensures pieces { PrintsOrStops P.meaning options.now p.old p.new (folds_in (scope_view scope.old)) result
         (function_pieces options.now (scope_view scope.old) number hints.entry function.now) }
     ensures scope { scope_view scope.new ≡ scope_view scope.old }
 {

@@ -1,7 +1,7 @@
 //! The type section (section 5.5, "Type Section"): groups of types.
-ghost use Rattle.std.specs.Prelude.{◌≡◌, ◌+◌, ◌++◌, ◌<◌, ◌^◌, [], length, true, IfOk, OnOk, OnErr};
+ghost use Rattle.std.specs.Prelude.{◌≡◌, ◌+◌, ◌++◌, ◌<◌, ◌^◌, [], length, true, IfOk, OnOk, OnErr, option_map};
 ghost use Rattle.wasmprinter_spec.specs.Grammar.{placed};
-ghost use Rattle.wasmprinter_spec.specs.Types.{all_types, signature_at};
+ghost use Rattle.wasmprinter_spec.specs.Types.{all_types, signature_at, fields_at};
 ghost use Rattle.wasmprinter_spec.specs.Binary.Types.{group as group_grammar};
 ghost use Rattle.wasmprinter_spec.specs.Module.{groups_of};
 ghost use Rattle.wasmprinter_spec.specs.Sections.{TypeSection};
@@ -13,7 +13,7 @@ use std::marker::Model;
 use wasmprinter_bytes::bytes::Cursor;
 use wasmprinter_bytes::lists::{SpelledIn, read_list};
 use wasmprinter_error::{Error, Malformed};
-use wasmprinter_ops::types::composite::{FuncType, SubType, SubTypes};
+use wasmprinter_ops::types::composite::{CompositeType, FuncType, SubType, SubTypes};
 
 /// In front of types that are written as a group.
 const REC: u8 = 0x4e;
@@ -178,6 +178,15 @@ impl<'a> Types<'a> {
         match self.types.get(index as usize) {
             Some(sub_type) => sub_type.func_type(),
             None => None,
+        }
+    }
+    /// How many fields the structure type with the index has, `None` where there is no such type or it is of another kind.
+    pub fn field_count(&self, index: u32) -> Option<u32>
+        ensures { result ≡ option_map length (fields_at (all_types (groups_of self.now)) index) }
+    {
+        match self.types.get(index as usize)?.composite() {
+            CompositeType::Struct(fields) => Some(fields.len()),
+            _ => None,
         }
     }
 }

@@ -32,8 +32,8 @@ expressions-none s k es le = ap (λ xs. expression_items s (constants_of xs)) (d
 -- behind k the next expression, and the others
 pub expressions-next : (s : Scope) (k : ℕ) (es : List (Closed (Placed Operator))) (x d : Closed (Placed Operator)) → k < length es → x ≡ get_or es k d →
     expression_items s (constants_of (drop k es))
-    ≡ (Gap ∷ constant_group s (codes "item") (constant_of x)) ++ expression_items s (constants_of (drop (k + 1) es))
+    ≡ (Gap ∷ constant_group s 2 (codes "item") (constant_of x)) ++ expression_items s (constants_of (drop (k + 1) es))
 unfolding expression_items
 expressions-next s k es x d lt is =
     at_drop_more (λ xs. expression_items s (constants_of xs)) es k d lt
-    ∙ ap (λ (y : Closed (Placed Operator)). (Gap ∷ constant_group s (codes "item") (constant_of y)) ++ expression_items s (constants_of (drop (k + 1) es))) (sym is)
+    ∙ ap (λ (y : Closed (Placed Operator)). (Gap ∷ constant_group s 2 (codes "item") (constant_of y)) ++ expression_items s (constants_of (drop (k + 1) es))) (sym is)

@@ -17,5 +17,5 @@ pub table-parts : (s : Scope) (i : ℕ) (t : Table (Placed Operator)) → table_
 table-parts s i t = sym (append_assoc (item_declaration s row.Table i) (Gap ∷ table_type_pieces s.names t.type) (init_pieces s t.init))
 
 -- a global is a declared global and its value
-pub global-parts : (s : Scope) (i : ℕ) (g : Global (Placed Operator)) → global_parts s i g ≡ declared_global s i g.type ++ (Gap ∷ constant_pieces s g.init)
-global-parts s i g = sym (append_assoc (item_declaration s row.Global i) (Gap ∷ global_type_pieces s.names g.type) (Gap ∷ constant_pieces s g.init))
+pub global-parts : (s : Scope) (i : ℕ) (g : Global (Placed Operator)) → global_parts s i g ≡ declared_global s i g.type ++ (Gap ∷ constant_pieces s 2 g.init)
+global-parts s i g = sym (append_assoc (item_declaration s row.Global i) (Gap ∷ global_type_pieces s.names g.type) (Gap ∷ constant_pieces s 2 g.init))

@@ -1,18 +1,20 @@
 -- The lines of imports one after the other, and how many imports the numbers of all kinds count.
-use Rattle.std.specs.Prelude.{◌≡◌, ℕ, ◌+◌, ◌<◌, ◌≤◌, drop, length, List, [], ◌++◌, codes, refl}
+use Rattle.std.specs.Prelude.{◌≡◌, ℕ, ◌+◌, ◌<◌, ◌≤◌, drop, length, List, [], ◌∷◌, ◌++◌, codes, Some, refl}
 use Rattle.std.proofs.Common.{sym, ap, ◌∙◌, get_or, arith}
 use Rattle.std.proofs.Math.ListN.{drop_of_length-le}
 use Rattle.std.proofs.lemmas.List.{at_drop_more}
 use Rattle.wasmprinter_spec.specs.Grammar.{Placed}
 use Rattle.wasmprinter_spec.specs.Types.{ExternType, FuncExtern, TableExtern, MemoryExtern, GlobalExtern, TagExtern}
 use Rattle.wasmprinter_spec.specs.Placed.{Import}
-use Rattle.wasmprinter_spec.specs.Piece.{Piece}
+use Rattle.wasmprinter_spec.specs.Piece.{Piece, Break}
 use Rattle.wasmprinter_spec.specs.Layout.Declarations.{Scope}
 use Rattle.wasmprinter_spec.specs.Layout.Imports.{Numbers, number_of, numbers_behind, extern_pieces, import_pieces, imports_pieces}
 use Rattle.wasmprinter_spec.specs.Layout.Exports.{kind_word}
 use Rattle.wasmprinter_spec.specs.Layout.Groups.{line_group_gap}
 use Rattle.wasmprinter_entries.specs.Externs.{kind_of_type}
 use Rattle.wasmprinter_fields.specs.Parts.{field_line, extern_parts, import_parts}
+use Rattle.wasmprinter_fields.proofs.LineGroups.{one_line}
+use Rattle.wasmprinter_fields.proofs.Unbroken.{import-unbroken}
 
 -- no import is left behind k
 pub imports-none : (s : Scope) (n : Numbers) (k : ℕ) (is : List (Placed Import)) → length is ≤ k → imports_pieces s n (drop k is) ≡ []
@@ -23,13 +25,18 @@ imports-none s n k is le = ap (imports_pieces s n) (drop_of_length-le is le)
 abbrev pub import_line : Scope → ℕ → Placed Import → List Piece
 import_line s = field_line (codes "import") (λ i. i.place) (λ n i. import_parts s n i.value)
 
+import-line : (s : Scope) (n : ℕ) (i : Placed Import) → import_pieces s n i ≡ import_line s n i
+unfolding import_pieces
+import-line s n i = ap (λ (ps : List Piece). Break (Some i.place) 1 ∷ ps) (sym (one_line 1 (codes "import") (import_parts s n i.value) (import-unbroken s n i.value)))
+
 -- behind k the next import, and the others
 pub imports-next : (s : Scope) (n : Numbers) (k : ℕ) (is : List (Placed Import)) (i d : Placed Import) → k < length is → i ≡ get_or is k d →
     imports_pieces s n (drop k is) ≡ import_line s (number_of i.value.type n) i ++ imports_pieces s (numbers_behind i.value.type n) (drop (k + 1) is)
 unfolding imports_pieces import_pieces
 imports-next s n k is i d lt e =
     at_drop_more (imports_pieces s n) is k d lt
-    ∙ ap (λ (x : Placed Import). import_line s (number_of x.value.type n) x ++ imports_pieces s (numbers_behind x.value.type n) (drop (k + 1) is)) (sym e)
+    ∙ ap (λ (x : Placed Import). import_pieces s (number_of x.value.type n) x ++ imports_pieces s (numbers_behind x.value.type n) (drop (k + 1) is)) (sym e)
+    ∙ ap (λ (ps : List Piece). ps ++ imports_pieces s (numbers_behind i.value.type n) (drop (k + 1) is)) (import-line s (number_of i.value.type n) i)
 
 -- how many stand in front, of whatever kind
 abbrev pub total : Numbers → ℕ

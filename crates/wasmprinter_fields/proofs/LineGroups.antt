@@ -1,10 +1,11 @@
 -- Groups within one line, from their three parts.
-use Rattle.std.specs.Prelude.{◌≡◌, ℕ, List, [], ◌∷◌, ◌++◌, Result, IsErrAnd}
+use Rattle.std.specs.Prelude.{◌≡◌, ℕ, List, [], ◌∷◌, ◌++◌, Bool, false, None, Result, IsErrAnd}
+use Rattle.std.proofs.Common.{ap}
 use Rattle.std.specs.declared.io.Error.{Error as IoError}
 use Rattle.wasmprinter_spec.specs.Options.{Options}
 use Rattle.wasmprinter_spec.specs.Meaning.{Meaning}
 use Rattle.wasmprinter_spec.specs.Piece.{Piece, OpenGap, Shut}
-use Rattle.wasmprinter_spec.specs.Layout.Groups.{line_group_gap}
+use Rattle.wasmprinter_spec.specs.Layout.Groups.{has_break, close, line_group_gap, group_gap}
 use Rattle.wasmprinter_print.specs.Emits.{Ending, Through, AtCall}
 use Rattle.wasmprinter_print.specs.Prints.{Written, Prints}
 use Rattle.wasmprinter_print.specs.PrintsLaws.{both_pieces, pieces_end}
@@ -26,6 +27,11 @@ pub group_fails : {P U : Type 0} (m : Meaning P) {o : Options} {a t : P} (r : Re
     Written m o a t (AtCall e) (OpenGap w ∷ []) → IsErrAnd r (λ y. y ≡ e) → Prints m o a t r (line_group_gap w ps)
 unfolding line_group_gap
 group_fails m r w ps opened failed = pieces_end m r (ps ++ (Shut ∷ [])) failed opened
+
+-- a group in which no line begins
+pub one_line : (nesting : ℕ) (w : List ℕ) (ps : List Piece) → has_break ps ≡ false → group_gap nesting w ps ≡ line_group_gap w ps
+unfolding group_gap line_group_gap
+one_line nesting w ps e = ap (λ (b : Bool). OpenGap w ∷ (ps ++ close None nesting b)) e
 
 -- for groups of which each part is written by a call
 pub ruleset groups = (group_closes, group_breaks, group_fails)

@@ -7,7 +7,7 @@ use Rattle.wasmprinter_spec.specs.Row as row
 use Rattle.wasmprinter_spec.specs.Operator.{Operator}
 use Rattle.wasmprinter_spec.specs.Placed.{Import, Table, Global, Export, ElementEntry, Data}
 use Rattle.wasmprinter_spec.specs.Piece.{Piece, Break, Gap, Word, Quoted}
-use Rattle.wasmprinter_spec.specs.Layout.Groups.{line_group_gap}
+use Rattle.wasmprinter_spec.specs.Layout.Groups.{line_group_gap, group_gap}
 use Rattle.wasmprinter_spec.specs.Layout.Declarations.{Scope, item_declaration}
 use Rattle.wasmprinter_spec.specs.Layout.Functions.{header_pieces}
 use Rattle.wasmprinter_spec.specs.Layout.Imports.{extern_pieces}
@@ -19,9 +19,9 @@ use Rattle.wasmprinter_spec.specs.Layout.Exports.{kind_word, extern_index_pieces
 use Rattle.wasmprinter_spec.specs.Layout.Elements.{mode_pieces, shown_items}
 use Rattle.wasmprinter_spec.specs.Layout.DataSegments.{data_mode_pieces, shown_bytes}
 
--- a field that is a group on one line, with its number
+-- a field that is a group, with its number: it closes on a line of its own where a line began in it
 abbrev pub field_line : {A : Type 0} → List ℕ → (A → ℕ) → (ℕ → A → List Piece) → ℕ → A → List Piece
-field_line keyword place parts i x = Break (Some (place x)) 1 ∷ line_group_gap keyword (parts i x)
+field_line keyword place parts i x = Break (Some (place x)) 1 ∷ group_gap 1 keyword (parts i x)
 
 -- the size of a page in bytes, by its exponent
 abbrev pub page_parts : ℕ → List Piece
@@ -57,7 +57,7 @@ table_parts s i t = item_declaration s row.Table i ++ (Gap ∷ (table_type_piece
 
 -- a global with its number
 abbrev pub global_parts : Scope → ℕ → Global (Placed Operator) → List Piece
-global_parts s i g = item_declaration s row.Global i ++ (Gap ∷ (global_type_pieces s.names g.type ++ (Gap ∷ constant_pieces s g.init)))
+global_parts s i g = item_declaration s row.Global i ++ (Gap ∷ (global_type_pieces s.names g.type ++ (Gap ∷ constant_pieces s 2 g.init)))
 
 -- an element segment with its number
 abbrev pub element_parts : Bool → Scope → ℕ → ElementEntry → List Piece

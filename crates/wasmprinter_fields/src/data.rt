@@ -1,14 +1,16 @@
 //! Data segments (section 6.6 of the WebAssembly Core Specification, "Data Segments").
-ghost use Rattle.std.specs.Prelude.{◌≡◌, codes};
+ghost use Rattle.std.specs.Prelude.{◌≡◌, codes, IfOk};
+ghost use Rattle.wasmprinter_spec.specs.Layout.Groups.{has_break};
 ghost use Rattle.wasmprinter_spec.specs.Options.{Options};
 ghost use Rattle.wasmprinter_spec.specs.Layout.DataSegments.{named_memory, data_mode_pieces};
-ghost use Rattle.wasmprinter_print.specs.Prints.{Prints};
+ghost use Rattle.wasmprinter_print.specs.Prints.{Prints, PrintsOrStops};
 ghost use Rattle.wasmprinter_segments.specs.Segments.{data_mode_view};
-ghost use Rattle.wasmprinter_scope.specs.Scopes.{scope_view};
+ghost use Rattle.wasmprinter_scope.specs.Scopes.{scope_view, folds_in};
 ghost use Rattle.wasmprinter_fields.specs.Parts.{data_parts};
 
 use crate::fields::Field;
 use std::io;
+use wasmprinter_error::Error;
 use wasmprinter_lines::options::PrintOptions;
 use wasmprinter_names::Space;
 use wasmprinter_print::Print;
@@ -29,24 +31,26 @@ fn write_named_memory<P: Print>(p: &mut P, scope: &Scope<'_, '_>, memory: u32) -
     gap(p)
 }
 
-/// Writes what becomes of a segment, with a blank behind it.
+/// Writes what becomes of a segment, with a blank behind it. Answers whether a line began.
 #[tactic(auto, unfolding(wasmprinter_spec::specs::Layout::DataSegments::data_mode_pieces))]
 fn write_data_mode<P: Print>(
     p: &mut P,
     options: &PrintOptions,
     scope: &mut Scope<'_, '_>,
     mode: &DataMode<'_>,
-) -> io::Result<()>
-    ensures pieces { Prints P.meaning options.now p.old p.new result
+) -> Result<bool, Error>
+    ensures pieces { PrintsOrStops P.meaning options.now p.old p.new (folds_in (scope_view scope.old)) result
         (data_mode_pieces (scope_view scope.old) (data_mode_view mode.now)) }
+    ensures lines { IfOk result (λ lines. lines ≡ has_break (data_mode_pieces (scope_view scope.old) (data_mode_view mode.now))) }
     ensures scope { scope_view scope.new ≡ scope_view scope.old }
 {
     match mode {
-        DataMode::Passive => Ok(()),
+        DataMode::Passive => Ok(false),
         DataMode::Active { memory, offset } => {
             write_named_memory(p, scope, *memory)?;
-            write_constant_group(p, options, scope, "offset", offset)?;
-            gap(p)
+            let lines = write_constant_group(p, options, scope, "offset", offset)?;
+            gap(p)?;
+            Ok(lines)
         }
     }
 }
@@ -72,10 +76,11 @@ impl<'a> Field for Data<'a> {
         options: &PrintOptions,
         scope: &mut Scope<'_, '_>,
         number: u64,
-    ) -> io::Result<()> {
+    ) -> Result<bool, Error> {
         write_declaration(p, scope, Space::Data, number)?;
         gap(p)?;
-        write_data_mode(p, options, scope, self.mode())?;
-        write_shown_bytes(p, options, self.bytes())
+        let lines = write_data_mode(p, options, scope, self.mode())?;
+        write_shown_bytes(p, options, self.bytes())?;
+        Ok(lines)
     }
 }

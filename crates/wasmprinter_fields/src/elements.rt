@@ -1,5 +1,6 @@
 //! Element segments (section 6.6 of the WebAssembly Core Specification, "Element Segments").
-ghost use Rattle.std.specs.Prelude.{◌≡◌, ◌∷◌, codes};
+ghost use Rattle.std.specs.Prelude.{◌≡◌, ◌∷◌, codes, IfOk};
+ghost use Rattle.wasmprinter_spec.specs.Layout.Groups.{has_break};
 ghost use Rattle.wasmprinter_spec.specs.Row as row;
 ghost use Rattle.wasmprinter_spec.specs.Options.{Options};
 ghost use Rattle.wasmprinter_spec.specs.Piece.{Gap};
@@ -7,14 +8,15 @@ ghost use Rattle.wasmprinter_spec.specs.Layout.Declarations.{item_index};
 ghost use Rattle.wasmprinter_spec.specs.Layout.Expressions.{constant_group};
 ghost use Rattle.wasmprinter_spec.specs.Layout.Elements.{named_table, mode_pieces, function_items, expression_items};
 ghost use Rattle.wasmprinter_spec.specs.Layout.Elements.{items_pieces, shown_items};
-ghost use Rattle.wasmprinter_print.specs.Prints.{Prints};
+ghost use Rattle.wasmprinter_print.specs.Prints.{Prints, PrintsOrStops};
 ghost use Rattle.wasmprinter_segments.specs.Segments.{element_mode_view, element_items_view, constants_of};
-ghost use Rattle.wasmprinter_scope.specs.Scopes.{scope_view};
+ghost use Rattle.wasmprinter_scope.specs.Scopes.{scope_view, folds_in};
 ghost use Rattle.wasmprinter_fields.specs.Parts.{element_parts};
 
 use crate::fields::Field;
 use std::io;
 use wasmprinter_bytes::lists::Items;
+use wasmprinter_error::Error;
 use wasmprinter_lines::options::PrintOptions;
 use wasmprinter_names::Space;
 use wasmprinter_ops::expression::Expression;
@@ -42,7 +44,7 @@ fn write_named_table<P: Print>(
     write_index_group(p, scope, "table", Space::Table, table)
 }
 
-/// Writes what becomes of a segment, with a blank in front; `names_table` is whether the bytes name its table.
+/// Writes what becomes of a segment, with a blank in front; `names_table` is whether the bytes name its table. Answers whether a line began.
 #[tactic(auto, unfolding(wasmprinter_spec::specs::Layout::Elements::mode_pieces))]
 fn write_element_mode<P: Print>(
     p: &mut P,
@@ -50,16 +52,18 @@ fn write_element_mode<P: Print>(
     scope: &mut Scope<'_, '_>,
     names_table: bool,
     mode: &ElementMode<'_>,
-) -> io::Result<()>
-    ensures pieces { Prints P.meaning options.now p.old p.new result
+) -> Result<bool, Error>
+    ensures pieces { PrintsOrStops P.meaning options.now p.old p.new (folds_in (scope_view scope.old)) result
         (mode_pieces (scope_view scope.old) names_table (element_mode_view mode.now)) }
+    ensures lines { IfOk result (λ lines. lines ≡ has_break (mode_pieces (scope_view scope.old) names_table (element_mode_view mode.now))) }
     ensures scope { scope_view scope.new ≡ scope_view scope.old }
 {
     match mode {
-        ElementMode::Passive => Ok(()),
+        ElementMode::Passive => Ok(false),
         ElementMode::Declared => {
             gap(p)?;
-            word(p, "declare")
+            word(p, "declare")?;
+            Ok(false)
         }
         ElementMode::Active { table, offset } => {
             write_named_table(p, scope, names_table, *table)?;
@@ -92,54 +96,59 @@ fn write_function_items<P: Print>(
     Ok(())
 }
 
-/// Writes a blank and an expression as a group.
+/// Writes a blank and an expression as a group. Answers whether a line began.
 fn write_expression_item<P: Print>(
     p: &mut P,
     options: &PrintOptions,
     scope: &mut Scope<'_, '_>,
     expression: &Expression<'_>,
-) -> io::Result<()>
-    ensures pieces { Prints P.meaning options.now p.old p.new result
-        (Gap ∷ constant_group (scope_view scope.old) (codes "item") expression.now.items) }
+) -> Result<bool, Error>
+    ensures pieces { PrintsOrStops P.meaning options.now p.old p.new (folds_in (scope_view scope.old)) result
+        (Gap ∷ constant_group (scope_view scope.old) 2 (codes "item") expression.now.items) }
+    ensures lines { IfOk result (λ lines. lines ≡ has_break (Gap ∷ constant_group (scope_view scope.old) 2 (codes "item") expression.now.items)) }
     ensures scope { scope_view scope.new ≡ scope_view scope.old }
 {
     gap(p)?;
     write_constant_group(p, options, scope, "item", expression)
 }
 
-/// Writes expressions as groups, a blank before each.
+/// Writes expressions as groups, a blank before each. Answers whether a line began.
 fn write_expression_items<P: Print>(
     p: &mut P,
     options: &PrintOptions,
     scope: &mut Scope<'_, '_>,
     expressions: &[Expression<'_>],
-) -> io::Result<()>
-    ensures pieces { Prints P.meaning options.now p.old p.new result
+) -> Result<bool, Error>
+    ensures pieces { PrintsOrStops P.meaning options.now p.old p.new (folds_in (scope_view scope.old)) result
         (expression_items (scope_view scope.old) (constants_of expressions.now)) }
+    ensures lines { IfOk result (λ lines. lines ≡ has_break (expression_items (scope_view scope.old) (constants_of expressions.now))) }
     ensures scope { scope_view scope.new ≡ scope_view scope.old }
 {
+    let mut lines = false;
     for expression in expressions {
-        write_expression_item(p, options, scope, expression)?;
+        lines |= write_expression_item(p, options, scope, expression)?;
     }
-    Ok(())
+    Ok(lines)
 }
 
-/// Writes the items of a segment behind their kind or type.
+/// Writes the items of a segment behind their kind or type. Answers whether a line began.
 #[tactic(auto, unfolding(wasmprinter_spec::specs::Layout::Elements::items_pieces))]
 fn write_items<P: Print>(
     p: &mut P,
     options: &PrintOptions,
     scope: &mut Scope<'_, '_>,
     items: &ElementItems<'_>,
-) -> io::Result<()>
-    ensures pieces { Prints P.meaning options.now p.old p.new result
+) -> Result<bool, Error>
+    ensures pieces { PrintsOrStops P.meaning options.now p.old p.new (folds_in (scope_view scope.old)) result
         (items_pieces (scope_view scope.old) (element_items_view items.now)) }
+    ensures lines { IfOk result (λ lines. lines ≡ has_break (items_pieces (scope_view scope.old) (element_items_view items.now))) }
     ensures scope { scope_view scope.new ≡ scope_view scope.old }
 {
     match items {
         ElementItems::Functions(functions) => {
             word(p, "func")?;
-            write_function_items(p, scope, functions)
+            write_function_items(p, scope, functions)?;
+            Ok(false)
         }
         ElementItems::Expressions(ref_type, expressions) => {
             write_ref_type(p, scope, *ref_type)?;
@@ -148,19 +157,21 @@ fn write_items<P: Print>(
     }
 }
 
-/// Writes the items of a segment, in a skeleton three points in their place.
+/// Writes the items of a segment, in a skeleton three points in their place. Answers whether a line began.
 fn write_shown_items<P: Print>(
     p: &mut P,
     options: &PrintOptions,
     scope: &mut Scope<'_, '_>,
     items: &ElementItems<'_>,
-) -> io::Result<()>
-    ensures pieces { Prints P.meaning options.now p.old p.new result
+) -> Result<bool, Error>
+    ensures pieces { PrintsOrStops P.meaning options.now p.old p.new (folds_in (scope_view scope.old)) result
         (shown_items options.now.skeleton (scope_view scope.old) (element_items_view items.now)) }
+    ensures lines { IfOk result (λ lines. lines ≡ has_break (shown_items options.now.skeleton (scope_view scope.old) (element_items_view items.now))) }
     ensures scope { scope_view scope.new ≡ scope_view scope.old }
 {
     if options.skeleton {
-        word(p, "...")
+        word(p, "...")?;
+        Ok(false)
     } else {
         write_items(p, options, scope, items)
     }
@@ -187,10 +198,11 @@ impl<'a> Field for Element<'a> {
         options: &PrintOptions,
         scope: &mut Scope<'_, '_>,
         number: u64,
-    ) -> io::Result<()> {
+    ) -> Result<bool, Error> {
         write_declaration(p, scope, Space::Elem, number)?;
-        write_element_mode(p, options, scope, self.names_table(), self.mode())?;
+        let offset = write_element_mode(p, options, scope, self.names_table(), self.mode())?;
         gap(p)?;
-        write_shown_items(p, options, scope, self.items())
+        let items = write_shown_items(p, options, scope, self.items())?;
+        Ok(offset | items)
     }
 }

@@ -12,6 +12,7 @@ ghost use Rattle.wasmprinter_fields.specs.Parts.{export_parts};
 
 use crate::fields::Field;
 use std::io;
+use wasmprinter_error::Error;
 use wasmprinter_lines::options::PrintOptions;
 use wasmprinter_names::Space;
 use wasmprinter_print::Print;
@@ -102,9 +103,10 @@ impl<'a> Field for Export<'a> {
         _options: &PrintOptions,
         scope: &mut Scope<'_, '_>,
         _number: u64,
-    ) -> io::Result<()> {
+    ) -> Result<bool, Error> {
         write_string(p, self.name())?;
         gap(p)?;
-        write_extern(p, scope, self.kind(), self.index())
+        write_extern(p, scope, self.kind(), self.index())?;
+        Ok(false)
     }
 }

@@ -10,6 +10,7 @@ ghost use Rattle.wasmprinter_fields.specs.Parts.{declared_global, global_parts};
 
 use crate::fields::Field;
 use std::io;
+use wasmprinter_error::Error;
 use wasmprinter_lines::options::PrintOptions;
 use wasmprinter_names::Space;
 use wasmprinter_print::Print;
@@ -72,7 +73,7 @@ impl<'a> Field for Global<'a> {
         options: &PrintOptions,
         scope: &mut Scope<'_, '_>,
         number: u64,
-    ) -> io::Result<()> {
+    ) -> Result<bool, Error> {
         write_declared_global(p, scope, number, self.ty())?;
         gap(p)?;
         write_constant(p, options, scope, self.init())

@@ -3,9 +3,9 @@ ghost use Rattle.std.specs.Prelude.{◌≡◌, ◌+◌, ◌<◌, ◌^◌, codes,
 ghost use Rattle.wasmprinter_spec.specs.Options.{Options};
 ghost use Rattle.wasmprinter_spec.specs.Layout.Imports.{number_of, numbers_behind, no_numbers};
 ghost use Rattle.wasmprinter_spec.specs.Layout.Imports.{extern_pieces, imports_pieces};
-ghost use Rattle.wasmprinter_print.specs.Prints.{Prints};
+ghost use Rattle.wasmprinter_print.specs.Prints.{Prints, PrintsOrStops};
 ghost use Rattle.wasmprinter_entries.specs.Externs.{extern_view, HasPage};
-ghost use Rattle.wasmprinter_scope.specs.Scopes.{scope_view};
+ghost use Rattle.wasmprinter_scope.specs.Scopes.{scope_view, folds_in};
 ghost use Rattle.wasmprinter_fields.specs.Parts.{extern_parts, import_parts};
 
 use crate::exports::kind_word;
@@ -15,6 +15,7 @@ use crate::memories::write_declared_memory;
 use crate::tables::write_declared_table;
 use std::io;
 use std::marker::Model;
+use wasmprinter_error::Error;
 use wasmprinter_lines::options::PrintOptions;
 use wasmprinter_print::Print;
 use wasmprinter_scope::headers::{write_function_header, write_tag_header};
@@ -146,24 +147,29 @@ impl<'a> Field for Import<'a> {
         _options: &PrintOptions,
         scope: &mut Scope<'_, '_>,
         number: u64,
-    ) -> io::Result<()> {
+    ) -> Result<bool, Error> {
         write_string(p, self.module())?;
         gap(p)?;
         write_string(p, self.name())?;
         gap(p)?;
-        write_extern_type(p, scope, number, self.ty())
+        write_extern_type(p, scope, number, self.ty())?;
+        Ok(false)
     }
 }
 
 /// Writes the imports; each kind is numbered apart.
+///
+/// # Errors
+///
+/// Those of [`write_each`](crate::fields::write_each).
 pub fn write_imports<P: Print>(
     p: &mut P,
     options: &PrintOptions,
     scope: &mut Scope<'_, '_>,
     imports: &[Import<'_>],
-) -> io::Result<()>
+) -> Result<(), Error>
     requires { length imports.now < 2 ^ 32 }
-    ensures pieces { Prints P.meaning options.now p.old p.new result
+    ensures pieces { PrintsOrStops P.meaning options.now p.old p.new (folds_in (scope_view scope.old)) result
         (imports_pieces (scope_view scope.old) no_numbers imports.now) }
     ensures scope { scope_view scope.new ≡ scope_view scope.old }
 {

@@ -12,6 +12,7 @@ ghost use Rattle.wasmprinter_fields.specs.Parts.{page_parts, declared_memory};
 use crate::fields::Field;
 use crate::limits::{write_sizes, write_wide};
 use std::io;
+use wasmprinter_error::Error;
 use wasmprinter_lines::options::PrintOptions;
 use wasmprinter_names::Space;
 use wasmprinter_print::Print;
@@ -107,7 +108,8 @@ impl Field for Memory {
         _options: &PrintOptions,
         scope: &mut Scope<'_, '_>,
         number: u64,
-    ) -> io::Result<()> {
-        write_declared_memory(p, scope, number, self.ty())
+    ) -> Result<bool, Error> {
+        write_declared_memory(p, scope, number, self.ty())?;
+        Ok(false)
     }
 }

@@ -3,11 +3,11 @@ ghost use Rattle.std.specs.Prelude.{◌≡◌, codes};
 ghost use Rattle.wasmprinter_spec.specs.Row as row;
 ghost use Rattle.wasmprinter_spec.specs.Layout.{start_pieces};
 ghost use Rattle.wasmprinter_spec.specs.Layout.Declarations.{item_index};
-ghost use Rattle.wasmprinter_print.specs.Prints.{Prints};
-ghost use Rattle.wasmprinter_scope.specs.Scopes.{scope_view};
+ghost use Rattle.wasmprinter_print.specs.Prints.{PrintsOrStops};
+ghost use Rattle.wasmprinter_scope.specs.Scopes.{scope_view, folds_in};
 
 use crate::fields::{Field, write_field};
-use std::io;
+use wasmprinter_error::Error;
 use wasmprinter_lines::options::PrintOptions;
 use wasmprinter_names::Space;
 use wasmprinter_print::Print;
@@ -35,20 +35,25 @@ impl Field for Start {
         _options: &PrintOptions,
         scope: &mut Scope<'_, '_>,
         _number: u64,
-    ) -> io::Result<()> {
-        write_index(p, scope, Space::Func, self.function())
+    ) -> Result<bool, Error> {
+        write_index(p, scope, Space::Func, self.function())?;
+        Ok(false)
     }
 }
 
 /// Writes the start function, if there is one.
+///
+/// # Errors
+///
+/// Those of [`write_each`](crate::fields::write_each).
 #[tactic(auto, unfolding(wasmprinter_spec::specs::Layout::start_pieces))]
 pub fn write_start<P: Print>(
     p: &mut P,
     options: &PrintOptions,
     scope: &mut Scope<'_, '_>,
     start: Option<Start>,
-) -> io::Result<()>
-    ensures pieces { Prints P.meaning options.now p.old p.new result (start_pieces (scope_view scope.old) start) }
+) -> Result<(), Error>
+    ensures pieces { PrintsOrStops P.meaning options.now p.old p.new (folds_in (scope_view scope.old)) result (start_pieces (scope_view scope.old) start) }
     ensures scope { scope_view scope.new ≡ scope_view scope.old }
 {
     match start {

@@ -1,16 +1,18 @@
 //! Tables (section 6.6 of the WebAssembly Core Specification, "Tables"), and their types (section 6.4, "Table Types").
-ghost use Rattle.std.specs.Prelude.{◌≡◌, codes};
+ghost use Rattle.std.specs.Prelude.{◌≡◌, codes, IfOk};
+ghost use Rattle.wasmprinter_spec.specs.Layout.Groups.{has_break};
 ghost use Rattle.wasmprinter_spec.specs.Options.{Options};
 ghost use Rattle.wasmprinter_spec.specs.Layout.Tables.{table_type_pieces, init_pieces};
-ghost use Rattle.wasmprinter_print.specs.Prints.{Prints};
+ghost use Rattle.wasmprinter_print.specs.Prints.{Prints, PrintsOrStops};
 ghost use Rattle.wasmprinter_entries.specs.Externs.{table_type_view};
 ghost use Rattle.wasmprinter_labels.specs.Scan.{names_of};
-ghost use Rattle.wasmprinter_scope.specs.Scopes.{scope_view};
+ghost use Rattle.wasmprinter_scope.specs.Scopes.{scope_view, folds_in};
 ghost use Rattle.wasmprinter_fields.specs.Parts.{declared_table, table_parts};
 
 use crate::fields::Field;
 use crate::limits::{write_sizes, write_wide};
 use std::io;
+use wasmprinter_error::Error;
 use wasmprinter_lines::options::PrintOptions;
 use wasmprinter_names::Space;
 use wasmprinter_print::Print;
@@ -50,15 +52,16 @@ pub(crate) fn write_declared_table<P: Print>(
     write_table_type(p, scope, table_type)
 }
 
-/// Writes a blank and the initialiser, if there is one.
+/// Writes a blank and the initialiser, if there is one. Answers whether a line began.
 #[tactic(auto, unfolding(wasmprinter_spec::specs::Layout::Tables::init_pieces))]
 fn write_init<P: Print>(
     p: &mut P,
     options: &PrintOptions,
     scope: &mut Scope<'_, '_>,
     table: &Table<'_>,
-) -> io::Result<()>
-    ensures pieces { Prints P.meaning options.now p.old p.new result (init_pieces (scope_view scope.old) table.now.value.init) }
+) -> Result<bool, Error>
+    ensures pieces { PrintsOrStops P.meaning options.now p.old p.new (folds_in (scope_view scope.old)) result (init_pieces (scope_view scope.old) table.now.value.init) }
+    ensures lines { IfOk result (λ lines. lines ≡ has_break (init_pieces (scope_view scope.old) table.now.value.init)) }
     ensures scope { scope_view scope.new ≡ scope_view scope.old }
 {
     match table.init() {
@@ -66,7 +69,7 @@ fn write_init<P: Print>(
             gap(p)?;
             write_constant(p, options, scope, init)
         }
-        None => Ok(()),
+        None => Ok(false),
     }
 }
 
@@ -91,7 +94,7 @@ impl<'a> Field for Table<'a> {
         options: &PrintOptions,
         scope: &mut Scope<'_, '_>,
         number: u64,
-    ) -> io::Result<()> {
+    ) -> Result<bool, Error> {
         write_declared_table(p, scope, number, self.ty())?;
         write_init(p, options, scope, self)
     }

@@ -4,7 +4,7 @@ ghost use Rattle.wasmprinter_spec.specs.Row as row;
 ghost use Rattle.wasmprinter_spec.specs.Layout.Functions.{header_pieces};
 
 use crate::fields::Field;
-use std::io;
+use wasmprinter_error::Error;
 use wasmprinter_lines::options::PrintOptions;
 use wasmprinter_print::Print;
 use wasmprinter_scope::headers::write_tag_header;
@@ -32,7 +32,8 @@ impl Field for Tag {
         _options: &PrintOptions,
         scope: &mut Scope<'_, '_>,
         number: u64,
-    ) -> io::Result<()> {
-        write_tag_header(p, scope, number, self.type_index())
+    ) -> Result<bool, Error> {
+        write_tag_header(p, scope, number, self.type_index())?;
+        Ok(false)
     }
 }

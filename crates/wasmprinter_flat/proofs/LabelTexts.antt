@@ -4,7 +4,7 @@ use Rattle.std.proofs.Common.{refl, ap}
 use Rattle.wasmprinter_spec.specs.Labels.{Label, Named, is_hidden, Target, Around, Own, Nothing, target}
 use Rattle.wasmprinter_spec.specs.Piece.{Piece, Gap, Word, Number, Remark}
 use Rattle.wasmprinter_spec.specs.Layout.Operators.{label_name_pieces, named_pieces, target_pieces, label_pieces, labels_pieces}
-use Rattle.wasmprinter_labels.specs.Found.{Found, ByName, ByNumber, ToBlock, ToNothing, found_named, found_by, found}
+use Rattle.wasmprinter_labels.specs.Found.{Found, ByName, ByNumber, ToBlock, ToNothing, found_named, found_by, found_among}
 
 -- ---- what a label means
 
@@ -25,7 +25,7 @@ target-out inner d l Own = refl
 target-out inner d l Nothing = refl
 
 -- a label, written by what it means
-pub label-out : (inner xs : List Label) (l : ℕ) → label_pieces inner xs l ≡ Gap ∷ found_pieces l (found inner xs l)
+pub label-out : (inner xs : List Label) (l : ℕ) → label_pieces inner xs l ≡ Gap ∷ found_pieces l (found_among inner xs l)
 unfolding label_pieces
 label-out inner xs l = ap (λ ps. Gap ∷ ps) (target-out inner (length xs) l (target l xs))
 

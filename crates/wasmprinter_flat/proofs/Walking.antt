@@ -19,28 +19,16 @@ use Rattle.wasmprinter_print.specs.Emits.{Through}
 use Rattle.wasmprinter_print.specs.Prints.{Written, Lacks}
 use Rattle.wasmprinter_print.specs.PrintsLaws.{no_piece, next_written, lacks_none}
 use Rattle.wasmprinter_ops.specs.Operators.{placed_view, pairs}
-use Rattle.wasmprinter_labels.specs.Scan.{Scan, names_of, own_label, begun, advanced}
-use Rattle.wasmprinter_flat.specs.Settings.{over_lines}
+use Rattle.wasmprinter_ops.proofs.Pairs.{first-pair, no-pair}
+use Rattle.wasmprinter_labels.specs.Scan.{Scan, names_of, own_label, at_start_again, behind_operator}
+use Rattle.wasmprinter_flat.specs.Settings.{word_pieces, over_lines}
 use Rattle.wasmprinter_flat.proofs.Depths.{after-length, after-count}
-
--- pairs of places and operators are operators with their places
-seen-pairs : (os : List (Placed Operator)) → map placed_view (pairs os) ≡ os
-seen-pairs [] = refl
-seen-pairs (o ∷ os) = ap (λ xs. o ∷ xs) (seen-pairs os)
-
--- the first operator, and the others
-first-pair : (os rest : List (Placed Operator)) (x : ℕ × Operator) → pairs os ≡ x ∷ pairs rest → os ≡ placed_view x ∷ rest
-first-pair os rest x e = sym (seen-pairs os) ∙ ap (map placed_view) e ∙ ap (λ xs. placed_view x ∷ xs) (seen-pairs rest)
-
-no-pair : (os : List (Placed Operator)) → pairs os ≡ [] → os ≡ []
-no-pair os e = sym (seen-pairs os) ∙ ap (map placed_view) e
 
 -- an operator in front of which so many blocks are open
 pub operator-out : (s : Setting) (first : Bool) (own : Label) (xs : List Label) (place : ℕ) (o : Operator) (role : Role) (depth : ℕ) →
     role ≡ role_of o.opcode → depth ≡ level role (length xs) →
     operator_pieces s first own xs (record { place = place; value = o })
-    ≡ before_word s.form first place (s.nesting + depth)
-    ++ (Word (word_of o.opcode) ∷ pieces_by s (inside role xs) (outside role xs) own (shape_of o.opcode) o.immediates)
+    ≡ before_word s.form first place (s.nesting + depth) ++ word_pieces s own xs o
 unfolding operator_pieces
 operator-out s first own xs place o role depth r e = rw (e, r) refl
 
@@ -86,7 +74,7 @@ pub record Progress {P : Type 0} (m : Meaning P) (o : Options) (old new : P) (s 
 
 -- nothing is written yet
 pub starts : {P : Type 0} (m : Meaning P) (o : Options) (a : P) (s : Setting) (start l : Scan) (hints : List (Placed Hint)) (all os : List (Placed Operator)) →
-    l ≡ begun s.function start → names_of start ≡ s.names → os ≡ all → length all < 2 ^ 64 → Progress m o a a s start hints all os hints true l
+    l ≡ at_start_again s.function start → names_of start ≡ s.names → os ≡ all → length all < 2 ^ 64 → Progress m o a a s start hints all os hints true l
 starts m o a s start l hints all os b n e h = rw b (record {
   lacks = record { front = []; written = no_piece m o a; joined = ap (λ ps. operators_pieces s hints true 0 [] ps) e };
   named = refl;
@@ -126,7 +114,7 @@ module _ {P : Type 0} (m : Meaning P) {o : Options} {a t : P} {s : Setting} {sta
 
   -- the hint of the next operator was written, and the operator
   pub goes_on : {u w : P} (rest : List (Placed Operator)) (x : ℕ × Operator) (role : Role) (k : Scan) (behind : List (Placed Hint)) → pairs os ≡ x ∷ pairs rest →
-      role ≡ role_of x.1.opcode → k ≡ advanced role l → behind ≡ hint_behind (x.0 - s.body) left →
+      role ≡ role_of x.1.opcode → k ≡ behind_operator role l → behind ≡ hint_behind (x.0 - s.body) left →
       Written m o t u Through (hint_pieces (s.nesting + length l.labels) (next_hint (x.0 - s.body) left)) →
       Written m o u w Through (operator_pieces (record s { names = names_of l }) first (own_label l) l.labels (placed_view x)) →
       Progress m o a w s start hints all rest behind false k

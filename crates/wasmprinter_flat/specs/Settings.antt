@@ -1,11 +1,14 @@
 -- The program's settings, and those of the layout.
-use Rattle.std.specs.Prelude.{ℕ, List, [], Option, true}
+use Rattle.std.specs.Prelude.{ℕ, List, [], ◌∷◌, Option, true}
 use Rattle.wasmprinter_spec.specs.Grammar.{Placed}
 use Rattle.wasmprinter_spec.specs.Types.{FuncType}
 use Rattle.wasmprinter_spec.specs.Names.{Names}
 use Rattle.wasmprinter_spec.specs.Operator.{Operator}
 use Rattle.wasmprinter_spec.specs.Customs.Hints.{Hint}
-use Rattle.wasmprinter_spec.specs.Piece.{Piece}
+use Rattle.wasmprinter_spec.specs.Piece.{Piece, Word}
+use Rattle.wasmprinter_spec.specs.Row.{Role}
+use Rattle.wasmprinter_spec.specs.Table.{word_of, role_of, shape_of}
+use Rattle.wasmprinter_spec.specs.Labels.{Label, outside, inside}
 use Rattle.wasmprinter_spec.specs.Layout.Operators as layout
 use Rattle.wasmprinter_flat.specs.declared.operators.Form.{Form}
 use Rattle.wasmprinter_flat.specs.declared.operators.Form.TheVariants as forms
@@ -29,3 +32,9 @@ setting_view signature_at s names = setting_of s.form (signature_at s.types.now)
 abbrev pub over_lines : (ℕ → Option FuncType) → ℕ → Names → ℕ → ℕ → List (Placed Hint) → List (Placed Operator) → List Piece
 over_lines signature nesting names function body hints os =
     layout.operators_pieces (setting_of forms.OverLines signature nesting names function body) hints true 0 [] os
+
+-- an operator's word and its immediates, where these labels are open in front of it; `own` is that of the block that it opens, if it opens one
+abbrev pub word_pieces : layout.Setting → Label → List Label → Operator → List Piece
+word_pieces s own xs o =
+    let role : Role = role_of o.opcode in
+    Word (word_of o.opcode) ∷ layout.pieces_by s (inside role xs) (outside role xs) own (shape_of o.opcode) o.immediates

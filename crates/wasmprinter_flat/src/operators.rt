@@ -15,7 +15,7 @@ ghost use Rattle.wasmprinter_print.specs.Prints.{Prints};
 ghost use Rattle.wasmprinter_ops.specs.Shapes.{role_view};
 ghost use Rattle.wasmprinter_labels.specs.Scan.{names_of, own_label};
 ghost use Rattle.wasmprinter_flat.specs.Contexts.{setting_in, around, within, own_in};
-ghost use Rattle.wasmprinter_flat.specs.Settings.{form_view, setting_view, over_lines};
+ghost use Rattle.wasmprinter_flat.specs.Settings.{form_view, setting_view, over_lines, word_pieces};
 
 use crate::context::Context;
 use crate::immediates::write_immediates;
@@ -123,6 +123,27 @@ fn write_behind<P: Print, S: Signatures>(
     }
 }
 
+/// Writes the word of an operator and its immediates, where these labels are open in front of it.
+pub fn write_word<P: Print, S: Signatures>(
+    p: &mut P,
+    setting: &Setting<'_, S>,
+    labels: &OpenLabels<'_, '_>,
+    operator: &Operator<'_>,
+) -> io::Result<()>
+    requires { length labels.now.labels + 1 < 2 ^ 64 }
+    ensures { (o : Options) → Prints P.meaning o p.old p.new result
+        (word_pieces (setting_view S.signature_at setting.now (names_of labels.now)) (own_label labels.now) labels.now.labels operator.now) }
+{
+    let role = operator.opcode.role();
+    let context = Context {
+        setting,
+        labels,
+        role,
+    };
+    word(p, operator.opcode.word())?;
+    write_behind(p, &context, operator)
+}
+
 /// Writes an operator, in front of which these labels are open: the first of its list or a later one.
 fn write_operator<P: Print, S: Signatures>(
     p: &mut P,
@@ -138,22 +159,9 @@ fn write_operator<P: Print, S: Signatures>(
         (operator_pieces (setting_view S.signature_at setting.now (names_of labels.now)) first (own_label labels.now) labels.now.labels
         (record { place = place; value = operator.now })) }
 {
-    let role = operator.opcode.role();
-    let context = Context {
-        setting,
-        labels,
-        role,
-    };
-    write_before(
-        p,
-        options,
-        setting,
-        first,
-        place,
-        level(role, labels.depth()),
-    )?;
-    word(p, operator.opcode.word())?;
-    write_behind(p, &context, operator)
+    let level = level(operator.opcode.role(), labels.depth());
+    write_before(p, options, setting, first, place, level)?;
+    write_word(p, setting, labels, operator)
 }
 
 /// Writes a hint on a line of its own, nested as deep as the operators of the block.

@@ -14,7 +14,7 @@ use crate::format::Format;
 use std::io;
 use wasmprinter_error::Error;
 use wasmprinter_print::{Print, Style, reset, start, text};
-use wasmprinter_words::numbers::{DECIMAL, HEXADECIMAL, power, write_digit, write_digits};
+use wasmprinter_words::numbers::{power, write_decimal, write_digit, write_hexadecimal};
 
 /// Writes the hexadecimal digits of `n / 16 ^ count`, a number below 1, up to the last that is not 0.
 fn write_digits_behind<P: Print>(p: &mut P, count: u32, n: u64) -> io::Result<()>
@@ -58,10 +58,10 @@ fn write_exponent<P: Print>(p: &mut P, up: u64, down: u64) -> io::Result<()>
 {
     if up < down {
         text(p, "p-")?;
-        write_digits(p, DECIMAL, down - up)
+        write_decimal(p, down - up)
     } else {
         text(p, "p+")?;
-        write_digits(p, DECIMAL, up - down)
+        write_decimal(p, up - down)
     }
 }
 
@@ -114,7 +114,7 @@ fn write_special<P: Print>(p: &mut P, format: Format, fraction: u64) -> io::Resu
         text(p, "nan")
     } else {
         text(p, "nan:0x")?;
-        write_digits(p, HEXADECIMAL, fraction)
+        write_hexadecimal(p, fraction)
     }
 }
 

@@ -5,8 +5,8 @@ use Rattle.std.specs.Prelude.{Bool, nat_eq, bytes_eq, Some, None}
 use Rattle.std.specs.List.{All, AllByRecursion, list_any}
 use Rattle.wasmprinter_spec.specs.Labels.{Label, same_name}
 use Rattle.wasmprinter_names.specs.Views.{NamedItem, name_view}
-use Rattle.wasmprinter_labels.specs.Found.{found_named, found}
-use Rattle.wasmprinter_labels.specs.Scan.{Scan, opened, closed}
+use Rattle.wasmprinter_labels.specs.Found.{found_named, found_among}
+use Rattle.wasmprinter_labels.specs.Scan.{Scan, behind_opening, behind_closing}
 use Rattle.wasmprinter_labels.specs.Stack.{Block, Stack, depths, AreBelow, Descend, closed_at, StandsAt, unnamed, labels_from}
 use Rattle.wasmprinter_labels.specs.Numbers.{given_of, AreNumbered}
 use Rattle.wasmprinter_labels.specs.Inside.{label_of, IsOf, IsKept}
@@ -41,7 +41,7 @@ module _ (named : List NamedItem) (xs zs : List NumberedLabel) (invents : Bool) 
       shallow = omega (arith, k.shallow);
     }
 
-    pub scan_unnamed : scan named invents f (suc n) (labels_from invents s.blocks (suc d)) ≡ opened (scan named invents f n (labels_from invents s.blocks d))
+    pub scan_unnamed : scan named invents f (suc n) (labels_from invents s.blocks (suc d)) ≡ behind_opening (scan named invents f n (labels_from invents s.blocks d))
     scan_unnamed =
         ap (scan named invents f (suc n)) (labels_unnamed invents s.blocks d k.below ∙ ap (λ (x : Label). x ∷ labels_from invents s.blocks d) (sym
         (own_none named xs invents f n next (length (labels_from invents s.blocks d)) k.lists k.ascend k.of_labels k.cursor zs same e
@@ -79,7 +79,7 @@ module _ (named : List NamedItem) (xs zs : List NumberedLabel) (invents : Bool) 
       shallow = omega (arith, k.shallow);
     }
 
-    pub scan_named : scan named invents f (suc n) (labels_from invents (block_of d x ∷ s.blocks) (suc d)) ≡ opened (scan named invents f n (labels_from invents s.blocks d))
+    pub scan_named : scan named invents f (suc n) (labels_from invents (block_of d x ∷ s.blocks) (suc d)) ≡ behind_opening (scan named invents f n (labels_from invents s.blocks d))
     scan_named =
         ap (scan named invents f (suc n)) (labels_named invents (block_of d x) s.blocks d refl ∙ ap (λ (y : Label). y ∷ labels_from invents s.blocks d) (sym
         (own_some named xs invents f n next (length (labels_from invents s.blocks d)) k.lists k.ascend k.of_labels k.cursor zs same x e)))
@@ -102,8 +102,8 @@ kept_closed named xs next f n d e s k is descend = record {
 }
 
 pub scan_closed : (named : List NamedItem) (invents : Bool) (f n d e : ℕ) (bs : List Block) → e ≡ suc d
-    → scan named invents f n (labels_from invents (closed_at d bs) d) ≡ closed (scan named invents f n (labels_from invents bs e))
-scan_closed named invents f n d e bs is = ap (λ m. closed (scan named invents f n (labels_from invents bs m))) (sym is)
+    → scan named invents f n (labels_from invents (closed_at d bs) d) ≡ behind_closing (scan named invents f n (labels_from invents bs e))
+scan_closed named invents f n d e bs is = ap (λ m. behind_closing (scan named invents f n (labels_from invents bs m))) (sym is)
 
 -- ---- given names
 
@@ -128,18 +128,18 @@ hidden_alike xs b (x ∷ front) rest m h =
 -- ---- what is found
 
 named_at : (invents : Bool) (d l e : ℕ) (bs : List Block) (b : Block) (hidden : Bool) (s : StandsAt bs e b hidden) → Descend (depths bs) → AreBelow d (depths bs) → l < d → e ≡ d - 1 - l
-    → list_any (λ x. same_name x.name.given b.name.given) s.front ≡ hidden → found [] (labels_from invents bs d) l ≡ found_named b.name hidden
+    → list_any (λ x. same_name x.name.given b.name.given) s.front ≡ hidden → found_among [] (labels_from invents bs d) l ≡ found_named b.name hidden
 named_at invents zero l e bs b hidden s descend below lt is h = absurd (omega (arith, lt))
 named_at invents (suc d) l e bs b hidden s descend below lt is h =
     found_at_name invents l d bs b hidden (record { front = s.front; rest = s.rest; is = s.is; depth = refl; hides = s.hides }) descend below (omega (arith, s.depth, is, lt)) h
 
 pub found_other : (invents : Bool) (d l e : ℕ) (bs : List Block) → AllByRecursion (λ b. b.depth ≢ e) bs → l < d → e ≡ d - 1 - l
-    → found [] (labels_from invents bs d) l ≡ unnamed_found (unnamed invents e) (d - l)
+    → found_among [] (labels_from invents bs d) l ≡ unnamed_found (unnamed invents e) (d - l)
 found_other invents zero l e bs h lt is = absurd (omega (arith, lt))
 found_other invents (suc d) l e bs h lt is = found_unnamed invents l d e bs h (omega (arith, is, lt))
 
 pub found_name : (named : List NamedItem) (xs : List NumberedLabel) (next f n d : ℕ) (s : Stack) → IsKept named xs next f n d s → (invents : Bool) (l e : ℕ) (b : Block) (hidden : Bool)
-    → StandsAt s.blocks e b hidden → Descend (depths s.blocks) → l < d → e ≡ d - 1 - l → found [] (labels_from invents s.blocks d) l ≡ found_named b.name hidden
+    → StandsAt s.blocks e b hidden → Descend (depths s.blocks) → l < d → e ≡ d - 1 - l → found_among [] (labels_from invents s.blocks d) l ≡ found_named b.name hidden
 found_name named xs next f n d s k invents l e b hidden at descend lt is =
     named_at invents d l e s.blocks b hidden at descend k.below lt is
     (hidden_alike xs b at.front at.rest k.numbered (subst (AllByRecursion (IsOf xs)) at.is k.blocks) ∙ at.hides)

@@ -4,7 +4,7 @@ use Rattle.std.proofs.lemmas.Bool.{eqb-true, eqb-false}
 use Rattle.std.specs.Prelude.{Bool, true, false, ◌||◌, nat_eq, Option, Some, None, if◌then◌else◌, codes, decimal}
 use Rattle.std.specs.List.{AllByRecursion, list_any}
 use Rattle.wasmprinter_spec.specs.Labels.{Label, Named, same_name, hides, is_hidden, Around, Own, Nothing, behind, target}
-use Rattle.wasmprinter_labels.specs.Found.{Found, ByName, ByNumber, ToBlock, ToNothing, found_named, found_by, found}
+use Rattle.wasmprinter_labels.specs.Found.{Found, ByName, ByNumber, ToBlock, ToNothing, found_named, found_by, found_among}
 use Rattle.wasmprinter_labels.specs.Stack.{Block, depths, AreBelow, Descend, closed_at, StandsAt, unnamed, label_here, labels_from}
 
 nat_eq-is : (a b : ℕ) → a ≡ b → nat_eq a b ≡ true
@@ -171,14 +171,14 @@ or_false : (b : Bool) → (b || false) ≡ b
 or_false true = refl
 or_false false = refl
 
-pub found_own : (l : ℕ) (xs : List Label) → length xs ≡ l → found [] xs l ≡ ByNumber
+pub found_own : (l : ℕ) (xs : List Label) → length xs ≡ l → found_among [] xs l ≡ ByNumber
 found_own l xs e = ap (found_by [] (length xs) l) (ap (λ n. target n xs) (sym e) ∙ target_own xs)
 
-pub found_nothing : (l : ℕ) (xs : List Label) → length xs < l → found [] xs l ≡ ToNothing
+pub found_nothing : (l : ℕ) (xs : List Label) → length xs < l → found_among [] xs l ≡ ToNothing
 found_nothing l xs lt = ap (found_by [] (length xs) l) (target_nothing l xs lt)
 
 pub found_at_name : (invents : Bool) (l d : ℕ) (bs : List Block) (b : Block) (hidden : Bool) (s : StandsAt bs b.depth b hidden) → Descend (depths bs) → AreBelow (suc d) (depths bs) → b.depth + l ≡ d
-    → list_any (same_given b.name) s.front ≡ hidden → found [] (labels_from invents bs (suc d)) l ≡ found_named b.name hidden
+    → list_any (same_given b.name) s.front ≡ hidden → found_among [] (labels_from invents bs (suc d)) l ≡ found_named b.name hidden
 found_at_name invents l d bs b hidden s descend below e h =
     let m = means_named invents l d s.front s.rest b (subst (λ cs. Descend (depths cs)) s.is descend) (subst (λ cs. AreBelow (suc d) (depths cs)) s.is below) e in
     let i : target l (labels_from invents bs (suc d)) ≡ Around (Some b.name) m.further = ap (λ cs. target l (labels_from invents cs (suc d))) s.is ∙ m.is in
@@ -206,7 +206,7 @@ unnamed_found None n = ToBlock n
 unnamed_found (Some y) n = ByName y
 
 pub found_unnamed : (invents : Bool) (l d e : ℕ) (bs : List Block) → AllByRecursion (λ b. b.depth ≢ e) bs → e + l ≡ d
-    → found [] (labels_from invents bs (suc d)) l ≡ unnamed_found (unnamed invents e) (suc d - l)
+    → found_among [] (labels_from invents bs (suc d)) l ≡ unnamed_found (unnamed invents e) (suc d - l)
 found_unnamed invents l d e bs h is =
     let m = means_unnamed invents l d e bs h is in
     ap (found_by [] (length (labels_from invents bs (suc d))) l) m.is ∙ by invents m.further

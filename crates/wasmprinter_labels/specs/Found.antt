@@ -20,5 +20,5 @@ found_by inner d l Own = ByNumber
 found_by inner d l Nothing = ToNothing
 
 -- the label l among these, where those of `inner` stand further in
-abbrev pub found : List Label → List Label → ℕ → Found
-found inner xs l = found_by inner (length xs) l (target l xs)
+abbrev pub found_among : List Label → List Label → ℕ → Found
+found_among inner xs l = found_by inner (length xs) l (target l xs)

@@ -5,7 +5,7 @@ use Rattle.wasmprinter_spec.specs.Labels.{Label, labels_after, count_after, outs
 use Rattle.wasmprinter_spec.specs.Names.{Names, names_by}
 use Rattle.wasmprinter_names.specs.Views.{NamedItem, name_at}
 use Rattle.wasmprinter_names.specs.declared.identifiers.Identifiers.{Identifiers}
-use Rattle.wasmprinter_labels.specs.Found.{Found, found}
+use Rattle.wasmprinter_labels.specs.Found.{Found, found_among}
 
 -- The names of the module, and whether identifiers are made up; then the function, how many blocks were opened in the expression, and the labels of
 -- those that are open, the innermost first.
@@ -24,29 +24,33 @@ names_of s = names_by s.invents (name_at s.named)
 abbrev pub own_label : Scan → Label
 own_label s = (names_of s).labels s.function s.count (length s.labels)
 
--- in front of an expression of the function
+-- with these names, in front of an expression of the function
+abbrev pub scan_from : List NamedItem → Bool → ℕ → Scan
+scan_from named invents f = record { named = named; invents = invents; function = f; count = 0; labels = [] }
+
+-- the same with those of identifiers
 abbrev pub at_start : Identifiers → ℕ → Scan
-at_start x f = record { named = x.names.now; invents = x.invents; function = f; count = 0; labels = [] }
+at_start x f = scan_from x.names.now x.invents f
 
 -- the same for an expression of another function
-abbrev pub begun : ℕ → Scan → Scan
-begun f s = record { named = s.named; invents = s.invents; function = f; count = 0; labels = [] }
+abbrev pub at_start_again : ℕ → Scan → Scan
+at_start_again f s = scan_from s.named s.invents f
 
 -- behind an operator that opens a block
-abbrev pub opened : Scan → Scan
-opened s = record { named = s.named; invents = s.invents; function = s.function; count = suc s.count; labels = own_label s ∷ s.labels }
+abbrev pub behind_opening : Scan → Scan
+behind_opening s = record { named = s.named; invents = s.invents; function = s.function; count = suc s.count; labels = own_label s ∷ s.labels }
 
 abbrev pub without_first : List Label → List Label
 without_first [] = []
 without_first (x ∷ xs) = xs
 
 -- behind one that closes a block
-abbrev pub closed : Scan → Scan
-closed s = record { named = s.named; invents = s.invents; function = s.function; count = s.count; labels = without_first s.labels }
+abbrev pub behind_closing : Scan → Scan
+behind_closing s = record { named = s.named; invents = s.invents; function = s.function; count = s.count; labels = without_first s.labels }
 
 -- behind an operator of the role
-abbrev pub advanced : Role → Scan → Scan
-advanced role s = record {
+abbrev pub behind_operator : Role → Scan → Scan
+behind_operator role s = record {
   named = s.named;
   invents = s.invents;
   function = s.function;
@@ -56,4 +60,4 @@ advanced role s = record {
 
 -- what a label means in an operator of the role
 abbrev pub found_at : Role → Scan → ℕ → Found
-found_at role s l = found (inside role s.labels) (outside role s.labels) l
+found_at role s l = found_among (inside role s.labels) (outside role s.labels) l

@@ -4,8 +4,8 @@ ghost use Rattle.wasmprinter_spec.specs.Names.Section.{label_subsection};
 ghost use Rattle.wasmprinter_ops.specs.Shapes.{role_view};
 ghost use Rattle.wasmprinter_names.specs.Views.{name_at};
 ghost use Rattle.wasmprinter_names.specs.Shown.{identifier_view};
-ghost use Rattle.wasmprinter_labels.specs.Found.{found};
-ghost use Rattle.wasmprinter_labels.specs.Scan.{own_label, at_start, begun, opened, closed, advanced, found_at};
+ghost use Rattle.wasmprinter_labels.specs.Found.{found_among};
+ghost use Rattle.wasmprinter_labels.specs.Scan.{own_label, at_start, at_start_again, behind_opening, behind_closing, behind_operator, found_at};
 ghost use Rattle.wasmprinter_labels.specs.Stack.{unnamed};
 ghost use Rattle.wasmprinter_labels.specs.Inside.{label_of};
 ghost use Rattle.wasmprinter_labels.specs.Views.{found_view};
@@ -121,7 +121,7 @@ impl<'n, 'a> OpenLabels<'n, 'a> {
 
     /// Goes to the front of an expression of the function: no block is open, and none was opened.
     pub fn begin(&mut self, function: u64)
-        ensures { self.new ≡ begun function self.old }
+        ensures { self.new ≡ at_start_again function self.old }
     {
         self.next = self
             .labels
@@ -152,7 +152,7 @@ impl<'n, 'a> OpenLabels<'n, 'a> {
     /// Goes on behind an operator that opens a block.
     fn open(&mut self)
         requires { self.old.count + 1 < 2 ^ 64 }
-        ensures { self.new ≡ opened self.old }
+        ensures { self.new ≡ behind_opening self.old }
     {
         let label = label_of(&self.labels, self.next, self.function, self.opened);
         let depth = self.depth;
@@ -167,7 +167,7 @@ impl<'n, 'a> OpenLabels<'n, 'a> {
 
     /// Goes on behind an operator that closes a block.
     fn close(&mut self)
-        ensures { self.new ≡ closed self.old }
+        ensures { self.new ≡ behind_closing self.old }
     {
         if self.depth > 0 {
             self.depth -= 1;
@@ -178,7 +178,7 @@ impl<'n, 'a> OpenLabels<'n, 'a> {
     /// Goes on behind an operator of the role.
     pub fn advance(&mut self, role: Role)
         requires { self.old.count + 1 < 2 ^ 64 }
-        ensures { self.new ≡ advanced (role_view role) self.old }
+        ensures { self.new ≡ behind_operator (role_view role) self.old }
     {
         match role {
             Role::Opens | Role::OpensIf | Role::OpensTry => self.open(),
@@ -189,7 +189,7 @@ impl<'n, 'a> OpenLabels<'n, 'a> {
 
     /// What a label means among all that are open.
     fn meaning(&self, label: u64) -> Meant<'n>
-        ensures { found_view result ≡ found [] self.now.labels label }
+        ensures { found_view result ≡ found_among [] self.now.labels label }
     {
         if label > self.depth {
             return Meant::ToNothing;

@@ -11,6 +11,7 @@ pub mod Plain
 pub mod Identifiers
 pub mod Notes
 pub mod Pieces
+pub mod Respelled
 pub mod Writes
 pub mod PrintedPieces
 pub mod Alike

@@ -1,5 +1,5 @@
--- What pieces read as. `WritesNoted a ps b f k`: behind the edge a the pieces ps may stand, they leave the edge b, and their tokens are those of
--- the items k, with annotations behind identifiers that count for nothing; f is k without its annotations. `Writes a ps b f`: k has none. One rule
+-- What pieces read as. `WritesNoted a ps b f k`: behind the edge a the pieces ps may stand, or others that are printed as they are, they leave the
+-- edge b, and their tokens are those of the items k, with annotations behind identifiers that count for nothing; f is k without its annotations. `Writes a ps b f`: k has none. One rule
 -- for each piece and each kind of group; `search writing` finds whole derivations.
 use Rattle.std.proofs.Common.{◌≡◌, ℕ, ℤ, ◌<◌, ◌*◌, ◌^◌, Bool, true, false, ◌||◌, List, [], ◌∷◌, ◌++◌, Option, Some, None, refl, sym, ap, ap₂, ◌∙◌, append_assoc, append-nil, decimal, codes, subst, encode_utf8_all}
 use Rattle.std.proofs.lemmas.Bool.{and_parts, and_from, or_right}
@@ -16,19 +16,22 @@ use Rattle.wasmprinter_spec.specs.Token.{left, left_note, right, word, name, str
 use Rattle.wasmprinter_spec.specs.Forest.{Forest, End, Word, Name, String, Group, Note, flat, onto, cut, forest, the_one, grow}
 use Rattle.wasmprinter_spec.specs.Piece as piece
 use Rattle.wasmprinter_spec.specs.Piece.{Piece, Begin, Feed, Break, Gap, Open, OpenGap, OpenPlain, OpenBare, OpenTypeGap, OpenNote, OpenNoteGap, OpenRun, Shut, TypeWord, TypeWordGap, GapTypeWord, Number, Constant, Literals, GapLiterals, Float, NumberRemark, BeginName, EndStyle, Quoted, QuotedBytes, Identifier, NameNote, Remark, Ending, PlainEnding, HintNote, Claimed, flag_byte, word_tokens, all_calls, all_tokens, piece_tokens}
-use Rattle.wasmprinter_spec.specs.Layout.Groups.{group, line_group_gap, group_at, group_gap_at, line_group, close, has_break}
+use Rattle.wasmprinter_spec.specs.Layout.Groups.{group, group_gap, line_group_gap, group_at, group_gap_at, line_group, close, has_break}
 use Rattle.wasmprinter_lexical.proofs.Runs.{is_word, are_words}
 use Rattle.wasmprinter_lexical.proofs.Grown.{flat-onto, one-flat, cut-onto}
 use Rattle.wasmprinter_lexical.proofs.Noted.{Noted, no_items, a_word, a_name, a_noted_name, a_string, a_group, a_note, noted-same, noted-onto}
 use Rattle.wasmprinter_lexical.proofs.Notes.{Beginning, InGroup, InNote, beginning_tokens, beginning, run_tokens}
 use Rattle.wasmprinter_lexical.proofs.Printed.{is_remark}
-use Rattle.wasmprinter_lexical.proofs.Pieces.{Edge, Free, Bound, Opened, Ended, begins, starts, feeds, leaves, may_follow, pieces_follow, ArePieces, text_of-all_calls, pieces_lex}
+use Rattle.wasmprinter_lexical.proofs.Pieces.{Edge, Free, Bound, Opened, Ended, begins, feeds, leaves, may_follow, pieces_follow, ArePieces, text_of-all_calls, pieces_lex}
+use Rattle.wasmprinter_lexical.proofs.Respelled.{Respelled, same_spelled, first_spelled, both_spelled, then_spelled, all_lexed, pieces_lexed}
 
 pub record WritesNoted (a : Edge) (ps : List Piece) (b : Edge) (f k : Forest) : Type 0 where
-  pub joins : (qs : List Piece) → pieces_follow b qs ≡ true → pieces_follow a (ps ++ qs) ≡ true
-  pub are : ArePieces ps
+  pub printed : List Piece
+  pub spelled : Respelled ps printed
+  pub joins : (qs : List Piece) → pieces_follow b qs ≡ true → pieces_follow a (printed ++ qs) ≡ true
+  pub are : ArePieces printed
   pub whole : Forest
-  pub tokens : all_tokens ps ≡ flat whole
+  pub tokens : all_tokens printed ≡ flat whole
   pub noted : Noted whole k
   pub without : cut k ≡ f
 
@@ -39,14 +42,35 @@ Writes a ps b f = WritesNoted a ps b f f
 -- ---- what follows from it
 
 -- The text of pieces that may stand so reads as their tokens.
+-- The tokens of a text are those of the texts of its pieces.
+pub writes_lexed : {a b : Edge} {ps : List Piece} {f k : Forest} (w : WritesNoted a ps b f k) → all_lexed ps ≡ all_tokens w.printed
+writes_lexed w = w.spelled.tokens ∙ pieces_lexed w.printed w.are
+
+-- the text of pieces is that of those that are printed
+pub writes_text : {a b : Edge} {f k : Forest} (o : Options) (ps : List Piece) (w : WritesNoted a ps b f k) → text_of (all_calls o ps) ≡ text_of (all_calls o w.printed)
+writes_text o ps w = text_of-all_calls o ps ∙ w.spelled.text o ∙ sym (text_of-all_calls o w.printed)
+
 pub pieces_tokens : (o : Options) → IsBlank o.indent → (ps : List Piece) → pieces_follow Free ps ≡ true → ArePieces ps → tokens (text_of (all_calls o ps)) ≡ all_tokens ps
 pieces_tokens o blank ps j a = ap tokens (text_of-all_calls o ps) ∙ pieces_lex o blank Free ps j a
 
-pub writes_joined : {a b : Edge} {ps : List Piece} {f k : Forest} → WritesNoted a ps b f k → pieces_follow a ps ≡ true
-writes_joined {a = a} {ps = ps} w = subst (λ t. pieces_follow a t ≡ true) (append-nil ps) (w.joins [] refl)
+pub writes_joined : {a b : Edge} {ps : List Piece} {f k : Forest} (w : WritesNoted a ps b f k) → pieces_follow a w.printed ≡ true
+writes_joined {a = a} w = subst (λ t. pieces_follow a t ≡ true) (append-nil w.printed) (w.joins [] refl)
 
-pub writes_tokens : {b : Edge} {f k : Forest} (o : Options) → IsBlank o.indent → (ps : List Piece) → WritesNoted Free ps b f k → tokens (text_of (all_calls o ps)) ≡ all_tokens ps
-writes_tokens o blank ps w = pieces_tokens o blank ps (writes_joined w) w.are
+pub writes_tokens : {b : Edge} {f k : Forest} (o : Options) → IsBlank o.indent → (ps : List Piece) (w : WritesNoted Free ps b f k) → tokens (text_of (all_calls o ps)) ≡ all_tokens w.printed
+writes_tokens o blank ps w = ap tokens (writes_text o ps w) ∙ pieces_tokens o blank w.printed (writes_joined w) w.are
+
+-- pieces in place of others
+pub respelled_write : {a b : Edge} {ps qs : List Piece} {f k : Forest} → Respelled qs ps → WritesNoted a ps b f k → WritesNoted a qs b f k
+respelled_write s w = record {
+  printed = w.printed;
+  spelled = then_spelled s w.spelled;
+  joins = w.joins;
+  are = w.are;
+  whole = w.whole;
+  tokens = w.tokens;
+  noted = w.noted;
+  without = w.without;
+}
 
 -- The text of pieces grows into what they write.
 pub writes_forest : {b : Edge} {f k : Forest} (o : Options) → IsBlank o.indent → (ps : List Piece) (w : WritesNoted Free ps b f k) → forest (text_of (all_calls o ps)) ≡ Some w.whole
@@ -65,11 +89,13 @@ ArePieces-append (p ∷ ps) qs a b = (a.0, ArePieces-append ps qs a.1 b)
 
 -- one and another, where the second may stand behind a word
 pub both_write : {a b c : Edge} {ps qs : List Piece} {f g k h : Forest} → WritesNoted a ps b f k → WritesNoted b qs c g h → WritesNoted a (ps ++ qs) c (onto f g) (onto k h)
-both_write {a = a} {ps = ps} {qs = qs} {k = k} {h = h} v w = record {
-  joins = λ rs j. subst (λ t. pieces_follow a t ≡ true) (sym (append_assoc ps qs rs)) (v.joins (qs ++ rs) (w.joins rs j));
-  are = ArePieces-append ps qs v.are w.are;
+both_write {a = a} {k = k} {h = h} v w = record {
+  printed = v.printed ++ w.printed;
+  spelled = both_spelled v.spelled w.spelled;
+  joins = λ rs j. subst (λ t. pieces_follow a t ≡ true) (sym (append_assoc v.printed w.printed rs)) (v.joins (w.printed ++ rs) (w.joins rs j));
+  are = ArePieces-append v.printed w.printed v.are w.are;
   whole = onto v.whole w.whole;
-  tokens = all_tokens-append ps qs ∙ ap (λ t. t ++ all_tokens qs) v.tokens ∙ ap (λ t. flat v.whole ++ t) w.tokens ∙ sym (flat-onto v.whole w.whole);
+  tokens = all_tokens-append v.printed w.printed ∙ ap (λ t. t ++ all_tokens w.printed) v.tokens ∙ ap (λ t. flat v.whole ++ t) w.tokens ∙ sym (flat-onto v.whole w.whole);
   without = cut-onto k h ∙ ap₂ onto v.without w.without;
   noted = noted-onto v.noted w.noted;
 }
@@ -105,7 +131,9 @@ feeds_all Ended p f = f
 -- Pieces that may stand behind a word may stand behind anything. (In no set of rules: a search would go round it.)
 pub loosened : {b : Edge} {ps : List Piece} {f k : Forest} → WritesNoted Bound ps b f k → WritesNoted Free ps b f k
 loosened {ps = ps} w = record {
-  joins = λ qs h. loosen Bound (ps ++ qs) (w.joins qs h);
+  printed = w.printed;
+  spelled = w.spelled;
+  joins = λ qs h. loosen Bound (w.printed ++ qs) (w.joins qs h);
   are = w.are;
   whole = w.whole;
   tokens = w.tokens;
@@ -129,17 +157,19 @@ ended_joins a (p ∷ ps) j =
     joins_line a p ps parts.0 parts.1
 
 pub nothing_writes : {a : Edge} → WritesNoted a [] a End End
-nothing_writes = record { joins = λ qs h. h; are = tt; whole = End; tokens = refl; without = refl; noted = no_items }
+nothing_writes = record { printed = []; spelled = same_spelled; joins = λ qs h. h; are = tt; whole = End; tokens = refl; without = refl; noted = no_items }
 
 pub free_writes : {b : Edge} → WritesNoted Free [] b End End
-free_writes {b = b} = record { joins = λ qs h. loosen b qs h; are = tt; whole = End; tokens = refl; without = refl; noted = no_items }
+free_writes {b = b} = record { printed = []; spelled = same_spelled; joins = λ qs h. loosen b qs h; are = tt; whole = End; tokens = refl; without = refl; noted = no_items }
 
 pub begin_writes : {b : Edge} {place : ℕ} {ps : List Piece} {f k : Forest} → WritesNoted Free ps b f k → WritesNoted Free (Begin place ∷ ps) b f k
-begin_writes w = record { joins = w.joins; are = (tt, w.are); whole = w.whole; tokens = w.tokens; without = w.without; noted = w.noted }
+begin_writes {place = place} w = record { printed = Begin place ∷ w.printed; spelled = first_spelled (Begin place) w.spelled; joins = w.joins; are = (tt, w.are); whole = w.whole; tokens = w.tokens; without = w.without; noted = w.noted }
 
 pub feed_writes : {a b : Edge} {ps : List Piece} {f k : Forest} → WritesNoted Free ps b f k → WritesNoted a (Feed ∷ ps) b f k
 feed_writes {a = a} {ps = ps} w = record {
-  joins = λ qs h. joins_line a Feed (ps ++ qs) refl (w.joins qs h);
+  printed = Feed ∷ w.printed;
+  spelled = first_spelled Feed w.spelled;
+  joins = λ qs h. joins_line a Feed (w.printed ++ qs) refl (w.joins qs h);
   are = (tt, w.are);
   whole = w.whole;
   tokens = w.tokens;
@@ -149,7 +179,9 @@ feed_writes {a = a} {ps = ps} w = record {
 
 pub break_writes : {a b : Edge} {place : Option ℕ} {nesting : ℕ} {ps : List Piece} {f k : Forest} → WritesNoted Free ps b f k → WritesNoted a (Break place nesting ∷ ps) b f k
 break_writes {a = a} {place = place} {nesting = nesting} {ps = ps} w = record {
-  joins = λ qs h. joins_line a (Break place nesting) (ps ++ qs) refl (w.joins qs h);
+  printed = Break place nesting ∷ w.printed;
+  spelled = first_spelled (Break place nesting) w.spelled;
+  joins = λ qs h. joins_line a (Break place nesting) (w.printed ++ qs) refl (w.joins qs h);
   are = (tt, w.are);
   whole = w.whole;
   tokens = w.tokens;
@@ -159,7 +191,9 @@ break_writes {a = a} {place = place} {nesting = nesting} {ps = ps} w = record {
 
 pub gap_writes : {a b : Edge} {ps : List Piece} {f k : Forest} → is_open a ≡ true → WritesNoted Free ps b f k → WritesNoted a (Gap ∷ ps) b f k
 gap_writes {a = a} {ps = ps} e w = record {
-  joins = λ qs h. joins_anywhere a Gap (ps ++ qs) e refl (w.joins qs h);
+  printed = Gap ∷ w.printed;
+  spelled = first_spelled Gap w.spelled;
+  joins = λ qs h. joins_anywhere a Gap (w.printed ++ qs) e refl (w.joins qs h);
   are = (tt, w.are);
   whole = w.whole;
   tokens = w.tokens;
@@ -169,7 +203,9 @@ gap_writes {a = a} {ps = ps} e w = record {
 
 pub number_remark_writes : {a b : Edge} {n : ℕ} {ps : List Piece} {f k : Forest} → is_open a ≡ true → n < 2 ^ 64 → WritesNoted Free ps b f k → WritesNoted a (NumberRemark n ∷ ps) b f k
 number_remark_writes {a = a} {n = n} {ps = ps} e h w = record {
-  joins = λ qs g. joins_anywhere a (NumberRemark n) (ps ++ qs) e refl (w.joins qs g);
+  printed = NumberRemark n ∷ w.printed;
+  spelled = first_spelled (NumberRemark n) w.spelled;
+  joins = λ qs g. joins_anywhere a (NumberRemark n) (w.printed ++ qs) e refl (w.joins qs g);
   are = (h, w.are);
   whole = w.whole;
   tokens = w.tokens;
@@ -180,6 +216,8 @@ number_remark_writes {a = a} {n = n} {ps = ps} e h w = record {
 -- no text, and no item
 pub begin_name_writes : {b : Edge} {ps : List Piece} {f k : Forest} → WritesNoted Free ps b f k → WritesNoted Free (BeginName ∷ ps) b f k
 begin_name_writes w = record {
+  printed = BeginName ∷ w.printed;
+  spelled = first_spelled BeginName w.spelled;
   joins = w.joins;
   are = (tt, w.are);
   whole = w.whole;
@@ -190,7 +228,9 @@ begin_name_writes w = record {
 
 pub end_style_writes : {a b : Edge} {ps : List Piece} {f k : Forest} → is_open a ≡ true → WritesNoted Bound ps b f k → WritesNoted a (EndStyle ∷ ps) b f k
 end_style_writes {a = a} {ps = ps} e w = record {
-  joins = λ qs h. joins_anywhere a EndStyle (ps ++ qs) e refl (w.joins qs h);
+  printed = EndStyle ∷ w.printed;
+  spelled = first_spelled EndStyle w.spelled;
+  joins = λ qs h. joins_anywhere a EndStyle (w.printed ++ qs) e refl (w.joins qs h);
   are = (tt, w.are);
   whole = w.whole;
   tokens = w.tokens;
@@ -200,6 +240,8 @@ end_style_writes {a = a} {ps = ps} e w = record {
 
 pub word_writes : {b : Edge} {v : List ℕ} {ps : List Piece} {f k : Forest} → is_word v ≡ true → WritesNoted Bound ps b f k → WritesNoted Free (piece.Word v ∷ ps) b (Word v f) (Word v k)
 word_writes {v = v} h w = record {
+  printed = piece.Word v ∷ w.printed;
+  spelled = first_spelled (piece.Word v) w.spelled;
   joins = w.joins;
   are = (h, w.are);
   whole = Word v w.whole;
@@ -210,6 +252,8 @@ word_writes {v = v} h w = record {
 
 pub type_word_writes : {b : Edge} {v : List ℕ} {ps : List Piece} {f k : Forest} → is_word v ≡ true → WritesNoted Bound ps b f k → WritesNoted Free (TypeWord v ∷ ps) b (Word v f) (Word v k)
 type_word_writes {v = v} h w = record {
+  printed = TypeWord v ∷ w.printed;
+  spelled = first_spelled (TypeWord v) w.spelled;
   joins = w.joins;
   are = (h, w.are);
   whole = Word v w.whole;
@@ -220,6 +264,8 @@ type_word_writes {v = v} h w = record {
 
 pub number_writes : {b : Edge} {n : ℕ} {ps : List Piece} {f k : Forest} → n < 2 ^ 64 → WritesNoted Bound ps b f k → WritesNoted Free (Number n ∷ ps) b (Word (decimal n) f) (Word (decimal n) k)
 number_writes {n = n} h w = record {
+  printed = Number n ∷ w.printed;
+  spelled = first_spelled (Number n) w.spelled;
   joins = w.joins;
   are = (h, w.are);
   whole = Word (decimal n) w.whole;
@@ -230,7 +276,9 @@ number_writes {n = n} h w = record {
 
 pub constant_writes : {a b : Edge} {z : ℤ} {ps : List Piece} {f k : Forest} → is_open a ≡ true → mag z < 2 ^ 63 → WritesNoted Bound ps b f k → WritesNoted a (Constant z ∷ ps) b (Word (signed_decimal z) f) (Word (signed_decimal z) k)
 constant_writes {a = a} {z = z} {ps = ps} e h w = record {
-  joins = λ qs g. joins_anywhere a (Constant z) (ps ++ qs) e refl (w.joins qs g);
+  printed = Constant z ∷ w.printed;
+  spelled = first_spelled (Constant z) w.spelled;
+  joins = λ qs g. joins_anywhere a (Constant z) (w.printed ++ qs) e refl (w.joins qs g);
   are = (h, w.are);
   whole = Word (signed_decimal z) w.whole;
   tokens = ap (λ t. word (signed_decimal z) ∷ t) w.tokens;
@@ -241,6 +289,8 @@ constant_writes {a = a} {z = z} {ps = ps} e h w = record {
 pub type_word_gap_writes : {b : Edge} {v : List ℕ} {ps : List Piece} {f k : Forest} → is_word v ≡ true → WritesNoted Free ps b f k →
     WritesNoted Free (TypeWordGap v ∷ ps) b (Word v f) (Word v k)
 type_word_gap_writes {v = v} h w = record {
+  printed = TypeWordGap v ∷ w.printed;
+  spelled = first_spelled (TypeWordGap v) w.spelled;
   joins = w.joins;
   are = (h, w.are);
   whole = Word v w.whole;
@@ -252,7 +302,9 @@ type_word_gap_writes {v = v} h w = record {
 pub gap_type_word_writes : {a b : Edge} {v : List ℕ} {ps : List Piece} {f k : Forest} → is_open a ≡ true → is_word v ≡ true → WritesNoted Bound ps b f k →
     WritesNoted a (GapTypeWord v ∷ ps) b (Word v f) (Word v k)
 gap_type_word_writes {a = a} {v = v} {ps = ps} e h w = record {
-  joins = λ qs g. joins_anywhere a (GapTypeWord v) (ps ++ qs) e refl (w.joins qs g);
+  printed = GapTypeWord v ∷ w.printed;
+  spelled = first_spelled (GapTypeWord v) w.spelled;
+  joins = λ qs g. joins_anywhere a (GapTypeWord v) (w.printed ++ qs) e refl (w.joins qs g);
   are = (h, w.are);
   whole = Word v w.whole;
   tokens = ap (λ t. word v ∷ t) w.tokens;
@@ -280,6 +332,8 @@ noted-words (v ∷ vs) n = a_word (noted-words vs n)
 pub literals_writes : {b : Edge} {v : List ℕ} {vs : List (List ℕ)} {ps : List Piece} {f k : Forest} → are_words (v ∷ vs) ≡ true → WritesNoted Bound ps b f k →
     WritesNoted Free (Literals v vs ∷ ps) b (Word v (words_before vs f)) (Word v (words_before vs k))
 literals_writes {v = v} {vs = vs} {ps = ps} {k = k} h w = record {
+  printed = Literals v vs ∷ w.printed;
+  spelled = first_spelled (Literals v vs) w.spelled;
   joins = w.joins;
   are = (h, w.are);
   whole = words_before (v ∷ vs) w.whole;
@@ -291,7 +345,9 @@ literals_writes {v = v} {vs = vs} {ps = ps} {k = k} h w = record {
 pub gap_literals_writes : {a b : Edge} {vs : List (List ℕ)} {ps : List Piece} {f k : Forest} → is_open a ≡ true → are_words vs ≡ true → WritesNoted Bound ps b f k →
     WritesNoted a (GapLiterals vs ∷ ps) b (words_before vs f) (words_before vs k)
 gap_literals_writes {a = a} {vs = vs} {ps = ps} {k = k} e h w = record {
-  joins = λ qs g. joins_anywhere a (GapLiterals vs) (ps ++ qs) e refl (w.joins qs g);
+  printed = GapLiterals vs ∷ w.printed;
+  spelled = first_spelled (GapLiterals vs) w.spelled;
+  joins = λ qs g. joins_anywhere a (GapLiterals vs) (w.printed ++ qs) e refl (w.joins qs g);
   are = (h, w.are);
   whole = words_before vs w.whole;
   tokens = ap (λ t. word_tokens vs ++ t) w.tokens ∙ sym (words_before-flat vs w.whole);
@@ -302,6 +358,8 @@ gap_literals_writes {a = a} {vs = vs} {ps = ps} {k = k} e h w = record {
 pub float_writes : {b : Edge} {width : Width} {bits : ℕ} {ps : List Piece} {f k : Forest} → IsWidth width → bits < 2 * sign_bit width → WritesNoted Bound ps b f k →
     WritesNoted Free (Float width bits ∷ ps) b (Word (float_text width bits) f) (Word (float_text width bits) k)
 float_writes {width = width} {bits = bits} is h w = record {
+  printed = Float width bits ∷ w.printed;
+  spelled = first_spelled (Float width bits) w.spelled;
   joins = w.joins;
   are = ((is, h), w.are);
   whole = Word (float_text width bits) w.whole;
@@ -312,6 +370,8 @@ float_writes {width = width} {bits = bits} is h w = record {
 
 pub quoted_writes : {b : Edge} {cs : List ℕ} {ps : List Piece} {f k : Forest} → scalars cs ≡ true → WritesNoted Bound ps b f k → WritesNoted Free (Quoted cs ∷ ps) b (String (encode_utf8_all cs) f) (String (encode_utf8_all cs) k)
 quoted_writes {cs = cs} h w = record {
+  printed = Quoted cs ∷ w.printed;
+  spelled = first_spelled (Quoted cs) w.spelled;
   joins = w.joins;
   are = (h, w.are);
   whole = String (encode_utf8_all cs) w.whole;
@@ -323,6 +383,8 @@ quoted_writes {cs = cs} h w = record {
 pub quoted_bytes_writes : {b : Edge} {bs : List ℕ} {ps : List Piece} {f k : Forest} → AllByRecursion (λ x. x < 256) bs → WritesNoted Bound ps b f k →
     WritesNoted Free (QuotedBytes bs ∷ ps) b (String bs f) (String bs k)
 quoted_bytes_writes {bs = bs} h w = record {
+  printed = QuotedBytes bs ∷ w.printed;
+  spelled = first_spelled (QuotedBytes bs) w.spelled;
   joins = w.joins;
   are = (h, w.are);
   whole = String bs w.whole;
@@ -334,6 +396,8 @@ quoted_bytes_writes {bs = bs} h w = record {
 pub identifier_writes : {b : Edge} {cs : List ℕ} {ps : List Piece} {f k : Forest} → scalars cs ≡ true → is_name (encode_utf8_all cs) ≡ true → WritesNoted Bound ps b f k →
     WritesNoted Free (Identifier cs ∷ ps) b (Name (encode_utf8_all cs) f) (Name (encode_utf8_all cs) k)
 identifier_writes {cs = cs} h n w = record {
+  printed = Identifier cs ∷ w.printed;
+  spelled = first_spelled (Identifier cs) w.spelled;
   joins = w.joins;
   are = ((h, n), w.are);
   whole = Name (encode_utf8_all cs) w.whole;
@@ -347,6 +411,8 @@ pub noted_identifier_writes : {b : Edge} {cs ds : List ℕ} {ps : List Piece} {f
     WritesNoted Free ps b f k →
     WritesNoted Free (Identifier cs ∷ (Gap ∷ (NameNote ds ∷ ps))) b (Name (encode_utf8_all cs) f) (Name (encode_utf8_all cs) k)
 noted_identifier_writes {cs = cs} {ds = ds} h n d w = record {
+  printed = Identifier cs ∷ (Gap ∷ (NameNote ds ∷ w.printed));
+  spelled = first_spelled (Identifier cs) (first_spelled Gap (first_spelled (NameNote ds) w.spelled));
   joins = w.joins;
   are = ((h, n), (tt, (d, w.are)));
   whole = Name (encode_utf8_all cs) (Note (codes "name") (String (encode_utf8_all ds) End) w.whole);
@@ -357,7 +423,9 @@ noted_identifier_writes {cs = cs} {ds = ds} h n d w = record {
 
 pub remark_writes : {a b : Edge} {t : Bool} {s : List ℕ} {ps : List Piece} {f k : Forest} → is_open a ≡ true → is_remark s ≡ true → WritesNoted Free ps b f k → WritesNoted a (Remark t s ∷ ps) b f k
 remark_writes {a = a} {t = t} {s = s} {ps = ps} e h w = record {
-  joins = λ qs g. joins_anywhere a (Remark t s) (ps ++ qs) e refl (w.joins qs g);
+  printed = Remark t s ∷ w.printed;
+  spelled = first_spelled (Remark t s) w.spelled;
+  joins = λ qs g. joins_anywhere a (Remark t s) (w.printed ++ qs) e refl (w.joins qs g);
   are = (h, w.are);
   whole = w.whole;
   tokens = w.tokens;
@@ -367,7 +435,9 @@ remark_writes {a = a} {t = t} {s = s} {ps = ps} e h w = record {
 
 pub ending_writes : {a b : Edge} {s : List ℕ} {ps : List Piece} {f k : Forest} → is_open a ≡ true → is_remark s ≡ true → WritesNoted Ended ps b f k → WritesNoted a (Ending s ∷ ps) b f k
 ending_writes {a = a} {s = s} {ps = ps} e h w = record {
-  joins = λ qs g. joins_anywhere a (Ending s) (ps ++ qs) e refl (w.joins qs g);
+  printed = Ending s ∷ w.printed;
+  spelled = first_spelled (Ending s) w.spelled;
+  joins = λ qs g. joins_anywhere a (Ending s) (w.printed ++ qs) e refl (w.joins qs g);
   are = (h, w.are);
   whole = w.whole;
   tokens = w.tokens;
@@ -378,7 +448,9 @@ ending_writes {a = a} {s = s} {ps = ps} e h w = record {
 pub plain_ending_writes : {a b : Edge} {s : List ℕ} {ps : List Piece} {f k : Forest} → is_open a ≡ true → is_remark s ≡ true → WritesNoted Ended ps b f k →
     WritesNoted a (PlainEnding s ∷ ps) b f k
 plain_ending_writes {a = a} {s = s} {ps = ps} e h w = record {
-  joins = λ qs g. joins_anywhere a (PlainEnding s) (ps ++ qs) e refl (w.joins qs g);
+  printed = PlainEnding s ∷ w.printed;
+  spelled = first_spelled (PlainEnding s) w.spelled;
+  joins = λ qs g. joins_anywhere a (PlainEnding s) (w.printed ++ qs) e refl (w.joins qs g);
   are = (h, w.are);
   whole = w.whole;
   tokens = w.tokens;
@@ -391,7 +463,9 @@ plain_ending_writes {a = a} {s = s} {ps = ps} e h w = record {
 -- what may stand where the line must end may stand behind anything
 pub behind_anything : {b : Edge} {ps : List Piece} {f k : Forest} (a : Edge) → WritesNoted Ended ps b f k → WritesNoted a ps b f k
 behind_anything {ps = ps} a w = record {
-  joins = λ qs h. ended_joins a (ps ++ qs) (w.joins qs h);
+  printed = w.printed;
+  spelled = w.spelled;
+  joins = λ qs h. ended_joins a (w.printed ++ qs) (w.joins qs h);
   are = w.are;
   whole = w.whole;
   tokens = w.tokens;
@@ -402,6 +476,8 @@ behind_anything {ps = ps} a w = record {
 -- behind any pieces a line may end
 pub before_line : {a : Edge} {ps : List Piece} {f k : Forest} (b : Edge) → WritesNoted a ps b f k → WritesNoted a ps Ended f k
 before_line b w = record {
+  printed = w.printed;
+  spelled = w.spelled;
   joins = λ qs h. w.joins qs (ended_joins b qs h);
   are = w.are;
   whole = w.whole;
@@ -412,15 +488,17 @@ before_line b w = record {
 
 -- ---- behind a bare parenthesis
 
--- what begins so may stand there
-pub opened_writes : {b : Edge} {p : Piece} {ps : List Piece} {f k : Forest} → starts p ≡ true → WritesNoted Free (p ∷ ps) b f k → WritesNoted Opened (p ∷ ps) b f k
-opened_writes {p = p} {ps = ps} s w = record {
-  joins = λ qs h. and_from (starts p) (pieces_follow (leaves p) (ps ++ qs)) s (w.joins qs h);
-  are = w.are;
-  whole = w.whole;
-  tokens = w.tokens;
-  without = w.without;
-  noted = w.noted;
+-- a word may stand there
+pub opened_word_writes : {b : Edge} {v : List ℕ} {ps : List Piece} {f k : Forest} → is_word v ≡ true → WritesNoted Bound ps b f k → WritesNoted Opened (piece.Word v ∷ ps) b (Word v f) (Word v k)
+opened_word_writes {v = v} h w = record {
+  printed = piece.Word v ∷ w.printed;
+  spelled = first_spelled (piece.Word v) w.spelled;
+  joins = w.joins;
+  are = (h, w.are);
+  whole = Word v w.whole;
+  tokens = ap (λ t. word v ∷ t) w.tokens;
+  without = ap (Word v) w.without;
+  noted = a_word w.noted;
 }
 
 -- ---- groups
@@ -518,15 +596,17 @@ closed_writes : {b e c : Edge} {f k : Forest} {around kept : Forest → Forest} 
     is_open a ≡ true → may_close c t ≡ true → IsOpening p e around kept → WritesNoted e ps c f k →
     WritesNoted a (p ∷ (ps ++ close place nesting t)) b (kept f) (around k)
 closed_writes {b = b} {e = e} {c = c} {k = k} {around = around} {kept = kept} p place nesting t ps a o m i w = record {
-  joins = λ qs g. joins_anywhere a p ((ps ++ close place nesting t) ++ qs) o i.delimits
-      (subst (λ x. pieces_follow x ((ps ++ close place nesting t) ++ qs) ≡ true) (sym i.leaves_it)
-      (subst (λ x. pieces_follow e x ≡ true) (sym (append_assoc ps (close place nesting t) qs))
+  printed = p ∷ (w.printed ++ close place nesting t);
+  spelled = first_spelled p (both_spelled w.spelled same_spelled);
+  joins = λ qs g. joins_anywhere a p ((w.printed ++ close place nesting t) ++ qs) o i.delimits
+      (subst (λ x. pieces_follow x ((w.printed ++ close place nesting t) ++ qs) ≡ true) (sym i.leaves_it)
+      (subst (λ x. pieces_follow e x ≡ true) (sym (append_assoc w.printed (close place nesting t) qs))
       (w.joins (close place nesting t ++ qs) (close_joins c place nesting t qs m (loosen b qs g)))));
-  are = (i.is.0, ArePieces-append ps (close place nesting t) w.are (close_are place nesting t));
+  are = (i.is.0, ArePieces-append w.printed (close place nesting t) w.are (close_are place nesting t));
   whole = around w.whole;
   tokens =
       ap (λ x. piece_tokens p ++ x)
-      (all_tokens-append ps (close place nesting t)
+      (all_tokens-append w.printed (close place nesting t)
       ∙ ap (λ x. x ++ all_tokens (close place nesting t)) w.tokens
       ∙ ap (λ x. flat w.whole ++ x) (close_tokens place nesting t))
       ∙ i.opens w.whole;
@@ -537,6 +617,14 @@ closed_writes {b = b} {e = e} {c = c} {k = k} {around = around} {kept = kept} p 
 pub group_writes : {a b : Edge} (nesting : ℕ) (v : List ℕ) (ps : List Piece) {f k : Forest} → is_open a ≡ true → is_word v ≡ true → WritesNoted Bound ps Bound f k → WritesNoted a (group nesting v ps) b (Group (Word v f) End) (Group (Word v k) End)
 unfolding group
 group_writes {a = a} nesting v ps o h w = closed_writes (Open v) None nesting (has_break ps) ps a o refl (opening v h) w
+
+pub group_gap_writes : {a b : Edge} (nesting : ℕ) (v : List ℕ) (ps : List Piece) {f k : Forest} → is_open a ≡ true → is_word v ≡ true → WritesNoted Free ps Bound f k → WritesNoted a (group_gap nesting v ps) b (Group (Word v f) End) (Group (Word v k) End)
+unfolding group_gap
+group_gap_writes {a = a} nesting v ps o h w = closed_writes (OpenGap v) None nesting (has_break ps) ps a o refl (opening_gap v h) w
+
+-- a group without a keyword
+pub bare_group_writes : {a b : Edge} (nesting : ℕ) (t : Bool) (ps : List Piece) {f k : Forest} → is_open a ≡ true → WritesNoted Opened ps Bound f k → WritesNoted a (OpenBare ∷ (ps ++ close None nesting t)) b (Group f End) (Group k End)
+bare_group_writes {a = a} nesting t ps o w = closed_writes OpenBare None nesting t ps a o refl opening_bare w
 
 pub group_at_writes : {a b : Edge} (offsets : Bool) (place nesting : ℕ) (v : List ℕ) (ps : List Piece) {f k : Forest} → is_open a ≡ true → is_word v ≡ true → WritesNoted Bound ps Bound f k → WritesNoted a (group_at offsets place nesting v ps) b (Group (Word v f) End) (Group (Word v k) End)
 unfolding group_at
@@ -624,7 +712,9 @@ run_group_writes {a = a} v ps o h w = written (closed_writes (OpenRun v) None 0 
 pub hint_note_writes : {a b : Edge} {taken : Bool} {ps : List Piece} {f k : Forest} → is_open a ≡ true → WritesNoted Free ps b f k →
     WritesNoted a (HintNote taken ∷ ps) b f (Note (codes "metadata.code.branch_hint") (String (flag_byte taken ∷ []) End) k)
 hint_note_writes {a = a} {taken = taken} {ps = ps} e w = record {
-  joins = λ qs g. joins_anywhere a (HintNote taken) (ps ++ qs) e refl (w.joins qs g);
+  printed = HintNote taken ∷ w.printed;
+  spelled = first_spelled (HintNote taken) w.spelled;
+  joins = λ qs g. joins_anywhere a (HintNote taken) (w.printed ++ qs) e refl (w.joins qs g);
   are = (tt, w.are);
   whole = Note (codes "metadata.code.branch_hint") (String (flag_byte taken ∷ []) End) w.whole;
   tokens = ap (λ t. left_note (codes "metadata.code.branch_hint") ∷ (string (flag_byte taken ∷ []) ∷ (right ∷ t))) w.tokens;
@@ -636,7 +726,9 @@ hint_note_writes {a = a} {taken = taken} {ps = ps} e w = record {
 pub claimed_writes : {a b : Edge} {s : List ℕ} {place : ℕ} {bytes : List ℕ} {answer : Bool} {ps : List Piece} {f k : Forest} → is_open a ≡ true →
     WritesNoted Bound ps b f k → WritesNoted a (Claimed s place bytes answer ∷ ps) b f k
 claimed_writes {a = a} {s = s} {place = place} {bytes = bytes} {answer = answer} {ps = ps} e w = record {
-  joins = λ qs g. joins_anywhere a (Claimed s place bytes answer) (ps ++ qs) e refl (w.joins qs g);
+  printed = Claimed s place bytes answer ∷ w.printed;
+  spelled = first_spelled (Claimed s place bytes answer) w.spelled;
+  joins = λ qs g. joins_anywhere a (Claimed s place bytes answer) (w.printed ++ qs) e refl (w.joins qs g);
   are = (tt, w.are);
   whole = w.whole;
   tokens = w.tokens;
@@ -647,4 +739,4 @@ claimed_writes {a = a} {s = s} {place = place} {bytes = bytes} {answer = answer}
 pub then : {a c : Edge} {ps qs : List Piece} {f g k h : Forest} → WritesNoted a ps Bound f k → WritesNoted Bound qs c g h → WritesNoted a (ps ++ qs) c (onto f g) (onto k h)
 then v w = both_write v w
 
-pub ruleset writing = (nothing_writes, free_writes, begin_writes, feed_writes, gap_writes, break_writes, number_remark_writes, begin_name_writes, end_style_writes, word_writes, type_word_writes, type_word_gap_writes, gap_type_word_writes, number_writes, constant_writes, literals_writes, gap_literals_writes, float_writes, quoted_writes, quoted_bytes_writes, identifier_writes, noted_identifier_writes, remark_writes, ending_writes, plain_ending_writes, hint_note_writes, claimed_writes, group_writes, group_at_writes, group_gap_at_writes, line_group_writes, line_group_gap_writes, group_then, group_at_then, line_group_then, line_group_gap_then, plain_group_then, type_group_then, bare_group_then, opened_writes, then)
+pub ruleset writing = (nothing_writes, free_writes, begin_writes, feed_writes, gap_writes, break_writes, number_remark_writes, begin_name_writes, end_style_writes, word_writes, type_word_writes, type_word_gap_writes, gap_type_word_writes, number_writes, constant_writes, literals_writes, gap_literals_writes, float_writes, quoted_writes, quoted_bytes_writes, identifier_writes, noted_identifier_writes, remark_writes, ending_writes, plain_ending_writes, hint_note_writes, claimed_writes, group_writes, group_at_writes, group_gap_at_writes, line_group_writes, line_group_gap_writes, group_then, group_at_then, line_group_then, line_group_gap_then, plain_group_then, type_group_then, bare_group_then, opened_word_writes, then)

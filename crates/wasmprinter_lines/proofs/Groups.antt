@@ -10,7 +10,7 @@ or-cond true c = refl
 or-cond false c = refl
 
 -- three tests, one behind the other
-or-assoc : (a b c : Bool) → ((a || b) || c) ≡ (a || (b || c))
+pub or-assoc : (a b c : Bool) → ((a || b) || c) ≡ (a || (b || c))
 or-assoc true b c = refl
 or-assoc false b c = refl
 

@@ -1,6 +1,10 @@
 -- A text so many times.
-use Rattle.std.specs.Prelude.{◌≡◌, ℕ, zero, suc, ◌+◌, ◌-◌, ◌<◌, ◌≤◌, List, [], ◌∷◌, ◌++◌, replicate}
-use Rattle.std.proofs.Common.{refl, ap, arith}
+use Rattle.std.specs.Prelude.{◌≡◌, ℕ, zero, suc, ◌+◌, ◌-◌, ◌*◌, ◌<◌, ◌≤◌, List, [], ◌∷◌, ◌++◌, codes, take, replicate, Option, Some, None, IfSome}
+use Rattle.std.specs.Borrow.{Bor}
+use Rattle.std.specs.List.{slice_range}
+use Rattle.std.specs.Str.Pattern.{GetsRange}
+use Rattle.std.proofs.Common.{refl, ap, sym, ◌∙◌, arith}
+use Rattle.std.proofs.lemmas.List.{take-replicate}
 use Rattle.wasmprinter_spec.specs.Piece.{repeated}
 
 repeated-suc : (n k : ℕ) (text : List ℕ) → n ≡ suc k → repeated n text ≡ text ++ repeated k text
@@ -24,3 +28,21 @@ pub repeated_blank : (n : ℕ) → repeated n (32 ∷ []) ≡ replicate n 32
 unfolding repeated
 repeated_blank zero = refl
 repeated_blank (suc n) = ap (λ x. 32 ∷ x) (repeated_blank n)
+
+-- two blanks so many times
+repeated_blanks : (n : ℕ) → repeated n (codes "  ") ≡ replicate (2 * n) 32
+unfolding repeated
+repeated_blanks zero = refl
+repeated_blanks (suc n) = let e : 2 * suc n ≡ suc (suc (2 * n)) = omega arith in rw (repeated_blanks n, e) refl
+
+-- the beginning of a hundred blanks is two blanks so many times
+pub blanks_range : (n : ℕ) → n ≤ 50 → slice_range (replicate 100 32) 0 (2 * n) ≡ repeated n (codes "  ")
+blanks_range n h =
+    let e : 2 * n - 0 ≡ 2 * n = omega arith in
+    let front : take (2 * n) (replicate 100 32) ≡ replicate (2 * n) 32 = take-replicate (2 * n) 100 32 (omega arith) in
+    (rw e front) ∙ sym (repeated_blanks n)
+
+-- as many of them as two blanks so many times
+pub gets_blanks : (r : Option (Bor (List ℕ))) (n : ℕ) → n ≤ 50 → GetsRange (replicate 100 32) 0 (2 * n) r → IfSome r (λ t. t.now ≡ repeated n (codes "  "))
+gets_blanks None n h g = tt
+gets_blanks (Some t) n h g = g.0 ∙ blanks_range n h

@@ -1,9 +1,9 @@
 //! Lines, their places and their indents, and groups that close on a line of their own.
-ghost use Rattle.std.specs.Prelude.{[], ◌∷◌, ◌++◌, ◌||◌, true, false, None, Some};
+ghost use Rattle.std.specs.Prelude.{◌≤◌, [], ◌∷◌, ◌++◌, ◌||◌, true, false, None, Some};
 ghost use Rattle.std.specs.Fmt.{digits};
 ghost use Rattle.wasmprinter_spec.specs.Call.{Text};
 ghost use Rattle.wasmprinter_spec.specs.Options.{Options};
-ghost use Rattle.wasmprinter_spec.specs.Piece.{Begin, Feed, Break, repeated, left_in, place_calls};
+ghost use Rattle.wasmprinter_spec.specs.Piece.{Begin, Feed, Break, most_indents, repeated, left_in, place_calls};
 ghost use Rattle.wasmprinter_spec.specs.Layout.Groups.{close};
 ghost use Rattle.wasmprinter_print.specs.Emits.{Emits};
 ghost use Rattle.wasmprinter_print.specs.Prints.{Prints};
@@ -11,7 +11,7 @@ ghost use Rattle.wasmprinter_print.specs.Prints.{Prints};
 use crate::options::PrintOptions;
 use std::io;
 use wasmprinter_print::{Print, Style, feed, reset, start, text};
-use wasmprinter_words::numbers::{HEXADECIMAL, hexadecimal_len, write_digits};
+use wasmprinter_words::numbers::{hexadecimal_len, write_hexadecimal};
 use wasmprinter_words::words::shut;
 
 /// The digits to which a place is filled up.
@@ -38,7 +38,7 @@ fn write_repeated<P: Print>(p: &mut P, s: &str, count: usize) -> io::Result<()>
 fn write_filled<P: Print>(p: &mut P, place: u64) -> io::Result<()>
     ensures { Emits P.meaning p.old p.new result (Text (left_in 6 (digits 16 false place)) ∷ []) }
 {
-    write_digits(p, HEXADECIMAL, place)?;
+    write_hexadecimal(p, place)?;
     write_repeated(p, " ", PLACE_WIDTH.saturating_sub(hexadecimal_len(place)))
 }
 
@@ -88,6 +88,17 @@ fn write_wanted_offset<P: Print>(
     }
 }
 
+/// Writes the text of so many levels of nesting.
+fn write_indent<P: Print>(p: &mut P, options: &PrintOptions, levels: usize) -> io::Result<()>
+    requires { levels ≤ most_indents }
+    ensures { Emits P.meaning p.old p.new result (Text (repeated levels options.now.indent) ∷ []) }
+{
+    match options.indent_of(levels) {
+        Some(indent) => text(p, indent),
+        None => write_repeated(p, options.indent(), levels),
+    }
+}
+
 /// Begins the first line, at this place.
 pub fn begin<P: Print>(p: &mut P, place: u64) -> io::Result<()>
     ensures { (o : Options) → Prints P.meaning o p.old p.new result (Begin place ∷ []) }
@@ -115,7 +126,7 @@ pub fn break_line<P: Print>(
     feed(p)?;
     p.start_line(place);
     write_wanted_offset(p, options, place)?;
-    write_repeated(p, options.indent(), nesting.min(MOST_INDENTS) as usize)
+    write_indent(p, options, nesting.min(MOST_INDENTS) as usize)
 }
 
 fn shut_below<P: Print>(

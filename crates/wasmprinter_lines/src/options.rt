@@ -8,6 +8,10 @@ enum Indent {
     Text(String),
 }
 
+/// The blanks of as many levels of two as a line is indented at most.
+const BLANKS: &str =
+    "                                                                                                    ";
+
 /// How a module is printed: what each part of its layout sees.
 #[derive(Debug, Drop)]
 pub struct PrintOptions {
@@ -17,24 +21,35 @@ pub struct PrintOptions {
     pub skeleton: bool,
     /// Items without a name have identifiers made up for them.
     pub invents: bool,
+    /// Each operator stands in parentheses with its operands.
+    pub folds: bool,
     /// The text that stands once for each level of nesting.
     indent: Indent,
 }
 
 impl Model for PrintOptions {
     ghost use Rattle.wasmprinter_spec.specs.Options.{Options};
+    ghost use Rattle.std.specs.Prelude.{false};
     ghost use Rattle.wasmprinter_lines.specs.Indents.{indent_text};
 
     ghost Value = { Options };
 
-    ghost view = { λ o. record { offsets = o.offsets; skeleton = o.skeleton; invents = o.invents; indent = indent_text o.indent } };
+    ghost view = { λ o. record {
+      offsets = o.offsets;
+      skeleton = o.skeleton;
+      invents = o.invents;
+      folds = o.folds;
+      paints = false;
+      indent = indent_text o.indent;
+    } };
 }
 
 impl PrintOptions {
-    ghost use Rattle.std.specs.Prelude.{◌≡◌, string_bytes};
+    ghost use Rattle.std.specs.Prelude.{◌≡◌, ◌≤◌, string_bytes, IfSome};
     ghost use Rattle.wasmprinter_spec.specs.Options.{defaults};
+    ghost use Rattle.wasmprinter_spec.specs.Piece.{most_indents, repeated};
 
-    /// No places in front of lines, bodies in full, no identifiers made up, and an indent of two blanks. Takes no memory.
+    /// No places in front of lines, bodies in full, no identifiers made up, nothing folded, and an indent of two blanks. Takes no memory.
     pub fn new() -> PrintOptions
         ensures { result ≡ defaults }
     {
@@ -42,6 +57,7 @@ impl PrintOptions {
             offsets: false,
             skeleton: false,
             invents: false,
+            folds: false,
             indent: Indent::TwoBlanks,
         }
     }
@@ -60,6 +76,17 @@ impl PrintOptions {
         match &self.indent {
             Indent::TwoBlanks => "  ",
             Indent::Text(text) => text.as_str(),
+        }
+    }
+
+    /// The text of so many levels of nesting in one piece, where it is at hand.
+    pub(crate) fn indent_of(&self, levels: usize) -> Option<&str>
+        requires { levels ≤ most_indents }
+        ensures { IfSome result (λ t. t.now ≡ repeated levels self.now.indent) }
+    {
+        match &self.indent {
+            Indent::TwoBlanks => BLANKS.get(..2 * levels),
+            Indent::Text(_) => None,
         }
     }
 }

@@ -3,7 +3,7 @@ use Rattle.std.proofs.Common.{◌≡◌, ℕ, zero, suc, ◌+◌, ◌<◌, ◌�
 use Rattle.std.proofs.lemmas.Bool.{and_parts, ltb-true, eqb-true, ne_eqb}
 use Rattle.std.proofs.lemmas.List.{length-map}
 use Rattle.wasmprinter_spec.specs.Operator.{Opcode, opcode}
-use Rattle.wasmprinter_spec.specs.Row.{Row, Shape, Role, Plain, Opens, OpensIf, OpensTry, Turns, Catches, CatchesAll, Delegates, Ends}
+use Rattle.wasmprinter_spec.specs.Row.{Row, Shape, Arity, Role, Plain, Opens, OpensIf, OpensTry, Turns, Catches, CatchesAll, Delegates, Ends}
 use Rattle.wasmprinter_spec.specs.Table.{table, first, has_opcode, by_opcode, role_of_row, role_of}
 use Rattle.wasmprinter_ops.specs.ByNumber.{each_from, size_of, entry_of, each_entry, roles_size_of, each_role}
 
@@ -130,12 +130,12 @@ module _ {A : Type 0} (f : ℕ → A) (d : A) (size n : ℕ) (xs : List A) (is :
 
 module _ (o : Opcode) where
   -- the entry at a position of the table
-  pub entry_within : (xs : List (Option (List ℕ × Shape))) → xs ≡ each_entry o.prefix → o.number < length xs → get_or xs o.number None ≡ entry_of o
+  pub entry_within : (xs : List (Option (List ℕ × Shape × Arity))) → xs ≡ each_entry o.prefix → o.number < length xs → get_or xs o.number None ≡ entry_of o
   unfolding each_entry
   entry_within xs is lt = within_is (λ n. entry_of (opcode o.prefix n)) None (size_of o.prefix) o.number xs is lt
 
   -- past the table there is none
-  pub entry_past : (xs : List (Option (List ℕ × Shape))) → xs ≡ each_entry o.prefix → length xs ≤ o.number → None ≡ entry_of o
+  pub entry_past : (xs : List (Option (List ℕ × Shape × Arity))) → xs ≡ each_entry o.prefix → length xs ≤ o.number → None ≡ entry_of o
   unfolding each_entry
   entry_past xs is le = rw (not_listed o (past_is (λ n. entry_of (opcode o.prefix n)) None (size_of o.prefix) o.number xs is le)) refl
 

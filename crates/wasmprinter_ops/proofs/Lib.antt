@@ -8,3 +8,4 @@ pub mod Made
 pub mod BlockTypes
 pub mod Seen
 pub mod FirstBytes
+pub mod Pairs

@@ -1,7 +1,7 @@
 -- The entries of one prefix, found among its rows alone: these are far fewer than all.
 use Rattle.std.proofs.Common.{◌≡◌, ℕ, zero, suc, ◌+◌, Bool, true, false, cond, eqb, ◌&&◌, List, [], ◌∷◌, Option, Some, refl, sym, ap, ◌∙◌}
 use Rattle.wasmprinter_spec.specs.Operator.{opcode}
-use Rattle.wasmprinter_spec.specs.Row.{Row, Shape}
+use Rattle.wasmprinter_spec.specs.Row.{Row, Shape, Arity}
 use Rattle.wasmprinter_spec.specs.Table.{table, first, has_opcode}
 use Rattle.wasmprinter_ops.specs.ByNumber.{each_from, size_of, entry_of, entry_of_row, each_entry}
 
@@ -27,7 +27,7 @@ each_same f h e i zero = refl
 each_same f h e i (suc n) = ap (λ x. x ∷ each_from f (i + 1) n) (e i) ∙ ap (λ xs. h i ∷ xs) (each_same f h e (i + 1) n)
 
 -- the entries of so many numbers among rows
-abbrev pub entries_in : List Row → ℕ → List (Option (List ℕ × Shape))
+abbrev pub entries_in : List Row → ℕ → List (Option (List ℕ × Shape × Arity))
 entries_in rows size = each_from (λ n. entry_of_row (first (has_number n) rows)) 0 size
 
 -- those of a prefix

@@ -1,3 +1,4 @@
+pub mod Arities
 pub mod Shapes
 pub mod ByNumber
 pub mod ValTypes

@@ -1,12 +1,14 @@
 -- The program's shapes of immediates and roles, and those of the table of operators.
 use Rattle.std.specs.Prelude.{ℕ, List, Option, Some, None}
 use Rattle.std.specs.Borrow.{Bor}
-use Rattle.wasmprinter_spec.specs.Row.{Space, Shape, NoneShape, FenceShape, BlockShape, TryTableShape, IndexShape, DefaultIndexShape, PairShape, FieldShape, CountShape, CallShape, SegmentShape, CopyShape, BranchTableShape, SelectShape, HeapShape, RefShape, CastShape, MemoryShape, MemoryLaneShape, LaneShape, I32Shape, I64Shape, F32Shape, F64Shape, VectorShape, LanesShape, Role}
+use Rattle.wasmprinter_spec.specs.Row.{Space, Shape, NoneShape, FenceShape, BlockShape, TryTableShape, IndexShape, DefaultIndexShape, PairShape, FieldShape, CountShape, CallShape, SegmentShape, CopyShape, BranchTableShape, SelectShape, HeapShape, RefShape, CastShape, MemoryShape, MemoryLaneShape, LaneShape, I32Shape, I64Shape, F32Shape, F64Shape, VectorShape, LanesShape, Arity, Role}
 use Rattle.wasmprinter_spec.specs.Row as row
+use Rattle.wasmprinter_ops.specs.Arities.{arity_view}
 use Rattle.wasmprinter_ops.specs.declared.opcode.Space.{Space as ProgramSpace}
 use Rattle.wasmprinter_ops.specs.declared.opcode.Space.TheVariants as spaces
 use Rattle.wasmprinter_ops.specs.declared.opcode.Shape.{Shape as ProgramShape}
 use Rattle.wasmprinter_ops.specs.declared.opcode.Shape.TheVariants as shapes
+use Rattle.wasmprinter_ops.specs.declared.opcode.Arity.{Arity as ProgramArity}
 use Rattle.wasmprinter_ops.specs.declared.opcode.Role.{Role as ProgramRole}
 use Rattle.wasmprinter_ops.specs.declared.opcode.Role.TheVariants as program_roles
 
@@ -57,10 +59,10 @@ abbrev pub optional_shape_view : Option ProgramShape → Option Shape
 optional_shape_view None = None
 optional_shape_view (Some s) = Some (shape_view s)
 
--- the word and the shape of an opcode that may be missing
-abbrev pub entry_view : Option (Bor (List ℕ) × ProgramShape) → Option (List ℕ × Shape)
+-- the word, the shape and the arity of an opcode that may be missing
+abbrev pub entry_view : Option (Bor (List ℕ) × ProgramShape × ProgramArity) → Option (List ℕ × Shape × Arity)
 entry_view None = None
-entry_view (Some e) = Some (e.0.now, shape_view e.1)
+entry_view (Some e) = Some (e.0.now, shape_view e.1, arity_view e.2)
 
 -- the role of the definitions
 abbrev pub role_view : ProgramRole → Role

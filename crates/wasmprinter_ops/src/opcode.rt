@@ -1,8 +1,10 @@
 //! Opcodes, and what the table of operators says of them.
 ghost use Rattle.std.specs.Prelude.{◌≡◌, map};
 ghost use Rattle.wasmprinter_spec.specs.Table.{word_of, role_of, shape_of};
+ghost use Rattle.wasmprinter_spec.specs.Folding.Code.{is_try};
 ghost use Rattle.wasmprinter_spec.specs.Instructions.{is_prefix as is_prefix_byte, opcode_grammar};
 ghost use Rattle.wasmprinter_bytes.specs.Reads.{Reads, IsWithin, end_of};
+ghost use Rattle.wasmprinter_ops.specs.Arities.{optional_arity_view, arity_of};
 ghost use Rattle.wasmprinter_ops.specs.ByNumber.{entry_of, each_entry, each_role};
 ghost use Rattle.wasmprinter_ops.specs.Shapes.{optional_shape_view, entry_view, role_view};
 
@@ -106,6 +108,44 @@ pub enum Shape {
     Lanes,
 }
 
+/// How many operands an operator takes and how many results it gives (section 5.4): fixed numbers, or those of a type or label that it
+/// names. P and Q are the numbers of parameters and results of a function's or tag's type, v is how many operands a label wants.
+#[derive(Clone, Copy, Debug, PartialEq, Eq)]
+pub enum Arity {
+    /// It takes the first number, and gives the second.
+    Fixed(u32, u32),
+    /// It takes P, and gives Q: `call`.
+    OfCall,
+    /// It takes P: `return_call`.
+    OfReturnCall,
+    /// It takes P + 1, and gives Q: `call_indirect`, `call_ref`.
+    OfIndirectCall,
+    /// It takes P + 1: `return_call_indirect`, `return_call_ref`.
+    OfReturnIndirectCall,
+    /// It takes P: `throw`.
+    OfThrow,
+    /// It takes the results of the function around it: `return`.
+    OfReturn,
+    /// It takes v: `br`.
+    OfBranch,
+    /// It takes v + 1, and gives v: `br_if`.
+    OfBranchIf,
+    /// It takes v + 1, v by the last label: `br_table`.
+    OfBranchTable,
+    /// It takes v + 1, and gives v + 1: `br_on_null`.
+    OfBranchOnNull,
+    /// It takes v, and gives v - 1, nothing where v is 0: `br_on_non_null`.
+    OfBranchOnNonNull,
+    /// It takes v, and gives v: `br_on_cast`, `br_on_cast_fail`.
+    OfBranchOnCast,
+    /// It opens, ends or parts a block.
+    OfBlock,
+    /// It takes as many as the structure type has fields, and gives 1: `struct.new`.
+    OfStruct,
+    /// It takes as many as its second immediate says, and gives 1: `array.new_fixed`.
+    OfCount,
+}
+
 /// How an operator stands to the blocks around it (section 5.4, "Control Instructions", and the older exception operators).
 #[derive(Clone, Copy, Debug, PartialEq, Eq)]
 pub enum Role {
@@ -127,6 +167,18 @@ pub enum Role {
     Delegates,
     /// It closes a block: `end`.
     Ends,
+}
+
+impl Role {
+    /// Whether it is that of an operator of the older `try` (exception handling proposal, its first form).
+    pub fn is_of_try(self) -> bool
+        ensures { result ≡ is_try (role_view self) }
+    {
+        match self {
+            Role::OpensTry | Role::Catches | Role::CatchesAll | Role::Delegates => true,
+            Role::Plain | Role::Opens | Role::OpensIf | Role::Turns | Role::Ends => false,
+        }
+    }
 }
 
 /// The prefix byte, 0 where there is none, and the number behind it or the byte itself.
@@ -184,7 +236,7 @@ fn one_byte_roles() -> &'static [Role]
     &tables::ROLES
 }
 
-/// The words of the opcodes with the prefix and the shapes of their immediates, by their numbers.
+/// The words of the opcodes with the prefix, the shapes of their immediates and their arities, by their numbers.
 fn entries_of(prefix: u8) -> &'static [Option<Entry>]
     ensures { map entry_view result.now ≡ each_entry prefix }
 {
@@ -237,7 +289,7 @@ impl Opcode {
         }
     }
 
-    /// The word and the shape, `None` for an opcode that isn't listed.
+    /// The word, the shape and the arity, `None` for an opcode that isn't listed.
     fn entry(&self) -> Option<Entry>
         ensures { entry_view result ≡ entry_of self.now }
     {
@@ -252,7 +304,7 @@ impl Opcode {
         ensures { result.now ≡ word_of self.now }
     {
         match self.entry() {
-            Some((word, _)) => word,
+            Some((word, _, _)) => word,
             None => "",
         }
     }
@@ -262,7 +314,17 @@ impl Opcode {
         ensures { optional_shape_view result ≡ shape_of self.now }
     {
         match self.entry() {
-            Some((_, shape)) => Some(shape),
+            Some((_, shape, _)) => Some(shape),
+            None => None,
+        }
+    }
+
+    /// How many operands the operator takes and how many results it gives, `None` for an opcode that isn't listed.
+    pub fn arity(&self) -> Option<Arity>
+        ensures { optional_arity_view result ≡ arity_of self.now }
+    {
+        match self.entry() {
+            Some((_, _, arity)) => Some(arity),
             None => None,
         }
     }

@@ -1,53 +1,101 @@
 //! Numbers in LEB128 at the edges of their ranges, names and lists. What is expected is typed by hand.
 
+use std::process::Abort;
 use std::test::Fail;
 use wasmprinter_bytes::bytes::Cursor;
 use wasmprinter_bytes::lists::Items;
 use wasmprinter_error::Malformed;
 
+/// A number that is expected, or the place of a fault, under the name of the method that reads it.
+#[derive(Clone, Copy)]
+enum Number {
+    U32(Result<u32, Malformed>),
+    U64(Result<u64, Malformed>),
+    S32(Result<i32, Malformed>),
+    S33(Result<i64, Malformed>),
+    S64(Result<i64, Malformed>),
+}
+
+/// Asserts that the cursor goes on with the number of a row.
+fn assert_number(rt: &impl Abort, row: usize, cursor: &mut Cursor, wanted: Number) {
+    match wanted {
+        Number::U32(number) => assert_eq!(rt; cursor.u32(), number, "row {row}"),
+        Number::U64(number) => assert_eq!(rt; cursor.u64(), number, "row {row}"),
+        Number::S32(number) => assert_eq!(rt; cursor.s32(), number, "row {row}"),
+        Number::S33(number) => assert_eq!(rt; cursor.s33(), number, "row {row}"),
+        Number::S64(number) => assert_eq!(rt; cursor.s64(), number, "row {row}"),
+    }
+}
+
 #[test]
 fn numbers_are_read(rt: HostRuntime) {
-    assert_eq!(rt; Cursor::new(0, &[0x03]).u32(), Ok(3));
-    assert_eq!(rt; Cursor::new(0, &[0x83, 0x00]).u32(), Ok(3));
-    assert_eq!(rt; Cursor::new(0, &[0xe5, 0x8e, 0x26]).u32(), Ok(624485));
-    assert_eq!(rt;
-        Cursor::new(0, &[0xff, 0xff, 0xff, 0xff, 0x0f]).u32(),
-        Ok(u32::MAX)
-    );
-    assert_eq!(rt;
-        Cursor::new(5, &[0xff, 0xff, 0xff, 0xff, 0x1f]).u32(),
-        Err(Malformed { place: 9 })
-    );
-    assert_eq!(rt;
-        Cursor::new(0, &[0x80, 0x80, 0x80, 0x80, 0x80, 0x00]).u32(),
-        Err(Malformed { place: 4 })
-    );
-    assert_eq!(rt; Cursor::new(0, &[0xe5, 0x8e, 0x26]).u64(), Ok(624485));
-    assert_eq!(rt; Cursor::new(0, &[0x7e]).s32(), Ok(-2));
-    assert_eq!(rt; Cursor::new(0, &[0xfe, 0xff, 0x7f]).s32(), Ok(-2));
-    assert_eq!(rt; Cursor::new(0, &[0xc0, 0xbb, 0x78]).s33(), Ok(-123456));
-    assert_eq!(rt; Cursor::new(0, &[0xc0, 0xbb, 0x78]).s64(), Ok(-123456));
-    assert_eq!(rt; Cursor::new(0, &[0xff, 0x00]).s64(), Ok(127));
+    let rows: [(u64, &[u8], Number); 12] = [
+        (0, &[0x03], Number::U32(Ok(3))),
+        (0, &[0x83, 0x00], Number::U32(Ok(3))),
+        (0, &[0xe5, 0x8e, 0x26], Number::U32(Ok(624485))),
+        (
+            0,
+            &[0xff, 0xff, 0xff, 0xff, 0x0f],
+            Number::U32(Ok(u32::MAX)),
+        ),
+        (
+            5,
+            &[0xff, 0xff, 0xff, 0xff, 0x1f],
+            Number::U32(Err(Malformed { place: 9 })),
+        ),
+        (
+            0,
+            &[0x80, 0x80, 0x80, 0x80, 0x80, 0x00],
+            Number::U32(Err(Malformed { place: 4 })),
+        ),
+        (0, &[0xe5, 0x8e, 0x26], Number::U64(Ok(624485))),
+        (0, &[0x7e], Number::S32(Ok(-2))),
+        (0, &[0xfe, 0xff, 0x7f], Number::S32(Ok(-2))),
+        (0, &[0xc0, 0xbb, 0x78], Number::S33(Ok(-123456))),
+        (0, &[0xc0, 0xbb, 0x78], Number::S64(Ok(-123456))),
+        (0, &[0xff, 0x00], Number::S64(Ok(127))),
+    ];
+    for (row, (place, bytes, wanted)) in rows.iter().enumerate() {
+        assert_number(&rt, row, &mut Cursor::new(*place, *bytes), *wanted);
+    }
+}
+
+/// Asserts that the cursor goes on with a name, and that no name stands behind it.
+fn assert_name(rt: &impl Abort, cursor: &mut Cursor) {
+    assert_eq!(rt; cursor.name(), Ok("aé"));
+    assert_eq!(rt; cursor.fork().name(), Err(Malformed { place: 0x14 }));
+}
+
+/// Asserts where a part of two bytes stands, and what its first byte is.
+fn assert_part(rt: &impl Abort, part: &Cursor) {
+    assert_eq!(rt; part.place(), 0x14);
+    assert_eq!(rt; part.len(), 2);
+    assert_eq!(rt; part.front(1).len(), 1);
+    assert_eq!(rt; part.peek(), Some(0x01));
+}
+
+/// Asserts that the first byte of a part is read, and that two can't be taken behind it.
+fn assert_part_is_read(rt: &impl Abort, part: &mut Cursor) {
+    assert_eq!(rt; part.u8(), Ok(0x01));
+    assert_eq!(rt; part.take(2), Err(Malformed { place: 0x15 }));
+}
+
+/// Asserts that one byte is left, and is taken.
+fn assert_end(rt: &impl Abort, cursor: &mut Cursor) {
+    let taken: Result<&[u8], Malformed> = Ok(&[0x2a]);
+    assert_eq!(rt; cursor.take(1), taken);
+    assert!(rt; cursor.is_empty());
 }
 
 #[test]
 fn parts_and_names_are_read(rt: HostRuntime) -> Result<(), Fail> {
     let bytes = [0x03, 0x61, 0xc3, 0xa9, 0x01, 0xff, 0x2a];
     let mut cursor = Cursor::new(0x10, &bytes);
-    assert_eq!(rt; cursor.name(), Ok("aé"));
-    assert_eq!(rt; cursor.fork().name(), Err(Malformed { place: 0x14 }));
-    let Ok(mut part) = cursor.part(2) else {
-        assert!(rt; false);
-        return Ok(());
-    };
-    assert_eq!(rt; part.place(), 0x14);
-    assert_eq!(rt; part.front(1).len(), 1);
-    assert_eq!(rt; part.peek(), Some(0x01));
-    assert_eq!(rt; part.u8(), Ok(0x01));
-    assert_eq!(rt; part.take(2), Err(Malformed { place: 0x15 }));
-    let taken: Result<&[u8], Malformed> = Ok(&[0x2a]);
-    assert_eq!(rt; cursor.take(1), taken);
-    assert!(rt; cursor.is_empty());
+    assert_name(&rt, &mut cursor);
+    let mut part = cursor.part(2)?;
+    assert_part(&rt, &part);
+    assert_part_is_read(&rt, &mut part);
+    assert_end(&rt, &mut cursor);
     Ok(())
 }
 

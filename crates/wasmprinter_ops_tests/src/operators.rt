@@ -12,7 +12,7 @@ use wasmprinter_ops::blocks::{BlockType, Catch};
 use wasmprinter_ops::expression::Expression;
 use wasmprinter_ops::operands::MemArg;
 use wasmprinter_ops::operator::{Immediates, Operator};
-use wasmprinter_ops::types::composite::{CompositeType, FieldType, StorageType, SubTypes};
+use wasmprinter_ops::types::composite::{CompositeType, FieldType, StorageType, SubType, SubTypes};
 use wasmprinter_ops::types::{HeapType, RefType, ValType, ValTypes, read_type};
 
 /// Immediates that are expected.
@@ -241,20 +241,22 @@ fn branch_tables_are_walked(rt: HostRuntime) -> Result<(), Fail> {
 
 #[test]
 fn other_operators_are_refused(rt: HostRuntime) {
-    assert!(rt; Operator::read(&mut Cursor::new(0, &[0xff])).is_err());
-    assert!(rt; Operator::read(&mut Cursor::new(0, &[0xfc, 0x12])).is_err());
-    // a block type that is negative, or that wants 34 bits
-    assert!(rt; Operator::read(&mut Cursor::new(0, &[0x02, 0x41])).is_err());
-    assert!(rt;
-        Operator::read(&mut Cursor::new(0, &[0x02, 0x80, 0x80, 0x80, 0x80, 0x10])).is_err()
-    );
-    // a fifth kind of catch clause
-    assert!(rt; Operator::read(&mut Cursor::new(0, &[0x1f, 0x40, 0x01, 0x04, 0x00])).is_err());
-    // counts of 2^32 - 1 with nothing behind them
-    let labels = [0x0e, 0xff, 0xff, 0xff, 0xff, 0x0f];
-    assert!(rt; Operator::read(&mut Cursor::new(0, &labels)).is_err());
-    let clauses = [0x1f, 0x40, 0xff, 0xff, 0xff, 0xff, 0x0f];
-    assert!(rt; Operator::read(&mut Cursor::new(0, &clauses)).is_err());
+    let refused: [&[u8]; 7] = [
+        &[0xff],
+        &[0xfc, 0x12],
+        // a block type that is negative, or that wants 34 bits
+        &[0x02, 0x41],
+        &[0x02, 0x80, 0x80, 0x80, 0x80, 0x10],
+        // a fifth kind of catch clause
+        &[0x1f, 0x40, 0x01, 0x04, 0x00],
+        // counts of 2^32 - 1 with nothing behind them, of labels and of clauses
+        &[0x0e, 0xff, 0xff, 0xff, 0xff, 0x0f],
+        &[0x1f, 0x40, 0xff, 0xff, 0xff, 0xff, 0x0f],
+    ];
+    for (row, bytes) in refused.iter().enumerate() {
+        let found = Operator::read(&mut Cursor::new(0, *bytes));
+        assert!(rt; found.is_err(), "row {row}");
+    }
 }
 
 /// The place at which the bytes are refused, none if an expression stands there.
@@ -267,43 +269,29 @@ fn refused_at(alloc: Global, bytes: &[u8]) -> Option<u64> {
 
 #[test]
 fn other_nesting_is_refused(rt: HostRuntime) {
-    let alloc = rt.alloc();
-    // without an `end`
-    assert_eq!(rt; refused_at(alloc, &[0x41, 0x00]), Some(2));
-    assert_eq!(rt; refused_at(alloc, &[0x02, 0x40, 0x0b]), Some(3));
-    // `else` outside of an `if`, in a block, and a second one
-    assert_eq!(rt; refused_at(alloc, &[0x05, 0x0b]), Some(0));
-    assert_eq!(rt; refused_at(alloc, &[0x02, 0x40, 0x05, 0x0b, 0x0b]), Some(2));
-    assert_eq!(rt;
-        refused_at(alloc, &[0x04, 0x40, 0x05, 0x05, 0x0b, 0x0b]),
-        Some(3)
-    );
-    // `catch` in a block, in an `if`, and behind `catch_all`
-    assert_eq!(rt;
-        refused_at(alloc, &[0x02, 0x40, 0x07, 0x00, 0x0b, 0x0b]),
-        Some(2)
-    );
-    assert_eq!(rt;
-        refused_at(alloc, &[0x04, 0x40, 0x07, 0x00, 0x0b, 0x0b]),
-        Some(2)
-    );
-    assert_eq!(rt;
-        refused_at(alloc, &[0x06, 0x40, 0x19, 0x07, 0x00, 0x0b, 0x0b]),
-        Some(3)
-    );
-    // `catch_all` in a block, and a second one
-    assert_eq!(rt; refused_at(alloc, &[0x02, 0x40, 0x19, 0x0b, 0x0b]), Some(2));
-    assert_eq!(rt;
-        refused_at(alloc, &[0x06, 0x40, 0x19, 0x19, 0x0b, 0x0b]),
-        Some(3)
-    );
-    // `delegate` outside of a `try`, in a block, and behind `catch`
-    assert_eq!(rt; refused_at(alloc, &[0x18, 0x00, 0x0b]), Some(0));
-    assert_eq!(rt; refused_at(alloc, &[0x02, 0x40, 0x18, 0x00, 0x0b]), Some(2));
-    assert_eq!(rt;
-        refused_at(alloc, &[0x06, 0x40, 0x07, 0x00, 0x18, 0x00, 0x0b]),
-        Some(4)
-    );
+    let rows: [(&[u8], u64); 13] = [
+        // without an `end`
+        (&[0x41, 0x00], 2),
+        (&[0x02, 0x40, 0x0b], 3),
+        // `else` outside of an `if`, in a block, and a second one
+        (&[0x05, 0x0b], 0),
+        (&[0x02, 0x40, 0x05, 0x0b, 0x0b], 2),
+        (&[0x04, 0x40, 0x05, 0x05, 0x0b, 0x0b], 3),
+        // `catch` in a block, in an `if`, and behind `catch_all`
+        (&[0x02, 0x40, 0x07, 0x00, 0x0b, 0x0b], 2),
+        (&[0x04, 0x40, 0x07, 0x00, 0x0b, 0x0b], 2),
+        (&[0x06, 0x40, 0x19, 0x07, 0x00, 0x0b, 0x0b], 3),
+        // `catch_all` in a block, and a second one
+        (&[0x02, 0x40, 0x19, 0x0b, 0x0b], 2),
+        (&[0x06, 0x40, 0x19, 0x19, 0x0b, 0x0b], 3),
+        // `delegate` outside of a `try`, in a block, and behind `catch`
+        (&[0x18, 0x00, 0x0b], 0),
+        (&[0x02, 0x40, 0x18, 0x00, 0x0b], 2),
+        (&[0x06, 0x40, 0x07, 0x00, 0x18, 0x00, 0x0b], 4),
+    ];
+    for (row, (bytes, place)) in rows.iter().enumerate() {
+        assert_eq!(rt; refused_at(rt.alloc(), *bytes), Some(*place), "row {row}");
+    }
 }
 
 #[test]
@@ -387,26 +375,25 @@ fn value_types_have_their_bytes(rt: HostRuntime) {
 
 #[test]
 fn references_say_whether_they_may_be_null(rt: HostRuntime) {
-    assert_eq!(rt;
-        spelled(&[0x64, 0x70]),
-        Ok(reference(false, HeapType::Func))
-    );
-    assert_eq!(rt; spelled(&[0x63, 0x70]), Ok(reference(true, HeapType::Func)));
-    assert_eq!(rt;
-        spelled(&[0x63, 0x00]),
-        Ok(reference(true, HeapType::Index(0)))
-    );
-    assert_eq!(rt;
-        spelled(&[0x64, 0x80, 0x01]),
-        Ok(reference(false, HeapType::Index(128)))
-    );
-    assert_eq!(rt;
-        spelled(&[0x64, 0xff, 0xff, 0xff, 0xff, 0x0f]),
-        Ok(reference(false, HeapType::Index(u32::MAX)))
-    );
-    assert_eq!(rt; spelled(&[0x64, 0x40]), Err(Malformed { place: 1 }));
-    assert_eq!(rt; spelled(&[0x64, 0xf0, 0x7f]), Err(Malformed { place: 1 }));
-    assert_eq!(rt; spelled(&[0x63]), Err(Malformed { place: 1 }));
+    let rows: [(&[u8], Result<ValType, Malformed>); 8] = [
+        (&[0x64, 0x70], Ok(reference(false, HeapType::Func))),
+        (&[0x63, 0x70], Ok(reference(true, HeapType::Func))),
+        (&[0x63, 0x00], Ok(reference(true, HeapType::Index(0)))),
+        (
+            &[0x64, 0x80, 0x01],
+            Ok(reference(false, HeapType::Index(128))),
+        ),
+        (
+            &[0x64, 0xff, 0xff, 0xff, 0xff, 0x0f],
+            Ok(reference(false, HeapType::Index(u32::MAX))),
+        ),
+        (&[0x64, 0x40], Err(Malformed { place: 1 })),
+        (&[0x64, 0xf0, 0x7f], Err(Malformed { place: 1 })),
+        (&[0x63], Err(Malformed { place: 1 })),
+    ];
+    for (row, (bytes, wanted)) in rows.iter().enumerate() {
+        assert_eq!(rt; spelled(*bytes), *wanted, "row {row}");
+    }
 }
 
 /// How many types the bytes spell, a count in front.
@@ -414,25 +401,31 @@ fn count_of(bytes: &[u8]) -> Result<u32, Malformed> {
     Ok(SubTypes::read(&mut Cursor::new(0, bytes))?.len())
 }
 
+/// The first type that the bytes spell, without a count in front.
+fn first_type<'a>(bytes: &'a [u8]) -> Option<SubType<'a>> {
+    let mut types = SubTypes::read_one(&mut Cursor::new(0, bytes)).ok()?;
+    types.next()
+}
+
+/// Asserts that the type is a struct with these fields, and no other.
+fn assert_fields(rt: &impl Abort, composite: &CompositeType, wanted: &[FieldType]) {
+    let CompositeType::Struct(fields) = composite else {
+        assert!(rt; false, "no struct");
+        return;
+    };
+    let mut fields = fields.iter();
+    for (number, field) in wanted.iter().enumerate() {
+        assert_eq!(rt; fields.next(), Some(*field), "field {number}");
+    }
+    assert_eq!(rt; fields.next(), None);
+}
+
 #[test]
 fn fields_are_read(rt: HostRuntime) -> Result<(), Fail> {
-    let bytes = [0x5f, 0x02, 0x78, 0x01, 0x7f, 0x00];
-    let Ok(mut types) = SubTypes::read_one(&mut Cursor::new(0, &bytes)) else {
-        assert!(rt; false);
-        return Ok(());
-    };
-    let Some(sub_type) = types.next() else {
-        assert!(rt; false);
-        return Ok(());
-    };
+    let sub_type = first_type(&[0x5f, 0x02, 0x78, 0x01, 0x7f, 0x00]).ok_or("no type is read")?;
     assert!(rt; sub_type.is_final());
     assert_eq!(rt; sub_type.supertypes().len(), 0);
     assert!(rt; sub_type.func_type().is_none());
-    let CompositeType::Struct(fields) = sub_type.composite() else {
-        assert!(rt; false);
-        return Ok(());
-    };
-    let mut fields = fields.iter();
     let first = FieldType {
         storage: StorageType::I8,
         mutable: true,
@@ -441,31 +434,25 @@ fn fields_are_read(rt: HostRuntime) -> Result<(), Fail> {
         storage: StorageType::Val(ValType::I32),
         mutable: false,
     };
-    assert_eq!(rt; fields.next(), Some(first));
-    assert_eq!(rt; fields.next(), Some(second));
-    assert_eq!(rt; fields.next(), None);
+    assert_fields(&rt, sub_type.composite(), &[first, second]);
     Ok(())
 }
 
 #[test]
 fn other_types_are_refused(rt: HostRuntime) {
-    assert_eq!(rt; count_of(&[0x01, 0x5e, 0x77, 0x01]), Ok(1));
-    assert_eq!(rt;
-        count_of(&[0x01, 0x5e, 0x79, 0x00]),
-        Err(Malformed { place: 2 })
-    );
-    assert_eq!(rt;
-        count_of(&[0x01, 0x5e, 0x78, 0x02]),
-        Err(Malformed { place: 3 })
-    );
-    assert_eq!(rt; count_of(&[0x01, 0x79]), Err(Malformed { place: 1 }));
-    assert_eq!(rt; count_of(&[0x01, 0x4e, 0x00]), Err(Malformed { place: 1 }));
-    assert_eq!(rt;
-        count_of(&[0x01, 0x50, 0x00, 0x50, 0x00, 0x60, 0x00, 0x00]),
-        Err(Malformed { place: 3 })
-    );
-    assert_eq!(rt;
-        count_of(&[0xff, 0xff, 0xff, 0xff, 0x0f]),
-        Err(Malformed { place: 5 })
-    );
+    let rows: [(&[u8], Result<u32, Malformed>); 7] = [
+        (&[0x01, 0x5e, 0x77, 0x01], Ok(1)),
+        (&[0x01, 0x5e, 0x79, 0x00], Err(Malformed { place: 2 })),
+        (&[0x01, 0x5e, 0x78, 0x02], Err(Malformed { place: 3 })),
+        (&[0x01, 0x79], Err(Malformed { place: 1 })),
+        (&[0x01, 0x4e, 0x00], Err(Malformed { place: 1 })),
+        (
+            &[0x01, 0x50, 0x00, 0x50, 0x00, 0x60, 0x00, 0x00],
+            Err(Malformed { place: 3 }),
+        ),
+        (&[0xff, 0xff, 0xff, 0xff, 0x0f], Err(Malformed { place: 5 })),
+    ];
+    for (row, (bytes, wanted)) in rows.iter().enumerate() {
+        assert_eq!(rt; count_of(*bytes), *wanted, "row {row}");
+    }
 }

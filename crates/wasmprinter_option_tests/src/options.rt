@@ -353,7 +353,7 @@ fn shows_debug(rt: HostRuntime) -> Result<(), Fail> {
     let shown = format!(in rt.alloc(); "{config:?}")?;
     assert_eq!(rt;
         shown.as_str(),
-        "Config { options: PrintOptions { offsets: false, skeleton: false, invents: false, indent: TwoBlanks } }"
+        "Config { options: PrintOptions { offsets: false, skeleton: false, invents: false, folds: false, indent: TwoBlanks } }"
     );
     Ok(())
 }

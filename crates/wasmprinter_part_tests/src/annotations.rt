@@ -1,9 +1,10 @@
 //! Custom sections as text. The bytes and the texts are typed by hand.
-ghost use Rattle.std.specs.Prelude.{None};
+ghost use Rattle.std.specs.Prelude.{None, false};
 
 use std::alloc::Global;
 use std::io;
 use std::io::ErrorKind;
+use std::process::Abort;
 use std::test::Fail;
 use wasmprinter_annotations::{write_custom, write_customs};
 use wasmprinter_bytes::bytes::Cursor;
@@ -49,7 +50,7 @@ impl<'a> Print for Taker<'a> {
       faults = λ _. None;
     } };
 
-    ghost colors = { λ _. ⊥ };
+    ghost colors = { λ _. false };
 
     fn write_str(&mut self, s: &str) -> io::Result<()> {
         self.text.push_str(s)?;
@@ -100,6 +101,10 @@ impl<'a> Print for Taker<'a> {
 
     fn reset_color(&mut self) -> io::Result<()> {
         Ok(())
+    }
+
+    fn supports_async_color(&self) -> bool {
+        false
     }
 }
 
@@ -275,34 +280,51 @@ fn names_are_offered_and_not_printed(rt: HostRuntime) -> Result<(), Fail> {
     Ok(())
 }
 
-#[test]
-fn sections_stand_at_their_places(rt: HostRuntime) -> Result<(), Fail> {
-    let customs = [
+/// The sections `a` and `b` behind the types, and `c`, one that is refused and `d` behind the code.
+fn five_sections() -> Result<[CustomEntry<'static>; 5], Fail> {
+    Ok([
         entry(Some(SectionKind::Type), b"\x01a")?,
         entry(Some(SectionKind::Type), b"\x01b")?,
         entry(Some(SectionKind::Code), b"\x01c")?,
         entry(Some(SectionKind::Code), b"\x08dylink.0\x09\x00")?,
         entry(Some(SectionKind::Code), b"\x01d")?,
-    ];
-    let options = PrintOptions::new();
+    ])
+}
+
+/// Asserts whether sections stand at the place, and which of them the printer is asked for and prints.
+fn assert_customs(
+    rt: &impl Abort,
+    printer: &mut Taker,
+    behind: Option<SectionKind>,
+    (any, asked, text): (bool, &str, &str),
+) -> Result<(), Fail> {
+    let customs = five_sections()?;
+    let found = write_customs(printer, &PrintOptions::new(), &customs, behind)?;
+    assert_eq!(rt; found, any);
+    assert_eq!(rt; printer.asked.as_str(), asked);
+    assert_eq!(rt; printer.text.as_str(), text);
+    Ok(())
+}
+
+#[test]
+fn sections_stand_at_their_places(rt: HostRuntime) -> Result<(), Fail> {
+    let both = "\n  (@custom \"a\" (after type) \"\")\n  (@custom \"b\" (after type) \"\")";
+    let second = "\n  (@custom \"b\" (after type) \"\")";
     let behind = Some(SectionKind::Type);
+    let asked = "[a 0x12 0][b 0x12 0]";
     let mut printer = Taker::new(rt.alloc(), &[]);
-    assert!(rt; write_customs(&mut printer, &options, &customs, behind)?);
-    assert_eq!(rt;
-        printer.text.as_str(),
-        "\n  (@custom \"a\" (after type) \"\")\n  (@custom \"b\" (after type) \"\")"
-    );
+    assert_customs(&rt, &mut printer, behind, (true, asked, both))?;
     let mut printer = Taker::new(rt.alloc(), &[true]);
-    assert!(rt; write_customs(&mut printer, &options, &customs, behind)?);
-    assert_eq!(rt; printer.asked.as_str(), "[a 0x12 0][b 0x12 0]");
-    assert_eq!(rt;
-        printer.text.as_str(),
-        "\n  (@custom \"b\" (after type) \"\")"
-    );
+    assert_customs(&rt, &mut printer, behind, (true, asked, second))
+}
+
+#[test]
+fn a_section_among_others_is_refused(rt: HostRuntime) -> Result<(), Fail> {
     let mut printer = Taker::new(rt.alloc(), &[]);
-    assert!(rt; !write_customs(&mut printer, &options, &customs, None)?);
-    assert_eq!(rt; printer.asked.as_str(), "");
-    let refused = write_customs(&mut printer, &options, &customs, Some(SectionKind::Code));
+    assert_customs(&rt, &mut printer, None, (false, "", ""))?;
+    let customs = five_sections()?;
+    let behind = Some(SectionKind::Code);
+    let refused = write_customs(&mut printer, &PrintOptions::new(), &customs, behind);
     assert!(rt; matches!(refused, Err(Error::DylinkSubsection { id: 9 })));
     assert_eq!(rt; printer.asked.as_str(), "[c 0x12 0][dylink.0 0x19 2]");
     Ok(())

@@ -2,9 +2,11 @@
 
 use bitflags::Flags;
 use std::alloc::{AllocError, Global};
+use std::process::Abort;
 use std::test::Fail;
 use wasmprinter_customs::{
-    Content, CustomRole, Dylink, Hint, Hints, Producers, SymbolFlags, custom_role, is_hint_section,
+    Content, CustomRole, Dylink, FunctionHints, Hint, Hints, Producers, SymbolFlags, custom_role,
+    is_hint_section,
 };
 
 /// Where the bytes of a section begin.
@@ -187,8 +189,17 @@ fn subsections_of_dylink_are_read(rt: HostRuntime) {
     let sizes = b"\x01\x04\x10\x02\x03\x00\x05\x01\x00";
     assert_eq!(rt; second_place(sizes), Some(0x106));
     assert_eq!(rt; sizes_of(sizes), Some([16, 2, 3, 0]));
-    assert_eq!(rt; second_path(b"\x02\x05\x02\x01a\x01b"), Some("b"));
-    assert_eq!(rt; second_path(b"\x05\x03\x01\x01a"), None);
+    let paths: [(&[u8], Option<&str>); 2] = [
+        (b"\x02\x05\x02\x01a\x01b", Some("b")),
+        (b"\x05\x03\x01\x01a", None),
+    ];
+    for (bytes, path) in paths {
+        assert_eq!(rt; second_path(bytes), path);
+    }
+}
+
+#[test]
+fn symbols_of_dylink_are_read(rt: HostRuntime) {
     assert_eq!(rt; export_of(b"\x03\x04\x01\x01f\x21"), Some(("f", 0x21)));
     assert_eq!(rt;
         import_of(b"\x04\x07\x01\x01m\x01g\x88\x08"),
@@ -196,19 +207,22 @@ fn subsections_of_dylink_are_read(rt: HostRuntime) {
     );
 }
 
+/// Asserts that the flags have these words, in this order, and these other bits.
+fn assert_flags(rt: &impl Abort, flags: SymbolFlags, wanted: &[&str], other_bits: u32) {
+    let mut words = flags.words();
+    for word in wanted {
+        assert_eq!(rt; words.next(), Some(*word));
+    }
+    assert_eq!(rt; words.next(), None);
+    assert_eq!(rt; flags.other_bits(), other_bits);
+}
+
 #[test]
 fn flags_have_words(rt: HostRuntime) {
     let flags = SymbolFlags::EXPORTED.union(SymbolFlags::BINDING_WEAK);
-    let mut words = flags.words();
-    assert_eq!(rt; words.next(), Some("binding-weak"));
-    assert_eq!(rt; words.next(), Some("exported"));
-    assert_eq!(rt; words.next(), None);
-    assert_eq!(rt; flags.other_bits(), 0);
+    assert_flags(&rt, flags, &["binding-weak", "exported"], 0);
     let odd = SymbolFlags::from_bits_retain(0xffff_fc0a);
-    let mut words = odd.words();
-    assert_eq!(rt; words.next(), Some("binding-local"));
-    assert_eq!(rt; words.next(), None);
-    assert_eq!(rt; odd.other_bits(), 0xffff_fc08);
+    assert_flags(&rt, odd, &["binding-local"], 0xffff_fc08);
     assert!(rt; odd.contains(SymbolFlags::BINDING_LOCAL));
     let named = SymbolFlags::from_name("no-strip");
     assert_eq!(rt; named.map(|flags| flags.bits()), Some(0x80));
@@ -219,26 +233,52 @@ fn shown(hint: Option<Hint>) -> Option<(u64, bool)> {
     hint.map(|hint| (hint.place(), hint.is_taken()))
 }
 
+/// Asserts what the offsets of a function are answered, one after the other.
+fn assert_hints(
+    rt: &impl Abort,
+    function: u64,
+    mut hints: FunctionHints,
+    rows: &[(u64, Option<(u64, bool)>)],
+) {
+    for (offset, hint) in rows {
+        assert_eq!(rt;
+            shown(hints.next_at(*offset)),
+            *hint,
+            "function {function}, offset {offset}"
+        );
+    }
+}
+
 #[test]
 fn hints_are_taken_in_order(rt: HostRuntime) {
-    assert!(rt; is_hint_section("metadata.code.branch_hint"));
-    assert!(rt; !is_hint_section("metadata.code.branch_hints"));
     // function 1: offsets 3 and 7; function 4: offset 2
     let bytes = b"\x02\x01\x02\x03\x01\x01\x07\x01\x00\x04\x01\x02\x01\x01";
+    let rows: [(u64, &[(u64, Option<(u64, bool)>)]); 4] = [
+        (0, &[(3, None)]),
+        (
+            1,
+            &[
+                (7, None),
+                (3, Some((0x53, true))),
+                (3, None),
+                (7, Some((0x56, false))),
+                (7, None),
+            ],
+        ),
+        (1, &[(3, None)]),
+        (4, &[(2, Some((0x5b, true)))]),
+    ];
     let mut hints = Hints::given(0x50, bytes);
-    assert_eq!(rt; shown(hints.next_function(0).next_at(3)), None);
-    let mut function = hints.next_function(1);
-    assert_eq!(rt; shown(function.next_at(7)), None);
-    assert_eq!(rt; shown(function.next_at(3)), Some((0x53, true)));
-    assert_eq!(rt; shown(function.next_at(3)), None);
-    assert_eq!(rt; shown(function.next_at(7)), Some((0x56, false)));
-    assert_eq!(rt; shown(function.next_at(7)), None);
-    assert_eq!(rt; shown(hints.next_function(1).next_at(3)), None);
-    assert_eq!(rt;
-        shown(hints.next_function(4).next_at(2)),
-        Some((0x5b, true))
-    );
-    assert_eq!(rt; shown(Hints::none().next_function(1).next_at(3)), None);
+    for (function, offsets) in rows {
+        assert_hints(&rt, function, hints.next_function(function), offsets);
+    }
+    assert_hints(&rt, 1, Hints::none().next_function(1), &[(3, None)]);
+}
+
+#[test]
+fn sections_of_hints_are_known(rt: HostRuntime) {
+    assert!(rt; is_hint_section("metadata.code.branch_hint"));
+    assert!(rt; !is_hint_section("metadata.code.branch_hints"));
 }
 
 #[test]

@@ -72,11 +72,19 @@ fn reading_stops_at_the_first_fault(rt: HostRuntime) -> Result<(), Fail> {
     let second = b"\x01\x07\x02\x00\x01f\x01\x01f";
     let names = names_of(rt.alloc(), &[first, second])?;
     assert_eq!(rt; names.module(), Some("m"));
-    assert_eq!(rt; names.identifier(Space::Local, 1, 0), Some("x"));
-    assert_eq!(rt; names.identifier(Space::Local, 0, 0), None);
-    assert_eq!(rt; names.identifier(Space::Local, 1, 1), None);
-    assert_eq!(rt; names.identifier(Space::Func, 0, 0), Some("f"));
-    assert_eq!(rt; names.identifier(Space::Func, 0, 1), Some("#func1 f"));
+    for (space, outer, index, identifier) in [
+        (Space::Local, 1, 0, Some("x")),
+        (Space::Local, 0, 0, None),
+        (Space::Local, 1, 1, None),
+        (Space::Func, 0, 0, Some("f")),
+        (Space::Func, 0, 1, Some("#func1 f")),
+    ] {
+        assert_eq!(rt;
+            names.identifier(space, outer, index),
+            identifier,
+            "{outer} {index}"
+        );
+    }
     Ok(())
 }
 
@@ -140,35 +148,42 @@ fn names_of_labels_and_the_module_never_count(rt: HostRuntime) -> Result<(), Fai
 fn identifiers_are_given_or_made_up(rt: HostRuntime) -> Result<(), Fail> {
     // the module is `m`; function 0 is called `f`
     let names = names_of(rt.alloc(), &[b"\x00\x02\x01m\x01\x04\x01\x00\x01f"])?;
+    let name = Identifier::Given(Name {
+        given: "f",
+        content: "f",
+    });
+    let far = Identifier::Invented {
+        space: Space::Local,
+        number: 5_000_000_000,
+    };
+    for (invents, space, outer, index, identifier) in [
+        (false, Space::Func, 0, 0, Some(name)),
+        (false, Space::Func, 0, 1, None),
+        (true, Space::Func, 0, 0, Some(name)),
+        (true, Space::Local, 3, 5_000_000_000, Some(far)),
+    ] {
+        let identifiers = Identifiers {
+            names: &names,
+            invents,
+        };
+        assert_eq!(rt;
+            identifiers.item(space, outer, index),
+            identifier,
+            "{invents} {index}"
+        );
+    }
     let given = Identifiers {
         names: &names,
         invents: false,
     };
-    let all = Identifiers {
-        names: &names,
-        invents: true,
-    };
-    let name = Name {
-        given: "f",
-        content: "f",
-    };
-    assert_eq!(rt;
-        given.item(Space::Func, 0, 0),
-        Some(Identifier::Given(name))
-    );
-    assert_eq!(rt; given.item(Space::Func, 0, 1), None);
-    assert_eq!(rt; all.item(Space::Func, 0, 0), Some(Identifier::Given(name)));
-    assert_eq!(rt;
-        all.item(Space::Local, 3, 5_000_000_000),
-        Some(Identifier::Invented {
-            space: Space::Local,
-            number: 5_000_000_000,
-        })
-    );
     assert_eq!(rt; given.module().is_some(), true);
+    Ok(())
+}
+
+#[test]
+fn spaces_have_words(rt: HostRuntime) {
     assert_eq!(rt; Space::Types.word(), "type");
     assert_eq!(rt; Space::Data.word(), "data");
-    Ok(())
 }
 
 #[test]

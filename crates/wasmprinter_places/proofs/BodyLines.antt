@@ -18,17 +18,16 @@ use Rattle.wasmprinter_spec.specs.Options.{Options}
 use Rattle.wasmprinter_spec.specs.Piece.{Piece}
 use Rattle.wasmprinter_spec.specs.Layout.Groups.{has_break, close, group_gap_at}
 use Rattle.wasmprinter_spec.specs.Layout.Variables.{Variables, Alone, Together, with_variable, grouped, variables_pieces, groups_pieces}
-use Rattle.wasmprinter_spec.specs.Layout.Declarations.{Scope}
+use Rattle.wasmprinter_spec.specs.Layout.Declarations.{Scope, Folding}
 use Rattle.wasmprinter_spec.specs.Layout.Operators.{OverLines, Setting}
-use Rattle.wasmprinter_spec.specs.Layout.Functions.{locals_place, local_line, local_pieces, header_pieces, body_pieces, inner_pieces, function_group, function_pieces}
+use Rattle.wasmprinter_spec.specs.Layout.Functions.{locals_place, local_line, local_pieces, header_pieces, over_lines, result_count, body_by, body_pieces, inner_pieces, function_group, function_pieces}
 use Rattle.wasmprinter_spec.specs.Lines.{places, is_among, kept}
 use Rattle.wasmprinter_spec.specs.Apart.{Rises, place_if_any, locals_places, body_places}
 use Rattle.wasmprinter_places.proofs.Order.{rises_ends}
-use Rattle.wasmprinter_places.proofs.Starts.{starts}
 use Rattle.wasmprinter_places.proofs.Indexes.{IsElsewhere, Follows, follows_none, follows_one, follows_skip, follows_elsewhere, follows_both}
 use Rattle.wasmprinter_places.proofs.Kept.{kept_out, kept_in, kept-append}
 use Rattle.wasmprinter_places.proofs.CodeSection.{all_parts}
-use Rattle.wasmprinter_places.proofs.OneLine.{IsOneLine, both_stay, variables_stay, groups_stay}
+use Rattle.wasmprinter_spec.proofs.OneLine.{starts, IsOneLine, both_stay, variables_stay, groups_stay}
 use Rattle.wasmprinter_places.proofs.OperatorLines.{hint_lines, operator_lines, operators_begin}
 use Rattle.wasmprinter_places.proofs.FieldLines.{placed_lines, header_stays}
 use Rattle.wasmprinter_places.proofs.HintLines.{OfHints, of_next_hint, of_hint_behind}
@@ -96,21 +95,27 @@ pub record BeginsOwn (hs : List (Placed Hint)) (f : PlacedFunction) (lines : Lis
   pub closes : Bool
   pub are : lines ≡ own_lines closes hs f
 
-inner_begins : (s : Scope) (hs : List (Placed Hint)) (f : PlacedFunction) →
+-- Operators that aren't folded have a line each.
+body_begins : (folding : Option Folding) → folding ≡ None → (own : Option ℕ) (s : Setting) → s.form ≡ OverLines → (hs : List (Placed Hint)) (os : List (Placed Operator)) →
+    flat_map starts (body_by folding own s hs os) ≡ operator_lines s.body hs os
+unfolding body_by
+body_begins None flat own s over hs os = operators_begin s over hs true 0 [] os
+body_begins (Some f) flat own s over hs os = absurd cc
+
+inner_begins : (s : Scope) → s.folding ≡ None → (hs : List (Placed Hint)) (f : PlacedFunction) →
     flat_map starts (inner_pieces s hs f) ≡ some_all (locals_places f.body.value.locals) ++ operator_lines f.body.place hs f.body.value.operators
 unfolding inner_pieces local_pieces body_pieces
-inner_begins s hs f =
+inner_begins s flat hs f =
     let count : ℕ = parameter_count (signature_at s.types f.type_index) in
-    let setting : Setting = record { form = OverLines; signature = signature_at s.types; nesting = 2; names = s.names; function = s.function; body = f.body.place } in
-    flat_map-append starts (local_pieces s.names s.function count f.body.value.locals) (body_pieces s hs f.body)
+    flat_map-append starts (local_pieces s.names s.function count f.body.value.locals) (body_pieces s f.type_index hs f.body)
     ∙ ap₂ (λ (ls ms : List (Option ℕ)). ls ++ ms) (locals_begin s.names (s.names.locals s.function) count f.body.value.locals)
-    (operators_begin setting refl hs true 0 [] f.body.value.operators)
+    (body_begins s.folding flat (result_count s f.type_index) (over_lines s f.body.place) refl hs f.body.value.operators)
 
-group_begins : (skeleton offsets : Bool) (s : Scope) (hs : List (Placed Hint)) (f : PlacedFunction) → skeleton ≡ false →
+group_begins : (skeleton offsets : Bool) (s : Scope) → s.folding ≡ None → (hs : List (Placed Hint)) (f : PlacedFunction) → skeleton ≡ false →
     BeginsOwn hs f (Some f.body.place ∷ flat_map starts (function_group skeleton offsets s hs f))
 unfolding function_group group_gap_at
-group_begins true offsets s hs f e = absurd cc
-group_begins false offsets s hs f e =
+group_begins true offsets s flat hs f e = absurd cc
+group_begins false offsets s flat hs f e =
     let locals : List (Option ℕ) = some_all (locals_places f.body.value.locals) in
     let operators : List (Option ℕ) = operator_lines f.body.place hs f.body.value.operators in
     let header : List Piece = header_pieces s Func (Some s.function) s.function f.type_index in
@@ -118,7 +123,7 @@ group_begins false offsets s hs f e =
     let closes : Bool = offsets || has_break all in
     let all_begin : flat_map starts all ≡ locals ++ operators =
     flat_map-append starts header (inner_pieces s hs f)
-    ∙ ap₂ (λ (ls ms : List (Option ℕ)). ls ++ ms) (header_stays s Func (Some s.function) s.function f.type_index).begins (inner_begins s hs f) in
+    ∙ ap₂ (λ (ls ms : List (Option ℕ)). ls ++ ms) (header_stays s Func (Some s.function) s.function f.type_index).begins (inner_begins s flat hs f) in
     record {
       closes = closes;
       are = ap (λ (ls : List (Option ℕ)). Some f.body.place ∷ ls)
@@ -127,9 +132,9 @@ group_begins false offsets s hs f e =
           ∙ append_assoc locals operators (closing_lines f.body.value.end closes));
     }
 
-pub function_begins : (o : Options) (s : Scope) (i : ℕ) (hs : List (Placed Hint)) (f : PlacedFunction) → o.skeleton ≡ false → BeginsOwn hs f (flat_map starts (function_pieces o s i hs f))
+pub function_begins : (o : Options) (s : Scope) → s.folding ≡ None → (i : ℕ) (hs : List (Placed Hint)) (f : PlacedFunction) → o.skeleton ≡ false → BeginsOwn hs f (flat_map starts (function_pieces o s i hs f))
 unfolding function_pieces
-function_begins o s i hs f whole = group_begins o.skeleton o.offsets (record s { function = i }) hs f whole
+function_begins o s flat i hs f whole = group_begins o.skeleton o.offsets (record s { function = i }) flat hs f whole
 
 -- ---- they follow the places of its body
 

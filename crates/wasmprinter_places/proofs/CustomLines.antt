@@ -14,10 +14,9 @@ use Rattle.wasmprinter_spec.specs.Layout.Groups.{close, has_break}
 use Rattle.wasmprinter_spec.specs.Layout.Customs.{place_pieces, raw_pieces, faulted_pieces, note, gap_quoted_list, values_pieces, fields_pieces, has_bit, flag_words, flags_by, flags_pieces, sizes_group, sizes_pieces, names_pieces, exports_pieces, import_infos_pieces, content_pieces, subsections_pieces, Part, Shown, Stops, role_part, custom_part, same_place, parts_at}
 use Rattle.wasmprinter_spec.specs.Lines.{places}
 use Rattle.wasmprinter_spec.specs.Apart.{IsOutside, role_places, custom_places}
-use Rattle.wasmprinter_places.proofs.Starts.{starts}
 use Rattle.wasmprinter_places.proofs.Indexes.{AreElsewhere}
 use Rattle.wasmprinter_places.proofs.CodeSection.{all_parts}
-use Rattle.wasmprinter_places.proofs.OneLine.{IsOneLine, nothing_stays, both_stay, then_stay, alone_stays, cond_stays}
+use Rattle.wasmprinter_spec.proofs.OneLine.{starts, IsOneLine, nothing_stays, both_stay, then_stay, alone_stays, cond_stays}
 use Rattle.wasmprinter_places.proofs.FieldLines.{elsewhere_both, pieces_elsewhere, stay_elsewhere, close_elsewhere, bytes_stay}
 
 -- ---- what stays on a line

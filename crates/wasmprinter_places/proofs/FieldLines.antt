@@ -12,10 +12,11 @@ use Rattle.wasmprinter_spec.specs.Indexed.{space_of}
 use Rattle.wasmprinter_spec.specs.Placed.{TypeGroup, Import, Table, Global, Mode, Passive, Declared, Active, Items, Functions, Expressions, ElementEntry, DataMode, PassiveData, ActiveData, Data, Export}
 use Rattle.wasmprinter_spec.specs.Piece.{Piece, Break}
 use Rattle.wasmprinter_spec.specs.Layout.Groups.{has_break, close, group, numbered}
-use Rattle.wasmprinter_spec.specs.Layout.Declarations.{Scope, item_declaration, item_index}
+use Rattle.wasmprinter_spec.specs.Layout.Declarations.{Scope, Folding, item_declaration, item_index}
 use Rattle.wasmprinter_spec.specs.Layout.Types.{type_pieces, member_pieces, group_pieces_by, type_group_pieces, type_section_pieces}
+use Rattle.wasmprinter_spec.specs.Layout.Operators.{InLine, Setting}
 use Rattle.wasmprinter_spec.specs.Layout.Functions.{header_pieces}
-use Rattle.wasmprinter_spec.specs.Layout.Expressions.{in_line, constant_pieces, word_unless_one, constant_group}
+use Rattle.wasmprinter_spec.specs.Layout.Expressions.{in_line, constant_by, constant_pieces, word_unless_one, held_pieces, constant_group}
 use Rattle.wasmprinter_spec.specs.Layout.Limits.{wide_pieces, limits_pieces}
 use Rattle.wasmprinter_spec.specs.Layout.Tables.{table_type_pieces, init_pieces, table_pieces}
 use Rattle.wasmprinter_spec.specs.Layout.Memories.{shared_pieces, page_pieces, memory_type_pieces, memory_pieces}
@@ -27,10 +28,9 @@ use Rattle.wasmprinter_spec.specs.Layout.DataSegments.{named_memory, data_mode_p
 use Rattle.wasmprinter_spec.specs.Layout.{tag_pieces, start_pieces}
 use Rattle.wasmprinter_spec.specs.Lines.{places}
 use Rattle.wasmprinter_spec.specs.Apart.{IsOutside, member_places, group_places, start_places}
-use Rattle.wasmprinter_places.proofs.Starts.{starts}
 use Rattle.wasmprinter_places.proofs.Indexes.{AreElsewhere}
 use Rattle.wasmprinter_places.proofs.CodeSection.{all_parts}
-use Rattle.wasmprinter_places.proofs.OneLine.{IsOneLine, nothing_stays, both_stay, then_stay, alone_stays, cond_stays, line_group_gap_stays, declaration_stays, index_stays, ref_stays, val_stays, type_use_stays, type_stays}
+use Rattle.wasmprinter_spec.proofs.OneLine.{starts, IsOneLine, nothing_stays, both_stay, then_stay, alone_stays, cond_stays, close_stays, line_group_gap_stays, group_gap_stays, declaration_stays, index_stays, ref_stays, val_stays, type_use_stays, type_stays}
 use Rattle.wasmprinter_places.proofs.OperatorLines.{expression_stays}
 
 -- ---- lines that begin elsewhere
@@ -118,24 +118,36 @@ unfolding header_pieces
 header_stays s space f i type_index =
     both_stay (declaration_stays (s.names.items space i) i) (then_stay refl (type_use_stays s.names f type_index (signature_at s.types type_index)))
 
-item_stays : (s : Scope) (space : Space) (i : ℕ) → IsOneLine (item_index s space i)
+pub item_stays : (s : Scope) (space : Space) (i : ℕ) → IsOneLine (item_index s space i)
 item_stays s space i = index_stays (s.names.items space i) i
 
-declared_stays : (s : Scope) (space : Space) (i : ℕ) → IsOneLine (item_declaration s space i)
+pub declared_stays : (s : Scope) (space : Space) (i : ℕ) → IsOneLine (item_declaration s space i)
 declared_stays s space i = declaration_stays (s.names.items space i) i
 
-constant_stays : (s : Scope) (os : List (Placed Operator)) → IsOneLine (constant_pieces s os)
-unfolding constant_pieces
-constant_stays s os = expression_stays (in_line s) refl os
+-- An expression that isn't folded stays on its line.
+constant_by_stays : (f : Option Folding) → f ≡ None → (s : Setting) → s.form ≡ InLine → (os : List (Placed Operator)) → IsOneLine (constant_by f s os)
+unfolding constant_by
+constant_by_stays None flat s line os = expression_stays s line os
+constant_by_stays (Some f) flat s line os = absurd cc
 
-word_stays : (w : List ℕ) (os : List (Placed Operator)) → IsOneLine (word_unless_one w os)
+constant_stays : (s : Scope) → s.folding ≡ None → (nesting : ℕ) (os : List (Placed Operator)) → IsOneLine (constant_pieces s nesting os)
+unfolding constant_pieces
+constant_stays s flat nesting os = constant_by_stays s.folding flat (in_line s nesting) refl os
+
+pub word_stays : (w : List ℕ) (os : List (Placed Operator)) → IsOneLine (word_unless_one w os)
 word_stays w [] = then_stay refl (alone_stays refl)
 word_stays w (o ∷ []) = nothing_stays
 word_stays w (o ∷ p ∷ os) = then_stay refl (alone_stays refl)
 
-constant_group_stays : (s : Scope) (w : List ℕ) (os : List (Placed Operator)) → IsOneLine (constant_group s w os)
+held_stay : (s : Scope) → s.folding ≡ None → (nesting : ℕ) (os : List (Placed Operator)) → IsOneLine (held_pieces s nesting os)
+held_stay s flat nesting [] = constant_stays s flat nesting []
+held_stay s flat nesting (o ∷ []) = expression_stays (in_line s nesting) refl (o ∷ [])
+held_stay s flat nesting (o ∷ p ∷ os) = constant_stays s flat nesting (o ∷ p ∷ os)
+
+constant_group_stays : (s : Scope) → s.folding ≡ None → (nesting : ℕ) (w : List ℕ) (os : List (Placed Operator)) → IsOneLine (constant_group s nesting w os)
 unfolding constant_group
-constant_group_stays s w os = then_stay refl (both_stay (word_stays w os) (both_stay (constant_stays s os) (alone_stays refl)))
+constant_group_stays s flat nesting w os =
+    let parts = both_stay (word_stays w os) (held_stay s flat (nesting + 1) os) in then_stay refl (both_stay parts (close_stays nesting parts))
 
 wide_stays : (b : Bool) → IsOneLine (wide_pieces b)
 wide_stays true = alone_stays refl
@@ -147,19 +159,19 @@ limits_stay l = alone_stays refl
 
 -- ---- tables, memories, tags, globals
 
-table_type_stays : (names : Names) (t : TableType) → IsOneLine (table_type_pieces names t)
+pub table_type_stays : (names : Names) (t : TableType) → IsOneLine (table_type_pieces names t)
 unfolding table_type_pieces
 table_type_stays names t = both_stay (wide_stays t.wide) (both_stay (limits_stay t.limits) (then_stay refl (ref_stays names t.element)))
 
-init_stays : (s : Scope) (init : Option (List (Placed Operator))) → IsOneLine (init_pieces s init)
+init_stays : (s : Scope) → s.folding ≡ None → (init : Option (List (Placed Operator))) → IsOneLine (init_pieces s init)
 unfolding init_pieces
-init_stays s None = nothing_stays
-init_stays s (Some os) = then_stay refl (constant_stays s os)
+init_stays s flat None = nothing_stays
+init_stays s flat (Some os) = then_stay refl (constant_stays s flat 2 os)
 
-pub table_begins : (s : Scope) (i : ℕ) (t : Placed (Table (Placed Operator))) → flat_map starts (table_pieces s i t) ≡ Some t.place ∷ []
+pub table_begins : (s : Scope) → s.folding ≡ None → (i : ℕ) (t : Placed (Table (Placed Operator))) → flat_map starts (table_pieces s i t) ≡ Some t.place ∷ []
 unfolding table_pieces
-table_begins s i t =
-    field_begins t.place 1 (line_group_gap_stays (codes "table") (both_stay (declared_stays s row.Table i) (then_stay refl (both_stay (table_type_stays s.names t.value.type) (init_stays s t.value.init)))))
+table_begins s flat i t =
+    field_begins t.place 1 (group_gap_stays 1 (codes "table") (both_stay (declared_stays s row.Table i) (then_stay refl (both_stay (table_type_stays s.names t.value.type) (init_stays s flat t.value.init)))))
 
 shared_stays : (b : Bool) → IsOneLine (shared_pieces b)
 shared_stays true = alone_stays refl
@@ -169,7 +181,7 @@ page_stays : (p : Option ℕ) → IsOneLine (page_pieces p)
 page_stays None = nothing_stays
 page_stays (Some e) = then_stay refl (line_group_gap_stays (codes "pagesize") (alone_stays refl))
 
-memory_type_stays : (m : MemoryType) → IsOneLine (memory_type_pieces m)
+pub memory_type_stays : (m : MemoryType) → IsOneLine (memory_type_pieces m)
 unfolding memory_type_pieces
 memory_type_stays m = both_stay (wide_stays m.wide) (both_stay (limits_stay m.limits) (both_stay (shared_stays m.shared) (page_stays m.page)))
 
@@ -185,19 +197,19 @@ mutable_stays : (names : Names) (b : Bool) (t : ValType) → IsOneLine (mutable_
 mutable_stays names true t = then_stay refl (both_stay (val_stays names t) (alone_stays refl))
 mutable_stays names false t = val_stays names t
 
-global_type_stays : (names : Names) (t : GlobalType) → IsOneLine (global_type_pieces names t)
+pub global_type_stays : (names : Names) (t : GlobalType) → IsOneLine (global_type_pieces names t)
 unfolding global_type_pieces
 global_type_stays names t = mutable_stays names t.mutable t.type
 
-pub global_begins : (s : Scope) (i : ℕ) (g : Placed (Global (Placed Operator))) → flat_map starts (global_pieces s i g) ≡ Some g.place ∷ []
+pub global_begins : (s : Scope) → s.folding ≡ None → (i : ℕ) (g : Placed (Global (Placed Operator))) → flat_map starts (global_pieces s i g) ≡ Some g.place ∷ []
 unfolding global_pieces
-global_begins s i g =
-    field_begins g.place 1 (line_group_gap_stays (codes "global")
-    (both_stay (declared_stays s row.Global i) (then_stay refl (both_stay (global_type_stays s.names g.value.type) (then_stay refl (constant_stays s g.value.init))))))
+global_begins s flat i g =
+    field_begins g.place 1 (group_gap_stays 1 (codes "global")
+    (both_stay (declared_stays s row.Global i) (then_stay refl (both_stay (global_type_stays s.names g.value.type) (then_stay refl (constant_stays s flat 2 g.value.init))))))
 
 -- ---- imports and exports, the start function
 
-extern_stays : (s : Scope) (n : ℕ) (t : ExternType) → IsOneLine (extern_pieces s n t)
+pub extern_stays : (s : Scope) (n : ℕ) (t : ExternType) → IsOneLine (extern_pieces s n t)
 unfolding extern_pieces
 extern_stays s n (FuncExtern i) = line_group_gap_stays (codes "func") (header_stays s Func (Some n) n i)
 extern_stays s n (TableExtern t) = line_group_gap_stays (codes "table") (both_stay (declared_stays s row.Table n) (then_stay refl (table_type_stays s.names t)))
@@ -217,7 +229,7 @@ imports_begin s n (i ∷ is) =
     flat_map-append starts (import_pieces s (number_of i.value.type n) i) (imports_pieces s (numbers_behind i.value.type n) is)
     ∙ ap₂ (λ (ls ms : List (Option ℕ)). ls ++ ms) (import_begins s (number_of i.value.type n) i) (imports_begin s (numbers_behind i.value.type n) is)
 
-extern_index_stays : (s : Scope) (k : ExternKind) (n : ℕ) → IsOneLine (extern_index_pieces s k n)
+pub extern_index_stays : (s : Scope) (k : ExternKind) (n : ℕ) → IsOneLine (extern_index_pieces s k n)
 unfolding extern_index_pieces
 extern_index_stays s TagKind n = alone_stays refl
 extern_index_stays s FuncKind n = item_stays s (space_of FuncKind) n
@@ -238,55 +250,55 @@ start_elsewhere low high s (Some start) h = (h.0, stay_elsewhere low high (line_
 
 -- ---- segments
 
-named_table_stays : (s : Scope) (b : Bool) (t : ℕ) → IsOneLine (named_table s b t)
+pub named_table_stays : (s : Scope) (b : Bool) (t : ℕ) → IsOneLine (named_table s b t)
 named_table_stays s true t = then_stay refl (line_group_gap_stays (codes "table") (item_stays s row.Table t))
 named_table_stays s false t = nothing_stays
 
-mode_stays : (s : Scope) (b : Bool) (m : Mode (Placed Operator)) → IsOneLine (mode_pieces s b m)
+mode_stays : (s : Scope) → s.folding ≡ None → (b : Bool) (m : Mode (Placed Operator)) → IsOneLine (mode_pieces s b m)
 unfolding mode_pieces
-mode_stays s b Passive = nothing_stays
-mode_stays s b Declared = then_stay refl (alone_stays refl)
-mode_stays s b (Active t offset) = both_stay (named_table_stays s b t) (then_stay refl (constant_group_stays s (codes "offset") offset))
+mode_stays s flat b Passive = nothing_stays
+mode_stays s flat b Declared = then_stay refl (alone_stays refl)
+mode_stays s flat b (Active t offset) = both_stay (named_table_stays s b t) (then_stay refl (constant_group_stays s flat 2 (codes "offset") offset))
 
-function_items_stay : (s : Scope) (is : List ℕ) → IsOneLine (function_items s is)
+pub function_items_stay : (s : Scope) (is : List ℕ) → IsOneLine (function_items s is)
 unfolding function_items
 function_items_stay s [] = nothing_stays
 function_items_stay s (i ∷ is) = then_stay refl (both_stay (item_stays s Func i) (function_items_stay s is))
 
-expression_items_stay : (s : Scope) (es : List (List (Placed Operator))) → IsOneLine (expression_items s es)
+expression_items_stay : (s : Scope) → s.folding ≡ None → (es : List (List (Placed Operator))) → IsOneLine (expression_items s es)
 unfolding expression_items
-expression_items_stay s [] = nothing_stays
-expression_items_stay s (e ∷ es) = then_stay refl (both_stay (constant_group_stays s (codes "item") e) (expression_items_stay s es))
+expression_items_stay s flat [] = nothing_stays
+expression_items_stay s flat (e ∷ es) = then_stay refl (both_stay (constant_group_stays s flat 2 (codes "item") e) (expression_items_stay s flat es))
 
-items_stay : (s : Scope) (items : Items (Placed Operator)) → IsOneLine (items_pieces s items)
+items_stay : (s : Scope) → s.folding ≡ None → (items : Items (Placed Operator)) → IsOneLine (items_pieces s items)
 unfolding items_pieces
-items_stay s (Functions is) = then_stay refl (function_items_stay s is)
-items_stay s (Expressions t es) = both_stay (ref_stays s.names t) (expression_items_stay s es)
+items_stay s flat (Functions is) = then_stay refl (function_items_stay s is)
+items_stay s flat (Expressions t es) = both_stay (ref_stays s.names t) (expression_items_stay s flat es)
 
-shown_items_stay : (skeleton : Bool) (s : Scope) (items : Items (Placed Operator)) → IsOneLine (shown_items skeleton s items)
-shown_items_stay true s items = alone_stays refl
-shown_items_stay false s items = items_stay s items
+shown_items_stay : (skeleton : Bool) (s : Scope) → s.folding ≡ None → (items : Items (Placed Operator)) → IsOneLine (shown_items skeleton s items)
+shown_items_stay true s flat items = alone_stays refl
+shown_items_stay false s flat items = items_stay s flat items
 
-pub element_begins : (skeleton : Bool) (s : Scope) (i : ℕ) (e : Placed ElementEntry) → flat_map starts (element_pieces skeleton s i e) ≡ Some e.place ∷ []
+pub element_begins : (skeleton : Bool) (s : Scope) → s.folding ≡ None → (i : ℕ) (e : Placed ElementEntry) → flat_map starts (element_pieces skeleton s i e) ≡ Some e.place ∷ []
 unfolding element_pieces
-element_begins skeleton s i e =
-    field_begins e.place 1 (line_group_gap_stays (codes "elem")
-    (both_stay (declared_stays s row.Elem i) (both_stay (mode_stays s e.value.names_table e.value.element.mode) (then_stay refl (shown_items_stay skeleton s e.value.element.items)))))
+element_begins skeleton s flat i e =
+    field_begins e.place 1 (group_gap_stays 1 (codes "elem")
+    (both_stay (declared_stays s row.Elem i) (both_stay (mode_stays s flat e.value.names_table e.value.element.mode) (then_stay refl (shown_items_stay skeleton s flat e.value.element.items)))))
 
-named_memory_stays : (s : Scope) (n : ℕ) → IsOneLine (named_memory s n)
+pub named_memory_stays : (s : Scope) (n : ℕ) → IsOneLine (named_memory s n)
 named_memory_stays s n = cond_stays (n == 0) nothing_stays (both_stay (line_group_gap_stays (codes "memory") (item_stays s row.Memory n)) (alone_stays refl))
 
-data_mode_stays : (s : Scope) (m : DataMode (Placed Operator)) → IsOneLine (data_mode_pieces s m)
+data_mode_stays : (s : Scope) → s.folding ≡ None → (m : DataMode (Placed Operator)) → IsOneLine (data_mode_pieces s m)
 unfolding data_mode_pieces
-data_mode_stays s PassiveData = nothing_stays
-data_mode_stays s (ActiveData memory offset) = both_stay (named_memory_stays s memory) (both_stay (constant_group_stays s (codes "offset") offset) (alone_stays refl))
+data_mode_stays s flat PassiveData = nothing_stays
+data_mode_stays s flat (ActiveData memory offset) = both_stay (named_memory_stays s memory) (both_stay (constant_group_stays s flat 2 (codes "offset") offset) (alone_stays refl))
 
 pub bytes_stay : (skeleton : Bool) (bs : List ℕ) → IsOneLine (shown_bytes skeleton bs)
 bytes_stay true bs = alone_stays refl
 bytes_stay false bs = alone_stays refl
 
-pub data_begins : (skeleton : Bool) (s : Scope) (i : ℕ) (d : Placed (Data (Placed Operator))) → flat_map starts (data_pieces skeleton s i d) ≡ Some d.place ∷ []
+pub data_begins : (skeleton : Bool) (s : Scope) → s.folding ≡ None → (i : ℕ) (d : Placed (Data (Placed Operator))) → flat_map starts (data_pieces skeleton s i d) ≡ Some d.place ∷ []
 unfolding data_pieces
-data_begins skeleton s i d =
-    field_begins d.place 1 (line_group_gap_stays (codes "data")
-    (both_stay (declared_stays s row.Data i) (then_stay refl (both_stay (data_mode_stays s d.value.mode) (bytes_stay skeleton d.value.bytes)))))
+data_begins skeleton s flat i d =
+    field_begins d.place 1 (group_gap_stays 1 (codes "data")
+    (both_stay (declared_stays s row.Data i) (then_stay refl (both_stay (data_mode_stays s flat d.value.mode) (bytes_stay skeleton d.value.bytes)))))

@@ -69,11 +69,11 @@ only_found m lines i j number a e only =
     )
 
 pub finds_line : FindsLine
-finds_line bytes m o answers spelled whole laid i j =
+finds_line bytes m o answers spelled whole unfolded laid i j =
     let lines : List TextLine = lines_of (layout o answers m) in (
       λ a e.
           let f = bind_some (slice_get m.functions i) (λ f. slice_get f.body.value.operators j) a e in
-          let has = function_lines bytes m o answers spelled whole laid i f.0 f.1 in
+          let has = function_lines bytes m o answers spelled whole unfolded laid i f.0 f.1 in
           let line = (has.at_operator j a f.2).among_all in
           only_found m lines i j line.0 a e line.1,
       λ e. ap (λ (x : Option (Placed Operator)). x >>= λ o. line_from 0 o.place lines >>= λ k. Some (k, o.place)) e,

@@ -86,17 +86,17 @@ module _ (low high : ℕ) (ps : List ℕ) (ls : List (Option ℕ)) (rise : Rises
 
 pub function_lines : FunctionsHaveLines
 unfolding layout
-function_lines bytes m o answers spelled whole laid i f e =
+function_lines bytes m o answers spelled whole unfolded laid i f e =
     let a : IsApart m = apart bytes m spelled in
     let ps : List ℕ = hint_places m in
     let begins = module_begins o answers m laid in
     let ls : List (Option ℕ) = line_places (lines_of (all_calls o (module_pieces o answers m))) in
     let are : ls ≡ module_lines begins.0 m.size (own_parts o answers m) = places_of_pieces o (module_pieces o answers m) ∙ begins.1 in
-    let rise : RisesAmong a.low a.high a.low ls = subst (RisesAmong a.low a.high a.low) (sym are) (module_rises o answers m a begins.0 whole) in
+    let rise : RisesAmong a.low a.high a.low ls = subst (RisesAmong a.low a.high a.low) (sym are) (module_rises o answers m a unfolded begins.0 whole) in
     let body : Rises a.low (body_places f.body) a.high = rises_each (λ g. body_places g.body) m.functions a.low a.high i f a.bodies e in
     let own : AllByRecursion (IsKept ps) (body_places f.body) =
     all_rising (IsKept ps) a.low a.high (body_places f.body) (λ x above below. none_among (IsOutside a.low a.high) x (inside_not a.low a.high x above below) ps a.hints) body in
-    let stands : Stands f (kept ps ls) = subst (λ (xs : List (Option ℕ)). Stands f (kept ps xs)) (sym are) (module_stands o answers m begins.0 whole i f e own) in
+    let stands : Stands f (kept ps ls) = subst (λ (xs : List (Option ℕ)). Stands f (kept ps xs)) (sym are) (module_stands o answers m begins.0 unfolded whole i f e own) in
     record {
       header = stands.at;
       at_header = header_line a.low a.high ps ls rise f stands body;

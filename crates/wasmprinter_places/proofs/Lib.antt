@@ -7,7 +7,6 @@ pub mod CodeSection
 pub mod Starts
 pub mod Indexes
 pub mod Kept
-pub mod OneLine
 pub mod OperatorLines
 pub mod FieldLines
 pub mod CustomLines

@@ -1,5 +1,5 @@
 -- The lines of all functions among those of the module.
-use Rattle.std.proofs.Common.{◌≡◌, ℕ, zero, suc, ◌+◌, ◌||◌, List, [], ◌∷◌, ◌++◌, Bool, true, false, Option, Some, None, length, refl, sym, ap, ap₂, subst, ◌∙◌, inl, inr, append-nil, arith}
+use Rattle.std.proofs.Common.{◌≡◌, ℕ, zero, suc, ◌+◌, ◌||◌, cond, List, [], ◌∷◌, ◌++◌, Bool, true, false, Option, Some, None, length, refl, sym, ap, ap₂, subst, ◌∙◌, inl, inr, append-nil, arith}
 use Rattle.std.specs.Prelude.{slice_get}
 use Rattle.std.specs.List.{AllByRecursion, flat_map}
 use Rattle.std.proofs.lemmas.List.Concat.{flat_map-append}
@@ -14,7 +14,7 @@ use Rattle.wasmprinter_spec.specs.Options.{Options, Answers}
 use Rattle.wasmprinter_spec.specs.Piece.{Piece, Feed}
 use Rattle.wasmprinter_spec.specs.Layout.Groups.{has_break, close, group_at, numbered}
 use Rattle.wasmprinter_spec.specs.Layout.Identifiers.{leading_mark_pieces}
-use Rattle.wasmprinter_spec.specs.Layout.Declarations.{Scope}
+use Rattle.wasmprinter_spec.specs.Layout.Declarations.{Scope, Folding}
 use Rattle.wasmprinter_spec.specs.Layout.Types.{type_section_pieces}
 use Rattle.wasmprinter_spec.specs.Layout.Functions.{function_pieces, functions_pieces}
 use Rattle.wasmprinter_spec.specs.Layout.Imports.{no_numbers, imports_pieces}
@@ -28,10 +28,9 @@ use Rattle.wasmprinter_spec.specs.Layout.Customs.{Part, Shown, Stops, parts_at, 
 use Rattle.wasmprinter_spec.specs.Layout.{tag_pieces, start_pieces, early_scope, late_scope, module_parts, module_pieces_of, module_pieces_with, module_pieces, refusal}
 use Rattle.wasmprinter_spec.specs.Lines.{hint_places, kept}
 use Rattle.wasmprinter_spec.specs.Apart.{Rises, IsOutside, body_places, IsApart}
-use Rattle.wasmprinter_places.proofs.Starts.{starts}
 use Rattle.wasmprinter_places.proofs.Indexes.{StandsAt, stands_left, stands_right, IsElsewhere, AreElsewhere, RisesAmong, elsewhere_first, elsewhere_last, Follows, follows_none, follows_both}
 use Rattle.wasmprinter_places.proofs.Kept.{kept-append, each_among}
-use Rattle.wasmprinter_places.proofs.OneLine.{leading_mark_stays}
+use Rattle.wasmprinter_spec.proofs.OneLine.{starts, leading_mark_stays}
 use Rattle.wasmprinter_places.proofs.FieldLines.{elsewhere_both, numbered_begin, placed_lines, placed_elsewhere, types_elsewhere, table_begins, memory_begins, tag_begins, global_begins, imports_begin, export_begins, start_elsewhere, element_begins, data_begins}
 use Rattle.wasmprinter_places.proofs.CustomLines.{part_starts, part_lines, customs_elsewhere}
 use Rattle.wasmprinter_places.proofs.HintLines.{OfEntries, of_next_hints, of_hints_behind}
@@ -39,12 +38,12 @@ use Rattle.wasmprinter_places.proofs.BodyLines.{own_lines, kept_lines, closing_l
 
 -- ---- the lines of all functions
 
-functions_follow : (low high : ℕ) (o : Options) (s : Scope) → o.skeleton ≡ false → (es : List FunctionHints) → OfEntries (IsElsewhere low high) es → (i : ℕ) (fs : List PlacedFunction) →
+functions_follow : (low high : ℕ) (o : Options) (s : Scope) → s.folding ≡ None → o.skeleton ≡ false → (es : List FunctionHints) → OfEntries (IsElsewhere low high) es → (i : ℕ) (fs : List PlacedFunction) →
     Follows low high (flat_map (λ f. body_places f.body) fs) (flat_map starts (functions_pieces o s es i fs))
 unfolding functions_pieces
-functions_follow low high o s whole es all i [] = follows_none low high
-functions_follow low high o s whole es all i (f ∷ fs) =
-    let own = function_begins o s i (next_hints i es) f whole in
+functions_follow low high o s flat whole es all i [] = follows_none low high
+functions_follow low high o s flat whole es all i (f ∷ fs) =
+    let own = function_begins o s flat i (next_hints i es) f whole in
     let lines : List (Option ℕ) = own_lines own.closes (next_hints i es) f in
     let rest : List (Option ℕ) = flat_map starts (functions_pieces o s (hints_behind i es) (i + 1) fs) in
     let joined : flat_map starts (function_pieces o s i (next_hints i es) f ++ functions_pieces o s (hints_behind i es) (i + 1) fs) ≡ lines ++ rest =
@@ -52,7 +51,7 @@ functions_follow low high o s whole es all i (f ∷ fs) =
     subst (Follows low high (body_places f.body ++ flat_map (λ g. body_places g.body) fs)) (sym joined)
     (follows_both low high (body_places f.body) (flat_map (λ g. body_places g.body) fs) lines rest
     (own_follow low high own.closes (next_hints i es) f (of_next_hints (IsElsewhere low high) i es all))
-    (functions_follow low high o s whole (hints_behind i es) (of_hints_behind (IsElsewhere low high) i es all) (i + 1) fs))
+    (functions_follow low high o s flat whole (hints_behind i es) (of_hints_behind (IsElsewhere low high) i es all) (i + 1) fs))
 
 -- ---- where a function's lines stand, those of hints left out
 
@@ -76,15 +75,15 @@ module _ (ps : List ℕ) (f : PlacedFunction) where
   right_stands : (xs ys : List (Option ℕ)) → Stands f (kept ps ys) → Stands f (kept ps (xs ++ ys))
   right_stands xs ys h = subst (Stands f) (sym (kept-append ps xs ys)) (Stands-right (kept ps xs) h)
 
-  function_stands : (o : Options) (s : Scope) → o.skeleton ≡ false → AllByRecursion (IsKept ps) (body_places f.body) →
+  function_stands : (o : Options) (s : Scope) → s.folding ≡ None → o.skeleton ≡ false → AllByRecursion (IsKept ps) (body_places f.body) →
       (es : List FunctionHints) → OfEntries (IsHint ps) es → (n i : ℕ) (fs : List PlacedFunction) → slice_get fs i ≡ Some f →
       Stands f (kept ps (flat_map starts (functions_pieces o s es n fs)))
   unfolding functions_pieces
-  function_stands o s whole body es all n i [] e = absurd cc
-  function_stands o s whole body es all n zero (g ∷ fs) e =
+  function_stands o s flat whole body es all n i [] e = absurd cc
+  function_stands o s flat whole body es all n zero (g ∷ fs) e =
       let hs = next_hints n es in
       let same : g ≡ f = some_is g f e in
-      let own = function_begins o s n hs g whole in
+      let own = function_begins o s flat n hs g whole in
       let rest : List Piece = functions_pieces o s (hints_behind n es) (n + 1) fs in
       let its : kept ps (own_lines own.closes hs g) ≡ kept_lines own.closes g =
       own_kept ps own.closes hs g (of_next_hints (IsHint ps) n es all) (subst (λ (h : PlacedFunction). AllByRecursion (IsKept ps) (body_places h.body)) (sym same) body) in
@@ -97,11 +96,11 @@ module _ (ps : List ℕ) (f : PlacedFunction) where
       } in
       subst (λ (ls : List (Option ℕ)). Stands f (kept ps ls)) (sym (flat_map-append starts (function_pieces o s n hs g) rest))
       (left_stands (flat_map starts (function_pieces o s n hs g)) (flat_map starts rest) (subst (Stands f) (sym lines) here))
-  function_stands o s whole body es all n (suc i) (g ∷ fs) e =
+  function_stands o s flat whole body es all n (suc i) (g ∷ fs) e =
       let own : List Piece = function_pieces o s n (next_hints n es) g in
       let rest : List Piece = functions_pieces o s (hints_behind n es) (n + 1) fs in
       subst (λ (ls : List (Option ℕ)). Stands f (kept ps ls)) (sym (flat_map-append starts own rest))
-      (right_stands (flat_map starts own) (flat_map starts rest) (function_stands o s whole body (hints_behind n es) (of_hints_behind (IsHint ps) n es all) (n + 1) i fs e))
+      (right_stands (flat_map starts own) (flat_map starts rest) (function_stands o s flat whole body (hints_behind n es) (of_hints_behind (IsHint ps) n es all) (n + 1) i fs e))
 
 -- ---- parts one behind the other
 
@@ -129,6 +128,11 @@ laid_lines (Shown ps ∷ parts) e = flat_map-append starts ps (laid_parts parts)
 laid_lines (Stops ps id ∷ parts) e = absurd cc
 
 -- ---- the module
+
+-- nothing is folded where that isn't asked for
+nothing_folds : (b : Bool) (f : Option Folding) → b ≡ false → cond b f None ≡ None
+nothing_folds true f e = absurd cc
+nothing_folds false f e = refl
 
 -- the lines of a module: its first, those of its parts, its last or none
 abbrev pub module_lines : Bool → ℕ → List Part → List (Option ℕ)
@@ -171,7 +175,7 @@ module _ (o : Options) (answers : Answers) (m : PlacedModule) where
   customs_at place = parts_at o.skeleton answers place 0 m.customs
 
   abbrev own_scope : Scope
-  own_scope = early_scope own_names m
+  own_scope = early_scope o own_names m
 
   abbrev own_imports : List Import
   own_imports = without_places m.imports
@@ -198,12 +202,15 @@ module _ (o : Options) (answers : Answers) (m : PlacedModule) where
   code_parts = Shown functions_of ∷ customs_at (Some CodeSection)
 
   abbrev data_parts : List Part
-  data_parts = Shown (numbered (data_pieces o.skeleton (late_scope own_names m)) 0 m.datas) ∷ customs_at (Some DataSection)
+  data_parts = Shown (numbered (data_pieces o.skeleton (late_scope o own_names m)) 0 m.datas) ∷ customs_at (Some DataSection)
 
   parts_are : own_parts ≡ front_parts ++ code_parts ++ data_parts
   parts_are = refl
 
-  module _ (a : IsApart m) where
+  module _ (a : IsApart m) (unfolded : o.folds ≡ false) where
+    flat : own_scope.folding ≡ None
+    flat = nothing_folds o.folds _ unfolded
+
     customs_out : (place : Option Kind) → AreOut a.low a.high (customs_at place)
     customs_out place = record { out = customs_elsewhere a.low a.high o.skeleton answers place 0 m.customs a.customs }
 
@@ -221,18 +228,18 @@ module _ (o : Options) (answers : Answers) (m : PlacedModule) where
         let types = field_out (type_section_pieces own_names 0 m.types) TypeSection (types_elsewhere a.low a.high own_names 0 m.types a.types) in
         let imports = items_out (imports_pieces s no_numbers m.imports) ImportSection (placed_lines m.imports) (imports_begin s no_numbers m.imports) (placed_elsewhere a.low a.high m.imports a.imports) in
         let tables = items_out (numbered (table_pieces s) (length (imported table_import own_imports)) m.tables) TableSection (placed_lines m.tables)
-        (numbered_begin (table_pieces s) (table_begins s) (length (imported table_import own_imports)) m.tables) (placed_elsewhere a.low a.high m.tables a.tables) in
+        (numbered_begin (table_pieces s) (table_begins s flat) (length (imported table_import own_imports)) m.tables) (placed_elsewhere a.low a.high m.tables a.tables) in
         let memories = items_out (numbered (memory_pieces s) (length (imported memory_import own_imports)) m.memories) MemorySection (placed_lines m.memories)
         (numbered_begin (memory_pieces s) (memory_begins s) (length (imported memory_import own_imports)) m.memories) (placed_elsewhere a.low a.high m.memories a.memories) in
         let tags = items_out (numbered (tag_pieces s) (length (imported tag_import own_imports)) m.tags) TagSection (placed_lines m.tags)
         (numbered_begin (tag_pieces s) (tag_begins s) (length (imported tag_import own_imports)) m.tags) (placed_elsewhere a.low a.high m.tags a.tags) in
         let globals = items_out (numbered (global_pieces s) (length (imported global_import own_imports)) m.globals) GlobalSection (placed_lines m.globals)
-        (numbered_begin (global_pieces s) (global_begins s) (length (imported global_import own_imports)) m.globals) (placed_elsewhere a.low a.high m.globals a.globals) in
+        (numbered_begin (global_pieces s) (global_begins s flat) (length (imported global_import own_imports)) m.globals) (placed_elsewhere a.low a.high m.globals a.globals) in
         let exports = items_out (numbered (λ i e. export_pieces s e) 0 m.exports) ExportSection (placed_lines m.exports)
         (numbered_begin (λ i e. export_pieces s e) (λ i e. export_begins s e) 0 m.exports) (placed_elsewhere a.low a.high m.exports a.exports) in
         let start = field_out (start_pieces s m.start) StartSection (start_elsewhere a.low a.high s m.start a.start) in
         let elements = items_out (numbered (element_pieces o.skeleton s) 0 m.elements) ElementSection (placed_lines m.elements)
-        (numbered_begin (element_pieces o.skeleton s) (element_begins o.skeleton s) 0 m.elements) (placed_elsewhere a.low a.high m.elements a.elements) in
+        (numbered_begin (element_pieces o.skeleton s) (element_begins o.skeleton s flat) 0 m.elements) (placed_elsewhere a.low a.high m.elements a.elements) in
         let first = out_both a.low a.high (out_both a.low a.high (customs_out None) types) imports in
         let second = out_both a.low a.high (out_both a.low a.high first (customs_out (Some FunctionSection))) tables in
         let third = out_both a.low a.high (out_both a.low a.high (out_both a.low a.high second memories) tags) globals in
@@ -240,9 +247,9 @@ module _ (o : Options) (answers : Answers) (m : PlacedModule) where
 
     data_out : AreOut a.low a.high data_parts
     data_out =
-        let s : Scope = late_scope own_names m in
+        let s : Scope = late_scope o own_names m in
         items_out (numbered (data_pieces o.skeleton s) 0 m.datas) DataSection (placed_lines m.datas)
-        (numbered_begin (data_pieces o.skeleton s) (data_begins o.skeleton s) 0 m.datas) (placed_elsewhere a.low a.high m.datas a.datas)
+        (numbered_begin (data_pieces o.skeleton s) (data_begins o.skeleton s flat) 0 m.datas) (placed_elsewhere a.low a.high m.datas a.datas)
 
     closing_out : (place : ℕ) (b : Bool) → IsOutside a.low a.high place → AreElsewhere a.low a.high (closing_lines place b)
     closing_out place true h = (h, tt)
@@ -255,7 +262,7 @@ module _ (o : Options) (answers : Answers) (m : PlacedModule) where
         let all : List ℕ = flat_map (λ f. body_places f.body) m.functions in
         let rise : Rises a.low (all ++ []) a.high = subst (λ (ps : List ℕ). Rises a.low ps a.high) (sym (append-nil all)) a.bodies in
         let follow : Follows a.low a.high all functions =
-        functions_follow a.low a.high o own_scope whole (hints_of m.customs) a.hints (length (imported func_import own_imports)) m.functions in
+        functions_follow a.low a.high o own_scope flat whole (hints_of m.customs) a.hints (length (imported func_import own_imports)) m.functions in
         let code : RisesAmong a.low a.high a.low functions = subst (RisesAmong a.low a.high a.low) (append-nil functions) (follow a.low [] [] rise (λ q h. tt)) in
         let section : RisesAmong a.low a.high a.low (part_lines code_parts) =
         elsewhere_last a.low a.high a.low functions (part_lines (customs_at (Some CodeSection))) code (customs_out (Some CodeSection)).out in
@@ -265,13 +272,13 @@ module _ (o : Options) (answers : Answers) (m : PlacedModule) where
         inl (inl a.first, elsewhere_last a.low a.high a.low (part_lines own_parts ++ closing_lines m.size b) [] closed tt)
 
   -- The kept lines of a function stand among those of the module.
-  pub module_stands : (b : Bool) → o.skeleton ≡ false → (i : ℕ) (f : PlacedFunction) → slice_get m.functions i ≡ Some f →
+  pub module_stands : (b : Bool) → o.folds ≡ false → o.skeleton ≡ false → (i : ℕ) (f : PlacedFunction) → slice_get m.functions i ≡ Some f →
       AllByRecursion (IsKept (hint_places m)) (body_places f.body) → Stands f (kept (hint_places m) (module_lines b m.size own_parts))
-  module_stands b whole i f e body =
+  module_stands b unfolded whole i f e body =
       let ps : List ℕ = hint_places m in
       let functions : List (Option ℕ) = flat_map starts functions_of in
       let own : Stands f (kept ps functions) =
-      function_stands ps f o own_scope whole body (hints_of m.customs) (each_among ps) (length (imported func_import own_imports)) i m.functions e in
+      function_stands ps f o own_scope (nothing_folds o.folds _ unfolded) whole body (hints_of m.customs) (each_among ps) (length (imported func_import own_imports)) i m.functions e in
       let section : Stands f (kept ps (part_lines code_parts)) = left_stands ps f functions (part_lines (customs_at (Some CodeSection))) own in
       let front : Stands f (kept ps (part_lines (front_parts ++ code_parts))) =
       subst (λ (ls : List (Option ℕ)). Stands f (kept ps ls)) (sym (parts_joined front_parts code_parts)) (right_stands ps f (part_lines front_parts) (part_lines code_parts) section) in

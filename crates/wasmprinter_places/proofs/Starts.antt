@@ -13,18 +13,13 @@ use Rattle.wasmprinter_spec.specs.Names.{Names}
 use Rattle.wasmprinter_spec.specs.ModuleNames.{module_names}
 use Rattle.wasmprinter_spec.specs.Layout.Customs.{Laid, laid_parts}
 use Rattle.wasmprinter_spec.specs.Layout.{module_parts, module_pieces_of, module_pieces_with, module_pieces, layout}
+use Rattle.wasmprinter_spec.proofs.OneLine.{starts}
 use Rattle.wasmprinter_spec.specs.PlaceLaws.{AlikeHaveSameLines, LinesJoin}
 
 -- the line that a call begins
 abbrev pub begun : Call → List (Option ℕ)
 begun (Line place) = place ∷ []
 begun _ = []
-
--- the line that a piece begins
-abbrev pub starts : Piece → List (Option ℕ)
-starts (Begin place) = Some place ∷ []
-starts (Break place nesting) = place ∷ []
-starts _ = []
 
 -- The places of the lines are those of the calls that begin them.
 places_begun : (cs : List Call) → line_places (lines_of cs) ≡ flat_map begun cs

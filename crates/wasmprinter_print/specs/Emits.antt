@@ -1,5 +1,5 @@
 -- What generic code has made of a layout: all of it, or a beginning of it whose last call failed.
-use Rattle.std.specs.Prelude.{◌≡◌, ℕ, Bool, List, [], ◌∷◌, ◌++◌, Result, Ok, Err}
+use Rattle.std.specs.Prelude.{◌≡◌, ℕ, Bool, true, false, List, [], ◌∷◌, ◌++◌, Result, Ok, Err}
 use Rattle.std.specs.declared.io.Error.{Error as IoError}
 use Rattle.wasmprinter_spec.specs.Call.{Call, Claim, atoms}
 use Rattle.wasmprinter_spec.specs.Meaning.{Meaning, Run, Succeeded, Failed}
@@ -32,11 +32,19 @@ pub record Broken {P : Type 0} (m : Meaning P) (old new : P) (error : IoError) (
   pub failed : Failed m before call error new
   pub alike : atoms (calls ++ call ∷ []) ++ rest ≡ atoms layout
 
--- How a function over a printer ends: it is through; a call on the printer failed with this error; or, which doesn't happen, it refuses
--- by itself.
+-- all calls that were made succeeded, and they are a beginning of the layout, up to cutting
+pub record Begun {P : Type 0} (m : Meaning P) (old new : P) (layout : List Call) : Type 0 where
+  pub calls : List Call
+  pub rest : List Call
+  pub run : Run m old calls new
+  pub alike : atoms calls ++ rest ≡ atoms layout
+
+-- How a function over a printer ends: it is through; a call on the printer failed with this error; it stopped between two calls, since a growth was
+-- refused; or, which doesn't happen, it refuses by itself.
 pub data Ending : Type 0 where
   Through : Ending
   AtCall : IoError → Ending
+  Stopped : Ending
   Never : Ending
 
 -- the end of a function that answers the printer's own errors alone
@@ -44,28 +52,38 @@ abbrev pub ending : {T : Type 0} → Result T IoError → Ending
 ending (Ok x) = Through
 ending (Err e) = AtCall e
 
--- when each error comes, once printing has begun
-abbrev pub moment_of : Error → Ending
-moment_of (Malformed place) = Never
-moment_of Component = Never
-moment_of (TooManyLocals place) = Never
-moment_of (TooManyFunctions count) = Never
-moment_of (EmptyTableInit place) = Never
-moment_of (FoldLegacy place) = Never
-moment_of (FoldHint place) = Never
-moment_of (DylinkSubsection id) = Never
-moment_of Unreadable = Never
-moment_of (Printer e) = AtCall e
-moment_of Memory = Never
+-- where something is kept in memory while it is printed, and where nothing is
+abbrev pub at_growth : Bool → Ending
+at_growth true = Stopped
+at_growth false = Never
 
--- the end of a function that answers errors of this crate
+-- when each error comes of a function that may keep something in memory while it prints
+abbrev pub halt_of : Bool → Error → Ending
+halt_of keeps (Malformed place) = Never
+halt_of keeps Component = Never
+halt_of keeps (TooManyLocals place) = Never
+halt_of keeps (TooManyFunctions count) = Never
+halt_of keeps (EmptyTableInit place) = Never
+halt_of keeps (FoldLegacy place) = Never
+halt_of keeps (FoldHint place) = Never
+halt_of keeps (DylinkSubsection id) = Never
+halt_of keeps Unreadable = Never
+halt_of keeps (Printer e) = AtCall e
+halt_of keeps Memory = at_growth keeps
+
+-- the end of such a function
+abbrev pub halt : {T : Type 0} → Bool → Result T Error → Ending
+halt keeps (Ok x) = Through
+halt keeps (Err e) = halt_of keeps e
+
+-- the end of one that keeps nothing in memory
 abbrev pub outcome : {T : Type 0} → Result T Error → Ending
-outcome (Ok x) = Through
-outcome (Err e) = moment_of e
+outcome r = halt false r
 
 abbrev pub Calls : {P : Type 0} → Meaning P → P → P → Ending → List Call → Type 0
 Calls m old new Through layout = Whole m old new layout
 Calls m old new (AtCall e) layout = Broken m old new e layout
+Calls m old new Stopped layout = Begun m old new layout
 Calls m old new Never layout = ⊥
 
 -- what a function that ended so has made: the name by which lemmas go

@@ -1,13 +1,13 @@
 -- What follows from `Made` and `Owes`, for any printer: how the parts of a layout go together.
-use Rattle.std.specs.Prelude.{◌≡◌, ℕ, List, [], ◌∷◌, ◌++◌, Result, Ok, Err, IsErrAnd}
+use Rattle.std.specs.Prelude.{◌≡◌, ℕ, Bool, true, false, List, [], ◌∷◌, ◌++◌, Result, Ok, Err, IsErrAnd}
 use Rattle.std.proofs.Common.{refl, sym, ap, ap₂, ◌∙◌, subst, append_assoc, append-nil}
 use Rattle.std.proofs.lemmas.List.{map-append}
 use Rattle.std.specs.declared.io.Error.{Error as IoError}
 use Rattle.wasmprinter_spec.specs.Call.{Call, Text, cut_call, atoms}
 use Rattle.wasmprinter_spec.specs.Meaning.{Meaning, Run, Succeeded, Failed}
-use Rattle.wasmprinter_print.specs.Emits.{Emits, EmitsOrFails, Made, Owes, Calls, Ending, Through, AtCall, Never, moment_of, Whole, Broken}
+use Rattle.wasmprinter_print.specs.Emits.{Emits, EmitsOrFails, Made, Owes, Calls, Ending, Through, AtCall, Stopped, Never, halt_of, Whole, Broken, Begun}
 use Rattle.wasmprinter_error.specs.declared.error.Error.{Error}
-use Rattle.wasmprinter_error.specs.declared.error.Error.TheVariants.{Printer}
+use Rattle.wasmprinter_error.specs.declared.error.Error.TheVariants.{Malformed, Component, TooManyLocals, TooManyFunctions, EmptyTableInit, FoldLegacy, FoldHint, DylinkSubsection, Unreadable, Printer, Memory}
 
 -- cutting goes through `++`
 pub atoms-append : (k l : List Call) → atoms (k ++ l) ≡ atoms k ++ atoms l
@@ -49,6 +49,12 @@ then_calls m a s t (AtCall e) l k w v = record {
   alike =
       ap (λ x. atoms x ++ v.rest) (append_assoc w.calls v.calls (v.call ∷ [])) ∙ glue w.calls (v.calls ++ v.call ∷ []) l k v.rest w.alike v.alike;
 }
+then_calls m a s t Stopped l k w v = record {
+  calls = w.calls ++ v.calls;
+  rest = v.rest;
+  run = Run-append m a s t w.calls v.calls w.run v.run;
+  alike = glue w.calls v.calls l k v.rest w.alike v.alike;
+}
 then_calls m a s t Never l k w v = v
 
 -- one call after another, of which the first is whole
@@ -67,6 +73,33 @@ broken_longer m a t e l k v = record {
   alike = longer (v.calls ++ v.call ∷ []) l k v.rest v.alike;
 }
 
+begun_longer : {P : Type 0} (m : Meaning P) (a t : P) (l k : List Call) → Begun m a t l → Begun m a t (l ++ k)
+begun_longer m a t l k v = record {
+  calls = v.calls;
+  rest = v.rest ++ atoms k;
+  run = v.run;
+  alike = longer v.calls l k v.rest v.alike;
+}
+
+-- where a function has stopped or failed with an error, what would have come after it
+pub halts : {P : Type 0} (m : Meaning P) {a t : P} (keeps : Bool) (e : Error) (l k : List Call) → Made m a t (halt_of keeps e) l → Made m a t (halt_of keeps e) (l ++ k)
+halts m keeps (Malformed place) l k v = absurd v.made
+halts m keeps Component l k v = absurd v.made
+halts m keeps (TooManyLocals place) l k v = absurd v.made
+halts m keeps (TooManyFunctions count) l k v = absurd v.made
+halts m keeps (EmptyTableInit place) l k v = absurd v.made
+halts m keeps (FoldLegacy place) l k v = absurd v.made
+halts m keeps (FoldHint place) l k v = absurd v.made
+halts m keeps (DylinkSubsection id) l k v = absurd v.made
+halts m keeps Unreadable l k v = absurd v.made
+halts m {a} {t} keeps (Printer e) l k v = record { made = broken_longer m a t e l k v.made }
+halts m {a} {t} true Memory l k v = record { made = begun_longer m a t l k v.made }
+halts m false Memory l k v = absurd v.made
+
+-- where a growth was refused before the first call
+pub stops_first : {P : Type 0} (m : Meaning P) (a : P) (l : List Call) → Made m a a Stopped l
+stops_first m a l = record { made = record { calls = []; rest = atoms l; run = refl; alike = refl } }
+
 -- where a function has failed, what would have come after it
 pub ends : {P U : Type 0} (m : Meaning P) {a t : P} (r : Result U IoError) {e : IoError} {l : List Call} (k : List Call) →
     IsErrAnd r (λ y. y ≡ e) → Made m a t (AtCall e) l → Emits m a t r (l ++ k)
@@ -84,7 +117,7 @@ fails m {a} {t} (Err y) {e} {l} f v = record { made = subst (λ z. Broken m a t 
 pub hands_on : {P U : Type 0} (m : Meaning P) {a t : P} (r : Result U Error) {e : IoError} {l : List Call} →
     IsErrAnd r (λ y. y ≡ Printer e) → Made m a t (AtCall e) l → EmitsOrFails m a t r l
 hands_on m (Ok x) f v = absurd f
-hands_on m {a} {t} (Err y) {e} {l} f v = record { made = subst (λ z. Calls m a t (moment_of z) l) (sym f) v.made }
+hands_on m {a} {t} (Err y) {e} {l} f v = record { made = subst (λ z. Calls m a t (halt_of false z) l) (sym f) v.made }
 
 -- one call that succeeded
 pub called : {P : Type 0} (m : Meaning P) {a t : P} {c : Call} → Succeeded m a c t → Made m a t Through (c ∷ [])
@@ -122,6 +155,7 @@ alike_calls m a t (AtCall x) l k e v = record {
   failed = v.failed;
   alike = v.alike ∙ e;
 }
+alike_calls m a t Stopped l k e v = record { calls = v.calls; rest = v.rest; run = v.run; alike = v.alike ∙ e }
 alike_calls m a t Never l k e v = v
 
 -- layouts that differ in cutting alone serve each other

@@ -1,10 +1,11 @@
 -- What generic code has made of a layout of pieces.
-use Rattle.std.specs.Prelude.{◌≡◌, List, ◌++◌, Result}
+use Rattle.std.specs.Prelude.{◌≡◌, Bool, List, ◌++◌, Result}
 use Rattle.std.specs.declared.io.Error.{Error as IoError}
 use Rattle.wasmprinter_spec.specs.Options.{Options}
 use Rattle.wasmprinter_spec.specs.Piece.{Piece, all_calls}
 use Rattle.wasmprinter_spec.specs.Meaning.{Meaning}
-use Rattle.wasmprinter_print.specs.Emits.{Made, Ending, Through, ending}
+use Rattle.wasmprinter_error.specs.declared.error.Error.{Error}
+use Rattle.wasmprinter_print.specs.Emits.{Made, Ending, Through, ending, halt}
 
 -- the calls of pieces were made, or a beginning of them
 unfoldable pub Laid : {P : Type 0} → Meaning P → Options → P → P → Ending → List Piece → Type 0
@@ -17,6 +18,11 @@ pub record Written {P : Type 0} (m : Meaning P) (o : Options) (old new : P) (r :
 -- the calls that a function with this result has made are those of the pieces: `Emits` for their calls
 abbrev pub Prints : {P T : Type 0} → Meaning P → Options → P → P → Result T IoError → List Piece → Type 0
 Prints m o old new r pieces = Written m o old new (ending r) pieces
+
+-- The same of a function that may keep something in memory while it prints: it answers the error of a failed call, or, if it keeps something, that a
+-- growth was refused; the calls up to there are a beginning of those of the pieces.
+abbrev pub PrintsOrStops : {P T : Type 0} → Meaning P → Options → P → P → Bool → Result T Error → List Piece → Type 0
+PrintsOrStops m o old new keeps r pieces = Written m o old new (halt keeps r) pieces
 
 -- so far a function has written `whole` but for the pieces of `rest`
 pub record Lacks {P : Type 0} (m : Meaning P) (o : Options) (old new : P) (whole rest : List Piece) : Type 0 where

@@ -1,14 +1,15 @@
 -- What follows from `Written`, for any printer: how pieces go together.
-use Rattle.std.specs.Prelude.{◌≡◌, List, [], ◌∷◌, ◌++◌, Result, IsErrAnd}
+use Rattle.std.specs.Prelude.{◌≡◌, Bool, List, [], ◌∷◌, ◌++◌, Result, Ok, Err, IsErrAnd}
 use Rattle.std.specs.declared.io.Error.{Error as IoError}
 use Rattle.std.proofs.Common.{refl, sym, ap, ◌∙◌, subst, append_assoc, append-nil}
 use Rattle.wasmprinter_spec.specs.Call.{Call}
 use Rattle.wasmprinter_spec.specs.Options.{Options}
 use Rattle.wasmprinter_spec.specs.Piece.{Piece, calls, all_calls}
 use Rattle.wasmprinter_spec.specs.Meaning.{Meaning}
-use Rattle.wasmprinter_print.specs.Emits.{Made, Ending, Through, AtCall, ending}
-use Rattle.wasmprinter_print.specs.EmitsLaws.{then, ends, fails, nothing}
-use Rattle.wasmprinter_print.specs.Prints.{Laid, Written, Prints, Lacks}
+use Rattle.wasmprinter_error.specs.declared.error.Error.{Error}
+use Rattle.wasmprinter_print.specs.Emits.{Made, Ending, Through, AtCall, Stopped, ending, halt_of}
+use Rattle.wasmprinter_print.specs.EmitsLaws.{then, ends, fails, halts, stops_first, nothing}
+use Rattle.wasmprinter_print.specs.Prints.{Laid, Written, Prints, PrintsOrStops, Lacks}
 
 -- calls go through `++`
 pub all_calls-append : (o : Options) (xs ys : List Piece) → all_calls o (xs ++ ys) ≡ all_calls o xs ++ all_calls o ys
@@ -50,6 +51,24 @@ pub pieces_end : {P U : Type 0} (m : Meaning P) {o : Options} {a t : P} (r : Res
 pieces_end m {o} {a} {t} r {xs = xs} ys f v =
     writes m o (xs ++ ys) (subst (λ (l : List Call). Made m a t (ending r) l) (sym (all_calls-append o xs ys)) (ends m r (all_calls o ys) f (written m v)))
 
+-- pieces at which a function ended with this error, whatever would have come after them
+pub pieces_halt : {P U : Type 0} (m : Meaning P) {o : Options} {a t : P} (keeps : Bool) (r : Result U Error) (e : Error) {xs : List Piece} (ys : List Piece) →
+    IsErrAnd r (λ y. y ≡ e) → Written m o a t (halt_of keeps e) xs → PrintsOrStops m o a t keeps r (xs ++ ys)
+pieces_halt m keeps (Ok x) e ys f v = absurd f
+pieces_halt m {o} {a} {t} keeps (Err y) e {xs} ys f v =
+    writes m o (xs ++ ys) (subst (λ (l : List Call). Made m a t (halt_of keeps y) l) (sym (all_calls-append o xs ys))
+    (halts m keeps y (all_calls o xs) (all_calls o ys) (subst (λ (z : Error). Made m a t (halt_of keeps z) (all_calls o xs)) (sym f) (written m v))))
+
+-- the last pieces, at which it ended
+pub last_pieces_halt : {P U : Type 0} (m : Meaning P) {o : Options} {a t : P} (keeps : Bool) (r : Result U Error) (e : Error) {xs : List Piece} →
+    IsErrAnd r (λ y. y ≡ e) → Written m o a t (halt_of keeps e) xs → PrintsOrStops m o a t keeps r xs
+last_pieces_halt m keeps (Ok x) e f v = absurd f
+last_pieces_halt m {o} {a} {t} keeps (Err y) e {xs} f v = subst (λ (z : Error). Written m o a t (halt_of keeps z) xs) (sym f) v
+
+-- no piece, where a growth was refused
+pub stops_before : {P : Type 0} (m : Meaning P) (o : Options) (a : P) (xs : List Piece) → Written m o a a Stopped xs
+stops_before m o a xs = writes m o xs (stops_first m a (all_calls o xs))
+
 -- the last pieces, of which one failed
 pub last_pieces_end : {P U : Type 0} (m : Meaning P) {o : Options} {a t : P} (r : Result U IoError) {e : IoError} {xs : List Piece} →
     IsErrAnd r (λ y. y ≡ e) → Written m o a t (AtCall e) xs → Prints m o a t r xs
@@ -76,3 +95,8 @@ rest_written m {o} {a} {t = t} {r} rest l v =
 pub next_fails : {P U : Type 0} (m : Meaning P) {o : Options} {a s t : P} {whole : List Piece} (xs ys : List Piece) (r : Result U IoError) {e : IoError} →
     Lacks m o a s whole (xs ++ ys) → Written m o s t (AtCall e) xs → IsErrAnd r (λ y. y ≡ e) → Prints m o a t r whole
 next_fails m xs ys r l v f = rest_written m (xs ++ ys) l (pieces_end m r ys f v)
+
+-- writing the next of what is lacking ended with this error
+pub next_halts : {P U : Type 0} (m : Meaning P) {o : Options} {a s t : P} {whole : List Piece} (xs ys : List Piece) (keeps : Bool) (r : Result U Error) (e : Error) →
+    Lacks m o a s whole (xs ++ ys) → Written m o s t (halt_of keeps e) xs → IsErrAnd r (λ y. y ≡ e) → PrintsOrStops m o a t keeps r whole
+next_halts m xs ys keeps r e l v f = rest_written m (xs ++ ys) l (pieces_halt m keeps r e ys f v)

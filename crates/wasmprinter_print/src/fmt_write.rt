@@ -1,5 +1,5 @@
 //! A printer over a writer of text.
-ghost use Rattle.std.specs.Prelude.{◌≡◌, None};
+ghost use Rattle.std.specs.Prelude.{◌≡◌, None, false};
 ghost use Rattle.std.specs.IoError.{error_kind};
 ghost use Rattle.std.specs.declared.io.ErrorKind.TheVariants.{Other};
 ghost use Rattle.wasmprinter_print.specs.Writers.{FmtAfter, FmtMayFail};
@@ -27,7 +27,7 @@ impl<T: fmt::Write> Print for PrintFmtWrite<T> {
       faults = λ _. None;
     } };
 
-    ghost colors = { λ _. ⊥ };
+    ghost colors = { λ _. false };
 
     fn write_str(&mut self, s: &str) -> io::Result<()> {
         self.0.write_str(s).map_err(refused)
@@ -70,5 +70,9 @@ impl<T: fmt::Write> Print for PrintFmtWrite<T> {
 
     fn reset_color(&mut self) -> io::Result<()> {
         Ok(())
+    }
+
+    fn supports_async_color(&self) -> bool {
+        false
     }
 }

@@ -1,14 +1,17 @@
 //! Printers: what a layout hands its text, lines and styles to.
-ghost use Rattle.std.specs.Prelude.{IsTrue};
+ghost use Rattle.std.specs.Prelude.{◌≡◌, Bool};
 ghost use Rattle.wasmprinter_spec.specs.Call.{Text, Newline, Line, Start, Literal, Name, Keyword, TypeName, Comment, Reset};
 ghost use Rattle.wasmprinter_spec.specs.Meaning.{Meaning, Succeeded};
 ghost use Rattle.wasmprinter_print.specs.Emits.{Does, Claims};
 ghost use Rattle.wasmprinter_print.specs.EmitsLaws.{then, ends, fails, called, call_fails, nothing, then_text, ends_text};
 ghost use Rattle.wasmprinter_print.specs.PrintsLaws.{no_piece, one_piece, both_pieces, pieces_end, last_pieces_end};
+ghost use Rattle.wasmprinter_print.specs.PrintsLaws.{pieces_halt, last_pieces_halt};
 ghost use Rattle.wasmprinter_print.specs.CallLaws.{GoesOn, BreaksOff, FailsAtLast, Idle, CallThen, CallBreaksOff, CallDone, CallFailed};
 ghost use Rattle.wasmprinter_print.specs.CallLaws.{TextThen, TextBreaksOff, ByteThen, ByteBreaksOff};
 ghost use Rattle.wasmprinter_print.specs.PieceLaws.{PieceThen, PieceBreaksOff, PieceDone, PiecesThen, PiecesBreakOff};
+ghost use Rattle.wasmprinter_error.specs.declared.error.Error.TheVariants.{Printer};
 ghost use Rattle.wasmprinter_print.specs.PieceLaws.{PiecesFailAtLast, NoPieces};
+ghost use Rattle.wasmprinter_print.specs.PieceLaws.{PieceHandsOn, PiecesHandOn, PiecesHandOnAtLast, PiecesHalt, PiecesHaltAtLast};
 
 mod calls;
 mod fmt_write;
@@ -24,7 +27,7 @@ use std::io;
 pub trait Print {
     ghost meaning: { Meaning Self };
 
-    ghost colors: { Self → Type 0 };
+    ghost colors: { Self → Bool };
 
     /// Writes a piece of text.
     fn write_str(&mut self, s: &str) -> io::Result<()>
@@ -74,10 +77,7 @@ pub trait Print {
 
     /// Whether colours can be written as text, later than they were chosen.
     fn supports_async_color(&self) -> bool
-        ensures { IsTrue result → colors self.now }
-    {
-        false
-    }
+        ensures { result ≡ colors self.now };
 
     // The laws follow from `meaning` alone. They stand here so that the proofs of generic code find them.
 
@@ -136,4 +136,19 @@ pub trait Print {
 
     // no piece
     ghost no_pieces: { NoPieces meaning } = { λ o a. no_piece meaning o a };
+
+    // a piece that failed, where more is kept in memory
+    ghost piece_hands_on: { PieceHandsOn meaning } = { λ o a t keeps r e x xs v f. pieces_halt meaning keeps r (Printer e) xs f v };
+
+    // pieces of which one failed, whatever would have come after them
+    ghost pieces_hand_on: { PiecesHandOn meaning } = { λ o a t keeps r e xs ys v f. pieces_halt meaning keeps r (Printer e) ys f v };
+
+    // the last pieces, of which one failed
+    ghost pieces_hand_on_at_last: { PiecesHandOnAtLast meaning } = { λ o a t keeps r e xs v f. last_pieces_halt meaning keeps r (Printer e) f v };
+
+    // pieces at which a function ended, whatever would have come after them
+    ghost pieces_halt_before: { PiecesHalt meaning } = { λ o a t keeps r e xs ys v f. pieces_halt meaning keeps r e ys f v };
+
+    // the last pieces, at which it ended
+    ghost pieces_halt_at_last: { PiecesHaltAtLast meaning } = { λ o a t keeps r e xs v f. last_pieces_halt meaning keeps r e f v };
 }

@@ -1,5 +1,5 @@
 -- The items of a module read back as that module.
-use Rattle.std.proofs.Common.{◌≡◌, ℕ, ◌+◌, ◌<◌, ◌≤◌, ◌^◌, Bool, false, List, [], ◌∷◌, ◌++◌, length, Option, Some, None, refl, sym, ap, ap₂, ◌∙◌, codes, map, append-nil, option_map, arith, min}
+use Rattle.std.proofs.Common.{◌≡◌, ℕ, zero, suc, ◌+◌, ◌-◌, ◌<◌, ◌≤◌, ◌^◌, Bool, false, List, [], ◌∷◌, ◌++◌, length, Option, Some, None, refl, sym, ap, ap₂, ◌∙◌, codes, map, append-nil, option_map, arith, min}
 use Rattle.std.specs.List.{AllByRecursion}
 use Rattle.std.proofs.lemmas.List.{length-map}
 use Rattle.wasmprinter_spec.specs.Grammar.{Placed}
@@ -7,7 +7,7 @@ use Rattle.wasmprinter_spec.specs.Forest.{Forest, End, Word, Group, onto}
 use Rattle.wasmprinter_spec.specs.Types.{SubType, MemoryType, ExternKind, FuncKind, TableKind, MemoryKind, GlobalKind, TagKind, ExternType, FuncExtern, TableExtern, MemoryExtern, GlobalExtern, TagExtern, concat, all_types, signature_at}
 use Rattle.wasmprinter_spec.specs.Row as row
 use Rattle.wasmprinter_spec.specs.Row.{Space, Types, Func}
-use Rattle.wasmprinter_spec.specs.Names.{Names, AreApart, identifiers, identifiers_at, in_function}
+use Rattle.wasmprinter_spec.specs.Names.{Names, AreApart, AreNamed, identifiers, identifiers_at, in_function}
 use Rattle.wasmprinter_spec.specs.Operator.{Operator}
 use Rattle.wasmprinter_spec.specs.Placed.{TypeGroup, Import, Export, Table, Global, Mode, Passive, Declared, Active, Items, Functions, Expressions, ElementEntry, DataMode, PassiveData, ActiveData, Data, PlacedFunction, PlacedModule}
 use Rattle.wasmprinter_spec.specs.Module.{func_import, table_import, memory_import, global_import, tag_import, without_places, each_value, mode_without_places, items_without_places, data_mode_without_places, groups_of, function_of, table_without_places, global_without_places, element_without_places, data_without_places, Module, module_of}
@@ -15,7 +15,10 @@ use Rattle.wasmprinter_spec.specs.Limits.{HasNoEmptyInit}
 use Rattle.wasmprinter_spec.specs.Indexed as indexed
 use Rattle.wasmprinter_spec.specs.Indexed.{IsDeclaredSub, Counts, IsIndexed, IsIndexedFunction, IsIndexedImport, IsIndexedTable, IsIndexedGlobal, IsIndexedExport, IsIndexedElement, IsIndexedData, NamesFunction, space_of, counts_of, counts_in}
 use Rattle.wasmprinter_spec.specs.IndexSpaces.{Identifiers, index_space, space_in, Spaces, Context}
-use Rattle.wasmprinter_spec.specs.Layout.Declarations.{Scope, scope_of}
+use Rattle.wasmprinter_spec.specs.Options.{Options}
+use Rattle.wasmprinter_spec.specs.Customs.Hints.{Hint, FunctionHints, hints_of, next_hints, hints_behind}
+use Rattle.wasmprinter_spec.specs.Folding.Refusals.{Operators, init_list, offset_list, item_lists, element_lists, data_lists}
+use Rattle.wasmprinter_spec.specs.Layout.Declarations.{Scope, scope_of, folding_of}
 use Rattle.wasmprinter_spec.specs.Layout.Expressions.{in_line}
 use Rattle.wasmprinter_spec.specs.Layout.Imports.{Numbers, no_numbers, number_of, numbers_behind}
 use Rattle.wasmprinter_spec.specs.Layout.{early_scope, late_scope}
@@ -55,6 +58,8 @@ use Rattle.wasmprinter_reading.proofs.Fields.Elements as elements
 use Rattle.wasmprinter_reading.proofs.Fields.Elements.{element_items, identified-element, read_element-items}
 use Rattle.wasmprinter_reading.proofs.Fields.DataSegments as datas
 use Rattle.wasmprinter_reading.proofs.Fields.DataSegments.{data_items, identified-data, read_data-items}
+use Rattle.wasmprinter_reading.proofs.Each.{all_parts}
+use Rattle.wasmprinter_reading.proofs.Foldable.{Foldable, AllFoldable, CanFold}
 use Rattle.wasmprinter_reading.proofs.Types.Ranged.{IsRangedGroup}
 use Rattle.wasmprinter_reading.proofs.Types.Ranges.{own_signature_ranged}
 use Rattle.wasmprinter_reading.proofs.Types.Trees.{type_section_items}
@@ -106,7 +111,7 @@ all_bounded : (n : ℕ) (gs : List (List SubType)) → AllByRecursion (λ g. All
     AllByRecursion (λ g. AllByRecursion (IsDeclaredSub (min (2 ^ 32) n)) g) gs
 all_bounded n gs h k = of_least (λ b. AllByRecursion (λ g. AllByRecursion (IsDeclaredSub b) g) gs) (2 ^ 32) n h k
 
-module _ (names : Names) (m : PlacedModule) where
+module _ (o : Options) (names : Names) (m : PlacedModule) where
   abbrev pub own_types : List SubType
   own_types = all_types (groups_of m.types)
 
@@ -115,17 +120,17 @@ module _ (names : Names) (m : PlacedModule) where
 
   -- what stands before functions and what stands behind them
   abbrev pub early : Scope
-  early = early_scope names m
+  early = early_scope o names m
 
   abbrev pub late : Scope
-  late = late_scope names m
+  late = late_scope o names m
 
   -- how many of a kind are imported
   abbrev pub before : ExternKind → ℕ
   before kind = imports_of kind (without_places m.imports)
 
   abbrev pub own_table : ℕ → Placed (Table (Placed Operator)) → Forest
-  own_table i t = table_items early i (table_without_places t.value)
+  own_table i t = table_items early i t.value
 
   abbrev pub own_memory : ℕ → Placed MemoryType → Forest
   own_memory i x = memory_items early i x.value
@@ -134,7 +139,7 @@ module _ (names : Names) (m : PlacedModule) where
   own_tag i tag = tag_items early i tag.value
 
   abbrev pub own_global : ℕ → Placed (Global (Placed Operator)) → Forest
-  own_global i g = global_items early i (global_without_places g.value)
+  own_global i g = global_items early i g.value
 
   abbrev pub own_export : ℕ → Placed Export → Forest
   own_export i e = export_items early e.value
@@ -142,11 +147,20 @@ module _ (names : Names) (m : PlacedModule) where
   abbrev pub own_element : Bool → ℕ → Placed ElementEntry → Forest
   own_element skeleton i e = element_items early skeleton i e.value
 
+  -- the hints that wait behind so many functions
+  abbrev pub waiting : ℕ → List FunctionHints
+  waiting zero = hints_of m.customs
+  waiting (suc k) = hints_behind (before FuncKind + k) (waiting k)
+
+  -- those of the function i
+  abbrev pub own_hints : ℕ → List (Placed Hint)
+  own_hints i = next_hints i (waiting (i - before FuncKind))
+
   abbrev pub own_function : Bool → ℕ → PlacedFunction → Forest
-  own_function skeleton i f = function_items skeleton early i f
+  own_function skeleton i f = function_items skeleton early i (own_hints i) f
 
   abbrev pub own_data : Bool → ℕ → Placed (Data (Placed Operator)) → Forest
-  own_data skeleton i d = data_items late skeleton i (data_without_places d.value)
+  own_data skeleton i d = data_items late skeleton i d.value
 
   -- what a module is written as behind its identifier, its functions and segments whole or not
   unfoldable pub module_items : Bool → Forest
@@ -263,19 +277,19 @@ module _ (names : Names) (m : PlacedModule) where
   spaces_of-all_fields apart h =
       rw (
         types_space apart h,
-        kind_space apart FuncKind (own_function false) (λ i f. identified-function early i f) m.functions
+        kind_space apart FuncKind (own_function false) (λ i f. identified-function early i (own_hints i) f) m.functions
             (numbers_fit h FuncKind _ h.functions) own_counts.functions (counted FuncKind function_of m.functions),
-        kind_space apart TableKind own_table (λ i t. ap (λ x. x.0) (identified-table early i (table_without_places t.value))) m.tables
+        kind_space apart TableKind own_table (λ i t. ap (λ x. x.0) (identified-table early i t.value)) m.tables
             (numbers_fit h TableKind _ h.tables) own_counts.tables (counted TableKind (λ t. table_without_places t.value) m.tables),
         kind_space apart MemoryKind own_memory (λ i x. ap (λ y. y.0) (identified-memory early i x.value)) m.memories
             (numbers_fit h MemoryKind _ h.memories) own_counts.memories (counted MemoryKind (λ x. x.value) m.memories),
         kind_space apart TagKind own_tag (λ i tag. identified-tag early i tag.value) m.tags
             (numbers_fit h TagKind _ h.tags) own_counts.tags (counted TagKind (λ x. x.value) m.tags),
-        kind_space apart GlobalKind own_global (λ i g. ap (λ x. x.0) (identified-global early i (global_without_places g.value))) m.globals
+        kind_space apart GlobalKind own_global (λ i g. ap (λ x. x.0) (identified-global early i g.value)) m.globals
             (numbers_fit h GlobalKind _ h.globals) own_counts.globals (counted GlobalKind (λ g. global_without_places g.value) m.globals),
         alone_space apart row.Elem (own_element false) (λ i e. ap (λ x. x.0) (identified-element early i e.value)) m.elements own_counts.elems
             (omega (arith, h.elements, length-map m.elements (λ e. element_without_places e.value))) (length-map m.elements (λ e. element_without_places e.value)),
-        alone_space apart row.Data (own_data false) (λ i d. ap (λ x. x.0) (identified-data late i (data_without_places d.value))) m.datas own_counts.datas
+        alone_space apart row.Data (own_data false) (λ i d. ap (λ x. x.0) (identified-data late i d.value)) m.datas own_counts.datas
             (omega (arith, h.datas, length-map m.datas (λ d. data_without_places d.value))) (length-map m.datas (λ d. data_without_places d.value)),
       )
 
@@ -290,7 +304,7 @@ module _ (names : Names) (m : PlacedModule) where
   own_signatures : (i : ℕ) → whole_context.signature i ≡ signature_at own_types i
   own_signatures i = ap (λ gs. signature_at (all_types gs) i) (group_types-declared names 0 m.types)
 
-  module _ (apart : AreApart names) (k : IsIndexed (module_of m)) (h : IsRanged m) where
+  module _ (apart : AreApart names) (named : AreNamed names) (foldable : CanFold o m) (k : IsIndexed (module_of m)) (h : IsRanged m) where
     spaces_are : (f : ℕ) (space : Space) → space_in all_spaces space ≡ identifiers (in_function names f space) (count_in own_counts space)
     unfolding all_spaces
     spaces_are f Types = refl
@@ -316,10 +330,10 @@ module _ (names : Names) (m : PlacedModule) where
     spaces_few row.Local = omega arith
     spaces_few row.Label = omega arith
 
-    same_types : (f : ℕ) → HaveSameTypes (in_line (scope_of own_types names f)) whole_context own_counts
+    same_types : (f : ℕ) → HaveSameTypes (in_line (scope_of own_types names f (folding_of o m)) 2) whole_context own_counts
     same_types f = record { read = own_signatures; counted = λ i. refl; in_range = signatures_ranged h }
 
-    same_names : (f : ℕ) → HaveSameNames (in_line (scope_of own_types names f)) whole_context own_counts
+    same_names : (f : ℕ) → HaveSameNames (in_line (scope_of own_types names f (folding_of o m)) 2) whole_context own_counts
     same_names f = record {
       spaces = spaces_are f;
       fields = λ t fs e. field_space-declared names m.types t fs e;
@@ -330,17 +344,17 @@ module _ (names : Names) (m : PlacedModule) where
       structures = λ t fs e. own_fields_counted m.types t fs e;
     }
 
-    scoped : (f : ℕ) → AreScoped (scope_of own_types names f) whole_context own_counts
-    scoped f = record { types = same_types f; names = same_names f; apart = apart; few = λ i. own_parameters_few m.types i h.each_group }
+    scoped : (f : ℕ) → AreScoped (scope_of own_types names f (folding_of o m)) whole_context own_counts
+    scoped f = record { types = same_types f; names = same_names f; apart = apart; named = named; few = λ i. own_parameters_few m.types i h.each_group }
 
     -- ---- each field
 
-    read_function-own : (i : ℕ) (f : PlacedFunction) → IsRangedFunction f × IsIndexedFunction (module_of m) (function_of f) →
+    read_function-own : (i : ℕ) (f : PlacedFunction) → (IsRangedFunction f × Foldable o m f.body.value.operators) × IsIndexedFunction (module_of m) (function_of f) →
         read_function whole_context (own_function false i f) ≡ Some (function_of f)
     read_function-own i f d =
         let few : variable_count (signature_at own_types f.type_index) f ≤ 2 ^ 64 =
-        variables_few _ f.body.value.locals (own_parameters_few m.types f.type_index h.each_group) d.0.body.groups d.0.body.locals in
-        read_function-items early whole_context own_counts (scoped early.function) i d.1.type_index.0 f d.1.type_index.1 d.0 d.1.locals few d.1.operators
+        variables_few _ f.body.value.locals (own_parameters_few m.types f.type_index h.each_group) d.0.0.body.groups d.0.0.body.locals in
+        read_function-items early whole_context own_counts (scoped early.function) i (own_hints i) d.1.type_index.0 f d.1.type_index.1 d.0.0 d.1.locals few d.1.operators d.0.1
 
     read_tag-own : (i : ℕ) (tag : Placed ℕ) → (tag.value < 2 ^ 32) × NamesFunction (module_of m) tag.value → read_tag whole_context (own_tag i tag) ≡ Some tag.value
     read_tag-own i tag d = read_tag-items early whole_context own_counts (scoped early.function) i d.1.0 tag.value d.1.1 d.0
@@ -362,19 +376,19 @@ module _ (names : Names) (m : PlacedModule) where
         )
 
     indexed_init : (i : Option (List (Placed Operator))) → indexed.IsIndexedInit (module_of m) (option_map without_places i) →
-        tables.IsIndexedInit early whole_context own_counts (scoped early.function) i
-    indexed_init None d = tt
-    indexed_init (Some os) d = d
+        AllFoldable o m (elim i as (λ x. List Operators) [ None ↦ [] | Some os ↦ os ∷ [] ]) → tables.IsIndexedInit early whole_context own_counts (scoped early.function) i
+    indexed_init None d l = tt
+    indexed_init (Some os) d l = (d, l.0)
 
     read_table-own : (i : ℕ) (t : Placed (Table (Placed Operator))) →
-        (IsRangedTable t.value × HasNoEmptyInit t.value.init) × IsIndexedTable (module_of m) (table_without_places t.value) →
+        ((IsRangedTable t.value × HasNoEmptyInit t.value.init) × AllFoldable o m (init_list t)) × IsIndexedTable (module_of m) (table_without_places t.value) →
         read_table whole_context (own_table i t) ≡ Some (table_without_places t.value)
     read_table-own i t d =
-        read_table-items early whole_context own_counts (scoped early.function) i t.value d.0.0 d.0.1 d.1.element (indexed_init t.value.init d.1.init)
+        read_table-items early whole_context own_counts (scoped early.function) i t.value d.0.0.0 d.0.0.1 d.1.element (indexed_init t.value.init d.1.init d.0.1)
 
-    read_global-own : (i : ℕ) (g : Placed (Global (Placed Operator))) → IsRangedGlobal g.value × IsIndexedGlobal (module_of m) (global_without_places g.value) →
+    read_global-own : (i : ℕ) (g : Placed (Global (Placed Operator))) → (IsRangedGlobal g.value × Foldable o m g.value.init) × IsIndexedGlobal (module_of m) (global_without_places g.value) →
         read_global whole_context (own_global i g) ≡ Some (global_without_places g.value)
-    read_global-own i g d = read_global-items early whole_context own_counts (scoped early.function) i g.value d.0 d.1.type d.1.init
+    read_global-own i g d = read_global-items early whole_context own_counts (scoped early.function) i g.value d.0.0 d.1.type (d.1.init, d.0.1)
 
     read_export-own : (i : ℕ) (e : Placed Export) → IsRangedExport e.value × IsIndexedExport (module_of m) e.value → read_export whole_context (own_export i e) ≡ Some e.value
     read_export-own i e d = read_export-items early whole_context own_counts (scoped early.function) e.value d.0 d.1
@@ -383,50 +397,53 @@ module _ (names : Names) (m : PlacedModule) where
     indexed_start None d = tt
     indexed_start (Some i) d = d
 
-    indexed_mode : (x : Mode (Placed Operator)) → indexed.IsIndexedMode (module_of m) (mode_without_places x) →
+    indexed_mode : (x : Mode (Placed Operator)) → indexed.IsIndexedMode (module_of m) (mode_without_places x) → AllFoldable o m (offset_list x) →
         elements.IsIndexedMode early whole_context own_counts (scoped early.function) x
-    indexed_mode Passive d = tt
-    indexed_mode Declared d = tt
-    indexed_mode (Active t offset) d = d
+    indexed_mode Passive d l = tt
+    indexed_mode Declared d l = tt
+    indexed_mode (Active t offset) d l = (d.0, (d.1, l.0))
 
-    indexed_expressions : (es : List (List (Placed Operator))) → AllByRecursion (indexed.IsIndexedExpression (module_of m)) (map without_places es) →
-        AllByRecursion (AreIndexed own_counts) es
-    indexed_expressions [] d = tt
-    indexed_expressions (e ∷ es) d = (d.0, indexed_expressions es d.1)
+    indexed_expressions : (es : List (List (Placed Operator))) → AllByRecursion (indexed.IsIndexedExpression (module_of m)) (map without_places es) → AllFoldable o m es →
+        AllByRecursion (AreIndexed early own_counts) es
+    indexed_expressions [] d l = tt
+    indexed_expressions (e ∷ es) d l = ((d.0, l.0), indexed_expressions es d.1 l.1)
 
-    indexed_items : (is : Items (Placed Operator)) → indexed.AreIndexedItems (module_of m) (items_without_places is) →
+    indexed_items : (is : Items (Placed Operator)) → indexed.AreIndexedItems (module_of m) (items_without_places is) → AllFoldable o m (item_lists is) →
         elements.AreIndexedItems early whole_context own_counts (scoped early.function) is
-    indexed_items (Functions is) d = d
-    indexed_items (Expressions t es) d = (d.0, indexed_expressions es d.1)
+    indexed_items (Functions is) d l = d
+    indexed_items (Expressions t es) d l = (d.0, indexed_expressions es d.1 l)
 
-    read_element-own : (i : ℕ) (e : Placed ElementEntry) → IsRangedElement e.value × IsIndexedElement (module_of m) (element_without_places e.value) →
+    read_element-own : (i : ℕ) (e : Placed ElementEntry) → (IsRangedElement e.value × AllFoldable o m (element_lists false e)) × IsIndexedElement (module_of m) (element_without_places e.value) →
         read_element whole_context (own_element false i e) ≡ Some (element_without_places e.value)
     read_element-own i e d =
-        read_element-items early whole_context own_counts (scoped early.function) i e.value d.0
-        (indexed_mode e.value.element.mode d.1.mode) (indexed_items e.value.element.items d.1.items)
+        let parts = all_parts (Foldable o m) (offset_list e.value.element.mode) (item_lists e.value.element.items) d.0.1 in
+        read_element-items early whole_context own_counts (scoped early.function) i e.value d.0.0
+        (indexed_mode e.value.element.mode d.1.mode parts.0) (indexed_items e.value.element.items d.1.items parts.1)
 
     indexed_data_mode : (x : DataMode (Placed Operator)) → indexed.IsIndexedDataMode (module_of m) (data_mode_without_places x) →
-        datas.IsIndexedMode late whole_context own_counts (scoped late.function) x
-    indexed_data_mode PassiveData d = tt
-    indexed_data_mode (ActiveData memory offset) d = d
+        AllFoldable o m (elim x as (λ y. List Operators) [ PassiveData ↦ [] | ActiveData memory os ↦ os ∷ [] ]) → datas.IsIndexedMode late whole_context own_counts (scoped late.function) x
+    indexed_data_mode PassiveData d l = tt
+    indexed_data_mode (ActiveData memory offset) d l = (d.0, (d.1, l.0))
 
-    read_data-own : (i : ℕ) (d : Placed (Data (Placed Operator))) → IsRangedData d.value × IsIndexedData (module_of m) (data_without_places d.value) →
+    read_data-own : (i : ℕ) (d : Placed (Data (Placed Operator))) → (IsRangedData d.value × AllFoldable o m (data_lists d)) × IsIndexedData (module_of m) (data_without_places d.value) →
         read_data whole_context (own_data false i d) ≡ Some (data_without_places d.value)
-    read_data-own i x d = read_data-items late whole_context own_counts (scoped late.function) i x.value d.0 (indexed_data_mode x.value.mode d.1)
+    read_data-own i x d = read_data-items late whole_context own_counts (scoped late.function) i x.value d.0.0 (indexed_data_mode x.value.mode d.1 d.0.1)
 
     -- ---- all fields of each kind
 
     read_functions : each (read_function whole_context) (map_numbered (own_function false) (before FuncKind) m.functions) ≡ Some (map function_of m.functions)
     read_functions =
         each-numbered (read_function whole_context) (own_function false) function_of read_function-own _ m.functions
-        (both_of_each IsRangedFunction (IsIndexedFunction (module_of m)) function_of m.functions h.each_function k.functions)
+        (both_of_each (λ f. IsRangedFunction f × Foldable o m f.body.value.operators) (IsIndexedFunction (module_of m)) function_of m.functions
+        (and_each IsRangedFunction (λ f. Foldable o m f.body.value.operators) m.functions h.each_function foldable.functions) k.functions)
 
     read_tables : AllByRecursion (λ t. HasNoEmptyInit t.value.init) m.tables →
         each (read_table whole_context) (map_numbered own_table (before TableKind) m.tables) ≡ Some (each_value table_without_places m.tables)
     read_tables some =
         each-numbered (read_table whole_context) own_table (λ t. table_without_places t.value) read_table-own _ m.tables
-        (both_of_each (λ t. IsRangedTable t.value × HasNoEmptyInit t.value.init) (IsIndexedTable (module_of m)) (λ t. table_without_places t.value) m.tables
-        (and_each (λ t. IsRangedTable t.value) (λ t. HasNoEmptyInit t.value.init) m.tables h.each_table some) k.tables)
+        (both_of_each (λ t. (IsRangedTable t.value × HasNoEmptyInit t.value.init) × AllFoldable o m (init_list t)) (IsIndexedTable (module_of m)) (λ t. table_without_places t.value) m.tables
+        (and_each (λ t. IsRangedTable t.value × HasNoEmptyInit t.value.init) (λ t. AllFoldable o m (init_list t)) m.tables
+        (and_each (λ t. IsRangedTable t.value) (λ t. HasNoEmptyInit t.value.init) m.tables h.each_table some) foldable.tables) k.tables)
 
     read_memories : each read_memory (map_numbered own_memory (before MemoryKind) m.memories) ≡ Some (without_places m.memories)
     read_memories =
@@ -440,7 +457,8 @@ module _ (names : Names) (m : PlacedModule) where
     read_globals : each (read_global whole_context) (map_numbered own_global (before GlobalKind) m.globals) ≡ Some (each_value global_without_places m.globals)
     read_globals =
         each-numbered (read_global whole_context) own_global (λ g. global_without_places g.value) read_global-own _ m.globals
-        (both_of_each (λ g. IsRangedGlobal g.value) (IsIndexedGlobal (module_of m)) (λ g. global_without_places g.value) m.globals h.each_global k.globals)
+        (both_of_each (λ g. IsRangedGlobal g.value × Foldable o m g.value.init) (IsIndexedGlobal (module_of m)) (λ g. global_without_places g.value) m.globals
+        (and_each (λ g. IsRangedGlobal g.value) (λ g. Foldable o m g.value.init) m.globals h.each_global foldable.globals) k.globals)
 
     read_exports : each (read_export whole_context) (map_numbered own_export 0 m.exports) ≡ Some (without_places m.exports)
     read_exports =
@@ -450,12 +468,14 @@ module _ (names : Names) (m : PlacedModule) where
     read_elements : each (read_element whole_context) (map_numbered (own_element false) 0 m.elements) ≡ Some (each_value element_without_places m.elements)
     read_elements =
         each-numbered (read_element whole_context) (own_element false) (λ e. element_without_places e.value) read_element-own 0 m.elements
-        (both_of_each (λ e. IsRangedElement e.value) (IsIndexedElement (module_of m)) (λ e. element_without_places e.value) m.elements h.each_element k.elements)
+        (both_of_each (λ e. IsRangedElement e.value × AllFoldable o m (element_lists false e)) (IsIndexedElement (module_of m)) (λ e. element_without_places e.value) m.elements
+        (and_each (λ e. IsRangedElement e.value) (λ e. AllFoldable o m (element_lists false e)) m.elements h.each_element foldable.elements) k.elements)
 
     read_datas : each (read_data whole_context) (map_numbered (own_data false) 0 m.datas) ≡ Some (each_value data_without_places m.datas)
     read_datas =
         each-numbered (read_data whole_context) (own_data false) (λ d. data_without_places d.value) read_data-own 0 m.datas
-        (both_of_each (λ d. IsRangedData d.value) (IsIndexedData (module_of m)) (λ d. data_without_places d.value) m.datas h.each_data k.datas)
+        (both_of_each (λ d. IsRangedData d.value × AllFoldable o m (data_lists d)) (IsIndexedData (module_of m)) (λ d. data_without_places d.value) m.datas
+        (and_each (λ d. IsRangedData d.value) (λ d. AllFoldable o m (data_lists d)) m.datas h.each_data foldable.datas) k.datas)
 
     read_types : each (read_group all_spaces.types) (group_bodies names 0 m.types) ≡ Some own_groups
     unfolding all_spaces
@@ -504,7 +524,7 @@ module _ (names : Names) (m : PlacedModule) where
       (unidentified_rows _ End refl))))))))))
 
   -- behind the word `module` stand the module's identifier and its fields
-  pub module_reads : AreApart names → IsIndexed (module_of m) → IsRanged m → AllByRecursion (λ t. HasNoEmptyInit t.value.init) m.tables →
+  pub module_reads : AreApart names → AreNamed names → CanFold o m → IsIndexed (module_of m) → IsRanged m → AllByRecursion (λ t. HasNoEmptyInit t.value.init) m.tables →
       read_forest (Group (Word (codes "module") (onto (id_items names.module_name) (module_items false))) End) ≡ Some (record (module_of m) { customs = [] })
-  module_reads apart k h some =
-      rw (declaration-items names.module_name (module_items false) no_identifier, fields-module_items h, module_of-all_fields apart k h some)
+  module_reads apart named foldable k h some =
+      rw (declaration-items names.module_name (module_items false) no_identifier, fields-module_items h, module_of-all_fields apart named foldable k h some)

@@ -4,6 +4,7 @@ pub mod AllGiven
 pub mod LebRange
 pub mod Vectors
 pub mod Few
+pub mod Each
 pub mod Numbered
 pub mod Items
 pub mod Declarations
@@ -22,11 +23,13 @@ pub mod GivenNames
 pub mod Fields
 pub mod Sorted
 pub mod DeclaredTypes
+pub mod Foldable
 pub mod Back
 pub mod Written
 pub mod Stays
 pub mod Nested
 pub mod Main
+pub mod AsFlat
 pub mod Hints
 pub mod OperatorRows
 pub mod ModuleRows

@@ -7,7 +7,7 @@ use Rattle.wasmprinter_spec.specs.Token.{tokens}
 use Rattle.wasmprinter_spec.specs.Call.{text_of}
 use Rattle.wasmprinter_spec.specs.Options.{Options, Answers, AreUnclaimed, IsBlank}
 use Rattle.wasmprinter_spec.specs.Plain.{IsPlainText}
-use Rattle.wasmprinter_spec.specs.Piece.{Piece, all_calls, all_tokens}
+use Rattle.wasmprinter_spec.specs.Piece.{Piece, all_calls}
 use Rattle.wasmprinter_spec.specs.Kinds.{Kind, TypeSection, ImportSection, FunctionSection, TableSection, MemorySection, TagSection, GlobalSection, ExportSection, StartSection, ElementSection, CodeSection, DataSection}
 use Rattle.wasmprinter_spec.specs.Types.{FuncKind}
 use Rattle.wasmprinter_spec.specs.Customs.{RawCustom, raw_customs}
@@ -29,14 +29,16 @@ use Rattle.wasmprinter_reading.proofs.Ranged.{IsRanged}
 use Rattle.wasmprinter_reading.proofs.Ranges.{ranged}
 use Rattle.wasmprinter_reading.proofs.GivenNames.{module_names_apart, module_names_named}
 use Rattle.wasmprinter_reading.proofs.Stays.{module_pieces_stay}
-use Rattle.wasmprinter_lexical.proofs.Pieces.{Bound}
+use Rattle.wasmprinter_lexical.proofs.Pieces.{Bound, text_of-all_calls}
+use Rattle.wasmprinter_lexical.proofs.Respelled.{all_lexed, pieces_lexed}
 use Rattle.wasmprinter_lexical.proofs.Noted.{Noted, noted-cut, noted-raw_groups}
-use Rattle.wasmprinter_lexical.proofs.Writes.{Writes, pieces_tokens, writes_forest}
+use Rattle.wasmprinter_lexical.proofs.Writes.{Writes, pieces_tokens, writes_text, writes_forest}
 use Rattle.wasmprinter_reading.proofs.Identifiers.{id_items}
 use Rattle.wasmprinter_reading.proofs.Fields.Functions.{functions_hinted}
 use Rattle.wasmprinter_reading.proofs.Customs.Notes.{at_place, RowReads, both_rows}
 use Rattle.wasmprinter_reading.proofs.Customs.Places.{raws_over_all}
-use Rattle.wasmprinter_reading.proofs.Written.{types_write, own_imports_write, tables_write, memories_write, tags_write, globals_write, exports_write, start_write, elements_write, datas_write, noting, noted, module_noted, laid, module_writes, module_stands}
+use Rattle.wasmprinter_reading.proofs.Written.{types_write, own_imports_write, tables_write, memories_write, tags_write, globals_write, exports_write, start_write, elements_write, datas_write, noting, noted, module_noted, laid, module_writes, Stands, module_stands}
+use Rattle.wasmprinter_reading.proofs.Foldable.{can_fold}
 use Rattle.wasmprinter_reading.proofs.Back.{early, before, module_items, module_reads}
 
 -- ---- raw custom sections read back
@@ -75,66 +77,66 @@ each-map : {A B C : Type 0} (f : B → Option C) (g : A → B) (xs : List A) →
 each-map f g [] = refl
 each-map f g (x ∷ xs) = ap (λ t. f (g x) >>= λ y. t >>= λ ys. Some (y ∷ ys)) (each-map f g xs)
 
-module _ (o : Options) (names : Names) (named : AreNamed names) (m : PlacedModule) (h : IsRanged m) (answers : Answers) (unclaimed : AreUnclaimed answers)
+module _ (o : Options) (names : Names) (named : AreNamed names) (m : PlacedModule) (h : IsRanged m) (plain : o.paints ≡ false) (answers : Answers) (unclaimed : AreUnclaimed answers)
     (whole : o.skeleton ≡ false) where
   raws : Option Kind → List RawCustom
   raws place = raw_customs (at_place place m.customs)
 
   own_noted : Option Kind → Forest
-  own_noted place = noted o names named m h answers place
+  own_noted place = noted o names named m h plain answers place
 
   place_row : (place : Option Kind) → RawRow (own_noted place) (raws place)
   unfolding own_noted raws
-  place_row place = record { reads = (noting o names named m h answers place).reads unclaimed whole }
+  place_row place = record { reads = (noting o names named m h plain answers place).reads unclaimed whole }
 
   -- a part and the sections behind it
   field_row : {f rest : Forest} {rs : List RawCustom} (place : Option Kind) → RawRow f [] → RawRow rest rs → RawRow (onto f (onto (own_noted place) rest)) (raws place ++ rs)
   field_row place e r = raw_rows e (raw_rows (place_row place) r)
 
-  module_row : RawRow (module_noted o names named m h answers) (raw_customs m.customs)
+  module_row : RawRow (module_noted o names named m h plain answers) (raw_customs m.customs)
   unfolding module_noted own_noted raws
   module_row =
-      let functions : RawRow (functions_hinted o.skeleton (early names m) (hints_of m.customs) (before names m FuncKind) m.functions) [] =
-      record { reads = functions_row o.skeleton (early names m) (hints_of m.customs) (before names m FuncKind) m.functions } in
+      let functions : RawRow (functions_hinted o.skeleton (early o names m) (hints_of m.customs) (before o names m FuncKind) m.functions) [] =
+      record { reads = functions_row o.skeleton (early o names m) (hints_of m.customs) (before o names m FuncKind) m.functions } in
       let last : RawRow (own_noted (Some DataSection)) (raws (Some DataSection) ++ []) =
       subst (RawRow (own_noted (Some DataSection))) (sym (append-nil (raws (Some DataSection)))) (place_row (Some DataSection)) in
-      subst (RawRow (module_noted o names named m h answers)) (raws_over_all 0 m.customs h.customs_in_order)
+      subst (RawRow (module_noted o names named m h plain answers)) (raws_over_all 0 m.customs h.customs_in_order)
       (raw_rows (place_row None)
-      (field_row (Some TypeSection) (plain_row (types_write o names named m h))
-      (field_row (Some ImportSection) (plain_row (own_imports_write o names named m h))
+      (field_row (Some TypeSection) (plain_row (types_write o names named m h plain))
+      (field_row (Some ImportSection) (plain_row (own_imports_write o names named m h plain))
       (raw_rows (place_row (Some FunctionSection))
-      (field_row (Some TableSection) (plain_row (tables_write o names named m h))
-      (field_row (Some MemorySection) (plain_row (memories_write o names named m h))
-      (field_row (Some TagSection) (plain_row (tags_write o names named m h))
-      (field_row (Some GlobalSection) (plain_row (globals_write o names named m h))
-      (field_row (Some ExportSection) (plain_row (exports_write o names named m h))
-      (field_row (Some StartSection) (plain_row (start_write o names named m h))
-      (field_row (Some ElementSection) (plain_row (elements_write o names named m h))
+      (field_row (Some TableSection) (plain_row (tables_write o names named m h plain))
+      (field_row (Some MemorySection) (plain_row (memories_write o names named m h plain))
+      (field_row (Some TagSection) (plain_row (tags_write o names named m h plain))
+      (field_row (Some GlobalSection) (plain_row (globals_write o names named m h plain))
+      (field_row (Some ExportSection) (plain_row (exports_write o names named m h plain))
+      (field_row (Some StartSection) (plain_row (start_write o names named m h plain))
+      (field_row (Some ElementSection) (plain_row (elements_write o names named m h plain))
       (field_row (Some CodeSection) functions
-      (raw_rows (plain_row (datas_write o names named m h)) last)))))))))))))
+      (raw_rows (plain_row (datas_write o names named m h plain)) last)))))))))))))
 
   abbrev own_items : Forest
-  own_items = Group (Word (codes "module") (onto (id_items names.module_name) (module_items names m o.skeleton))) End
+  own_items = Group (Word (codes "module") (onto (id_items names.module_name) (module_items o names m o.skeleton))) End
 
   abbrev own_forest : Forest
-  own_forest = Group (Word (codes "module") (onto (id_items names.module_name) (module_noted o names named m h answers))) End
+  own_forest = Group (Word (codes "module") (onto (id_items names.module_name) (module_noted o names named m h plain answers))) End
 
   customs_read : (f : Forest) → Noted f own_forest → read_customs f ≡ Some (raw_customs m.customs)
   customs_read f n =
       each-map read_custom cut (customs f)
       ∙ ap (each read_custom) (noted-raw_groups n)
-      ∙ ap (λ cs. each read_custom (map cut cs)) (append-nil (row_customs (onto (id_items names.module_name) (module_noted o names named m h answers))))
+      ∙ ap (λ cs. each read_custom (map cut cs)) (append-nil (row_customs (onto (id_items names.module_name) (module_noted o names named m h plain answers))))
       ∙ (raw_rows (id_row names.module_name) module_row).reads
 
   -- ---- the text reads as the module
 
-  read_pieces : IsBlank o.indent → (laid o names named m h answers).refused ≡ None → (x : Module) → read_forest own_items ≡ Some x →
+  read_pieces : IsBlank o.indent → (laid o names named m h plain answers).refused ≡ None → (x : Module) → read_forest own_items ≡ Some x →
       read (text_of (all_calls o (module_pieces_with o answers names m))) ≡ Some (record x { customs = raw_customs m.customs })
   read_pieces blank none x e =
       let ps : List Piece = module_pieces_with o answers names m in
-      let w = module_writes o names named m h answers none in
-      let plain : IsPlainText (text_of (all_calls o ps)) = text_is_plain o blank ps w.are in
-      ap (λ t. cond t (forest (text_of (all_calls o ps)) >>= read_groups) None) (is_utf8-from_IsUtf8 _ (plain_is_utf8 _ plain))
+      let w = module_writes o names named m h plain answers none in
+      let readable : IsPlainText (text_of (all_calls o ps)) = subst IsPlainText (sym (writes_text o ps w)) (text_is_plain o blank w.printed w.are) in
+      ap (λ t. cond t (forest (text_of (all_calls o ps)) >>= read_groups) None) (is_utf8-from_IsUtf8 _ (plain_is_utf8 _ readable))
       ∙ ap (λ f. f >>= read_groups) (writes_forest o blank ps w)
       ∙ ap (λ f. read_forest f >>= λ y. read_customs w.whole >>= λ cs. Some (record y { customs = cs })) (noted-cut w.noted ∙ w.without)
       ∙ ap (λ r. r >>= λ y. read_customs w.whole >>= λ cs. Some (record y { customs = cs })) e
@@ -142,44 +144,50 @@ module _ (o : Options) (names : Names) (named : AreNamed names) (m : PlacedModul
 
 -- ---- the laws
 
-module _ (o : Options) (answers : Answers) (m : PlacedModule) (h : IsRanged m) (blank : IsBlank o.indent) where
+module _ (o : Options) (answers : Answers) (m : PlacedModule) (h : IsRanged m) (plain : o.paints ≡ false) (blank : IsBlank o.indent) where
   abbrev own_names : Names
   own_names = module_names o.invents m
 
   named : AreNamed own_names
   named = module_names_named o.invents m h
 
-  layout_tokens : tokens (text_of (all_calls o (module_pieces o answers m))) ≡ all_tokens (module_pieces o answers m)
+  layout_stands : Stands (module_pieces o answers m)
   unfolding module_pieces
+  layout_stands = module_stands o own_names named m h plain answers
+
+  layout_text : text_of (all_calls o (module_pieces o answers m)) ≡ text_of (all_calls o layout_stands.printed)
+  layout_text = text_of-all_calls o (module_pieces o answers m) ∙ layout_stands.spelled.text o ∙ sym (text_of-all_calls o layout_stands.printed)
+
+  layout_tokens : tokens (text_of (all_calls o (module_pieces o answers m))) ≡ all_lexed (module_pieces o answers m)
   layout_tokens =
-      let stands = module_stands o own_names named m h answers in
-      pieces_tokens o blank (module_pieces_with o answers own_names m) stands.0 stands.1
+      ap tokens layout_text
+      ∙ pieces_tokens o blank layout_stands.printed layout_stands.joins layout_stands.are
+      ∙ sym (layout_stands.spelled.tokens ∙ pieces_lexed layout_stands.printed layout_stands.are)
 
   layout_is_plain : IsPlainText (text_of (all_calls o (module_pieces o answers m)))
-  unfolding module_pieces
-  layout_is_plain = text_is_plain o blank (module_pieces_with o answers own_names m) (module_stands o own_names named m h answers).1
+  layout_is_plain = subst IsPlainText (sym layout_text) (text_is_plain o blank layout_stands.printed layout_stands.are)
 
   read_layout : AreUnclaimed answers → o.skeleton ≡ false → refusal o answers m ≡ None → (x : Module) →
-      read_forest (Group (Word (codes "module") (onto (id_items own_names.module_name) (module_items own_names m o.skeleton))) End) ≡ Some x →
+      read_forest (Group (Word (codes "module") (onto (id_items own_names.module_name) (module_items o own_names m o.skeleton))) End) ≡ Some x →
       read (text_of (all_calls o (module_pieces o answers m))) ≡ Some (record x { customs = raw_customs m.customs })
   unfolding module_pieces
-  read_layout unclaimed whole none x e = read_pieces o own_names named m h answers unclaimed whole blank none x e
+  read_layout unclaimed whole none x e = read_pieces o own_names named m h plain answers unclaimed whole blank none x e
 
 pub reads_back : ReadsBack
 unfolding layout
-reads_back bytes m o answers spelled indexed some whole blank unclaimed none =
+reads_back bytes m o answers spelled indexed some whole plain blank unclaimed foldable none =
     let h : IsRanged m = ranged bytes m spelled in
     let names : Names = module_names o.invents m in
-    read_layout o answers m h blank unclaimed whole none (record (module_of m) { customs = [] })
-    (ap (λ s. read_forest (Group (Word (codes "module") (onto (id_items names.module_name) (module_items names m s))) End)) whole
-    ∙ module_reads names m (module_names_apart o.invents m h) indexed h some)
+    read_layout o answers m h plain blank unclaimed whole none (record (module_of m) { customs = [] })
+    (ap (λ s. read_forest (Group (Word (codes "module") (onto (id_items names.module_name) (module_items o names m s))) End)) whole
+    ∙ module_reads o names m (module_names_apart o.invents m h) (module_names_named o.invents m h) (can_fold o m whole foldable) indexed h some)
 
 pub prints_plain_text : PrintsPlainText
 unfolding layout
-prints_plain_text bytes m o answers spelled blank = layout_is_plain o answers m (ranged bytes m spelled) blank
+prints_plain_text bytes m o answers spelled plain blank = layout_is_plain o answers m (ranged bytes m spelled) plain blank
 
 pub tokens_stay : TokensStay
 unfolding layout
-tokens_stay bytes m o p answers spelled same invents blank_o blank_p =
+tokens_stay bytes m o p answers spelled same invents folds plain_o plain_p blank_o blank_p =
     let h : IsRanged m = ranged bytes m spelled in
-    layout_tokens o answers m h blank_o ∙ module_pieces_stay o p same invents answers m ∙ sym (layout_tokens p answers m h blank_p)
+    layout_tokens o answers m h plain_o blank_o ∙ module_pieces_stay o p same folds (plain_o ∙ sym plain_p) invents answers m ∙ sym (layout_tokens p answers m h plain_p blank_p)

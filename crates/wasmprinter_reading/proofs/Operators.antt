@@ -14,6 +14,7 @@ pub mod Vectors
 pub mod Floats
 pub mod Immediates
 pub mod Rows
+pub mod Alone
 pub mod Open
 pub mod Lists
 pub mod LabelNames

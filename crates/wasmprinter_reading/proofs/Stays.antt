@@ -8,7 +8,7 @@ use Rattle.wasmprinter_spec.specs.ModuleNames.{module_names}
 use Rattle.wasmprinter_spec.specs.Token.{Token, left, right, word}
 use Rattle.wasmprinter_spec.specs.Options.{Options, Answers}
 use Rattle.wasmprinter_spec.specs.Customs.Hints.{Hint, FunctionHints, hints_of, next_hints, hints_behind}
-use Rattle.wasmprinter_spec.specs.Piece.{Piece, Feed, all_tokens}
+use Rattle.wasmprinter_spec.specs.Piece.{Piece, Feed}
 use Rattle.wasmprinter_spec.specs.Placed.{PlacedFunction, PlacedModule}
 use Rattle.wasmprinter_spec.specs.Module.{without_places, imported, func_import}
 use Rattle.wasmprinter_spec.specs.Layout.Groups.{group_at, group_gap_at, close, has_break, numbered}
@@ -19,27 +19,31 @@ use Rattle.wasmprinter_spec.specs.Layout.Elements.{element_pieces}
 use Rattle.wasmprinter_spec.specs.Layout.DataSegments.{data_pieces}
 use Rattle.wasmprinter_spec.specs.Layout.Customs.{Part, Shown, Stops, parts_at, Laid, laid_parts}
 use Rattle.wasmprinter_spec.specs.Layout.{early_scope, late_scope, module_parts, module_pieces_of, module_pieces_with, module_pieces}
-use Rattle.wasmprinter_lexical.proofs.Writes.{all_tokens-append, close_tokens}
+use Rattle.wasmprinter_lexical.proofs.Respelled.{all_lexed, all_lexed-append}
 
 -- the tokens of a keyword, of what a group holds and of its end
 abbrev group_tokens : List ℕ → List Token → List Token
 group_tokens w ts = left ∷ (word w ∷ (ts ++ (right ∷ [])))
 
-closed_tokens : (ps : List Piece) (place : Option ℕ) (nesting : ℕ) (t : Bool) → all_tokens (ps ++ close place nesting t) ≡ all_tokens ps ++ (right ∷ [])
-closed_tokens ps place nesting t =
-    all_tokens-append ps (close place nesting t) ∙ ap (λ ts. all_tokens ps ++ ts) (close_tokens place nesting t)
+close_tokens : (place : Option ℕ) (nesting : ℕ) (t : Bool) → all_lexed (close place nesting t) ≡ right ∷ []
+close_tokens place nesting true = refl
+close_tokens place nesting false = refl
 
-group_at_tokens : (offsets : Bool) (place nesting : ℕ) (w : List ℕ) (ps : List Piece) → all_tokens (group_at offsets place nesting w ps) ≡ group_tokens w (all_tokens ps)
+closed_tokens : (ps : List Piece) (place : Option ℕ) (nesting : ℕ) (t : Bool) → all_lexed (ps ++ close place nesting t) ≡ all_lexed ps ++ (right ∷ [])
+closed_tokens ps place nesting t =
+    all_lexed-append ps (close place nesting t) ∙ ap (λ ts. all_lexed ps ++ ts) (close_tokens place nesting t)
+
+group_at_tokens : (offsets : Bool) (place nesting : ℕ) (w : List ℕ) (ps : List Piece) → all_lexed (group_at offsets place nesting w ps) ≡ group_tokens w (all_lexed ps)
 unfolding group_at
 group_at_tokens offsets place nesting w ps = ap (λ ts. left ∷ (word w ∷ ts)) (closed_tokens ps (Some place) nesting (offsets || has_break ps))
 
-group_gap_at_tokens : (offsets : Bool) (place nesting : ℕ) (w : List ℕ) (ps : List Piece) → all_tokens (group_gap_at offsets place nesting w ps) ≡ group_tokens w (all_tokens ps)
+group_gap_at_tokens : (offsets : Bool) (place nesting : ℕ) (w : List ℕ) (ps : List Piece) → all_lexed (group_gap_at offsets place nesting w ps) ≡ group_tokens w (all_lexed ps)
 unfolding group_gap_at
 group_gap_at_tokens offsets place nesting w ps = ap (λ ts. left ∷ (word w ∷ ts)) (closed_tokens ps (Some place) nesting (offsets || has_break ps))
 
 -- a function without regard to places
 function_stays : (skeleton a b : Bool) (s : Scope) (hs : List (Placed Hint)) (f : PlacedFunction) →
-    all_tokens (function_group skeleton a s hs f) ≡ all_tokens (function_group skeleton b s hs f)
+    all_lexed (function_group skeleton a s hs f) ≡ all_lexed (function_group skeleton b s hs f)
 unfolding function_group
 function_stays true a b s hs f = refl
 function_stays false a b s hs f =
@@ -47,18 +51,18 @@ function_stays false a b s hs f =
     group_gap_at_tokens a f.body.value.end 1 (codes "func") ps ∙ sym (group_gap_at_tokens b f.body.value.end 1 (codes "func") ps)
 
 -- the same pieces before others
-behind_stays : (ps qs rs : List Piece) → all_tokens qs ≡ all_tokens rs → all_tokens (ps ++ qs) ≡ all_tokens (ps ++ rs)
-behind_stays ps qs rs e = all_tokens-append ps qs ∙ ap (λ ts. all_tokens ps ++ ts) e ∙ sym (all_tokens-append ps rs)
+behind_stays : (ps qs rs : List Piece) → all_lexed qs ≡ all_lexed rs → all_lexed (ps ++ qs) ≡ all_lexed (ps ++ rs)
+behind_stays ps qs rs e = all_lexed-append ps qs ∙ ap (λ ts. all_lexed ps ++ ts) e ∙ sym (all_lexed-append ps rs)
 
 -- two parts without regard to what they depend on
-both_stay : (ps ps2 qs qs2 : List Piece) → all_tokens ps ≡ all_tokens ps2 → all_tokens qs ≡ all_tokens qs2 → all_tokens (ps ++ qs) ≡ all_tokens (ps2 ++ qs2)
-both_stay ps ps2 qs qs2 e f = all_tokens-append ps qs ∙ ap₂ (λ ts us. ts ++ us) e f ∙ sym (all_tokens-append ps2 qs2)
+both_stay : (ps ps2 qs qs2 : List Piece) → all_lexed ps ≡ all_lexed ps2 → all_lexed qs ≡ all_lexed qs2 → all_lexed (ps ++ qs) ≡ all_lexed (ps2 ++ qs2)
+both_stay ps ps2 qs qs2 e f = all_lexed-append ps qs ∙ ap₂ (λ ts us. ts ++ us) e f ∙ sym (all_lexed-append ps2 qs2)
 
 -- ---- parts with the same tokens and refusals
 
 data PartsStay : List Part → List Part → Type 0 where
   no_parts : PartsStay [] []
-  both_shown : {ps qs : List Piece} {xs ys : List Part} → all_tokens ps ≡ all_tokens qs → PartsStay xs ys → PartsStay (Shown ps ∷ xs) (Shown qs ∷ ys)
+  both_shown : {ps qs : List Piece} {xs ys : List Part} → all_lexed ps ≡ all_lexed qs → PartsStay xs ys → PartsStay (Shown ps ∷ xs) (Shown qs ∷ ys)
   both_stop : {ps : List Piece} {id : ℕ} {xs ys : List Part} → PartsStay xs ys → PartsStay (Stops ps id ∷ xs) (Stops ps id ∷ ys)
 
 same_stay : (xs : List Part) → PartsStay xs xs
@@ -72,7 +76,7 @@ parts_then (both_shown e v) w = both_shown e (parts_then v w)
 parts_then (both_stop v) w = both_stop (parts_then v w)
 
 record LaidAlike (a b : Laid) : Type 0 where
-  tokens : all_tokens a.pieces ≡ all_tokens b.pieces
+  tokens : all_lexed a.pieces ≡ all_lexed b.pieces
   refused : a.refused ≡ b.refused
 
 joined_alike : {xs ys : List Part} → PartsStay xs ys → LaidAlike (laid_parts xs) (laid_parts ys)
@@ -84,14 +88,18 @@ joined_alike (both_stop v) = record { tokens = refl; refused = refl }
 
 -- ---- the module
 
-module _ (o p : Options) (same : o.skeleton ≡ p.skeleton) where
-  function_pieces_stay : (s : Scope) (i : ℕ) (hs : List (Placed Hint)) (f : PlacedFunction) → all_tokens (function_pieces o s i hs f) ≡ all_tokens (function_pieces p s i hs f)
+module _ (o r : Options) (same : o.skeleton ≡ r.skeleton) where
+  -- where operators are folded or not by both
+  abbrev p : Options
+  p = record r { folds = o.folds; paints = o.paints }
+
+  function_pieces_stay : (s : Scope) (i : ℕ) (hs : List (Placed Hint)) (f : PlacedFunction) → all_lexed (function_pieces o s i hs f) ≡ all_lexed (function_pieces p s i hs f)
   unfolding function_pieces
   function_pieces_stay s i hs f =
       let own : Scope = record s { function = i } in
-      ap (λ t. all_tokens (function_group t o.offsets own hs f)) same ∙ function_stays p.skeleton o.offsets p.offsets own hs f
+      ap (λ t. all_lexed (function_group t o.offsets own hs f)) same ∙ function_stays p.skeleton o.offsets p.offsets own hs f
 
-  functions_stay : (s : Scope) (es : List FunctionHints) (i : ℕ) (fs : List PlacedFunction) → all_tokens (functions_pieces o s es i fs) ≡ all_tokens (functions_pieces p s es i fs)
+  functions_stay : (s : Scope) (es : List FunctionHints) (i : ℕ) (fs : List PlacedFunction) → all_lexed (functions_pieces o s es i fs) ≡ all_lexed (functions_pieces p s es i fs)
   unfolding functions_pieces
   functions_stay s es i [] = refl
   functions_stay s es i (f ∷ fs) =
@@ -105,46 +113,51 @@ module _ (o p : Options) (same : o.skeleton ≡ p.skeleton) where
         (same_stay (parts_at o.skeleton answers place 0 m.customs))
 
     -- a part, and the custom sections behind it
-    field_stays : {ps qs : List Piece} (place : Option Kind) → all_tokens ps ≡ all_tokens qs →
+    field_stays : {ps qs : List Piece} (place : Option Kind) → all_lexed ps ≡ all_lexed qs →
         PartsStay (Shown ps ∷ parts_at o.skeleton answers place 0 m.customs) (Shown qs ∷ parts_at p.skeleton answers place 0 m.customs)
     field_stays place e = both_shown e (customs_stay place)
 
     parts_stay : PartsStay (module_parts o answers names m) (module_parts p answers names m)
     parts_stay =
-        let s : Scope = early_scope names m in
+        let s : Scope = early_scope o names m in
         let elements : Bool → List Piece = λ t. numbered (element_pieces t s) 0 m.elements in
-        let datas : Bool → List Piece = λ t. numbered (data_pieces t (late_scope names m)) 0 m.datas in
+        let datas : Bool → List Piece = λ t. numbered (data_pieces t (late_scope o names m)) 0 m.datas in
         let functions = functions_stay s (hints_of m.customs) (length (imported func_import (without_places m.imports))) m.functions in
         let first = parts_then (customs_stay None) (field_stays (Some TypeSection) refl) in
         let second = parts_then (parts_then first (field_stays (Some ImportSection) refl)) (customs_stay (Some FunctionSection)) in
         let third = parts_then (parts_then second (field_stays (Some TableSection) refl)) (field_stays (Some MemorySection) refl) in
         let fourth = parts_then (parts_then third (field_stays (Some TagSection) refl)) (field_stays (Some GlobalSection) refl) in
         let fifth = parts_then (parts_then fourth (field_stays (Some ExportSection) refl)) (field_stays (Some StartSection) refl) in
-        let sixth = parts_then (parts_then fifth (field_stays (Some ElementSection) (ap (λ t. all_tokens (elements t)) same))) (field_stays (Some CodeSection) functions) in
-        parts_then sixth (field_stays (Some DataSection) (ap (λ t. all_tokens (datas t)) same))
+        let sixth = parts_then (parts_then fifth (field_stays (Some ElementSection) (ap (λ t. all_lexed (elements t)) same))) (field_stays (Some CodeSection) functions) in
+        parts_then sixth (field_stays (Some DataSection) (ap (λ t. all_lexed (datas t)) same))
 
     -- whole or up to a refusal
-    pieces_stay : (r : Option ℕ) (ps qs : List Piece) → all_tokens ps ≡ all_tokens qs →
-        all_tokens (module_pieces_of o names m.size ps r) ≡ all_tokens (module_pieces_of p names m.size qs r)
+    pieces_stay : (r : Option ℕ) (ps qs : List Piece) → all_lexed ps ≡ all_lexed qs →
+        all_lexed (module_pieces_of o names m.size ps r) ≡ all_lexed (module_pieces_of p names m.size qs r)
     pieces_stay None ps qs e =
         let name : List Piece = leading_mark_pieces names.module_name in
-        all_tokens-append (group_at o.offsets m.size 0 (codes "module") (name ++ ps)) (Feed ∷ [])
+        all_lexed-append (group_at o.offsets m.size 0 (codes "module") (name ++ ps)) (Feed ∷ [])
         ∙ ap (λ ts. ts ++ [])
         (group_at_tokens o.offsets m.size 0 (codes "module") (name ++ ps)
         ∙ ap (group_tokens (codes "module")) (behind_stays name ps qs e)
         ∙ sym (group_at_tokens p.offsets m.size 0 (codes "module") (name ++ qs)))
-        ∙ sym (all_tokens-append (group_at p.offsets m.size 0 (codes "module") (name ++ qs)) (Feed ∷ []))
+        ∙ sym (all_lexed-append (group_at p.offsets m.size 0 (codes "module") (name ++ qs)) (Feed ∷ []))
     pieces_stay (Some id) ps qs e = ap (λ ts. left ∷ (word (codes "module") ∷ ts)) (behind_stays (leading_mark_pieces names.module_name) ps qs e)
 
-    pub module_pieces_with_stay : all_tokens (module_pieces_with o answers names m) ≡ all_tokens (module_pieces_with p answers names m)
+    pub module_pieces_with_stay : all_lexed (module_pieces_with o answers names m) ≡ all_lexed (module_pieces_with p answers names m)
     unfolding module_pieces_with
     module_pieces_with_stay =
         let a : Laid = laid_parts (module_parts o answers names m) in
         let b : Laid = laid_parts (module_parts p answers names m) in
         let alike : LaidAlike a b = joined_alike parts_stay in
-        ap (λ r. all_tokens (module_pieces_of o names m.size a.pieces r)) alike.refused ∙ pieces_stay b.refused a.pieces b.pieces alike.tokens
+        ap (λ r. all_lexed (module_pieces_of o names m.size a.pieces r)) alike.refused ∙ pieces_stay b.refused a.pieces b.pieces alike.tokens
 
-  pub module_pieces_stay : o.invents ≡ p.invents → (answers : Answers) (m : PlacedModule) → all_tokens (module_pieces o answers m) ≡ all_tokens (module_pieces p answers m)
+  pieces_alike : o.invents ≡ r.invents → (answers : Answers) (m : PlacedModule) → all_lexed (module_pieces o answers m) ≡ all_lexed (module_pieces p answers m)
   unfolding module_pieces
-  module_pieces_stay invents answers m =
-      ap (λ t. all_tokens (module_pieces_with o answers (module_names t m) m)) invents ∙ module_pieces_with_stay answers (module_names p.invents m) m
+  pieces_alike invents answers m =
+      ap (λ t. all_lexed (module_pieces_with o answers (module_names t m) m)) invents ∙ module_pieces_with_stay answers (module_names p.invents m) m
+
+  pub module_pieces_stay : o.folds ≡ r.folds → o.paints ≡ r.paints → o.invents ≡ r.invents → (answers : Answers) (m : PlacedModule) →
+      all_lexed (module_pieces o answers m) ≡ all_lexed (module_pieces r answers m)
+  module_pieces_stay folds paints invents answers m =
+      pieces_alike invents answers m ∙ ap₂ (λ f t. all_lexed (module_pieces (record r { folds = f; paints = t }) answers m)) folds paints

@@ -120,7 +120,7 @@ is_block_word w = list_any (λ v. bytes_eq v w) block_words
 
 -- the words of groups that may stand where a folded operator may
 abbrev pub group_words : List (List ℕ)
-group_words = codes "then" ∷ codes "else" ∷ codes "offset" ∷ codes "item" ∷ codes "ref" ∷ codes "table" ∷ codes "memory" ∷ []
+group_words = codes "then" ∷ codes "else" ∷ codes "offset" ∷ codes "item" ∷ codes "ref" ∷ codes "table" ∷ codes "memory" ∷ codes "local" ∷ codes "param" ∷ codes "result" ∷ codes "type" ∷ []
 
 abbrev pub is_group_word : List ℕ → Bool
 is_group_word w = list_any (λ v. bytes_eq w v) group_words

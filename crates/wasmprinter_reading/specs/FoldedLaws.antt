@@ -1,25 +1,51 @@
--- The law of folded operators: their text reads as exactly them, whatever numbers of operands and results operators are said to have.
-use Rattle.std.specs.Prelude.{◌≡◌, List, Some}
+-- The laws of folded text: that of operators reads as exactly them, whatever numbers of operands and results they are said to have; that of a
+-- module reads as its flat text does.
+use Rattle.std.specs.Prelude.{◌≡◌, ℕ, List, [], map, true, false, Some, None}
+use Rattle.std.specs.List.{AllByRecursion}
 use Rattle.wasmprinter_spec.specs.Grammar.{Placed}
+use Rattle.wasmprinter_spec.specs.Binary.{Spells}
 use Rattle.wasmprinter_spec.specs.Operator.{Operator}
-use Rattle.wasmprinter_spec.specs.Module.{without_places}
-use Rattle.wasmprinter_spec.specs.Indexed.{Counts}
+use Rattle.wasmprinter_spec.specs.Placed.{PlacedModule}
+use Rattle.wasmprinter_spec.specs.Module.{module_of, without_places}
+use Rattle.wasmprinter_spec.specs.Indexed.{Counts, IsIndexed}
+use Rattle.wasmprinter_spec.specs.Limits.{HasNoEmptyInit}
 use Rattle.wasmprinter_spec.specs.Call.{text_of}
-use Rattle.wasmprinter_spec.specs.Options.{Options, IsBlank}
+use Rattle.wasmprinter_spec.specs.Options.{Options, Answers, AreUnclaimed, IsBlank}
 use Rattle.wasmprinter_spec.specs.Names.{AreApart, AreNamed}
-use Rattle.wasmprinter_spec.specs.Piece.{Piece, all_calls}
+use Rattle.wasmprinter_spec.specs.Piece.{all_calls}
 use Rattle.wasmprinter_spec.specs.Customs.Hints.{Hint}
+use Rattle.wasmprinter_spec.specs.Layout.{layout, refusal}
 use Rattle.wasmprinter_spec.specs.Layout.Operators.{Setting}
-use Rattle.wasmprinter_spec.specs.Layout.Folded.{folded_pieces}
+use Rattle.wasmprinter_spec.specs.Layout.Folded.{items, node_pieces}
 use Rattle.wasmprinter_spec.specs.Folding.Arities.{Signatures}
+use Rattle.wasmprinter_spec.specs.Folding.Code.{Item, Code, code_of}
+use Rattle.wasmprinter_spec.specs.Folding.Tree.{tree}
+use Rattle.wasmprinter_spec.specs.Folding.Refusals.{IsFoldable}
 use Rattle.wasmprinter_spec.specs.IndexSpaces.{Context}
+use Rattle.wasmprinter_spec.specs.Read.{read}
 use Rattle.wasmprinter_reading.specs.OperatorLaws.{HaveSameTypes, HaveSameNames, AreOperators, read_alone}
 
--- The text that is laid out for folded operators, over lines or in one, with hints in front of them or without, reads as exactly them.
+-- an item, but for what is said of its operands and results
+abbrev pub uncounted : Item → Item
+uncounted x = record x { takes = 0; gives = 0 }
+
+-- The text that is laid out for operators folded by any numbers of operands and results, over lines or in one, with hints in front of them or
+-- without, reads as exactly them.
 abbrev pub FoldedOperatorsReadBack : Type 0
 FoldedOperatorsReadBack =
     (s : Setting) → AreApart s.names → AreNamed s.names →
     (c : Context) (n : Counts) → HaveSameTypes s c n → HaveSameNames s c n →
     (signatures : Signatures) (hs : List (Placed Hint)) (os : List (Placed Operator)) → AreOperators n os →
-    (o : Options) → IsBlank o.indent → (ps : List Piece) → folded_pieces o s signatures hs os ≡ Some ps →
-    read_alone c (text_of (all_calls o ps)) ≡ Some (without_places os)
+    (xs : List Item) → map uncounted xs ≡ map uncounted (items s signatures hs 0 [] [] os) →
+    (code : Code) → code_of xs ≡ Some code →
+    (o : Options) → IsBlank o.indent →
+    read_alone c (text_of (all_calls o (node_pieces o false s.form true s.nesting (tree code)))) ≡ Some (without_places os)
+
+-- The text of a module whose operators are folded reads as its flat text does. (As in the reading law, no initialiser of a table is empty, all
+-- operators can be folded, and no `dylink.0` section is refused.)
+abbrev pub FoldedModulesReadAsFlat : Type 0
+FoldedModulesReadAsFlat =
+    (bytes : List ℕ) (m : PlacedModule) (o : Options) (answers : Answers) →
+    Spells bytes m → IsIndexed (module_of m) → AllByRecursion (λ t. HasNoEmptyInit t.value.init) m.tables → o.skeleton ≡ false → o.paints ≡ false → IsBlank o.indent → AreUnclaimed answers →
+    IsFoldable (record o { folds = true }) m → refusal o answers m ≡ None →
+    read (text_of (layout (record o { folds = true }) answers m)) ≡ read (text_of (layout (record o { folds = false }) answers m))

@@ -5,7 +5,7 @@
 ghost use Rattle.wasmprinter_spec.specs.Laws.{SpellsOne, TakesNested, ReadsBack, TokensStay, HintsStay};
 ghost use Rattle.wasmprinter_spec.specs.Laws.{PrintsPlainText, PlainTextIsUtf8, PlainTextHasNoColour, PlainTextsJoin};
 ghost use Rattle.wasmprinter_reading.specs.OperatorLaws.{OperatorsReadBack, NamedOperatorsReadBack};
-ghost use Rattle.wasmprinter_reading.specs.FoldedLaws.{FoldedOperatorsReadBack};
+ghost use Rattle.wasmprinter_reading.specs.FoldedLaws.{FoldedOperatorsReadBack, FoldedModulesReadAsFlat};
 ghost use Rattle.wasmprinter_reading.specs.NameLaws.{NamesAreOneList, EntriesAreGiven, NameMapsAreListed, BytesGiveEntries};
 ghost use Rattle.wasmprinter_reading.specs.NameLaws.{IdentifiersAreApart, IdentifiersAreNamed, ModulesHaveIdentifiers, IdentifiersResolve};
 ghost use Rattle.wasmprinter_reading.specs.LabelLaws.{LabelsMeanTheirBlocks};
@@ -20,19 +20,20 @@ pub fn reader_takes_nested_operators()
     ensures { TakesNested }
 {}
 
-/// The reading law: the text that is laid out for a module that some bytes spell reads as exactly that module, the custom sections that are
-/// printed as they stand among it. No initialiser of a table is empty: the text of such a table is that of one without; and no `dylink.0`
-/// section is refused.
+/// The reading law: the text that is laid out for a module that some bytes spell, flat or folded, reads as exactly that module, the custom
+/// sections that are printed as they stand among it. No initialiser of a table is empty: the text of such a table is that of one without;
+/// where operators are folded, all can be; and no `dylink.0` section is refused.
 pub fn printed_text_reads_back()
     ensures { ReadsBack }
 {}
 
-/// Places at the beginnings of lines, and the indent, change blanks and comments alone: the tokens stay.
+/// Places at the beginnings of lines, and the indent, change blanks and comments alone: the tokens stay, whether operators are folded or not.
 pub fn places_and_indent_keep_tokens()
     ensures { TokensStay }
 {}
 
-/// Branch hints stay: those of a module whose hint section is well formed are those of its text, each once, directly before its operator.
+/// Branch hints stay: those of a module whose hint section is well formed are those of its text, each once, directly before its operator or
+/// before the group of its operator.
 pub fn hints_stay()
     ensures { HintsStay }
 {}
@@ -72,6 +73,12 @@ pub fn named_operators_read_back()
 /// them, whatever numbers of operands and results they are said to have.
 pub fn folded_operators_read_back()
     ensures { FoldedOperatorsReadBack }
+{}
+
+/// The text of a module whose operators are folded reads as its flat text does. The module is as in the reading law: no initialiser of a
+/// table is empty, all operators can be folded, and no `dylink.0` section is refused.
+pub fn folded_text_reads_as_flat()
+    ensures { FoldedModulesReadAsFlat }
 {}
 
 /// Each data of a name section gives exactly one list of entries (appendix "Name Section" of the standard).

@@ -1,34 +1,49 @@
-//! Constant expressions in fields (section 6.6 of the WebAssembly Core Specification, "Expressions"), each in one line.
-ghost use Rattle.std.specs.Prelude.{◌≡◌, Bool, true, false};
-ghost use Rattle.wasmprinter_spec.specs.Layout.Expressions.{constant_pieces, word_unless_one, constant_group};
-ghost use Rattle.wasmprinter_print.specs.Prints.{Prints};
-ghost use Rattle.wasmprinter_scope.specs.Scopes.{scope_view, is_one};
+//! Constant expressions in fields (section 6.6 of the WebAssembly Core Specification, "Expressions"), each in one line, but where the comment
+//! of a folded operator ends it.
+ghost use Rattle.std.specs.Prelude.{◌≡◌, Bool, true, false, IfOk};
+ghost use Rattle.wasmprinter_spec.specs.Layout.Groups.{has_break};
+ghost use Rattle.wasmprinter_spec.specs.Layout.Operators.{expression_pieces};
+ghost use Rattle.wasmprinter_spec.specs.Layout.Expressions.{in_line, constant_pieces, word_unless_one, held_pieces, group_parts, constant_group};
+ghost use Rattle.wasmprinter_print.specs.Prints.{Prints, PrintsOrStops};
+ghost use Rattle.wasmprinter_scope.specs.Scopes.{scope_view, is_one, folds_in};
 
 use crate::scope::Scope;
 use std::io;
 use wasmprinter_customs::FunctionHints;
+use wasmprinter_error::Error;
 use wasmprinter_flat::operators::{Form, Setting, write_operators};
+use wasmprinter_lines::lines::close;
 use wasmprinter_lines::options::PrintOptions;
 use wasmprinter_ops::expression::Expression;
 use wasmprinter_print::Print;
-use wasmprinter_words::words::{gap, open_bare, shut, word};
+use wasmprinter_words::words::{gap, open_bare, word};
 
-/// Writes the operators of an expression, a blank between two.
-#[tactic(auto, unfolding(wasmprinter_spec::specs::Layout::Expressions::constant_pieces, wasmprinter_spec::specs::Layout::Operators::expression_pieces))]
-pub fn write_constant<P: Print>(
+/// How deep an expression in a field is nested, and a group with an expression.
+const EXPRESSION_NESTING: u64 = 2;
+
+/// How deep an expression in a group of its own is nested.
+const HELD_NESTING: u64 = 3;
+
+/// How many results the function around a constant expression has: there is none.
+const NO_RESULTS: Option<u32> = Some(0);
+
+/// Writes the operators of an expression, a blank between two, without folding them.
+#[tactic(auto, unfolding(wasmprinter_spec::specs::Layout::Operators::expression_pieces))]
+fn write_flat<P: Print>(
     p: &mut P,
     options: &PrintOptions,
     scope: &mut Scope<'_, '_>,
+    nesting: u64,
     expression: &Expression<'_>,
 ) -> io::Result<()>
     ensures pieces { Prints P.meaning options.now p.old p.new result
-        (constant_pieces (scope_view scope.old) expression.now.items) }
+        (expression_pieces (in_line (scope_view scope.old) nesting) expression.now.items) }
     ensures scope { scope_view scope.new ≡ scope_view scope.old }
 {
     let setting = Setting {
         form: Form::InLine,
         types: &scope.types,
-        nesting: 0,
+        nesting,
         function: scope.function,
         body: 0,
     };
@@ -41,6 +56,65 @@ pub fn write_constant<P: Print>(
         FunctionHints::none(),
         expression,
     )
+}
+
+/// Writes an expression that is nested so deep: a blank between two operators, or folded. Answers whether a line began.
+fn write_nested<P: Print>(
+    p: &mut P,
+    options: &PrintOptions,
+    scope: &mut Scope<'_, '_>,
+    nesting: u64,
+    expression: &Expression<'_>,
+) -> Result<bool, Error>
+    ensures pieces { PrintsOrStops P.meaning options.now p.old p.new (folds_in (scope_view scope.old)) result
+        (constant_pieces (scope_view scope.old) nesting expression.now.items) }
+    ensures lines { IfOk result (λ lines. lines ≡ has_break (constant_pieces (scope_view scope.old) nesting expression.now.items)) }
+    ensures scope { scope_view scope.new ≡ scope_view scope.old }
+{
+    match &mut scope.folder {
+        None => {
+            write_flat(p, options, scope, nesting, expression)?;
+            Ok(false)
+        }
+        Some(folder) => {
+            let setting = Setting {
+                form: Form::InLine,
+                types: &scope.types,
+                nesting,
+                function: scope.function,
+                body: 0,
+            };
+            let labels = &mut scope.labels;
+            folder.write(
+                p,
+                options,
+                &setting,
+                labels,
+                NO_RESULTS,
+                FunctionHints::none(),
+                expression,
+            )
+        }
+    }
+}
+
+/// Writes an expression in a field. Answers whether a line began.
+///
+/// # Errors
+///
+/// `Memory` where a growth was refused, `Printer` where a call on the printer failed, with that call's error. No other.
+pub fn write_constant<P: Print>(
+    p: &mut P,
+    options: &PrintOptions,
+    scope: &mut Scope<'_, '_>,
+    expression: &Expression<'_>,
+) -> Result<bool, Error>
+    ensures pieces { PrintsOrStops P.meaning options.now p.old p.new (folds_in (scope_view scope.old)) result
+        (constant_pieces (scope_view scope.old) 2 expression.now.items) }
+    ensures lines { IfOk result (λ lines. lines ≡ has_break (constant_pieces (scope_view scope.old) 2 expression.now.items)) }
+    ensures scope { scope_view scope.new ≡ scope_view scope.old }
+{
+    write_nested(p, options, scope, EXPRESSION_NESTING, expression)
 }
 
 /// Whether the expression has exactly one operator.
@@ -67,7 +141,47 @@ fn write_word_unless_one<P: Print>(
     gap(p)
 }
 
-/// Writes an expression as a group: a single operator alone, and any other behind the keyword.
+/// Writes an expression in a group of its own, where one operator is never folded. Answers whether a line began.
+fn write_held<P: Print>(
+    p: &mut P,
+    options: &PrintOptions,
+    scope: &mut Scope<'_, '_>,
+    expression: &Expression<'_>,
+) -> Result<bool, Error>
+    ensures pieces { PrintsOrStops P.meaning options.now p.old p.new (folds_in (scope_view scope.old)) result
+        (held_pieces (scope_view scope.old) 3 expression.now.items) }
+    ensures lines { IfOk result (λ lines. lines ≡ has_break (held_pieces (scope_view scope.old) 3 expression.now.items)) }
+    ensures scope { scope_view scope.new ≡ scope_view scope.old }
+{
+    if is_one(expression) {
+        write_flat(p, options, scope, HELD_NESTING, expression)?;
+        return Ok(false);
+    }
+    write_nested(p, options, scope, HELD_NESTING, expression)
+}
+
+/// Writes what stands in the group of an expression: a single operator alone, and any other behind the keyword. Answers whether a line began.
+fn write_group_parts<P: Print>(
+    p: &mut P,
+    options: &PrintOptions,
+    scope: &mut Scope<'_, '_>,
+    keyword: &str,
+    expression: &Expression<'_>,
+) -> Result<bool, Error>
+    ensures pieces { PrintsOrStops P.meaning options.now p.old p.new (folds_in (scope_view scope.old)) result
+        (group_parts (scope_view scope.old) 3 keyword.now expression.now.items) }
+    ensures lines { IfOk result (λ lines. lines ≡ has_break (group_parts (scope_view scope.old) 3 keyword.now expression.now.items)) }
+    ensures scope { scope_view scope.new ≡ scope_view scope.old }
+{
+    write_word_unless_one(p, options, keyword, expression)?;
+    write_held(p, options, scope, expression)
+}
+
+/// Writes an expression as a group, which closes on a line of its own where a line began. Answers whether one did.
+///
+/// # Errors
+///
+/// Those of [`write_constant`].
 #[tactic(auto, unfolding(wasmprinter_spec::specs::Layout::Expressions::constant_group))]
 pub fn write_constant_group<P: Print>(
     p: &mut P,
@@ -75,13 +189,14 @@ pub fn write_constant_group<P: Print>(
     scope: &mut Scope<'_, '_>,
     keyword: &str,
     expression: &Expression<'_>,
-) -> io::Result<()>
-    ensures pieces { Prints P.meaning options.now p.old p.new result
-        (constant_group (scope_view scope.old) keyword.now expression.now.items) }
+) -> Result<bool, Error>
+    ensures pieces { PrintsOrStops P.meaning options.now p.old p.new (folds_in (scope_view scope.old)) result
+        (constant_group (scope_view scope.old) 2 keyword.now expression.now.items) }
+    ensures lines { IfOk result (λ lines. lines ≡ has_break (constant_group (scope_view scope.old) 2 keyword.now expression.now.items)) }
     ensures scope { scope_view scope.new ≡ scope_view scope.old }
 {
     open_bare(p)?;
-    write_word_unless_one(p, options, keyword, expression)?;
-    write_constant(p, options, scope, expression)?;
-    shut(p)
+    let lines = write_group_parts(p, options, scope, keyword, expression)?;
+    close(p, options, EXPRESSION_NESTING, lines)?;
+    Ok(lines)
 }

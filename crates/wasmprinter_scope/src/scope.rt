@@ -15,6 +15,7 @@ ghost use Rattle.wasmprinter_labels.specs.Scan.{names_of};
 ghost use Rattle.wasmprinter_scope.specs.Scopes.{scope_view, item_in};
 
 use std::io;
+use wasmprinter_fold::Folder;
 use wasmprinter_labels::OpenLabels;
 use wasmprinter_names::{Identifiers, Space};
 use wasmprinter_ops::types::composite::{FuncType, SubType};
@@ -56,6 +57,8 @@ pub struct Scope<'s, 'a> {
     pub labels: OpenLabels<'s, 'a>,
     /// The function whose locals and labels an expression means.
     pub function: u64,
+    /// What folds operators, where they are folded.
+    pub folder: Option<Folder<'s, 'a>>,
 }
 
 impl<'s, 'a> Scope<'s, 'a> {

@@ -14,7 +14,6 @@ use Rattle.wasmprinter_annotations.specs.Lines.{PrintsPartLines}
 use Rattle.wasmprinter_annotations.proofs.Parts.{laid-behind, laid-nothing, same_part_lines}
 use Rattle.wasmprinter_annotations.proofs.Places.{one_table}
 use Rattle.wasmprinter_sections.specs.Sections.{fields_of, first_scope, sections_parts, kinds}
-use Rattle.wasmprinter_sections.proofs.SectionWalk.{WalkEnds}
 
 -- ---- answers by kinds
 
@@ -62,7 +61,7 @@ module _ (o : Options) (answers : Answers) (names : Names) (m : PlacedModule) wh
   customs_of place = parts_at o.skeleton answers place 0 m.customs
 
   abbrev section_of : Kind → List Part
-  section_of k = Shown (fields_of o (first_scope names m) m k) ∷ customs_of (Some k)
+  section_of k = Shown (fields_of o (first_scope o names m) m k) ∷ customs_of (Some k)
 
   -- what comes behind the section of functions, which has no fields
   abbrev behind_functions : List (List Part)
@@ -70,7 +69,7 @@ module _ (o : Options) (answers : Answers) (names : Names) (m : PlacedModule) wh
       section_of TableSection ∷ section_of MemorySection ∷ section_of TagSection ∷ section_of GlobalSection ∷ section_of ExportSection
       ∷ section_of StartSection ∷ section_of ElementSection ∷ section_of CodeSection ∷ section_of DataSection ∷ []
 
-  module-laid : laid_parts (customs_of None ++ sections_by o (first_scope names m) m customs_of kinds) ≡ laid_parts (module_parts o answers names m)
+  module-laid : laid_parts (customs_of None ++ sections_by o (first_scope o names m) m customs_of kinds) ≡ laid_parts (module_parts o answers names m)
   module-laid =
       let functions : List Part = customs_of (Some FunctionSection) in
       let all : List (List Part) = section_of TypeSection ∷ section_of ImportSection ∷ functions ∷ behind_functions in
@@ -82,11 +81,13 @@ module _ (o : Options) (answers : Answers) (names : Names) (m : PlacedModule) wh
       (laid-behind (section_of TypeSection) (imports none) (imports some) (laid-behind (section_of ImportSection) none some (laid-nothing some)))
       ∙ ap laid_parts (sym (one_by_one-in_turn (customs_of None) all))
 
--- sections that were written one behind the other, each by its own answers
-pub module_walk : {P : Type 0} (n : Meaning P) (o : Options) (names : Names) (m : PlacedModule) {a t : P} (r : Result Bool Error) →
-    WalkEnds n o (first_scope names m) m a t r → (answers : Answers) × PrintsPartLines n o a t r (module_parts o answers names m)
-module_walk n o names m {a} {t} r (first, several, many, written) =
-    let s : Scope = first_scope names m in
+-- sections that were written one behind the other, each by its own answers; their lines are printed by options that may differ
+pub module_walk : {P : Type 0} (n : Meaning P) (p o : Options) (names : Names) (m : PlacedModule) {keeps : Bool} {a t : P} (r : Result Bool Error) →
+    (first : Answers) (several : List Answers) → length several ≡ length kinds →
+    PrintsPartLines n p a t keeps r (parts_at o.skeleton first None 0 m.customs ++ sections_parts o (first_scope o names m) m several kinds) →
+    (answers : Answers) × PrintsPartLines n p a t keeps r (module_parts o answers names m)
+module_walk n p o names m {keeps} {a} {t} r first several many written =
+    let s : Scope = first_scope o names m in
     let by : Option Kind → List Part = λ place. parts_at o.skeleton (table_of first several place) place 0 m.customs in
     let one = one_table o.skeleton (table_of first several) m.customs in
     let front : by None ++ sections_parts o s m several kinds ≡ customs_of o one.0 names m None ++ sections_by o s m (customs_of o one.0 names m) kinds =

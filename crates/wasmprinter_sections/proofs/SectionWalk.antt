@@ -29,36 +29,7 @@ module _ (o : Options) (s : Scope) (m : PlacedModule) where
       ap (λ (ps : List Part). section_parts o s m x y ++ ps) (sections-split xs a bs ks k e)
       ∙ sym (append_assoc (section_parts o s m x y) (sections_parts o s m xs (take (length xs) ks)) (section_parts o s m a k ++ sections_parts o s m bs (drop (suc (length xs)) ks)))
 
--- the program's kinds are those of the definitions
-abbrev pub program_kinds : List SectionKind
-program_kinds = k.Type ∷ k.Import ∷ k.Function ∷ k.Table ∷ k.Memory ∷ k.Tag ∷ k.Global ∷ k.Export ∷ k.Start ∷ k.Element ∷ k.Code ∷ k.Data ∷ []
-
-pub kind_at : (i : ℕ) → i < length kinds → slice_get kinds i ≡ Some (section_kind_view (get_or program_kinds i k.Type))
-kind_at i h = slice_get-map section_kind_view program_kinds i ∙ ap (option_map section_kind_view) (slice_get-get_or program_kinds i k.Type h)
-
--- i sections have been written, with the custom sections in front of them and behind them
-pub record Walked {P : Type 0} (n : Meaning P) (o : Options) (s : Scope) (m : PlacedModule) (old new : P) (i : ℕ) (lines : Bool) : Type 0 where
-  pub first : Answers
-  pub answers : List Answers
-  pub many : length answers ≡ i
-  pub written : PrintsPartLines n o old new (Ok lines) (parts_at o.skeleton first None 0 m.customs ++ sections_parts o s m answers (take i kinds))
-
--- all of them have, up to the end that is answered
-abbrev pub WalkEnds : {P : Type 0} → Meaning P → Options → Scope → PlacedModule → P → P → Result Bool Error → Type 0
-WalkEnds n o s m old new r = (first : Answers) × (answers : List Answers) × (length answers ≡ length kinds)
-    × PrintsPartLines n o old new r (parts_at o.skeleton first None 0 m.customs ++ sections_parts o s m answers kinds)
-
-module _ {P : Type 0} (n : Meaning P) (o : Options) (s : Scope) (m : PlacedModule) where
-  -- before the first
-  pub walk_starts : {a t : P} {lines : Bool} (first : Answers) → PrintsPartLines n o a t (Ok lines) (parts_at o.skeleton first None 0 m.customs) → Walked n o s m a t 0 lines
-  walk_starts {a} {t} {lines} first w = record {
-    first = first;
-    answers = [];
-    many = refl;
-    written = subst (λ (ps : List Part). PrintsPartLines n o a t (Ok lines) ps) (sym (append-nil (parts_at o.skeleton first None 0 m.customs))) w;
-  }
-
-  take-some : (ks : List Kind) (i : ℕ) (k : Kind) → slice_get ks i ≡ Some k → (xs : List Answers) (a : Answers) → length xs ≡ i →
+  pub take-some : (ks : List Kind) (i : ℕ) (k : Kind) → slice_get ks i ≡ Some k → (xs : List Answers) (a : Answers) → length xs ≡ i →
       sections_parts o s m (xs ++ (a ∷ [])) (take (suc i) ks) ≡ sections_parts o s m xs (take i ks) ++ section_parts o s m a k
   take-some [] i k e [] a l = absurd cc
   take-some [] i k e (x ∷ xs) a l = absurd cc
@@ -69,24 +40,53 @@ module _ {P : Type 0} (n : Meaning P) (o : Options) (s : Scope) (m : PlacedModul
       ap (λ (ps : List Part). section_parts o s m x y ++ ps) (take-some ks i k e xs a cc)
       ∙ sym (append_assoc (section_parts o s m x y) (sections_parts o s m xs (take i ks)) (section_parts o s m a k))
 
+-- the program's kinds are those of the definitions
+abbrev pub program_kinds : List SectionKind
+program_kinds = k.Type ∷ k.Import ∷ k.Function ∷ k.Table ∷ k.Memory ∷ k.Tag ∷ k.Global ∷ k.Export ∷ k.Start ∷ k.Element ∷ k.Code ∷ k.Data ∷ []
+
+pub kind_at : (i : ℕ) → i < length kinds → slice_get kinds i ≡ Some (section_kind_view (get_or program_kinds i k.Type))
+kind_at i h = slice_get-map section_kind_view program_kinds i ∙ ap (option_map section_kind_view) (slice_get-get_or program_kinds i k.Type h)
+
+-- i sections have been written, with the custom sections in front of them and behind them
+pub record Walked {P : Type 0} (n : Meaning P) (o : Options) (s : Scope) (m : PlacedModule) (keeps : Bool) (old new : P) (i : ℕ) (lines : Bool) : Type 0 where
+  pub first : Answers
+  pub answers : List Answers
+  pub many : length answers ≡ i
+  pub written : PrintsPartLines n o old new keeps (Ok lines) (parts_at o.skeleton first None 0 m.customs ++ sections_parts o s m answers (take i kinds))
+
+-- all of them have, up to the end that is answered
+abbrev pub WalkEnds : {P : Type 0} → Meaning P → Options → Scope → PlacedModule → Bool → P → P → Result Bool Error → Type 0
+WalkEnds n o s m keeps old new r = (first : Answers) × (answers : List Answers) × (length answers ≡ length kinds)
+    × PrintsPartLines n o old new keeps r (parts_at o.skeleton first None 0 m.customs ++ sections_parts o s m answers kinds)
+
+module _ {P : Type 0} (n : Meaning P) {keeps : Bool} (o : Options) (s : Scope) (m : PlacedModule) where
+  -- before the first
+  pub walk_starts : {a t : P} {lines : Bool} (first : Answers) → PrintsPartLines n o a t keeps (Ok lines) (parts_at o.skeleton first None 0 m.customs) → Walked n o s m keeps a t 0 lines
+  walk_starts {a} {t} {lines} first w = record {
+    first = first;
+    answers = [];
+    many = refl;
+    written = subst (λ (ps : List Part). PrintsPartLines n o a t keeps (Ok lines) ps) (sym (append-nil (parts_at o.skeleton first None 0 m.customs))) w;
+  }
+
   -- one more, and the custom sections behind it
-  pub walk_writes : {a b t : P} {i : ℕ} {lines more : Bool} (k : Kind) → slice_get kinds i ≡ Some k → Walked n o s m a b i lines →
-      (answers : Answers) → PrintsPartLines n o b t (Ok more) (section_parts o s m answers k) → Walked n o s m a t (i + 1) (lines || more)
+  pub walk_writes : {a b t : P} {i : ℕ} {lines more : Bool} (k : Kind) → slice_get kinds i ≡ Some k → Walked n o s m keeps a b i lines →
+      (answers : Answers) → PrintsPartLines n o b t keeps (Ok more) (section_parts o s m answers k) → Walked n o s m keeps a t (i + 1) (lines || more)
   walk_writes {a} {t = t} {i} {lines} {more} k e w answers v =
       let front : List Part = parts_at o.skeleton w.first None 0 m.customs in
       let done : List Part = sections_parts o s m w.answers (take i kinds) in
       let joined : (front ++ done) ++ section_parts o s m answers k ≡ front ++ sections_parts o s m (w.answers ++ (answers ∷ [])) (take (suc i) kinds) =
-      append_assoc front done (section_parts o s m answers k) ∙ ap (λ (ps : List Part). front ++ ps) (sym (take-some kinds i k e w.answers answers w.many)) in
+      append_assoc front done (section_parts o s m answers k) ∙ ap (λ (ps : List Part). front ++ ps) (sym (take-some o s m kinds i k e w.answers answers w.many)) in
       record {
         first = w.first;
         answers = w.answers ++ (answers ∷ []);
         many = length-append w.answers (answers ∷ []) ∙ ap (λ (j : ℕ). j + 1) w.many;
-        written = rw (add-one) (subst (λ (ps : List Part). PrintsPartLines n o a t (Ok (lines || more)) ps) joined (part_lines_then n w.written v));
+        written = rw (add-one) (subst (λ (ps : List Part). PrintsPartLines n o a t keeps (Ok (lines || more)) ps) joined (part_lines_then n w.written v));
       }
 
   -- it ended amid one
-  pub walk_fails : {a b t : P} {i : ℕ} {lines : Bool} (r : Result Bool Error) {e : Error} (k : Kind) → i < length kinds → slice_get kinds i ≡ Some k → Walked n o s m a b i lines →
-      (answers : Answers) → PrintsPartLines n o b t (Err e) (section_parts o s m answers k) → IsErrAnd r (λ y. y ≡ e) → WalkEnds n o s m a t r
+  pub walk_fails : {a b t : P} {i : ℕ} {lines : Bool} (r : Result Bool Error) {e : Error} (k : Kind) → i < length kinds → slice_get kinds i ≡ Some k → Walked n o s m keeps a b i lines →
+      (answers : Answers) → PrintsPartLines n o b t keeps (Err e) (section_parts o s m answers k) → IsErrAnd r (λ y. y ≡ e) → WalkEnds n o s m keeps a t r
   walk_fails {a} {t = t} {i} r k h e w answers v f =
       let front : List Part = parts_at o.skeleton w.first None 0 m.customs in
       let done : List Part = sections_parts o s m w.answers (take i kinds) in
@@ -101,15 +101,15 @@ module _ {P : Type 0} (n : Meaning P) (o : Options) (s : Scope) (m : PlacedModul
         w.first,
         w.answers ++ (answers ∷ rest),
         long,
-        subst (λ (ps : List Part). PrintsPartLines n o a t r ps) all (part_lines_end n r behind f w.written v),
+        subst (λ (ps : List Part). PrintsPartLines n o a t keeps r ps) all (part_lines_end n r behind f w.written v),
       )
 
   -- all are written
-  pub walk_ends : {a t : P} {i : ℕ} {lines : Bool} → i ≡ length kinds → Walked n o s m a t i lines → WalkEnds n o s m a t (Ok lines)
+  pub walk_ends : {a t : P} {i : ℕ} {lines : Bool} → i ≡ length kinds → Walked n o s m keeps a t i lines → WalkEnds n o s m keeps a t (Ok lines)
   walk_ends {a} {t} {i} {lines} e w =
       let front : List Part = parts_at o.skeleton w.first None 0 m.customs in (
         w.first,
         w.answers,
         w.many ∙ e,
-        subst (λ (j : ℕ). PrintsPartLines n o a t (Ok lines) (front ++ sections_parts o s m w.answers (take j kinds))) e w.written,
+        subst (λ (j : ℕ). PrintsPartLines n o a t keeps (Ok lines) (front ++ sections_parts o s m w.answers (take j kinds))) e w.written,
       )

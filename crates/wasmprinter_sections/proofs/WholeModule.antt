@@ -1,5 +1,5 @@
 -- A module is its parts, in a group that ends the text unless a part ends it.
-use Rattle.std.specs.Prelude.{◌≡◌, ℕ, List, [], ◌∷◌, ◌++◌, ◌||◌, Bool, codes, Option, Some, None, Result, Ok, Err, IsErrAnd, refl}
+use Rattle.std.specs.Prelude.{◌≡◌, ℕ, List, [], ◌∷◌, ◌++◌, ◌||◌, Bool, is_some, codes, Option, Some, None, Result, Ok, Err, IsErrAnd, refl}
 use Rattle.std.proofs.Common.{sym, ap, ◌∙◌, subst, append_assoc, append-nil}
 use Rattle.std.specs.declared.io.Error.{Error as IoError}
 use Rattle.wasmprinter_error.specs.declared.error.Error.{Error}
@@ -18,7 +18,9 @@ use Rattle.wasmprinter_print.specs.Prints.{Written}
 use Rattle.wasmprinter_annotations.specs.Parts.{PrintsLaid, PrintsParts}
 use Rattle.wasmprinter_annotations.specs.Lines.{PrintsPartLines}
 use Rattle.wasmprinter_annotations.proofs.Parts.{laid_behind, joined-append, no_parts, shown_then, shown_fails, parts_then, parts_end}
-use Rattle.wasmprinter_sections.specs.Sections.{module_laid}
+use Rattle.wasmprinter_fold.specs.Views.{FolderView}
+use Rattle.wasmprinter_sections.specs.Sections.{module_laid, Folds, painting}
+use Rattle.wasmprinter_sections.proofs.Painting.{keeps-folds}
 
 -- in front of the parts
 abbrev pub opening : List Piece
@@ -31,6 +33,10 @@ closing o size lines = close (Some size) 0 (o.offsets || lines) ++ (Feed ∷ [])
 -- what stands in the group
 abbrev pub inner_parts : Options → Answers → Names → PlacedModule → List Part
 inner_parts o answers names m = Shown (leading_mark_pieces names.module_name) ∷ module_parts o answers names m
+
+-- the part behind them
+abbrev pub last_parts : Options → ℕ → Bool → List Part
+last_parts o size lines = Shown (closing o size lines) ∷ []
 
 -- all of it
 abbrev pub whole_parts : Options → Answers → Names → PlacedModule → List Part
@@ -66,41 +72,47 @@ module-whole o answers names m =
 abbrev pub failed : IoError → Result (Unit {0}) IoError
 failed e = Err e
 
-module _ {P : Type 0} (n : Meaning P) (o : Options) (answers : Answers) (names : Names) (m : PlacedModule) where
-  as_module : {a t : P} {r : Result (Unit {0}) Error} → PrintsParts n o a t r (whole_parts o answers names m) → PrintsLaid n o a t r (module_laid o answers names m)
-  as_module {a} {t} {r} v = subst (λ (l : Laid). PrintsLaid n o a t r l) (module-whole o answers names m) v
-
-  abbrev last_parts : Bool → List Part
-  last_parts lines = Shown (closing o m.size lines) ∷ []
+module _ {P : Type 0} (n : Meaning P) {keeps : Bool} (p o : Options) (answers : Answers) (names : Names) (m : PlacedModule) where
+  as_module : {a t : P} {r : Result (Unit {0}) Error} → PrintsParts n p a t keeps r (whole_parts o answers names m) → PrintsLaid n p a t keeps r (module_laid o answers names m)
+  as_module {a} {t} {r} v = subst (λ (l : Laid). PrintsLaid n p a t keeps r l) (module-whole o answers names m) v
 
   -- a call failed amid the opening
-  pub opening_fails : {a t : P} (r : Result (Unit {0}) Error) {e : IoError} → IsErrAnd r (λ y. y ≡ Printer e) → Written n o a t (AtCall e) opening →
-      PrintsLaid n o a t r (module_laid o answers names m)
+  pub opening_fails : {a t : P} (r : Result (Unit {0}) Error) {e : IoError} → IsErrAnd r (λ y. y ≡ Printer e) → Written n p a t (AtCall e) opening →
+      PrintsLaid n p a t keeps r (module_laid o answers names m)
   opening_fails r f v =
       let inner : List Part = inner_parts o answers names m in
-      as_module (shown_fails n r (inner ++ last_parts (has_break (laid_parts inner).pieces)) f v)
+      as_module (shown_fails n r (inner ++ last_parts o m.size (has_break (laid_parts inner).pieces)) f v)
 
   -- the parts ended
-  pub inner_ends : {a s t : P} (r : Result (Unit {0}) Error) {e : Error} → IsErrAnd r (λ y. y ≡ e) → Written n o a s Through opening →
-      PrintsPartLines n o s t (Err e) (inner_parts o answers names m) → PrintsLaid n o a t r (module_laid o answers names m)
+  pub inner_ends : {a s t : P} (r : Result (Unit {0}) Error) {e : Error} → IsErrAnd r (λ y. y ≡ e) → Written n p a s Through opening →
+      PrintsPartLines n p s t keeps (Err e) (inner_parts o answers names m) → PrintsLaid n p a t keeps r (module_laid o answers names m)
   inner_ends r f v w =
       let inner : List Part = inner_parts o answers names m in
-      let last : List Part = last_parts (has_break (laid_parts inner).pieces) in
+      let last : List Part = last_parts o m.size (has_break (laid_parts inner).pieces) in
       as_module (shown_then n (inner ++ last) v (parts_end n r inner last f w.prints))
 
   -- a call failed amid the closing
   pub closing_fails : {a s u t : P} {lines : Bool} (r : Result (Unit {0}) Error) {e : IoError} → IsErrAnd r (λ y. y ≡ Printer e) →
-      Written n o a s Through opening → PrintsPartLines n o s u (Ok lines) (inner_parts o answers names m) → Written n o u t (AtCall e) (closing o m.size lines) →
-      PrintsLaid n o a t r (module_laid o answers names m)
+      Written n p a s Through opening → PrintsPartLines n p s u keeps (Ok lines) (inner_parts o answers names m) → Written n p u t (AtCall e) (closing o m.size lines) →
+      PrintsLaid n p a t keeps r (module_laid o answers names m)
   closing_fails r f v w x =
       let inner : List Part = inner_parts o answers names m in
-      let last : List Part = last_parts (has_break (laid_parts inner).pieces) in
+      let last : List Part = last_parts o m.size (has_break (laid_parts inner).pieces) in
       as_module (shown_then n (inner ++ last) v (parts_then n inner last w.prints (shown_fails n r [] f (rw w.lines at x))))
 
   -- all was written
-  pub module_written : {a s u t : P} {lines : Bool} {x : Unit {0}} → Written n o a s Through opening → PrintsPartLines n o s u (Ok lines) (inner_parts o answers names m) →
-      Written n o u t Through (closing o m.size lines) → PrintsLaid n o a t (Ok x) (module_laid o answers names m)
+  pub module_written : {a s u t : P} {lines : Bool} {x : Unit {0}} → Written n p a s Through opening → PrintsPartLines n p s u keeps (Ok lines) (inner_parts o answers names m) →
+      Written n p u t Through (closing o m.size lines) → PrintsLaid n p a t keeps (Ok x) (module_laid o answers names m)
   module_written v w y =
       let inner : List Part = inner_parts o answers names m in
-      let last : List Part = last_parts (has_break (laid_parts inner).pieces) in
+      let last : List Part = last_parts o m.size (has_break (laid_parts inner).pieces) in
       as_module (shown_then n (inner ++ last) v (parts_then n inner last w.prints (shown_then n [] (rw w.lines at y) (no_parts n))))
+
+-- printed by what folds, if something does
+pub by_folder : {P : Type 0} (n : Meaning P) (o : Options) (paints : Bool) (names : Names) (m : PlacedModule) (folder : Option FolderView) {a t : P} (r : Result (Unit {0}) Error) →
+    Folds o paints folder m → (answers : Answers) × PrintsLaid n o a t (is_some folder) r (module_laid (painting o paints) answers names m) →
+    (answers : Answers) × PrintsLaid n o a t o.folds r (module_laid (painting o paints) answers names m)
+by_folder n o paints names m folder {a} {t} r folds whole = (
+  whole.0,
+  subst (λ (b : Bool). PrintsLaid n o a t b r (module_laid (painting o paints) whole.0 names m)) (keeps-folds o paints folder m folds) whole.1,
+)

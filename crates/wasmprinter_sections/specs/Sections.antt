@@ -1,5 +1,5 @@
 -- The parts of a module by the kinds of its sections: the fields of a section, and behind them the custom sections that stand there.
-use Rattle.std.specs.Prelude.{ℕ, ◌+◌, List, [], ◌∷◌, ◌++◌, length, Some}
+use Rattle.std.specs.Prelude.{◌≡◌, ℕ, ◌+◌, List, [], ◌∷◌, ◌++◌, length, Bool, true, false, Option, Some, None}
 use Rattle.wasmprinter_spec.specs.Types.{FuncKind, TableKind, MemoryKind, GlobalKind, TagKind}
 use Rattle.wasmprinter_spec.specs.Kinds.{Kind, TypeSection, ImportSection, FunctionSection, TableSection, MemorySection, TagSection, GlobalSection, ExportSection, StartSection, ElementSection, CodeSection, DataSection}
 use Rattle.wasmprinter_spec.specs.Customs.Hints.{hints_of}
@@ -9,7 +9,7 @@ use Rattle.wasmprinter_spec.specs.Options.{Options, Answers}
 use Rattle.wasmprinter_spec.specs.Piece.{Piece}
 use Rattle.wasmprinter_spec.specs.Layout.{tag_pieces, start_pieces, module_parts, module_pieces_with}
 use Rattle.wasmprinter_spec.specs.Layout.Groups.{numbered}
-use Rattle.wasmprinter_spec.specs.Layout.Declarations.{Scope, scope_of}
+use Rattle.wasmprinter_spec.specs.Layout.Declarations.{Scope, scope_of, folding_of}
 use Rattle.wasmprinter_spec.specs.Layout.Types.{type_section_pieces}
 use Rattle.wasmprinter_spec.specs.Layout.Imports.{no_numbers, imports_pieces}
 use Rattle.wasmprinter_spec.specs.Layout.Tables.{table_pieces}
@@ -21,11 +21,21 @@ use Rattle.wasmprinter_spec.specs.Layout.Functions.{functions_pieces}
 use Rattle.wasmprinter_spec.specs.Layout.DataSegments.{data_pieces}
 use Rattle.wasmprinter_spec.specs.Layout.Customs.{Part, Shown, parts_at, Laid, laid_parts}
 use Rattle.wasmprinter_entries.specs.Externs.{imported_count}
+use Rattle.wasmprinter_fold.specs.Views.{FolderView}
 use Rattle.wasmprinter_scope.specs.Scopes.{types_of, within}
 
+-- what folds the operators of a module, if the options want it, with the sequences of colours in texts or without
+abbrev pub Folds : Options → Bool → Option FolderView → PlacedModule → Type 0
+Folds o paints None m = o.folds ≡ false
+Folds o paints (Some f) m = (o.folds ≡ true) × (f.operators_of ≡ m) × (f.paints ≡ paints)
+
+-- the options of what is printed with them or without
+abbrev pub painting : Options → Bool → Options
+painting o paints = record o { paints = paints }
+
 -- what fields in front of the functions are laid out by
-abbrev pub first_scope : Names → PlacedModule → Scope
-first_scope names m = scope_of (types_of m) names (imported_count FuncKind m.imports)
+abbrev pub first_scope : Options → Names → PlacedModule → Scope
+first_scope o names m = scope_of (types_of m) names (imported_count FuncKind m.imports) (folding_of o m)
 
 -- the fields of the section of a kind; data segments are those of the function that would be next
 abbrev pub fields_of : Options → Scope → PlacedModule → Kind → List Piece

@@ -1,6 +1,7 @@
 //! Modules (section 6.6 of the WebAssembly Core Specification, "Modules"): the fields of each section, and behind them the custom sections
 //! that stand there.
-ghost use Rattle.std.specs.Prelude.{◌≡◌, ◌∷◌, ◌++◌, List, None, length};
+ghost use Rattle.std.specs.Prelude.{◌≡◌, ◌∷◌, ◌++◌, List, Bool, true, None, length, IfOk, IfErr, is_some};
+ghost use Rattle.wasmprinter_error.specs.declared.error.Error.TheVariants.{Memory};
 ghost use Rattle.wasmprinter_spec.specs.Options.{Answers};
 ghost use Rattle.wasmprinter_spec.specs.Layout.{module_parts};
 ghost use Rattle.wasmprinter_spec.specs.Layout.Customs.{Shown, parts_at};
@@ -9,13 +10,14 @@ ghost use Rattle.wasmprinter_entries.specs.Places.{section_kind_view};
 ghost use Rattle.wasmprinter_labels.specs.Scan.{names_of};
 ghost use Rattle.wasmprinter_annotations.specs.Parts.{PrintsLaid};
 ghost use Rattle.wasmprinter_annotations.specs.Lines.{PrintsPartLines};
-ghost use Rattle.wasmprinter_scope.specs.Scopes.{scope_view};
-ghost use Rattle.wasmprinter_sections.specs.Sections.{section_parts, sections_parts, kinds, module_laid};
+ghost use Rattle.wasmprinter_scope.specs.Scopes.{scope_view, folds_in};
+ghost use Rattle.wasmprinter_sections.specs.Sections.{section_parts, sections_parts, kinds, module_laid, Folds, painting};
 
 use crate::sections::{has_fields, write_fields_of};
+use std::alloc::Global;
 use wasmprinter_annotations::write_customs;
 use wasmprinter_error::Error;
-use wasmprinter_fields::fields::first_number;
+use wasmprinter_fold::Folder;
 use wasmprinter_labels::OpenLabels;
 use wasmprinter_lines::lines::{begin, close_at, end};
 use wasmprinter_lines::options::PrintOptions;
@@ -49,7 +51,7 @@ fn write_section<P: Print>(
     scope: &mut Scope<'_, '_>,
     kind: SectionKind,
 ) -> Result<bool, Error>
-    ensures parts { (answers : Answers) × PrintsPartLines P.meaning options.now p.old p.new result
+    ensures parts { (answers : Answers) × PrintsPartLines P.meaning options.now p.old p.new (folds_in (scope_view scope.old)) result
         (section_parts options.now (scope_view scope.old) module.now answers (section_kind_view kind)) }
     ensures scope { scope_view scope.new ≡ scope_view scope.old }
 {
@@ -66,7 +68,7 @@ fn write_sections<P: Print>(
     scope: &mut Scope<'_, '_>,
 ) -> Result<bool, Error>
     ensures { (first : Answers) × (answers : List Answers) × (length answers ≡ length kinds)
-        × PrintsPartLines P.meaning options.now p.old p.new result
+        × PrintsPartLines P.meaning options.now p.old p.new (folds_in (scope_view scope.old)) result
         (parts_at options.now.skeleton first None 0 module.now.customs
         ++ sections_parts options.now (scope_view scope.old) module.now answers kinds) }
 {
@@ -84,38 +86,77 @@ fn write_parts<'s, 'a, P: Print>(
     options: &PrintOptions,
     module: &'s Module<'a>,
     labels: OpenLabels<'s, 'a>,
+    folder: Option<Folder<'s, 'a>>,
 ) -> Result<bool, Error>
-    ensures { (answers : Answers) × PrintsPartLines P.meaning options.now p.old p.new result
-        (Shown (leading_mark_pieces (names_of labels.entry).module_name) ∷ module_parts options.now answers (names_of labels.entry) module.now) }
+    ensures { (paints : Bool) → Folds options.now paints folder.entry module.now → (answers : Answers)
+        × PrintsPartLines P.meaning options.now p.old p.new (is_some folder.entry) result
+        (Shown (leading_mark_pieces (names_of labels.entry).module_name)
+        ∷ module_parts (painting options.now paints) answers (names_of labels.entry) module.now) }
 {
     write_leading_mark(p, labels.identifiers().module())?;
     let mut scope = Scope {
         types: ModuleTypes { module },
         labels,
-        function: first_number(module, ExternKind::Func),
+        function: module.imported_count(ExternKind::Func),
+        folder,
     };
     write_sections(p, options, module, &mut scope)
 }
 
-/// Writes a module, with the identifiers that the labels have.
+/// What folds the operators of a module, if they are to be folded; where the printer can write colours as text, in colours.
+fn folder_of<'s, 'a, P: Print>(
+    alloc: Global,
+    p: &P,
+    options: &PrintOptions,
+    module: &'s Module<'a>,
+) -> Result<Option<Folder<'s, 'a>>, Error>
+    ensures folds { IfOk result (λ folder. Folds options.now (P.colors p.now) folder module.now) }
+    ensures memory { IfErr result (λ e. (e ≡ Memory) × (options.now.folds ≡ true)) }
+{
+    if !options.folds {
+        return Ok(None);
+    }
+    let paints = p.supports_async_color();
+    Ok(Some(Folder::new(alloc, module, paints)?))
+}
+
+/// Writes the whole of a module, whose operators this folds.
+fn write_whole<'s, 'a, P: Print>(
+    p: &mut P,
+    options: &PrintOptions,
+    module: &'s Module<'a>,
+    labels: OpenLabels<'s, 'a>,
+    folder: Option<Folder<'s, 'a>>,
+) -> Result<(), Error>
+    ensures { (paints : Bool) → Folds options.now paints folder.entry module.now → (answers : Answers)
+        × PrintsLaid P.meaning options.now p.old p.new (is_some folder.entry) result
+        (module_laid (painting options.now paints) answers (names_of labels.entry) module.now) }
+{
+    begin(p, 0)?;
+    open(p, "module")?;
+    let lines = write_parts(p, options, module, labels, folder)?;
+    close_at(p, options, module.size(), 0, lines)?;
+    end(p)?;
+    Ok(())
+}
+
+/// Writes a module, with the identifiers that the labels have. Where operators are folded, all in what is printed can be.
 ///
 /// # Errors
 ///
 /// `DylinkSubsection` for a custom section `dylink.0` with a subsection that isn't known, which the printer doesn't take: what stands in
-/// front of it was written. `Printer` where a call on the printer failed, with that call's error. No other.
+/// front of it was written. `Printer` where a call on the printer failed, with that call's error. `Memory` where operators are folded and a
+/// growth was refused. No other.
 pub fn write_module<'s, 'a, P: Print>(
+    alloc: Global,
     p: &mut P,
     options: &PrintOptions,
     module: &'s Module<'a>,
     labels: OpenLabels<'s, 'a>,
 ) -> Result<(), Error>
-    ensures { (answers : Answers) × PrintsLaid P.meaning options.now p.old p.new result
-        (module_laid options.now answers (names_of labels.entry) module.now) }
+    ensures { (answers : Answers) × PrintsLaid P.meaning options.now p.old p.new options.now.folds result
+        (module_laid (painting options.now (P.colors p.old)) answers (names_of labels.entry) module.now) }
 {
-    begin(p, 0)?;
-    open(p, "module")?;
-    let lines = write_parts(p, options, module, labels)?;
-    close_at(p, options, module.size(), 0, lines)?;
-    end(p)?;
-    Ok(())
+    let folder = folder_of(alloc, p, options, module)?;
+    write_whole(p, options, module, labels, folder)
 }

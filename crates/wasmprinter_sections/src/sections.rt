@@ -7,44 +7,24 @@ ghost use Rattle.wasmprinter_spec.specs.Layout.Declarations.{Scope as FieldScope
 ghost use Rattle.wasmprinter_spec.specs.Layout.DataSegments.{data_pieces};
 ghost use Rattle.wasmprinter_spec.specs.Layout.Functions.{functions_pieces};
 ghost use Rattle.wasmprinter_spec.specs.Layout.Groups.{has_break, numbered};
-ghost use Rattle.wasmprinter_print.specs.Prints.{Prints};
+ghost use Rattle.wasmprinter_print.specs.Prints.{PrintsOrStops};
 ghost use Rattle.wasmprinter_entries.specs.Externs.{kind_view, imported_count};
 ghost use Rattle.wasmprinter_entries.specs.Places.{section_kind_view};
-ghost use Rattle.wasmprinter_scope.specs.Scopes.{scope_view, within};
+ghost use Rattle.wasmprinter_scope.specs.Scopes.{scope_view, within, folds_in};
 ghost use Rattle.wasmprinter_fields.specs.Parts.{field_line};
 ghost use Rattle.wasmprinter_sections.specs.Sections.{fields_of};
 
-use std::io;
 use wasmprinter_bodies::functions::write_function;
-use wasmprinter_customs::{Hints, is_hint_section};
-use wasmprinter_fields::fields::{Field, first_number, write_each};
+use wasmprinter_error::Error;
+use wasmprinter_fields::fields::{Field, write_each};
 use wasmprinter_fields::imports::write_imports;
 use wasmprinter_fields::start::write_start;
 use wasmprinter_fields::types::write_type_groups;
+use wasmprinter_foldable::hints::hints_of;
 use wasmprinter_lines::options::PrintOptions;
 use wasmprinter_print::Print;
 use wasmprinter_scope::scope::Scope;
-use wasmprinter_wasm::{CustomEntry, ExternKind, Module, SectionKind};
-
-/// The branch hints that custom sections give: those of the last section that has some.
-fn hints_of<'a>(customs: &[CustomEntry<'a>]) -> Hints<'a>
-    ensures { result ≡ hints_of customs.now }
-{
-    let mut last = None;
-    for entry in customs {
-        if is_hint_section(entry.section.name()) {
-            last = Some(&entry.section);
-        }
-    }
-    match last {
-        Some(section) => {
-            let content = section.cursor();
-            prove!(content.end() <= u64::MAX);
-            Hints::given(content.place(), content.rest())
-        }
-        None => Hints::none(),
-    }
-}
+use wasmprinter_wasm::{ExternKind, Module, SectionKind};
 
 /// Writes the functions that the module defines, with their branch hints; their numbers begin behind the imported ones.
 fn write_functions<P: Print>(
@@ -52,13 +32,13 @@ fn write_functions<P: Print>(
     options: &PrintOptions,
     module: &Module<'_>,
     scope: &mut Scope<'_, '_>,
-) -> io::Result<()>
-    ensures pieces { Prints P.meaning options.now p.old p.new result
+) -> Result<(), Error>
+    ensures pieces { PrintsOrStops P.meaning options.now p.old p.new (folds_in (scope_view scope.old)) result
         (functions_pieces options.now (scope_view scope.old) (hints_of module.now.customs) (imported_count FuncKind module.now.imports)
         module.now.functions) }
     ensures scope { scope_view scope.new ≡ scope_view scope.old }
 {
-    let first = first_number(module, ExternKind::Func);
+    let first = module.imported_count(ExternKind::Func);
     let mut hints = hints_of(module.customs());
     for index in 0..module.function_count() {
         let function = module.function(index);
@@ -81,14 +61,14 @@ fn write_datas<P: Print>(
     options: &PrintOptions,
     module: &Module<'_>,
     scope: &mut Scope<'_, '_>,
-) -> io::Result<()>
-    ensures pieces { Prints P.meaning options.now p.old p.new result
+) -> Result<(), Error>
+    ensures pieces { PrintsOrStops P.meaning options.now p.old p.new (folds_in (scope_view scope.old)) result
         (numbered (data_pieces options.now.skeleton
         (within (scope_view scope.old) (imported_count FuncKind module.now.imports + length module.now.functions))) 0 module.now.datas) }
     ensures scope { scope_view scope.new ≡ scope_view scope.old }
 {
     let function = scope.function;
-    scope.function = first_number(module, ExternKind::Func) + u64::from(module.function_count());
+    scope.function = module.imported_count(ExternKind::Func) + u64::from(module.function_count());
     let written = write_each(p, options, scope, 0, module.datas());
     scope.function = function;
     written
@@ -102,14 +82,14 @@ fn write_defined<P: Print, F: Field>(
     scope: &mut Scope<'_, '_>,
     kind: ExternKind,
     fields: &[F],
-) -> io::Result<()>
+) -> Result<(), Error>
     requires { length fields.now < 2 ^ 32 }
-    ensures pieces { Prints P.meaning options.now p.old p.new result
+    ensures pieces { PrintsOrStops P.meaning options.now p.old p.new (folds_in (scope_view scope.old)) result
         (numbered (field_line F.keyword F.line_place (F.parts options.now (scope_view scope.old)))
         (imported_count (kind_view kind) module.now.imports) fields.now) }
     ensures scope { scope_view scope.new ≡ scope_view scope.old }
 {
-    write_each(p, options, scope, first_number(module, kind), fields)
+    write_each(p, options, scope, module.imported_count(kind), fields)
 }
 
 /// Writes the fields of the section of a kind.
@@ -119,8 +99,8 @@ pub(crate) fn write_fields_of<P: Print>(
     module: &Module<'_>,
     scope: &mut Scope<'_, '_>,
     kind: SectionKind,
-) -> io::Result<()>
-    ensures pieces { Prints P.meaning options.now p.old p.new result
+) -> Result<(), Error>
+    ensures pieces { PrintsOrStops P.meaning options.now p.old p.new (folds_in (scope_view scope.old)) result
         (fields_of options.now (scope_view scope.old) module.now (section_kind_view kind)) }
     ensures scope { scope_view scope.new ≡ scope_view scope.old }
 {
@@ -128,7 +108,10 @@ pub(crate) fn write_fields_of<P: Print>(
     use SectionKind as Kind;
 
     match kind {
-        Kind::Type => write_type_groups(p, options, scope, module.types()),
+        Kind::Type => {
+            write_type_groups(p, options, scope, module.types())?;
+            Ok(())
+        }
         Kind::Import => write_imports(p, options, scope, module.imports()),
         Kind::Function => Ok(()),
         Kind::Table => write_defined(p, options, module, scope, Extern::Table, module.tables()),

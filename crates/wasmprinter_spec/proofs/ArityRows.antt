@@ -8,7 +8,7 @@ use Rattle.wasmprinter_spec.specs.Row.{OfBranchIf, OfBranchOnNull}
 use Rattle.wasmprinter_spec.specs.Table.{table}
 use Rattle.wasmprinter_spec.specs.Instructions.{expression}
 use Rattle.wasmprinter_spec.specs.Placed.{import_of, PlacedModule}
-use Rattle.wasmprinter_spec.specs.Folding.Arities.{Signatures, Counts, taking, greatest, saturated, label_of_block, counts, counts_of, signatures, constant_signatures}
+use Rattle.wasmprinter_spec.specs.Folding.Arities.{Signatures, Counts, taking, greatest, saturated, label_of_block, counts, counts_of, signatures_within}
 use Rattle.wasmprinter_spec.proofs.Samples.{func, bare, empty_placed}
 use Rattle.wasmprinter_spec.proofs.BlockSamples.{block, loop, if_op, try_table, nop}
 
@@ -154,18 +154,14 @@ sample_module = record empty_placed {
 abbrev sizes : Option FuncType → Option (ℕ × ℕ)
 sizes t = option_map (λ t. (length t.params, length t.results)) t
 
-functions_named : map (λ i. sizes ((constant_signatures sample_module).functions i)) (0 ∷ 1 ∷ 2 ∷ 3 ∷ []) ≡ Some (0, 2) ∷ Some (1, 0) ∷ None ∷ None ∷ []
+functions_named : map (λ i. sizes ((signatures_within sample_module (Some 0)).functions i)) (0 ∷ 1 ∷ 2 ∷ 3 ∷ []) ≡ Some (0, 2) ∷ Some (1, 0) ∷ None ∷ None ∷ []
 functions_named = refl
 
-tags_named : map (λ i. sizes ((constant_signatures sample_module).tags i)) (0 ∷ 1 ∷ 2 ∷ []) ≡ Some (0, 2) ∷ Some (1, 0) ∷ None ∷ []
+tags_named : map (λ i. sizes ((signatures_within sample_module (Some 0)).tags i)) (0 ∷ 1 ∷ 2 ∷ []) ≡ Some (0, 2) ∷ Some (1, 0) ∷ None ∷ []
 tags_named = refl
 
-types_named : map (λ i. sizes ((constant_signatures sample_module).types i)) (0 ∷ 1 ∷ 2 ∷ 3 ∷ []) ≡ Some (1, 0) ∷ Some (0, 2) ∷ None ∷ None ∷ []
+types_named : map (λ i. sizes ((signatures_within sample_module (Some 0)).types i)) (0 ∷ 1 ∷ 2 ∷ 3 ∷ []) ≡ Some (1, 0) ∷ Some (0, 2) ∷ None ∷ None ∷ []
 types_named = refl
 
-fields_named : map ((constant_signatures sample_module).fields) (0 ∷ 2 ∷ 3 ∷ []) ≡ None ∷ Some 2 ∷ None ∷ []
+fields_named : map ((signatures_within sample_module (Some 0)).fields) (0 ∷ 2 ∷ 3 ∷ []) ≡ None ∷ Some 2 ∷ None ∷ []
 fields_named = refl
-
--- the results of each function, the last of which has no function type, and of a constant expression
-own_results : map (λ i. (signatures sample_module i).own) (0 ∷ 1 ∷ 2 ∷ []) ++ (constant_signatures sample_module).own ∷ [] ≡ Some 2 ∷ Some 0 ∷ None ∷ Some 0 ∷ []
-own_results = refl

@@ -6,24 +6,8 @@ use Rattle.wasmprinter_spec.specs.Row as row
 use Rattle.wasmprinter_spec.specs.Row.{Role, Opens, OpensIf, OpensTry, Turns, Catches, CatchesAll, Delegates, Ends}
 use Rattle.wasmprinter_spec.specs.Folding.Arities.{greatest, saturated}
 use Rattle.wasmprinter_spec.specs.Folding.Code.{Item, Code, Done, Plain, Block, If, IfElse, flat, role, IsFit}
-use Rattle.wasmprinter_spec.specs.Folding.Tree.{Head, Of, Then, Else, Nodes, Nil, Snoc, joined, front, last, Operands, Fit, Passed, Short, with_last, operands_from, operands, with_operands, folded, results_of, IsFirst, IsAnswer, OperandRule, tree_behind}
+use Rattle.wasmprinter_spec.specs.Folding.Tree.{Of, Then, Else, NodesOf, Nodes, Nil, Snoc, joined, front, last, OperandsOf, Operands, Fit, Passed, Short, with_last, operands_from, operands, with_operands, folded, results_of, IsFirst, IsAnswer, tree_behind}
 use Rattle.wasmprinter_spec.specs.Folding.Unfolding.{Told, told_as, told, unfolded, UnfoldingRule}
-
--- ---- nodes in rows
-
-pub joined-nil : (f : Nodes) → joined Nil f ≡ f
-joined-nil Nil = refl
-joined-nil (Snoc b h r held) = ap (λ (x : Nodes). Snoc x h r held) (joined-nil b)
-
-pub joined_assoc : (a b c : Nodes) → joined (joined a b) c ≡ joined a (joined b c)
-joined_assoc a b Nil = refl
-joined_assoc a b (Snoc c h r held) = ap (λ (x : Nodes). Snoc x h r held) (joined_assoc a b c)
-
-pub joined-front-last : (f : Nodes) → joined (front f) (last f) ≡ f
-joined-front-last Nil = refl
-joined-front-last (Snoc b h r held) = refl
-
--- ---- the search for operands
 
 saturated-zero : (s : ℕ) → s ≤ greatest → saturated s 0 ≡ s
 saturated-zero s h = omega arith
@@ -31,61 +15,78 @@ saturated-zero s h = omega arith
 saturated_assoc : (s q n : ℕ) → saturated (saturated s q) n ≡ saturated s (n + q)
 saturated_assoc s q n = omega arith
 
-nil_joined : (a b : Nodes) → Nil ≡ joined a b → a ≡ Nil
-nil_joined a Nil e = sym e
-nil_joined a (Snoc b h r held) e = absurd (cc)
+module _ {H : Type 0} where
+  -- ---- nodes in rows
 
--- before a run of one node no shorter run has any results
-one_first : (wanted s : ℕ) (h : Head) (q : ℕ) (held : Nodes) → s < wanted → s ≤ greatest → IsFirst wanted s (Snoc Nil h q held)
-one_first wanted s h q held lt le before Nil e ne = omega (arith, saturated-zero s le)
-one_first wanted s h q held lt le before (Snoc last g r inner) e ne = absurd (ne (nil_joined before last (ap front e)))
+  pub joined-nil : (f : NodesOf H) → joined Nil f ≡ f
+  joined-nil Nil = refl
+  joined-nil (Snoc b h r held) = ap (λ (x : NodesOf H). Snoc x h r held) (joined-nil b)
 
-more_first : (wanted s : ℕ) (run : Nodes) (h : Head) (q : ℕ) (held : Nodes) → s < wanted → s ≤ greatest → IsFirst wanted (saturated s q) run → IsFirst wanted s (Snoc run h q held)
-more_first wanted s run h q held lt le first before Nil e ne = omega (arith, saturated-zero s le)
-more_first wanted s run h q held lt le first before (Snoc last g r inner) e ne =
-    let same : q ≡ r = cc in
-    let below : saturated (saturated s q) (results_of last) < wanted = first before last (ap front e) ne in
-    omega (arith, same, below, saturated_assoc s q (results_of last))
+  pub joined_assoc : (a b c : NodesOf H) → joined (joined a b) c ≡ joined a (joined b c)
+  joined_assoc a b Nil = refl
+  joined_assoc a b (Snoc c h r held) = ap (λ (x : NodesOf H). Snoc x h r held) (joined_assoc a b c)
 
--- one node more at the end of a row
-more : (wanted s : ℕ) (b : Nodes) (h : Head) (q : ℕ) (held : Nodes) (o : Operands)
-    → s < wanted → s ≤ greatest → IsAnswer wanted (saturated s q) b o → IsAnswer wanted s (Snoc b h q held) (with_last h q held o)
-more wanted s b h q held (Fit before run) lt le a =
-    (ap (λ (x : Nodes). Snoc x h q held) a.0, sym (saturated_assoc s q (results_of run)) ∙ a.1, more_first wanted s run h q held lt le a.2)
-more wanted s b h q held Passed lt le a =
-    (a.0, Snoc a.1 h q held, ap (λ (x : Nodes). Snoc x h q held) a.2, omega (arith, a.3, saturated_assoc s q (results_of a.1)), more_first wanted s a.1 h q held lt le a.4)
-more wanted s b h q held Short lt le a =
-    λ before run e. short before run e
-  where
-    short : (before run : Nodes) → Snoc b h q held ≡ joined before run → saturated s (results_of run) < wanted
-    short before Nil e = omega (arith, saturated-zero s le)
-    short before (Snoc run g r inner) e =
-        let same : q ≡ r = cc in
-        let below : saturated (saturated s q) (results_of run) < wanted = a before run (ap front e) in
-        omega (arith, same, below, saturated_assoc s q (results_of run))
+  pub joined-front-last : (f : NodesOf H) → joined (front f) (last f) ≡ f
+  joined-front-last Nil = refl
+  joined-front-last (Snoc b h r held) = refl
 
-pub IsAnswer-operands_from : (wanted s : ℕ) (f : Nodes) → s < wanted → s ≤ greatest → IsAnswer wanted s f (operands_from wanted s f)
-IsAnswer-operands_from wanted s Nil lt le = none
-  where
-    none : (before run : Nodes) → Nil ≡ joined before run → saturated s (results_of run) < wanted
-    none before Nil e = omega (arith, saturated-zero s le)
-    none before (Snoc run h r inner) e = absurd (cc)
-IsAnswer-operands_from wanted s (Snoc b h q held) lt le =
-    let next : ℕ = saturated s q in
-    let deeper : Operands = with_last h q held (operands_from wanted next b) in
-    cond_both (eqb next wanted) (Fit b (Snoc Nil h q held)) (cond (ltb wanted next) Passed deeper)
-    (IsAnswer wanted s (Snoc b h q held))
-    (λ e. (refl, omega (arith, eqb-true next wanted e), one_first wanted s h q held lt le))
-    (λ ne. cond_both (ltb wanted next) Passed deeper
-    (IsAnswer wanted s (Snoc b h q held))
-    (λ e. (b, Snoc Nil h q held, refl, omega (arith, ltb-true wanted next e), one_first wanted s h q held lt le))
-    (λ e. more wanted s b h q held (operands_from wanted next b) lt le
-    (IsAnswer-operands_from wanted next b (omega (arith, eqb-false next wanted ne, ltb-false wanted next e)) (omega arith))))
+  -- ---- the search for operands
 
--- an operator that takes operands takes them by the rule
-pub IsAnswer-operands : OperandRule
-IsAnswer-operands zero f lt = absurd (omega arith)
-IsAnswer-operands (suc n) f lt = IsAnswer-operands_from (suc n) 0 f lt (omega arith)
+  nil_joined : (a b : NodesOf H) → Nil ≡ joined a b → a ≡ Nil
+  nil_joined a Nil e = sym e
+  nil_joined a (Snoc b h r held) e = absurd (cc)
+
+  -- before a run of one node no shorter run has any results
+  one_first : (wanted s : ℕ) (h : H) (q : ℕ) (held : NodesOf H) → s < wanted → s ≤ greatest → IsFirst wanted s (Snoc Nil h q held)
+  one_first wanted s h q held lt le before Nil e ne = omega (arith, saturated-zero s le)
+  one_first wanted s h q held lt le before (Snoc last g r inner) e ne = absurd (ne (nil_joined before last (ap front e)))
+
+  more_first : (wanted s : ℕ) (run : NodesOf H) (h : H) (q : ℕ) (held : NodesOf H) → s < wanted → s ≤ greatest → IsFirst wanted (saturated s q) run → IsFirst wanted s (Snoc run h q held)
+  more_first wanted s run h q held lt le first before Nil e ne = omega (arith, saturated-zero s le)
+  more_first wanted s run h q held lt le first before (Snoc last g r inner) e ne =
+      let same : q ≡ r = cc in
+      let below : saturated (saturated s q) (results_of last) < wanted = first before last (ap front e) ne in
+      omega (arith, same, below, saturated_assoc s q (results_of last))
+
+  -- one node more at the end of a row
+  more : (wanted s : ℕ) (b : NodesOf H) (h : H) (q : ℕ) (held : NodesOf H) (o : OperandsOf H)
+      → s < wanted → s ≤ greatest → IsAnswer wanted (saturated s q) b o → IsAnswer wanted s (Snoc b h q held) (with_last h q held o)
+  more wanted s b h q held (Fit before run) lt le a =
+      (ap (λ (x : NodesOf H). Snoc x h q held) a.0, sym (saturated_assoc s q (results_of run)) ∙ a.1, more_first wanted s run h q held lt le a.2)
+  more wanted s b h q held Passed lt le a =
+      (a.0, Snoc a.1 h q held, ap (λ (x : NodesOf H). Snoc x h q held) a.2, omega (arith, a.3, saturated_assoc s q (results_of a.1)), more_first wanted s a.1 h q held lt le a.4)
+  more wanted s b h q held Short lt le a =
+      λ before run e. short before run e
+    where
+      short : (before run : NodesOf H) → Snoc b h q held ≡ joined before run → saturated s (results_of run) < wanted
+      short before Nil e = omega (arith, saturated-zero s le)
+      short before (Snoc run g r inner) e =
+          let same : q ≡ r = cc in
+          let below : saturated (saturated s q) (results_of run) < wanted = a before run (ap front e) in
+          omega (arith, same, below, saturated_assoc s q (results_of run))
+
+  pub IsAnswer-operands_from : (wanted s : ℕ) (f : NodesOf H) → s < wanted → s ≤ greatest → IsAnswer wanted s f (operands_from wanted s f)
+  IsAnswer-operands_from wanted s Nil lt le = none
+    where
+      none : (before run : NodesOf H) → Nil ≡ joined before run → saturated s (results_of run) < wanted
+      none before Nil e = omega (arith, saturated-zero s le)
+      none before (Snoc run h r inner) e = absurd (cc)
+  IsAnswer-operands_from wanted s (Snoc b h q held) lt le =
+      let next : ℕ = saturated s q in
+      let deeper : OperandsOf H = with_last h q held (operands_from wanted next b) in
+      cond_both (eqb next wanted) (Fit b (Snoc Nil h q held)) (cond (ltb wanted next) Passed deeper)
+      (IsAnswer wanted s (Snoc b h q held))
+      (λ e. (refl, omega (arith, eqb-true next wanted e), one_first wanted s h q held lt le))
+      (λ ne. cond_both (ltb wanted next) Passed deeper
+      (IsAnswer wanted s (Snoc b h q held))
+      (λ e. (b, Snoc Nil h q held, refl, omega (arith, ltb-true wanted next e), one_first wanted s h q held lt le))
+      (λ e. more wanted s b h q held (operands_from wanted next b) lt le
+      (IsAnswer-operands_from wanted next b (omega (arith, eqb-false next wanted ne, ltb-false wanted next e)) (omega arith))))
+
+  -- an operator that takes operands takes them by the rule
+  pub IsAnswer-operands : (wanted : ℕ) (f : NodesOf H) → 0 < wanted → IsAnswer wanted 0 f (operands wanted f)
+  IsAnswer-operands zero f lt = absurd (omega arith)
+  IsAnswer-operands (suc n) f lt = IsAnswer-operands_from (suc n) 0 f lt (omega arith)
 
 -- ---- what nodes say
 
@@ -95,37 +96,38 @@ unfolded-joined a (Snoc b (Of x) r held) = simp (unfolded-joined a b, append_ass
 unfolded-joined a (Snoc b (Then x) r held) = unfolded-joined a b
 unfolded-joined a (Snoc b (Else x) r held) = unfolded-joined a b
 
--- operands that were found are the last nodes
-abbrev pub AreLast : Nodes → Operands → Type 0
-AreLast f (Fit before run) = f ≡ joined before run
-AreLast f Passed = Unit {0}
-AreLast f Short = Unit {0}
+module _ {H : Type 0} where
+  -- operands that were found are the last nodes
+  abbrev pub AreLast : NodesOf H → OperandsOf H → Type 0
+  AreLast f (Fit before run) = f ≡ joined before run
+  AreLast f Passed = Unit {0}
+  AreLast f Short = Unit {0}
 
-AreLast-with_last : (b held : Nodes) (h : Head) (r : ℕ) (o : Operands) → AreLast b o → AreLast (Snoc b h r held) (with_last h r held o)
-AreLast-with_last b held h r (Fit before run) e = ap (λ (x : Nodes). Snoc x h r held) e
-AreLast-with_last b held h r Passed e = tt
-AreLast-with_last b held h r Short e = tt
+  AreLast-with_last : (b held : NodesOf H) (h : H) (r : ℕ) (o : OperandsOf H) → AreLast b o → AreLast (Snoc b h r held) (with_last h r held o)
+  AreLast-with_last b held h r (Fit before run) e = ap (λ (x : NodesOf H). Snoc x h r held) e
+  AreLast-with_last b held h r Passed e = tt
+  AreLast-with_last b held h r Short e = tt
 
-AreLast-cond : (f : Nodes) (t : Bool) (o p : Operands) → AreLast f o → AreLast f p → AreLast f (cond t o p)
-AreLast-cond f true o p x y = x
-AreLast-cond f false o p x y = y
+  AreLast-cond : (f : NodesOf H) (t : Bool) (o p : OperandsOf H) → AreLast f o → AreLast f p → AreLast f (cond t o p)
+  AreLast-cond f true o p x y = x
+  AreLast-cond f false o p x y = y
 
-AreLast-operands_from : (wanted sum : ℕ) (f : Nodes) → AreLast f (operands_from wanted sum f)
-AreLast-operands_from wanted sum Nil = tt
-AreLast-operands_from wanted sum (Snoc b h r held) =
-    let next : ℕ = saturated sum r in
-    let deeper : Operands = with_last h r held (operands_from wanted next b) in
-    let found : AreLast (Snoc b h r held) (Fit b (Snoc Nil h r held)) = refl in
-    let over : AreLast (Snoc b h r held) (cond (ltb wanted next) Passed deeper) =
-    AreLast-cond (Snoc b h r held) (ltb wanted next) Passed deeper tt
-    (AreLast-with_last b held h r (operands_from wanted next b) (AreLast-operands_from wanted next b)) in
-    AreLast-cond (Snoc b h r held) (eqb next wanted) (Fit b (Snoc Nil h r held)) (cond (ltb wanted next) Passed deeper) found over
+  AreLast-operands_from : (wanted sum : ℕ) (f : NodesOf H) → AreLast f (operands_from wanted sum f)
+  AreLast-operands_from wanted sum Nil = tt
+  AreLast-operands_from wanted sum (Snoc b h r held) =
+      let next : ℕ = saturated sum r in
+      let deeper : OperandsOf H = with_last h r held (operands_from wanted next b) in
+      let found : AreLast (Snoc b h r held) (Fit b (Snoc Nil h r held)) = refl in
+      let over : AreLast (Snoc b h r held) (cond (ltb wanted next) Passed deeper) =
+      AreLast-cond (Snoc b h r held) (ltb wanted next) Passed deeper tt
+      (AreLast-with_last b held h r (operands_from wanted next b) (AreLast-operands_from wanted next b)) in
+      AreLast-cond (Snoc b h r held) (eqb next wanted) (Fit b (Snoc Nil h r held)) (cond (ltb wanted next) Passed deeper) found over
 
-pub AreLast-operands : (wanted : ℕ) (f : Nodes) → AreLast f (operands wanted f)
-AreLast-operands zero f = tt
-AreLast-operands (suc n) f = AreLast-operands_from (suc n) 0 f
+  pub AreLast-operands : (wanted : ℕ) (f : NodesOf H) → AreLast f (operands wanted f)
+  AreLast-operands zero f = tt
+  AreLast-operands (suc n) f = AreLast-operands_from (suc n) 0 f
 
-unfolded-with_operands : (f : Nodes) (x : Item) (o : Operands) → role x ≡ row.Plain → AreLast f o → unfolded (with_operands f x o) ≡ unfolded f ++ Some x ∷ []
+unfolded-with_operands : (f : Nodes) (x : Item) (o : Operands) → role x ≡ row.Plain → AreLast f o → unfolded (with_operands f (Of x) x.gives o) ≡ unfolded f ++ Some x ∷ []
 unfolded-with_operands f x (Fit before run) p e =
     rw p
     (sym (append_assoc (unfolded before) (unfolded run) (Some x ∷ []))

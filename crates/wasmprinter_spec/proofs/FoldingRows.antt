@@ -40,7 +40,7 @@ setting form names = record { form = form; signature = λ n. None; nesting = 2; 
 -- The text of the operators that the bytes spell, of which the first is at the place 1. Bytes may spell nothing, and what they spell may not be folded.
 abbrev folded_by : Options → Setting → Signatures → List (Placed Hint) → List ℕ → Option (Option (List ℕ))
 folded_by o s ts hs bytes =
-    option_map (λ x. option_map (λ ps. text_of (all_calls o ps)) (folded_pieces o s ts hs x.0.items)) (expression.parse (input 1 (bytes ++ 0x0b ∷ [])))
+    option_map (λ x. option_map (λ ps. text_of (all_calls o ps)) (folded_pieces o false s ts hs x.0.items)) (expression.parse (input 1 (bytes ++ 0x0b ∷ [])))
 
 abbrev spelled : List ℕ → Option (List Operator)
 spelled bytes = option_map (λ x. map (λ o. o.value) x.0.items) (expression.parse (input 1 (bytes ++ 0x0b ∷ [])))

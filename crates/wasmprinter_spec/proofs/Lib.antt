@@ -1,4 +1,6 @@
 pub mod Ordered
+pub mod OneLine
+pub mod ImmediateLines
 pub mod Fractions
 pub mod Samples
 pub mod LebRows
@@ -48,3 +50,4 @@ pub mod FoldingCode
 pub mod FoldingItems
 pub mod ArityRows
 pub mod FoldingRows
+pub mod FoldedTextRows

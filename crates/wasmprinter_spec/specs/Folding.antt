@@ -4,3 +4,4 @@ pub mod Arities
 pub mod Code
 pub mod Tree
 pub mod Unfolding
+pub mod Refusals

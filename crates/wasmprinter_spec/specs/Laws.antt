@@ -8,9 +8,11 @@ use Rattle.wasmprinter_spec.specs.Indexed.{IsIndexed}
 use Rattle.wasmprinter_spec.specs.Limits.{HasNoEmptyInit}
 use Rattle.wasmprinter_spec.specs.Call.{Call, atoms, text_of}
 use Rattle.wasmprinter_spec.specs.Colour.{uncolour}
+use Rattle.wasmprinter_spec.specs.Coloured.{coloured_text, bare_call}
 use Rattle.wasmprinter_spec.specs.Plain.{IsPlainText}
 use Rattle.wasmprinter_spec.specs.Options.{Options, Answers, AreUnclaimed, IsBlank}
 use Rattle.wasmprinter_spec.specs.Layout.{layout, refusal}
+use Rattle.wasmprinter_spec.specs.Folding.Refusals.{IsFoldable}
 use Rattle.wasmprinter_spec.specs.Quoted.{quoted_text, quoted_bytes}
 use Rattle.wasmprinter_spec.specs.Float.{Width, IsWidth, single, double, Scaled, IsValue, bits_with_value, float}
 use Rattle.wasmprinter_spec.specs.FloatText.{float_text, float_calls}
@@ -57,26 +59,47 @@ abbrev pub TakesNested : Type 0
 TakesNested = (os : List Operator) → (if_nested os ≡ Some os) ↔ Nests Sequence (map (λ o. role_of o.opcode) os)
 
 -- The reading law: printed text reads back as the module that the bytes spell. (No initialiser of a table is empty: the text of such a table is
--- that of one without; and no `dylink.0` section is refused.)
+-- that of one without; where operators are folded, all can be; and no `dylink.0` section is refused.)
 abbrev pub ReadsBack : Type 0
 ReadsBack =
     (bytes : List ℕ) (m : PlacedModule) (o : Options) (answers : Answers) →
-    Spells bytes m → IsIndexed (module_of m) → AllByRecursion (λ t. HasNoEmptyInit t.value.init) m.tables → o.skeleton ≡ false → IsBlank o.indent → AreUnclaimed answers →
-    refusal o answers m ≡ None →
+    Spells bytes m → IsIndexed (module_of m) → AllByRecursion (λ t. HasNoEmptyInit t.value.init) m.tables → o.skeleton ≡ false → o.paints ≡ false → IsBlank o.indent → AreUnclaimed answers →
+    IsFoldable o m → refusal o answers m ≡ None →
     read (text_of (layout o answers m)) ≡ Some (module_of m)
 
 -- Places at the beginnings of lines, and an indent of blanks and tabs, change blanks and comments alone.
 abbrev pub TokensStay : Type 0
 TokensStay =
     (bytes : List ℕ) (m : PlacedModule) (o p : Options) (answers : Answers) →
-    Spells bytes m → o.skeleton ≡ p.skeleton → o.invents ≡ p.invents → IsBlank o.indent → IsBlank p.indent →
+    Spells bytes m → o.skeleton ≡ p.skeleton → o.invents ≡ p.invents → o.folds ≡ p.folds → o.paints ≡ false → p.paints ≡ false → IsBlank o.indent → IsBlank p.indent →
     tokens (text_of (layout o answers m)) ≡ tokens (text_of (layout p answers m))
 
--- Printed text is plain.
+-- Printed text is plain, but for sequences of colours in it.
 abbrev pub PrintsPlainText : Type 0
 PrintsPlainText =
     (bytes : List ℕ) (m : PlacedModule) (o : Options) (answers : Answers) →
-    Spells bytes m → IsBlank o.indent → IsPlainText (text_of (layout o answers m))
+    Spells bytes m → o.paints ≡ false → IsBlank o.indent → IsPlainText (text_of (layout o answers m))
+
+-- Colours in the text of folded operators are sequences, and nothing else: what stays when they are deleted is the text without them.
+abbrev pub PaintsAddColours : Type 0
+PaintsAddColours =
+    (bytes : List ℕ) (m : PlacedModule) (o : Options) (answers : Answers) →
+    Spells bytes m → IsBlank o.indent →
+    uncolour (text_of (layout o answers m)) ≡ text_of (layout (record o { paints = false }) answers m)
+
+-- They stand within the texts of calls: each call, its sequences deleted, is that of the layout without them.
+abbrev pub ColoursStandInTexts : Type 0
+ColoursStandInTexts =
+    (bytes : List ℕ) (m : PlacedModule) (o : Options) (answers : Answers) →
+    Spells bytes m → IsBlank o.indent →
+    map bare_call (layout o answers m) ≡ layout (record o { paints = false }) answers m
+
+-- So are those of every style, which a printer in colours writes: what stays when all are deleted is the text without any.
+abbrev pub ColouredTextKeeps : Type 0
+ColouredTextKeeps =
+    (bytes : List ℕ) (m : PlacedModule) (o : Options) (answers : Answers) →
+    Spells bytes m → IsBlank o.indent →
+    uncolour (coloured_text (layout o answers m)) ≡ text_of (layout (record o { paints = false }) answers m)
 
 -- Plain text is UTF-8.
 abbrev pub PlainTextIsUtf8 : Type 0
@@ -94,5 +117,5 @@ PlainTextsJoin = (a b : List ℕ) → IsPlainText a → IsPlainText b → IsPlai
 abbrev pub HintsStay : Type 0
 HintsStay =
     (bytes : List ℕ) (m : PlacedModule) (o : Options) (answers : Answers) (hs : List OperatorHint) →
-    Spells bytes m → o.skeleton ≡ false → IsBlank o.indent → refusal o answers m ≡ None → module_hints m ≡ Some hs →
+    Spells bytes m → o.skeleton ≡ false → o.paints ≡ false → IsBlank o.indent → IsFoldable o m → refusal o answers m ≡ None → module_hints m ≡ Some hs →
     text_hints (text_of (layout o answers m)) ≡ Some hs

@@ -15,7 +15,7 @@ use Rattle.wasmprinter_spec.specs.Options.{Options, Answers}
 use Rattle.wasmprinter_spec.specs.Piece.{Piece, Begin, Feed, Break, Open, all_calls}
 use Rattle.wasmprinter_spec.specs.Layout.Groups.{group_at, line_group_gap, numbered}
 use Rattle.wasmprinter_spec.specs.Layout.Identifiers.{leading_mark_pieces}
-use Rattle.wasmprinter_spec.specs.Layout.Declarations.{Scope, scope_of, item_index}
+use Rattle.wasmprinter_spec.specs.Layout.Declarations.{Scope, scope_of, folding_of, item_index}
 use Rattle.wasmprinter_spec.specs.Layout.Types.{type_section_pieces}
 use Rattle.wasmprinter_spec.specs.Layout.Functions.{header_pieces, functions_pieces}
 use Rattle.wasmprinter_spec.specs.Layout.Imports.{no_numbers, imports_pieces}
@@ -58,17 +58,17 @@ start_pieces s (Some start) = Break (Some start.place) 1 ∷ line_group_gap (cod
 
 -- Expressions in front of the functions mean the labels and locals of the first function that is defined, those behind them of the one that would be
 -- next. (In a valid module no such expression has any.)
-abbrev pub early_scope : Names → PlacedModule → Scope
-early_scope names m = scope_of (all_types (groups_of m.types)) names (length (imported func_import (without_places m.imports)))
+abbrev pub early_scope : Options → Names → PlacedModule → Scope
+early_scope o names m = scope_of (all_types (groups_of m.types)) names (length (imported func_import (without_places m.imports))) (folding_of o m)
 
-abbrev pub late_scope : Names → PlacedModule → Scope
-late_scope names m = record (early_scope names m) { function = length (imported func_import (without_places m.imports)) + length m.functions }
+abbrev pub late_scope : Options → Names → PlacedModule → Scope
+late_scope o names m = record (early_scope o names m) { function = length (imported func_import (without_places m.imports)) + length m.functions }
 
 -- the fields in the order of their sections, and the custom sections at their places among them
 abbrev pub module_parts : Options → Answers → Names → PlacedModule → List Part
 module_parts o answers names m =
     let is : List Import = without_places m.imports in
-    let s : Scope = early_scope names m in
+    let s : Scope = early_scope o names m in
     let customs : Option Kind → List Part = λ place. parts_at o.skeleton answers place 0 m.customs in
     customs None
     ++ (Shown (type_section_pieces names 0 m.types) ∷ customs (Some TypeSection))
@@ -82,7 +82,7 @@ module_parts o answers names m =
     ++ (Shown (start_pieces s m.start) ∷ customs (Some StartSection))
     ++ (Shown (numbered (element_pieces o.skeleton s) 0 m.elements) ∷ customs (Some ElementSection))
     ++ (Shown (functions_pieces o s (hints_of m.customs) (length (imported func_import is)) m.functions) ∷ customs (Some CodeSection))
-    ++ (Shown (numbered (data_pieces o.skeleton (late_scope names m)) 0 m.datas) ∷ customs (Some DataSection))
+    ++ (Shown (numbered (data_pieces o.skeleton (late_scope o names m)) 0 m.datas) ∷ customs (Some DataSection))
 
 -- whole, or up to the refusal of a custom section
 abbrev pub module_pieces_of : Options → Names → ℕ → List Piece → Option ℕ → List Piece

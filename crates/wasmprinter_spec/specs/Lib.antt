@@ -24,6 +24,8 @@ pub mod Limits
 pub mod Indexed
 pub mod Call
 pub mod Colour
+pub mod Looks
+pub mod Coloured
 pub mod Plain
 pub mod Meaning
 pub mod Options

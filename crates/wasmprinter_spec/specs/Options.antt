@@ -9,11 +9,15 @@ pub record Options : Type 0 where
   pub skeleton : Bool
   -- items without a name have identifiers made up for them
   pub invents : Bool
+  -- each operator stands in parentheses with its operands
+  pub folds : Bool
+  -- What stands first in these parentheses carries the sequences of colours. This isn't chosen: it is so where a printer can write colours as text.
+  pub paints : Bool
   -- the text that stands once for each level of nesting
   pub indent : List ℕ
 
 abbrev pub defaults : Options
-defaults = record { offsets = false; skeleton = false; invents = false; indent = codes "  " }
+defaults = record { offsets = false; skeleton = false; invents = false; folds = false; paints = false; indent = codes "  " }
 
 -- the answer to the claim of each custom section, by the number of the section among the custom sections
 abbrev pub Answers : Type 0

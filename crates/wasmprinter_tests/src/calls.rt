@@ -1,9 +1,9 @@
 //! The calls on a printer, in their order, and which error comes where one of them fails.
 
-use crate::recorder::{REFUSED, Recorder};
 use std::io::ErrorKind;
 use std::test::Fail;
 use wasmprinter::{Config, Error};
+use wasmprinter_recorder::{REFUSED, Recorder};
 use wasmprinter_samples::{
     CONTROL, CONTROL_CALLS, EMPTY_CALLS, EVERYTHING, EVERYTHING_CALLS, FIELDS, FIELDS_CALLS,
     IDENTITY, IDENTITY_CALLS, INVENTED_CALLS, KINDS, KINDS_CALLS, NAMED, NAMED_CALLS, PREAMBLE,

@@ -1,12 +1,12 @@
 //! Custom sections: raw ones with their places, `producers`, `dylink.0`, and sections that the printer takes itself (custom sections:
 //! section 5.5.3 of the standard; `producers` and `dylink.0`: tool conventions).
 
-use crate::recorder::Recorder;
 use crate::sections::add_section;
 use std::alloc::{AllocError, Global};
 use std::test::Fail;
 use wasmprinter::wasm::{CustomEntry, SectionKind, decode};
 use wasmprinter::{Config, Error, print_bytes};
+use wasmprinter_recorder::Recorder;
 use wasmprinter_samples::PREAMBLE;
 
 /// The number of custom sections.

@@ -1,11 +1,11 @@
 //! Floats by their bits, as a caller of the library writes them to a printer.
 
-use crate::recorder::Recorder;
 use std::alloc::Global;
 use std::io::ErrorKind;
 use std::test::Fail;
 use wasmprinter::text::{write_f32, write_f64};
 use wasmprinter::{Error, PrintFmtWrite};
+use wasmprinter_recorder::Recorder;
 
 /// The bits of f32, each with its text.
 const SINGLES: [(u32, &str); 14] = [

@@ -26,8 +26,6 @@ mod opcode_words;
 #[cfg(test)]
 mod opcodes;
 #[cfg(test)]
-mod recorder;
-#[cfg(test)]
 mod refusals;
 #[cfg(test)]
 mod sections;

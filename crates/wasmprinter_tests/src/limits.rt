@@ -1,10 +1,10 @@
 //! The greatest numbers that are taken, and what comes past them.
 
-use crate::recorder::Recorder;
 use std::alloc::{AllocError, Global};
 use std::test::Fail;
 use wasmprinter::wasm::decode;
 use wasmprinter::{Config, Error, print_bytes};
+use wasmprinter_recorder::Recorder;
 use wasmprinter_samples::PREAMBLE;
 
 /// A type, a function of it, and this code section.

@@ -1,10 +1,10 @@
 //! What is refused, and how.
 
-use crate::recorder::Recorder;
 use std::alloc::Global;
 use std::test::Fail;
 use wasmprinter::wasm::decode;
 use wasmprinter::{Config, Error, print_bytes};
+use wasmprinter_recorder::Recorder;
 use wasmprinter_samples::{IDENTITY, IDENTITY_TEXT, MINUS_ONE, PREAMBLE};
 
 /// What stands behind the first section of `IDENTITY`, cut off.

@@ -1,10 +1,10 @@
 //! Strings and bytes in quotes, as a caller of the library writes them to a printer of its own.
 
-use crate::recorder::Recorder;
 use std::io::ErrorKind;
 use std::test::Fail;
 use wasmprinter::Error;
 use wasmprinter::text::{write_bytes, write_quoted};
+use wasmprinter_recorder::Recorder;
 
 #[test]
 fn writes_a_string_in_quotes(rt: HostRuntime) -> Result<(), Fail> {

@@ -1,9 +1,9 @@
 //! Types: texts of value types, composite types, subtypes and groups, their places, and many types.
 
-use crate::recorder::Recorder;
 use std::alloc::{AllocError, Global};
 use std::test::Fail;
 use wasmprinter::{Config, Error, print_bytes};
+use wasmprinter_recorder::Recorder;
 use wasmprinter_samples::PREAMBLE;
 
 /// A module with a type section of these bytes, a count in front. There are fewer than 100.

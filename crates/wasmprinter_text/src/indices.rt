@@ -15,7 +15,7 @@ use std::io;
 use wasmprinter_names::{Identifier, Identifiers, Name, Space};
 use wasmprinter_print::Print;
 use wasmprinter_words::comments::number_remark;
-use wasmprinter_words::identifiers::{identifier as write_content, made_up, name_note};
+use wasmprinter_words::identifiers::{identifier as write_content, made_up_identifier, name_note};
 use wasmprinter_words::numbers;
 use wasmprinter_words::words::{begin_name, end_style, gap, open_gap, shut};
 
@@ -26,7 +26,7 @@ fn write_identifier<P: Print>(p: &mut P, identifier: Identifier<'_>) -> io::Resu
 {
     match identifier {
         Identifier::Given(name) => write_content(p, name.content),
-        Identifier::Invented { space, number } => made_up(p, space.word(), number),
+        Identifier::Invented { space, number } => made_up_identifier(p, space.word(), number),
     }
 }
 

@@ -1,5 +1,5 @@
 //! A printer that keeps its text and where its lines begin.
-ghost use Rattle.std.specs.Prelude.{◌≡◌};
+ghost use Rattle.std.specs.Prelude.{◌≡◌, false};
 ghost use Rattle.wasmprinter_tracker.specs.Tracking.{tracked_meaning};
 
 use crate::lines::LineStart;
@@ -110,7 +110,7 @@ impl Tracker {
 impl Print for Tracker {
     ghost meaning = { tracked_meaning };
 
-    ghost colors = { λ _. ⊥ };
+    ghost colors = { λ _. false };
 
     fn write_str(&mut self, s: &str) -> io::Result<()> {
         self.push_str(s)?;
@@ -161,5 +161,9 @@ impl Print for Tracker {
 
     fn reset_color(&mut self) -> io::Result<()> {
         Ok(())
+    }
+
+    fn supports_async_color(&self) -> bool {
+        false
     }
 }

@@ -1,6 +1,6 @@
 //! A module that was decoded, and what it holds, for those that print it.
-ghost use Rattle.std.specs.Prelude.{◌≡◌, ◌<◌, ◌^◌, length, Some, slice_get};
-ghost use Rattle.wasmprinter_spec.specs.Types.{all_types, signature_at};
+ghost use Rattle.std.specs.Prelude.{◌≡◌, ◌<◌, ◌^◌, length, Some, option_map, slice_get};
+ghost use Rattle.wasmprinter_spec.specs.Types.{all_types, signature_at, fields_at};
 ghost use Rattle.wasmprinter_spec.specs.Module.{groups_of};
 ghost use Rattle.wasmprinter_entries.specs.Externs.{kind_view, imported_count};
 ghost use Rattle.wasmprinter_wasm.specs.Modules.{body_at};
@@ -111,6 +111,15 @@ impl<'a> Module<'a> {
         ensures { result ≡ signature_at (all_types (groups_of self.now.types)) index }
     {
         self.types.signature(index)
+    }
+
+    /// How many fields the structure type with the index has, `None` where there is no such type or it is of another kind.
+    ///
+    /// Type indices count the types of all groups. It takes the same time for each index.
+    pub fn field_count(&self, index: u32) -> Option<u32>
+        ensures { result ≡ option_map length (fields_at (all_types (groups_of self.now.types)) index) }
+    {
+        self.types.field_count(index)
     }
 
     /// The imports.

@@ -5,7 +5,7 @@ use Rattle.std.proofs.Common.{refl, sym, ap, subst, ◌∙◌, append_assoc, ari
 use Rattle.std.proofs.lemmas.Bool.{cases_lt, ne_eqb}
 use Rattle.std.proofs.lemmas.Nat.{div_below, le-div}
 use Rattle.std.proofs.Math.Logic.{⊎_elim}
-use Rattle.std.proofs.Math.Nat.{div-eq_of_lt, mod-eq_of_lt, pow-suc, pow-zero, pow-le-pow_left}
+use Rattle.std.proofs.Math.Nat.{div-eq_of_lt, mod-eq_of_lt, pow-suc, pow-zero}
 
 -- the digits that stand before others
 onto-append : (k base n : ℕ) (acc : List ℕ) → digits_onto k base false n acc ≡ digits_onto k base false n [] ++ acc
@@ -53,10 +53,6 @@ pub digits-more : (base n : ℕ) → 0 < base → base ≤ n → n < base ^ 64 �
 unfolding digits
 digits-more base n p h small =
     onto-more 63 base n [] p h ∙ sym (onto-enough 62 base (n / base) _ p (div_below n base (base ^ 63) p (rw (pow-suc base 63) at small))) ∙ onto-append 64 base (n / base) _
-
--- a number of 64 bits has at most 64 digits in each base
-pub fits-base : (base n : ℕ) → 2 ≤ base → n < 2 ^ 64 → n < base ^ 64
-fits-base base n h small = let wide : 2 ^ 64 ≤ base ^ 64 = pow-le-pow_left h 64 in omega (arith, wide)
 
 onto-length : (k base n : ℕ) (acc : List ℕ) → length (digits_onto k base false n acc) ≤ k + length acc
 onto-length zero base n acc = omega arith

@@ -1,4 +1,3 @@
 pub mod Digits
 pub mod Runs
-pub mod Signs
 pub mod Texts

@@ -6,7 +6,7 @@ ghost use Rattle.wasmprinter_spec.specs.Piece.{NumberRemark, Remark, Ending, sty
 ghost use Rattle.wasmprinter_print.specs.Emits.{Emits};
 ghost use Rattle.wasmprinter_print.specs.Prints.{Prints};
 
-use crate::numbers::{DECIMAL, write_digits_between};
+use crate::numbers::write_decimal_between;
 use std::io;
 use wasmprinter_print::{Print, Style, reset, start, text};
 
@@ -35,7 +35,7 @@ pub fn unstyled_remark<P: Print>(p: &mut P, content: &str) -> io::Result<()>
 pub fn number_remark<P: Print>(p: &mut P, n: u64) -> io::Result<()>
     ensures { (o : Options) → Prints P.meaning o p.old p.new result (NumberRemark n ∷ []) }
 {
-    write_digits_between(p, "(;", DECIMAL, n, ";)")
+    write_decimal_between(p, "(;", n, ";)")
 }
 
 /// Writes a number between two texts, in the style of comments.
@@ -43,7 +43,7 @@ fn write_number_comment<P: Print>(p: &mut P, before: &str, n: u64, after: &str) 
     ensures { Emits P.meaning p.old p.new result (styled Comment (before.now ++ (decimal n ++ after.now))) }
 {
     start(p, Style::Comment)?;
-    write_digits_between(p, before, DECIMAL, n, after)?;
+    write_decimal_between(p, before, n, after)?;
     reset(p)
 }
 

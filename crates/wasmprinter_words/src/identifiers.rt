@@ -10,7 +10,7 @@ ghost use Rattle.wasmprinter_spec.specs.Quoted.{runs, all_run, is_run, quoted_te
 ghost use Rattle.wasmprinter_print.specs.Emits.{Emits};
 ghost use Rattle.wasmprinter_print.specs.Prints.{Prints};
 
-use crate::numbers::{DECIMAL, write_digits};
+use crate::numbers::write_decimal;
 use crate::strings::write_chars;
 use std::io;
 use wasmprinter_print::{Print, Style, styled, text};
@@ -74,12 +74,12 @@ fn write_numbered<P: Print>(p: &mut P, before: &str, word: &str, number: u64) ->
 {
     text(p, before)?;
     text(p, word)?;
-    write_digits(p, DECIMAL, number)
+    write_decimal(p, number)
 }
 
 /// Writes the identifier that is made up of the sign `#`, the word for a kind of items, and a number. It stands without quotes, so that the
 /// characters of the word must be those of identifiers.
-pub fn made_up<P: Print>(p: &mut P, group: &str, number: u64) -> io::Result<()>
+pub fn made_up_identifier<P: Print>(p: &mut P, group: &str, number: u64) -> io::Result<()>
     ensures calls { Emits P.meaning p.old p.new result (Text (36 ∷ index_content group.now number) ∷ []) }
     ensures pieces { all_run group.now ≡ true
         → (o : Options) → Prints P.meaning o p.old p.new result (Identifier (chars (index_content group.now number)) ∷ []) }

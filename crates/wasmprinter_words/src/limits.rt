@@ -9,7 +9,7 @@ ghost use Rattle.wasmprinter_spec.specs.Layout.Limits.{max_words, limits_pieces}
 ghost use Rattle.wasmprinter_print.specs.Emits.{Emits};
 ghost use Rattle.wasmprinter_print.specs.Prints.{Prints};
 
-use crate::numbers::{DECIMAL, HEXADECIMAL, power, write_digits, write_digits_between};
+use crate::numbers::{power, write_decimal, write_decimal_between, write_hexadecimal_between};
 use std::io;
 use wasmprinter_print::{Print, Style, reset, start};
 
@@ -19,7 +19,7 @@ fn write_max<P: Print>(p: &mut P, max: Option<u64>) -> io::Result<()>
 {
     match max {
         None => Ok(()),
-        Some(max) => write_digits_between(p, " ", DECIMAL, max, ""),
+        Some(max) => write_decimal_between(p, " ", max, ""),
     }
 }
 
@@ -29,7 +29,7 @@ pub fn write_limits<P: Print>(p: &mut P, min: u64, max: Option<u64>) -> io::Resu
     ensures { (o : Options) → Prints P.meaning o p.old p.new result (limits_pieces (limits_of min max)) }
 {
     start(p, Style::Literal)?;
-    write_digits(p, DECIMAL, min)?;
+    write_decimal(p, min)?;
     write_max(p, max)?;
     reset(p)
 }
@@ -39,5 +39,5 @@ pub fn page_size<P: Print>(p: &mut P, exponent: u32) -> io::Result<()>
     requires { exponent < 64 }
     ensures { (o : Options) → Prints P.meaning o p.old p.new result (Word (codes "0x" ++ digits 16 false (2 ^ exponent)) ∷ []) }
 {
-    write_digits_between(p, "0x", HEXADECIMAL, power(exponent), "")
+    write_hexadecimal_between(p, "0x", power(exponent), "")
 }

@@ -1,6 +1,6 @@
 //! Whole numbers (section 6.3 of the WebAssembly Core Specification, "Integers").
-ghost use Rattle.std.specs.Prelude.{◌≡◌, ◌<◌, ◌≤◌, ◌/◌, ◌%◌, ◌^◌, false, [], ◌∷◌, ◌++◌, decimal, length};
-ghost use Rattle.std.specs.Fmt.{digits, digit_glyph, signed_decimal};
+ghost use Rattle.std.specs.Prelude.{◌≡◌, ◌<◌, ◌/◌, ◌%◌, ◌^◌, false, [], ◌∷◌, ◌++◌, decimal, length};
+ghost use Rattle.std.specs.Fmt.{digits, digit_glyph};
 ghost use Rattle.wasmprinter_spec.specs.Call.{Text};
 ghost use Rattle.wasmprinter_spec.specs.Options.{Options};
 ghost use Rattle.wasmprinter_spec.specs.Piece.{Gap, Word, Number, Constant};
@@ -8,11 +8,9 @@ ghost use Rattle.wasmprinter_print.specs.Emits.{Emits};
 ghost use Rattle.wasmprinter_print.specs.Prints.{Prints};
 
 use crate::words::gap;
+use itoa::Buffer;
 use std::io;
 use wasmprinter_print::{Print, Style, reset, start, text};
-
-/// The base of decimal numbers.
-pub const DECIMAL: u64 = 10;
 
 /// The base of hexadecimal numbers.
 pub const HEXADECIMAL: u64 = 16;
@@ -45,17 +43,23 @@ pub fn write_digit<P: Print>(p: &mut P, digit: u8) -> io::Result<()>
     text(p, char::from(glyph_of(digit)).encode_utf8(&mut [0; 4]))
 }
 
-/// Writes a number in a base up to sixteen.
-pub fn write_digits<P: Print>(p: &mut P, base: u64, n: u64) -> io::Result<()>
-    requires two { 2 ≤ base }
-    requires sixteen { base ≤ 16 }
-    ensures { Emits P.meaning p.old p.new result (Text (digits base false n) ∷ []) }
+/// Writes a number in hexadecimal.
+pub fn write_hexadecimal<P: Print>(p: &mut P, n: u64) -> io::Result<()>
+    ensures { Emits P.meaning p.old p.new result (Text (digits 16 false n) ∷ []) }
 {
-    if n < base {
+    if n < HEXADECIMAL {
         return write_digit(p, n as u8);
     }
-    write_digits(p, base, n / base)?;
-    write_digit(p, (n % base) as u8)
+    write_hexadecimal(p, n / HEXADECIMAL)?;
+    write_digit(p, (n % HEXADECIMAL) as u8)
+}
+
+/// Writes a number in decimal.
+pub fn write_decimal<P: Print>(p: &mut P, n: u64) -> io::Result<()>
+    ensures { Emits P.meaning p.old p.new result (Text (decimal n) ∷ []) }
+{
+    let mut digits = Buffer::new();
+    text(p, digits.format(n))
 }
 
 /// Writes the two hexadecimal digits of a byte.
@@ -77,20 +81,31 @@ pub fn hexadecimal_len(n: u64) -> usize
     hexadecimal_len(n / HEXADECIMAL) + 1
 }
 
-/// Writes a number between two texts.
-pub fn write_digits_between<P: Print>(
+/// Writes a number in hexadecimal between two texts.
+pub fn write_hexadecimal_between<P: Print>(
     p: &mut P,
     before: &str,
-    base: u64,
     n: u64,
     after: &str,
 ) -> io::Result<()>
-    requires two { 2 ≤ base }
-    requires sixteen { base ≤ 16 }
-    ensures { Emits P.meaning p.old p.new result (Text (before.now ++ (digits base false n ++ after.now)) ∷ []) }
+    ensures { Emits P.meaning p.old p.new result (Text (before.now ++ (digits 16 false n ++ after.now)) ∷ []) }
 {
     text(p, before)?;
-    write_digits(p, base, n)?;
+    write_hexadecimal(p, n)?;
+    text(p, after)
+}
+
+/// Writes a number in decimal between two texts.
+pub fn write_decimal_between<P: Print>(
+    p: &mut P,
+    before: &str,
+    n: u64,
+    after: &str,
+) -> io::Result<()>
+    ensures { Emits P.meaning p.old p.new result (Text (before.now ++ (decimal n ++ after.now)) ∷ []) }
+{
+    text(p, before)?;
+    write_decimal(p, n)?;
     text(p, after)
 }
 
@@ -99,7 +114,7 @@ pub fn number<P: Print>(p: &mut P, n: u64) -> io::Result<()>
     ensures { (o : Options) → Prints P.meaning o p.old p.new result (Number n ∷ []) }
 {
     start(p, Style::Name)?;
-    write_digits(p, DECIMAL, n)?;
+    write_decimal(p, n)?;
     reset(p)
 }
 
@@ -115,7 +130,7 @@ pub fn gap_index<P: Print>(p: &mut P, index: u32) -> io::Result<()>
 pub fn number_word<P: Print>(p: &mut P, n: u64) -> io::Result<()>
     ensures { (o : Options) → Prints P.meaning o p.old p.new result (Word (decimal n) ∷ []) }
 {
-    write_digits(p, DECIMAL, n)
+    write_decimal(p, n)
 }
 
 /// Writes a word that ends in a number, without a style.
@@ -123,24 +138,7 @@ pub fn numbered_word<P: Print>(p: &mut P, word: &str, n: u64) -> io::Result<()>
     ensures { (o : Options) → Prints P.meaning o p.old p.new result (Word (word.now ++ decimal n) ∷ []) }
 {
     text(p, word)?;
-    write_digits(p, DECIMAL, n)
-}
-
-fn write_negative<P: Print>(p: &mut P, magnitude: u64) -> io::Result<()>
-    ensures { Emits P.meaning p.old p.new result (Text (45 ∷ decimal magnitude) ∷ []) }
-{
-    text(p, "-")?;
-    write_digits(p, DECIMAL, magnitude)
-}
-
-fn write_signed<P: Print>(p: &mut P, n: i64) -> io::Result<()>
-    ensures { Emits P.meaning p.old p.new result (Text (signed_decimal n) ∷ []) }
-{
-    if n < 0 {
-        write_negative(p, n.unsigned_abs())
-    } else {
-        write_digits(p, DECIMAL, n.unsigned_abs())
-    }
+    write_decimal(p, n)
 }
 
 /// Writes a blank and a number with its sign.
@@ -149,6 +147,6 @@ pub fn constant<P: Print>(p: &mut P, n: i64) -> io::Result<()>
 {
     start(p, Style::Literal)?;
     text(p, " ")?;
-    write_signed(p, n)?;
+    text(p, Buffer::new().format(n))?;
     reset(p)
 }

@@ -7,7 +7,7 @@ ghost use Rattle.wasmprinter_spec.specs.Quoted.{is_plain, char_text, byte_text, 
 ghost use Rattle.wasmprinter_print.specs.Emits.{Emits, EmitsOrFails};
 ghost use Rattle.wasmprinter_print.specs.Prints.{Prints};
 
-use crate::numbers::{HEXADECIMAL, write_byte_digits, write_digits_between};
+use crate::numbers::{write_byte_digits, write_hexadecimal_between};
 use std::io;
 use wasmprinter_error::Error;
 use wasmprinter_print::{Print, Style, reset, start, text};
@@ -26,7 +26,7 @@ fn write_char<P: Print>(p: &mut P, c: char) -> io::Result<()>
     if is_plain(c) {
         return text(p, c.encode_utf8(&mut [0; 4]));
     }
-    write_digits_between(p, "\\u{", HEXADECIMAL, u64::from(u32::from(c)), "}")
+    write_hexadecimal_between(p, "\\u{", u64::from(u32::from(c)), "}")
 }
 
 /// Writes the characters of a text as they stand in quotes.

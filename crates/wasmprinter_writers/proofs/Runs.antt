@@ -6,9 +6,9 @@ use Rattle.wasmprinter_spec.specs.Call.{Call, Text, Newline, Line, Start, Claim,
 use Rattle.wasmprinter_spec.specs.Meaning.{Meaning, Run}
 use Rattle.wasmprinter_writers.specs.Writing.{Writing, TakesWhole, WritesNothing, WritesEach}
 use Rattle.wasmprinter_writers.specs.TextCalls.{WritesText, text_meaning}
-use Rattle.wasmprinter_writers.specs.Looks.{sequences_of}
-use Rattle.wasmprinter_writers.specs.ColourCalls.{Painting, PaintsBySequences, PaintsNothing, WritesInColour, coloured_meaning, look_of}
-use Rattle.wasmprinter_writers.specs.Sequences.{concatenation, coloured_bytes, coloured_text}
+use Rattle.wasmprinter_spec.specs.Looks.{sequences_of}
+use Rattle.wasmprinter_spec.specs.Coloured.{look_of, concatenation, coloured_bytes, coloured_text}
+use Rattle.wasmprinter_writers.specs.ColourCalls.{Painting, PaintsBySequences, PaintsNothing, WritesInColour, coloured_meaning}
 
 appends_nothing : (a : Option (List ℕ)) → Appends a a []
 appends_nothing None = tt

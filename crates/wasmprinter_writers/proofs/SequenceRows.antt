@@ -2,8 +2,8 @@
 use Rattle.std.specs.Prelude.{◌≡◌, ℕ, List, [], ◌∷◌, ◌++◌, true, false, Some, None, codes, refl}
 use Rattle.std.specs.Fmt.{digits}
 use Rattle.wasmprinter_spec.specs.Call.{Text, Newline, Line, Start, Claim, Literal, Name, Keyword, TypeName, Comment, Reset}
-use Rattle.wasmprinter_writers.specs.Looks.{sequences_of}
-use Rattle.wasmprinter_writers.specs.Sequences.{coloured_bytes, coloured_text}
+use Rattle.wasmprinter_spec.specs.Looks.{sequences_of}
+use Rattle.wasmprinter_spec.specs.Coloured.{coloured_bytes, coloured_text}
 
 -- ESC, [ and a text
 abbrev escape : List ℕ → List ℕ

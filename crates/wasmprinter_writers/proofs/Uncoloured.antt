@@ -5,10 +5,10 @@ use Rattle.std.proofs.Common.{ap, ◌∙◌}
 use Rattle.wasmprinter_spec.specs.Call.{Text, Newline, Line, Start, Claim, Style, Literal, Name, Keyword, TypeName, Comment, Reset, text_of}
 use Rattle.wasmprinter_spec.specs.Colour.{uncolour}
 use Rattle.wasmprinter_spec.specs.Plain.{IsPlainText}
+use Rattle.wasmprinter_spec.specs.Looks.{sequences_of}
+use Rattle.wasmprinter_spec.specs.Coloured.{look_of, concatenation, coloured_text}
 use Rattle.wasmprinter_lexical.proofs.Plain.{uncolour-byte}
-use Rattle.wasmprinter_writers.specs.Looks.{sequences_of}
-use Rattle.wasmprinter_writers.specs.ColourCalls.{look_of}
-use Rattle.wasmprinter_writers.specs.Sequences.{concatenation, coloured_text, ColoursKeepText}
+use Rattle.wasmprinter_writers.specs.Sequences.{ColoursKeepText}
 
 -- plain text in front stays
 front_stays : (text rest : List ℕ) → IsPlainText (text ++ rest) → (more : List ℕ) → uncolour (text ++ more) ≡ text ++ uncolour more

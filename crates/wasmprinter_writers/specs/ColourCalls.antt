@@ -3,7 +3,8 @@ use Rattle.std.specs.Prelude.{◌≡◌, ℕ, [], ◌∷◌, true, false, Option
 use Rattle.std.specs.declared.io.Error.{Error as IoError}
 use Rattle.wasmprinter_spec.specs.Call.{Call, Text, Newline, Line, Start, Claim, Style, Literal, Name, Keyword, TypeName, Comment, Reset}
 use Rattle.wasmprinter_spec.specs.Meaning.{Meaning}
-use Rattle.wasmprinter_writers.specs.Looks.{Look, sequences_of}
+use Rattle.wasmprinter_spec.specs.Looks.{Look, sequences_of}
+use Rattle.wasmprinter_spec.specs.Coloured.{look_of}
 use Rattle.wasmprinter_writers.specs.Writing.{Writing, WritesNothing, WritesEach}
 
 -- what a call that asks for a look may answer, and what it makes of the writer
@@ -17,23 +18,6 @@ PaintsBySequences inner_of takes old look answer new = WritesEach takes (inner_o
 -- looks leave no trace
 abbrev pub PaintsNothing : {T : Type 0} → Painting T
 PaintsNothing old look answer new = WritesNothing old answer new
-
--- text in a colour
-abbrev pub colour_look : ℕ → Look
-colour_look c = record { colour = Some c; bold = false; intense = false }
-
--- bold text in the intense shade of a colour
-abbrev pub strong_look : ℕ → Look
-strong_look c = record { colour = Some c; bold = true; intense = true }
-
--- literals are red, names magenta, keywords strong in yellow, types strong in green, comments cyan
-abbrev pub look_of : Style → Option Look
-look_of Literal = Some (colour_look 1)
-look_of Name = Some (colour_look 5)
-look_of Keyword = Some (strong_look 3)
-look_of TypeName = Some (strong_look 2)
-look_of Comment = Some (colour_look 6)
-look_of Reset = None
 
 -- A text and a line feed are written, in one write each, and a style asks for its look, once; the answer is that of the call. A line and a claim write
 -- nothing, and no claim is taken.

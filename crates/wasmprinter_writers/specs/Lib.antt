@@ -1,7 +1,6 @@
 -- What the contracts of printers over writers of bytes cite.
 pub mod Writing
 pub mod TextCalls
-pub mod Looks
 pub mod Numbers
 pub mod ColourCalls
 pub mod Sequences

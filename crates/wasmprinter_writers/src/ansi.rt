@@ -3,7 +3,7 @@ ghost use Rattle.std.specs.Prelude.{◌≡◌, true, false, OnOk};
 ghost use Rattle.std.specs.Io.KnownBytes.{Appends};
 ghost use Rattle.wasmprinter_writers.specs.Writing.{WritesEach};
 ghost use Rattle.wasmprinter_writers.specs.ColourCalls.{PaintsBySequences};
-ghost use Rattle.wasmprinter_writers.specs.Looks.{foreground, bold_sequences, colour_sequences};
+ghost use Rattle.wasmprinter_spec.specs.Looks.{foreground, bold_sequences, colour_sequences};
 ghost use Rattle.wasmprinter_writers.specs.Numbers.{number_of, colour_of};
 
 use crate::{Color, ColorSpec, WriteBytes, WriteColor};

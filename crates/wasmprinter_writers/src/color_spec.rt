@@ -12,7 +12,7 @@ pub struct ColorSpec {
 }
 
 impl Model for ColorSpec {
-    ghost use Rattle.wasmprinter_writers.specs.Looks.{Look};
+    ghost use Rattle.wasmprinter_spec.specs.Looks.{Look};
 
     ghost Value = { Look };
 
@@ -27,7 +27,7 @@ impl Model for ColorSpec {
 
 impl ColorSpec {
     ghost use Rattle.std.specs.Prelude.{◌≡◌};
-    ghost use Rattle.wasmprinter_writers.specs.Looks.{bare_look};
+    ghost use Rattle.wasmprinter_spec.specs.Looks.{bare_look};
     ghost use Rattle.wasmprinter_writers.specs.Numbers.{colour_of};
 
     /// Text without a colour, neither bold nor intense.

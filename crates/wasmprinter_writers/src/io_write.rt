@@ -1,4 +1,5 @@
 //! A printer over a writer of bytes.
+ghost use Rattle.std.specs.Prelude.{false};
 ghost use Rattle.wasmprinter_writers.specs.TextCalls.{text_meaning};
 
 use crate::WriteBytes;
@@ -12,7 +13,7 @@ pub struct PrintIoWrite<T>(pub T);
 impl<T: WriteBytes> Print for PrintIoWrite<T> {
     ghost meaning = { text_meaning (λ s. s.0) T.takes };
 
-    ghost colors = { λ _. ⊥ };
+    ghost colors = { λ _. false };
 
     fn write_str(&mut self, s: &str) -> io::Result<()> {
         self.0.write_bytes(s.as_bytes())
@@ -55,5 +56,9 @@ impl<T: WriteBytes> Print for PrintIoWrite<T> {
 
     fn reset_color(&mut self) -> io::Result<()> {
         Ok(())
+    }
+
+    fn supports_async_color(&self) -> bool {
+        false
     }
 }

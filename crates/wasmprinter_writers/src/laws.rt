@@ -4,7 +4,8 @@ ghost use Rattle.std.specs.Prelude.{◌≡◌, List};
 ghost use Rattle.std.specs.Io.KnownBytes.{Appends};
 ghost use Rattle.wasmprinter_spec.specs.Call.{Call, text_of};
 ghost use Rattle.wasmprinter_spec.specs.Meaning.{Run};
-ghost use Rattle.wasmprinter_writers.specs.Sequences.{coloured_text, ColoursKeepText};
+ghost use Rattle.wasmprinter_spec.specs.Coloured.{coloured_text};
+ghost use Rattle.wasmprinter_writers.specs.Sequences.{ColoursKeepText};
 
 use crate::{Ansi, NoColor, PrintIoWrite, PrintTermcolor};
 use std::io::Write;

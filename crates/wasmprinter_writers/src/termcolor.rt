@@ -1,6 +1,7 @@
 //! A printer in colours.
-ghost use Rattle.std.specs.Prelude.{◌≡◌, ◌&&◌, IsTrue, true, not};
-ghost use Rattle.wasmprinter_writers.specs.ColourCalls.{coloured_meaning, colour_look, strong_look};
+ghost use Rattle.std.specs.Prelude.{◌≡◌, ◌&&◌, not};
+ghost use Rattle.wasmprinter_spec.specs.Coloured.{colour_look, strong_look};
+ghost use Rattle.wasmprinter_writers.specs.ColourCalls.{coloured_meaning};
 ghost use Rattle.wasmprinter_writers.specs.Numbers.{number_of};
 
 use crate::{Color, ColorSpec, WriteBytes, WriteColor};
@@ -32,7 +33,7 @@ fn strong(color: Color) -> ColorSpec
 impl<T: WriteColor + WriteBytes> Print for PrintTermcolor<T> {
     ghost meaning = { coloured_meaning (λ s. s.0) T.takes T.paints };
 
-    ghost colors = { λ s. IsTrue (T.is_colored s.0) × IsTrue (not (T.is_immediate s.0)) };
+    ghost colors = { λ s. T.is_colored s.0 && not (T.is_immediate s.0) };
 
     fn write_str(&mut self, s: &str) -> io::Result<()> {
         self.0.write_bytes(s.as_bytes())
@@ -77,11 +78,7 @@ impl<T: WriteColor + WriteBytes> Print for PrintTermcolor<T> {
         self.0.reset()
     }
 
-    fn supports_async_color(&self) -> bool
-        ensures colored { IsTrue result
-            → IsTrue (T.is_colored self.now.0) × IsTrue (not (T.is_immediate self.now.0)) }
-        ensures exact { result ≡ T.is_colored self.now.0 && not (T.is_immediate self.now.0) }
-    {
+    fn supports_async_color(&self) -> bool {
         self.0.supports_color() && !self.0.is_synchronous()
     }
 }

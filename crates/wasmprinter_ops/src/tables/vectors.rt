@@ -1,278 +1,278 @@
 //! Opcodes behind the prefix FD: vectors.
-use crate::opcode::Shape;
+use crate::opcode::{Arity, Shape};
 use crate::tables::Entry;
 
 /// The opcodes behind the prefix FD, by their numbers.
 #[rattlefmt::skip]
 pub(crate) static VECTORS: [Option<Entry>; 276] = [
-    Some(("v128.load", Shape::Memory(4))), // 0
-    Some(("v128.load8x8_s", Shape::Memory(3))), // 1
-    Some(("v128.load8x8_u", Shape::Memory(3))), // 2
-    Some(("v128.load16x4_s", Shape::Memory(3))), // 3
-    Some(("v128.load16x4_u", Shape::Memory(3))), // 4
-    Some(("v128.load32x2_s", Shape::Memory(3))), // 5
-    Some(("v128.load32x2_u", Shape::Memory(3))), // 6
-    Some(("v128.load8_splat", Shape::Memory(0))), // 7
-    Some(("v128.load16_splat", Shape::Memory(1))), // 8
-    Some(("v128.load32_splat", Shape::Memory(2))), // 9
-    Some(("v128.load64_splat", Shape::Memory(3))), // 10
-    Some(("v128.store", Shape::Memory(4))), // 11
-    Some(("v128.const", Shape::Vector)), // 12
-    Some(("i8x16.shuffle", Shape::Lanes)), // 13
-    Some(("i8x16.swizzle", Shape::None)), // 14
-    Some(("i8x16.splat", Shape::None)), // 15
-    Some(("i16x8.splat", Shape::None)), // 16
-    Some(("i32x4.splat", Shape::None)), // 17
-    Some(("i64x2.splat", Shape::None)), // 18
-    Some(("f32x4.splat", Shape::None)), // 19
-    Some(("f64x2.splat", Shape::None)), // 20
-    Some(("i8x16.extract_lane_s", Shape::Lane)), // 21
-    Some(("i8x16.extract_lane_u", Shape::Lane)), // 22
-    Some(("i8x16.replace_lane", Shape::Lane)), // 23
-    Some(("i16x8.extract_lane_s", Shape::Lane)), // 24
-    Some(("i16x8.extract_lane_u", Shape::Lane)), // 25
-    Some(("i16x8.replace_lane", Shape::Lane)), // 26
-    Some(("i32x4.extract_lane", Shape::Lane)), // 27
-    Some(("i32x4.replace_lane", Shape::Lane)), // 28
-    Some(("i64x2.extract_lane", Shape::Lane)), // 29
-    Some(("i64x2.replace_lane", Shape::Lane)), // 30
-    Some(("f32x4.extract_lane", Shape::Lane)), // 31
-    Some(("f32x4.replace_lane", Shape::Lane)), // 32
-    Some(("f64x2.extract_lane", Shape::Lane)), // 33
-    Some(("f64x2.replace_lane", Shape::Lane)), // 34
-    Some(("i8x16.eq", Shape::None)), // 35
-    Some(("i8x16.ne", Shape::None)), // 36
-    Some(("i8x16.lt_s", Shape::None)), // 37
-    Some(("i8x16.lt_u", Shape::None)), // 38
-    Some(("i8x16.gt_s", Shape::None)), // 39
-    Some(("i8x16.gt_u", Shape::None)), // 40
-    Some(("i8x16.le_s", Shape::None)), // 41
-    Some(("i8x16.le_u", Shape::None)), // 42
-    Some(("i8x16.ge_s", Shape::None)), // 43
-    Some(("i8x16.ge_u", Shape::None)), // 44
-    Some(("i16x8.eq", Shape::None)), // 45
-    Some(("i16x8.ne", Shape::None)), // 46
-    Some(("i16x8.lt_s", Shape::None)), // 47
-    Some(("i16x8.lt_u", Shape::None)), // 48
-    Some(("i16x8.gt_s", Shape::None)), // 49
-    Some(("i16x8.gt_u", Shape::None)), // 50
-    Some(("i16x8.le_s", Shape::None)), // 51
-    Some(("i16x8.le_u", Shape::None)), // 52
-    Some(("i16x8.ge_s", Shape::None)), // 53
-    Some(("i16x8.ge_u", Shape::None)), // 54
-    Some(("i32x4.eq", Shape::None)), // 55
-    Some(("i32x4.ne", Shape::None)), // 56
-    Some(("i32x4.lt_s", Shape::None)), // 57
-    Some(("i32x4.lt_u", Shape::None)), // 58
-    Some(("i32x4.gt_s", Shape::None)), // 59
-    Some(("i32x4.gt_u", Shape::None)), // 60
-    Some(("i32x4.le_s", Shape::None)), // 61
-    Some(("i32x4.le_u", Shape::None)), // 62
-    Some(("i32x4.ge_s", Shape::None)), // 63
-    Some(("i32x4.ge_u", Shape::None)), // 64
-    Some(("f32x4.eq", Shape::None)), // 65
-    Some(("f32x4.ne", Shape::None)), // 66
-    Some(("f32x4.lt", Shape::None)), // 67
-    Some(("f32x4.gt", Shape::None)), // 68
-    Some(("f32x4.le", Shape::None)), // 69
-    Some(("f32x4.ge", Shape::None)), // 70
-    Some(("f64x2.eq", Shape::None)), // 71
-    Some(("f64x2.ne", Shape::None)), // 72
-    Some(("f64x2.lt", Shape::None)), // 73
-    Some(("f64x2.gt", Shape::None)), // 74
-    Some(("f64x2.le", Shape::None)), // 75
-    Some(("f64x2.ge", Shape::None)), // 76
-    Some(("v128.not", Shape::None)), // 77
-    Some(("v128.and", Shape::None)), // 78
-    Some(("v128.andnot", Shape::None)), // 79
-    Some(("v128.or", Shape::None)), // 80
-    Some(("v128.xor", Shape::None)), // 81
-    Some(("v128.bitselect", Shape::None)), // 82
-    Some(("v128.any_true", Shape::None)), // 83
-    Some(("v128.load8_lane", Shape::MemoryLane(0))), // 84
-    Some(("v128.load16_lane", Shape::MemoryLane(1))), // 85
-    Some(("v128.load32_lane", Shape::MemoryLane(2))), // 86
-    Some(("v128.load64_lane", Shape::MemoryLane(3))), // 87
-    Some(("v128.store8_lane", Shape::MemoryLane(0))), // 88
-    Some(("v128.store16_lane", Shape::MemoryLane(1))), // 89
-    Some(("v128.store32_lane", Shape::MemoryLane(2))), // 90
-    Some(("v128.store64_lane", Shape::MemoryLane(3))), // 91
-    Some(("v128.load32_zero", Shape::Memory(2))), // 92
-    Some(("v128.load64_zero", Shape::Memory(3))), // 93
-    Some(("f32x4.demote_f64x2_zero", Shape::None)), // 94
-    Some(("f64x2.promote_low_f32x4", Shape::None)), // 95
-    Some(("i8x16.abs", Shape::None)), // 96
-    Some(("i8x16.neg", Shape::None)), // 97
-    Some(("i8x16.popcnt", Shape::None)), // 98
-    Some(("i8x16.all_true", Shape::None)), // 99
-    Some(("i8x16.bitmask", Shape::None)), // 100
-    Some(("i8x16.narrow_i16x8_s", Shape::None)), // 101
-    Some(("i8x16.narrow_i16x8_u", Shape::None)), // 102
-    Some(("f32x4.ceil", Shape::None)), // 103
-    Some(("f32x4.floor", Shape::None)), // 104
-    Some(("f32x4.trunc", Shape::None)), // 105
-    Some(("f32x4.nearest", Shape::None)), // 106
-    Some(("i8x16.shl", Shape::None)), // 107
-    Some(("i8x16.shr_s", Shape::None)), // 108
-    Some(("i8x16.shr_u", Shape::None)), // 109
-    Some(("i8x16.add", Shape::None)), // 110
-    Some(("i8x16.add_sat_s", Shape::None)), // 111
-    Some(("i8x16.add_sat_u", Shape::None)), // 112
-    Some(("i8x16.sub", Shape::None)), // 113
-    Some(("i8x16.sub_sat_s", Shape::None)), // 114
-    Some(("i8x16.sub_sat_u", Shape::None)), // 115
-    Some(("f64x2.ceil", Shape::None)), // 116
-    Some(("f64x2.floor", Shape::None)), // 117
-    Some(("i8x16.min_s", Shape::None)), // 118
-    Some(("i8x16.min_u", Shape::None)), // 119
-    Some(("i8x16.max_s", Shape::None)), // 120
-    Some(("i8x16.max_u", Shape::None)), // 121
-    Some(("f64x2.trunc", Shape::None)), // 122
-    Some(("i8x16.avgr_u", Shape::None)), // 123
-    Some(("i16x8.extadd_pairwise_i8x16_s", Shape::None)), // 124
-    Some(("i16x8.extadd_pairwise_i8x16_u", Shape::None)), // 125
-    Some(("i32x4.extadd_pairwise_i16x8_s", Shape::None)), // 126
-    Some(("i32x4.extadd_pairwise_i16x8_u", Shape::None)), // 127
-    Some(("i16x8.abs", Shape::None)), // 128
-    Some(("i16x8.neg", Shape::None)), // 129
-    Some(("i16x8.q15mulr_sat_s", Shape::None)), // 130
-    Some(("i16x8.all_true", Shape::None)), // 131
-    Some(("i16x8.bitmask", Shape::None)), // 132
-    Some(("i16x8.narrow_i32x4_s", Shape::None)), // 133
-    Some(("i16x8.narrow_i32x4_u", Shape::None)), // 134
-    Some(("i16x8.extend_low_i8x16_s", Shape::None)), // 135
-    Some(("i16x8.extend_high_i8x16_s", Shape::None)), // 136
-    Some(("i16x8.extend_low_i8x16_u", Shape::None)), // 137
-    Some(("i16x8.extend_high_i8x16_u", Shape::None)), // 138
-    Some(("i16x8.shl", Shape::None)), // 139
-    Some(("i16x8.shr_s", Shape::None)), // 140
-    Some(("i16x8.shr_u", Shape::None)), // 141
-    Some(("i16x8.add", Shape::None)), // 142
-    Some(("i16x8.add_sat_s", Shape::None)), // 143
-    Some(("i16x8.add_sat_u", Shape::None)), // 144
-    Some(("i16x8.sub", Shape::None)), // 145
-    Some(("i16x8.sub_sat_s", Shape::None)), // 146
-    Some(("i16x8.sub_sat_u", Shape::None)), // 147
-    Some(("f64x2.nearest", Shape::None)), // 148
-    Some(("i16x8.mul", Shape::None)), // 149
-    Some(("i16x8.min_s", Shape::None)), // 150
-    Some(("i16x8.min_u", Shape::None)), // 151
-    Some(("i16x8.max_s", Shape::None)), // 152
-    Some(("i16x8.max_u", Shape::None)), // 153
+    Some(("v128.load", Shape::Memory(4), Arity::Fixed(1, 1))), // 0
+    Some(("v128.load8x8_s", Shape::Memory(3), Arity::Fixed(1, 1))), // 1
+    Some(("v128.load8x8_u", Shape::Memory(3), Arity::Fixed(1, 1))), // 2
+    Some(("v128.load16x4_s", Shape::Memory(3), Arity::Fixed(1, 1))), // 3
+    Some(("v128.load16x4_u", Shape::Memory(3), Arity::Fixed(1, 1))), // 4
+    Some(("v128.load32x2_s", Shape::Memory(3), Arity::Fixed(1, 1))), // 5
+    Some(("v128.load32x2_u", Shape::Memory(3), Arity::Fixed(1, 1))), // 6
+    Some(("v128.load8_splat", Shape::Memory(0), Arity::Fixed(1, 1))), // 7
+    Some(("v128.load16_splat", Shape::Memory(1), Arity::Fixed(1, 1))), // 8
+    Some(("v128.load32_splat", Shape::Memory(2), Arity::Fixed(1, 1))), // 9
+    Some(("v128.load64_splat", Shape::Memory(3), Arity::Fixed(1, 1))), // 10
+    Some(("v128.store", Shape::Memory(4), Arity::Fixed(2, 0))), // 11
+    Some(("v128.const", Shape::Vector, Arity::Fixed(0, 1))), // 12
+    Some(("i8x16.shuffle", Shape::Lanes, Arity::Fixed(2, 1))), // 13
+    Some(("i8x16.swizzle", Shape::None, Arity::Fixed(2, 1))), // 14
+    Some(("i8x16.splat", Shape::None, Arity::Fixed(1, 1))), // 15
+    Some(("i16x8.splat", Shape::None, Arity::Fixed(1, 1))), // 16
+    Some(("i32x4.splat", Shape::None, Arity::Fixed(1, 1))), // 17
+    Some(("i64x2.splat", Shape::None, Arity::Fixed(1, 1))), // 18
+    Some(("f32x4.splat", Shape::None, Arity::Fixed(1, 1))), // 19
+    Some(("f64x2.splat", Shape::None, Arity::Fixed(1, 1))), // 20
+    Some(("i8x16.extract_lane_s", Shape::Lane, Arity::Fixed(1, 1))), // 21
+    Some(("i8x16.extract_lane_u", Shape::Lane, Arity::Fixed(1, 1))), // 22
+    Some(("i8x16.replace_lane", Shape::Lane, Arity::Fixed(2, 1))), // 23
+    Some(("i16x8.extract_lane_s", Shape::Lane, Arity::Fixed(1, 1))), // 24
+    Some(("i16x8.extract_lane_u", Shape::Lane, Arity::Fixed(1, 1))), // 25
+    Some(("i16x8.replace_lane", Shape::Lane, Arity::Fixed(2, 1))), // 26
+    Some(("i32x4.extract_lane", Shape::Lane, Arity::Fixed(1, 1))), // 27
+    Some(("i32x4.replace_lane", Shape::Lane, Arity::Fixed(2, 1))), // 28
+    Some(("i64x2.extract_lane", Shape::Lane, Arity::Fixed(1, 1))), // 29
+    Some(("i64x2.replace_lane", Shape::Lane, Arity::Fixed(2, 1))), // 30
+    Some(("f32x4.extract_lane", Shape::Lane, Arity::Fixed(1, 1))), // 31
+    Some(("f32x4.replace_lane", Shape::Lane, Arity::Fixed(2, 1))), // 32
+    Some(("f64x2.extract_lane", Shape::Lane, Arity::Fixed(1, 1))), // 33
+    Some(("f64x2.replace_lane", Shape::Lane, Arity::Fixed(2, 1))), // 34
+    Some(("i8x16.eq", Shape::None, Arity::Fixed(2, 1))), // 35
+    Some(("i8x16.ne", Shape::None, Arity::Fixed(2, 1))), // 36
+    Some(("i8x16.lt_s", Shape::None, Arity::Fixed(2, 1))), // 37
+    Some(("i8x16.lt_u", Shape::None, Arity::Fixed(2, 1))), // 38
+    Some(("i8x16.gt_s", Shape::None, Arity::Fixed(2, 1))), // 39
+    Some(("i8x16.gt_u", Shape::None, Arity::Fixed(2, 1))), // 40
+    Some(("i8x16.le_s", Shape::None, Arity::Fixed(2, 1))), // 41
+    Some(("i8x16.le_u", Shape::None, Arity::Fixed(2, 1))), // 42
+    Some(("i8x16.ge_s", Shape::None, Arity::Fixed(2, 1))), // 43
+    Some(("i8x16.ge_u", Shape::None, Arity::Fixed(2, 1))), // 44
+    Some(("i16x8.eq", Shape::None, Arity::Fixed(2, 1))), // 45
+    Some(("i16x8.ne", Shape::None, Arity::Fixed(2, 1))), // 46
+    Some(("i16x8.lt_s", Shape::None, Arity::Fixed(2, 1))), // 47
+    Some(("i16x8.lt_u", Shape::None, Arity::Fixed(2, 1))), // 48
+    Some(("i16x8.gt_s", Shape::None, Arity::Fixed(2, 1))), // 49
+    Some(("i16x8.gt_u", Shape::None, Arity::Fixed(2, 1))), // 50
+    Some(("i16x8.le_s", Shape::None, Arity::Fixed(2, 1))), // 51
+    Some(("i16x8.le_u", Shape::None, Arity::Fixed(2, 1))), // 52
+    Some(("i16x8.ge_s", Shape::None, Arity::Fixed(2, 1))), // 53
+    Some(("i16x8.ge_u", Shape::None, Arity::Fixed(2, 1))), // 54
+    Some(("i32x4.eq", Shape::None, Arity::Fixed(2, 1))), // 55
+    Some(("i32x4.ne", Shape::None, Arity::Fixed(2, 1))), // 56
+    Some(("i32x4.lt_s", Shape::None, Arity::Fixed(2, 1))), // 57
+    Some(("i32x4.lt_u", Shape::None, Arity::Fixed(2, 1))), // 58
+    Some(("i32x4.gt_s", Shape::None, Arity::Fixed(2, 1))), // 59
+    Some(("i32x4.gt_u", Shape::None, Arity::Fixed(2, 1))), // 60
+    Some(("i32x4.le_s", Shape::None, Arity::Fixed(2, 1))), // 61
+    Some(("i32x4.le_u", Shape::None, Arity::Fixed(2, 1))), // 62
+    Some(("i32x4.ge_s", Shape::None, Arity::Fixed(2, 1))), // 63
+    Some(("i32x4.ge_u", Shape::None, Arity::Fixed(2, 1))), // 64
+    Some(("f32x4.eq", Shape::None, Arity::Fixed(2, 1))), // 65
+    Some(("f32x4.ne", Shape::None, Arity::Fixed(2, 1))), // 66
+    Some(("f32x4.lt", Shape::None, Arity::Fixed(2, 1))), // 67
+    Some(("f32x4.gt", Shape::None, Arity::Fixed(2, 1))), // 68
+    Some(("f32x4.le", Shape::None, Arity::Fixed(2, 1))), // 69
+    Some(("f32x4.ge", Shape::None, Arity::Fixed(2, 1))), // 70
+    Some(("f64x2.eq", Shape::None, Arity::Fixed(2, 1))), // 71
+    Some(("f64x2.ne", Shape::None, Arity::Fixed(2, 1))), // 72
+    Some(("f64x2.lt", Shape::None, Arity::Fixed(2, 1))), // 73
+    Some(("f64x2.gt", Shape::None, Arity::Fixed(2, 1))), // 74
+    Some(("f64x2.le", Shape::None, Arity::Fixed(2, 1))), // 75
+    Some(("f64x2.ge", Shape::None, Arity::Fixed(2, 1))), // 76
+    Some(("v128.not", Shape::None, Arity::Fixed(1, 1))), // 77
+    Some(("v128.and", Shape::None, Arity::Fixed(2, 1))), // 78
+    Some(("v128.andnot", Shape::None, Arity::Fixed(2, 1))), // 79
+    Some(("v128.or", Shape::None, Arity::Fixed(2, 1))), // 80
+    Some(("v128.xor", Shape::None, Arity::Fixed(2, 1))), // 81
+    Some(("v128.bitselect", Shape::None, Arity::Fixed(3, 1))), // 82
+    Some(("v128.any_true", Shape::None, Arity::Fixed(1, 1))), // 83
+    Some(("v128.load8_lane", Shape::MemoryLane(0), Arity::Fixed(2, 1))), // 84
+    Some(("v128.load16_lane", Shape::MemoryLane(1), Arity::Fixed(2, 1))), // 85
+    Some(("v128.load32_lane", Shape::MemoryLane(2), Arity::Fixed(2, 1))), // 86
+    Some(("v128.load64_lane", Shape::MemoryLane(3), Arity::Fixed(2, 1))), // 87
+    Some(("v128.store8_lane", Shape::MemoryLane(0), Arity::Fixed(2, 0))), // 88
+    Some(("v128.store16_lane", Shape::MemoryLane(1), Arity::Fixed(2, 0))), // 89
+    Some(("v128.store32_lane", Shape::MemoryLane(2), Arity::Fixed(2, 0))), // 90
+    Some(("v128.store64_lane", Shape::MemoryLane(3), Arity::Fixed(2, 0))), // 91
+    Some(("v128.load32_zero", Shape::Memory(2), Arity::Fixed(1, 1))), // 92
+    Some(("v128.load64_zero", Shape::Memory(3), Arity::Fixed(1, 1))), // 93
+    Some(("f32x4.demote_f64x2_zero", Shape::None, Arity::Fixed(1, 1))), // 94
+    Some(("f64x2.promote_low_f32x4", Shape::None, Arity::Fixed(1, 1))), // 95
+    Some(("i8x16.abs", Shape::None, Arity::Fixed(1, 1))), // 96
+    Some(("i8x16.neg", Shape::None, Arity::Fixed(1, 1))), // 97
+    Some(("i8x16.popcnt", Shape::None, Arity::Fixed(1, 1))), // 98
+    Some(("i8x16.all_true", Shape::None, Arity::Fixed(1, 1))), // 99
+    Some(("i8x16.bitmask", Shape::None, Arity::Fixed(1, 1))), // 100
+    Some(("i8x16.narrow_i16x8_s", Shape::None, Arity::Fixed(2, 1))), // 101
+    Some(("i8x16.narrow_i16x8_u", Shape::None, Arity::Fixed(2, 1))), // 102
+    Some(("f32x4.ceil", Shape::None, Arity::Fixed(1, 1))), // 103
+    Some(("f32x4.floor", Shape::None, Arity::Fixed(1, 1))), // 104
+    Some(("f32x4.trunc", Shape::None, Arity::Fixed(1, 1))), // 105
+    Some(("f32x4.nearest", Shape::None, Arity::Fixed(1, 1))), // 106
+    Some(("i8x16.shl", Shape::None, Arity::Fixed(2, 1))), // 107
+    Some(("i8x16.shr_s", Shape::None, Arity::Fixed(2, 1))), // 108
+    Some(("i8x16.shr_u", Shape::None, Arity::Fixed(2, 1))), // 109
+    Some(("i8x16.add", Shape::None, Arity::Fixed(2, 1))), // 110
+    Some(("i8x16.add_sat_s", Shape::None, Arity::Fixed(2, 1))), // 111
+    Some(("i8x16.add_sat_u", Shape::None, Arity::Fixed(2, 1))), // 112
+    Some(("i8x16.sub", Shape::None, Arity::Fixed(2, 1))), // 113
+    Some(("i8x16.sub_sat_s", Shape::None, Arity::Fixed(2, 1))), // 114
+    Some(("i8x16.sub_sat_u", Shape::None, Arity::Fixed(2, 1))), // 115
+    Some(("f64x2.ceil", Shape::None, Arity::Fixed(1, 1))), // 116
+    Some(("f64x2.floor", Shape::None, Arity::Fixed(1, 1))), // 117
+    Some(("i8x16.min_s", Shape::None, Arity::Fixed(2, 1))), // 118
+    Some(("i8x16.min_u", Shape::None, Arity::Fixed(2, 1))), // 119
+    Some(("i8x16.max_s", Shape::None, Arity::Fixed(2, 1))), // 120
+    Some(("i8x16.max_u", Shape::None, Arity::Fixed(2, 1))), // 121
+    Some(("f64x2.trunc", Shape::None, Arity::Fixed(1, 1))), // 122
+    Some(("i8x16.avgr_u", Shape::None, Arity::Fixed(2, 1))), // 123
+    Some(("i16x8.extadd_pairwise_i8x16_s", Shape::None, Arity::Fixed(1, 1))), // 124
+    Some(("i16x8.extadd_pairwise_i8x16_u", Shape::None, Arity::Fixed(1, 1))), // 125
+    Some(("i32x4.extadd_pairwise_i16x8_s", Shape::None, Arity::Fixed(1, 1))), // 126
+    Some(("i32x4.extadd_pairwise_i16x8_u", Shape::None, Arity::Fixed(1, 1))), // 127
+    Some(("i16x8.abs", Shape::None, Arity::Fixed(1, 1))), // 128
+    Some(("i16x8.neg", Shape::None, Arity::Fixed(1, 1))), // 129
+    Some(("i16x8.q15mulr_sat_s", Shape::None, Arity::Fixed(2, 1))), // 130
+    Some(("i16x8.all_true", Shape::None, Arity::Fixed(1, 1))), // 131
+    Some(("i16x8.bitmask", Shape::None, Arity::Fixed(1, 1))), // 132
+    Some(("i16x8.narrow_i32x4_s", Shape::None, Arity::Fixed(2, 1))), // 133
+    Some(("i16x8.narrow_i32x4_u", Shape::None, Arity::Fixed(2, 1))), // 134
+    Some(("i16x8.extend_low_i8x16_s", Shape::None, Arity::Fixed(1, 1))), // 135
+    Some(("i16x8.extend_high_i8x16_s", Shape::None, Arity::Fixed(1, 1))), // 136
+    Some(("i16x8.extend_low_i8x16_u", Shape::None, Arity::Fixed(1, 1))), // 137
+    Some(("i16x8.extend_high_i8x16_u", Shape::None, Arity::Fixed(1, 1))), // 138
+    Some(("i16x8.shl", Shape::None, Arity::Fixed(2, 1))), // 139
+    Some(("i16x8.shr_s", Shape::None, Arity::Fixed(2, 1))), // 140
+    Some(("i16x8.shr_u", Shape::None, Arity::Fixed(2, 1))), // 141
+    Some(("i16x8.add", Shape::None, Arity::Fixed(2, 1))), // 142
+    Some(("i16x8.add_sat_s", Shape::None, Arity::Fixed(2, 1))), // 143
+    Some(("i16x8.add_sat_u", Shape::None, Arity::Fixed(2, 1))), // 144
+    Some(("i16x8.sub", Shape::None, Arity::Fixed(2, 1))), // 145
+    Some(("i16x8.sub_sat_s", Shape::None, Arity::Fixed(2, 1))), // 146
+    Some(("i16x8.sub_sat_u", Shape::None, Arity::Fixed(2, 1))), // 147
+    Some(("f64x2.nearest", Shape::None, Arity::Fixed(1, 1))), // 148
+    Some(("i16x8.mul", Shape::None, Arity::Fixed(2, 1))), // 149
+    Some(("i16x8.min_s", Shape::None, Arity::Fixed(2, 1))), // 150
+    Some(("i16x8.min_u", Shape::None, Arity::Fixed(2, 1))), // 151
+    Some(("i16x8.max_s", Shape::None, Arity::Fixed(2, 1))), // 152
+    Some(("i16x8.max_u", Shape::None, Arity::Fixed(2, 1))), // 153
     None, // 154
-    Some(("i16x8.avgr_u", Shape::None)), // 155
-    Some(("i16x8.extmul_low_i8x16_s", Shape::None)), // 156
-    Some(("i16x8.extmul_high_i8x16_s", Shape::None)), // 157
-    Some(("i16x8.extmul_low_i8x16_u", Shape::None)), // 158
-    Some(("i16x8.extmul_high_i8x16_u", Shape::None)), // 159
-    Some(("i32x4.abs", Shape::None)), // 160
-    Some(("i32x4.neg", Shape::None)), // 161
+    Some(("i16x8.avgr_u", Shape::None, Arity::Fixed(2, 1))), // 155
+    Some(("i16x8.extmul_low_i8x16_s", Shape::None, Arity::Fixed(2, 1))), // 156
+    Some(("i16x8.extmul_high_i8x16_s", Shape::None, Arity::Fixed(2, 1))), // 157
+    Some(("i16x8.extmul_low_i8x16_u", Shape::None, Arity::Fixed(2, 1))), // 158
+    Some(("i16x8.extmul_high_i8x16_u", Shape::None, Arity::Fixed(2, 1))), // 159
+    Some(("i32x4.abs", Shape::None, Arity::Fixed(1, 1))), // 160
+    Some(("i32x4.neg", Shape::None, Arity::Fixed(1, 1))), // 161
     None, // 162
-    Some(("i32x4.all_true", Shape::None)), // 163
-    Some(("i32x4.bitmask", Shape::None)), // 164
+    Some(("i32x4.all_true", Shape::None, Arity::Fixed(1, 1))), // 163
+    Some(("i32x4.bitmask", Shape::None, Arity::Fixed(1, 1))), // 164
     None, None, // 165
-    Some(("i32x4.extend_low_i16x8_s", Shape::None)), // 167
-    Some(("i32x4.extend_high_i16x8_s", Shape::None)), // 168
-    Some(("i32x4.extend_low_i16x8_u", Shape::None)), // 169
-    Some(("i32x4.extend_high_i16x8_u", Shape::None)), // 170
-    Some(("i32x4.shl", Shape::None)), // 171
-    Some(("i32x4.shr_s", Shape::None)), // 172
-    Some(("i32x4.shr_u", Shape::None)), // 173
-    Some(("i32x4.add", Shape::None)), // 174
+    Some(("i32x4.extend_low_i16x8_s", Shape::None, Arity::Fixed(1, 1))), // 167
+    Some(("i32x4.extend_high_i16x8_s", Shape::None, Arity::Fixed(1, 1))), // 168
+    Some(("i32x4.extend_low_i16x8_u", Shape::None, Arity::Fixed(1, 1))), // 169
+    Some(("i32x4.extend_high_i16x8_u", Shape::None, Arity::Fixed(1, 1))), // 170
+    Some(("i32x4.shl", Shape::None, Arity::Fixed(2, 1))), // 171
+    Some(("i32x4.shr_s", Shape::None, Arity::Fixed(2, 1))), // 172
+    Some(("i32x4.shr_u", Shape::None, Arity::Fixed(2, 1))), // 173
+    Some(("i32x4.add", Shape::None, Arity::Fixed(2, 1))), // 174
     None, // 175
     None, // 176
-    Some(("i32x4.sub", Shape::None)), // 177
+    Some(("i32x4.sub", Shape::None, Arity::Fixed(2, 1))), // 177
     None, None, None, // 178
-    Some(("i32x4.mul", Shape::None)), // 181
-    Some(("i32x4.min_s", Shape::None)), // 182
-    Some(("i32x4.min_u", Shape::None)), // 183
-    Some(("i32x4.max_s", Shape::None)), // 184
-    Some(("i32x4.max_u", Shape::None)), // 185
-    Some(("i32x4.dot_i16x8_s", Shape::None)), // 186
+    Some(("i32x4.mul", Shape::None, Arity::Fixed(2, 1))), // 181
+    Some(("i32x4.min_s", Shape::None, Arity::Fixed(2, 1))), // 182
+    Some(("i32x4.min_u", Shape::None, Arity::Fixed(2, 1))), // 183
+    Some(("i32x4.max_s", Shape::None, Arity::Fixed(2, 1))), // 184
+    Some(("i32x4.max_u", Shape::None, Arity::Fixed(2, 1))), // 185
+    Some(("i32x4.dot_i16x8_s", Shape::None, Arity::Fixed(2, 1))), // 186
     None, // 187
-    Some(("i32x4.extmul_low_i16x8_s", Shape::None)), // 188
-    Some(("i32x4.extmul_high_i16x8_s", Shape::None)), // 189
-    Some(("i32x4.extmul_low_i16x8_u", Shape::None)), // 190
-    Some(("i32x4.extmul_high_i16x8_u", Shape::None)), // 191
-    Some(("i64x2.abs", Shape::None)), // 192
-    Some(("i64x2.neg", Shape::None)), // 193
+    Some(("i32x4.extmul_low_i16x8_s", Shape::None, Arity::Fixed(2, 1))), // 188
+    Some(("i32x4.extmul_high_i16x8_s", Shape::None, Arity::Fixed(2, 1))), // 189
+    Some(("i32x4.extmul_low_i16x8_u", Shape::None, Arity::Fixed(2, 1))), // 190
+    Some(("i32x4.extmul_high_i16x8_u", Shape::None, Arity::Fixed(2, 1))), // 191
+    Some(("i64x2.abs", Shape::None, Arity::Fixed(1, 1))), // 192
+    Some(("i64x2.neg", Shape::None, Arity::Fixed(1, 1))), // 193
     None, // 194
-    Some(("i64x2.all_true", Shape::None)), // 195
-    Some(("i64x2.bitmask", Shape::None)), // 196
+    Some(("i64x2.all_true", Shape::None, Arity::Fixed(1, 1))), // 195
+    Some(("i64x2.bitmask", Shape::None, Arity::Fixed(1, 1))), // 196
     None, None, // 197
-    Some(("i64x2.extend_low_i32x4_s", Shape::None)), // 199
-    Some(("i64x2.extend_high_i32x4_s", Shape::None)), // 200
-    Some(("i64x2.extend_low_i32x4_u", Shape::None)), // 201
-    Some(("i64x2.extend_high_i32x4_u", Shape::None)), // 202
-    Some(("i64x2.shl", Shape::None)), // 203
-    Some(("i64x2.shr_s", Shape::None)), // 204
-    Some(("i64x2.shr_u", Shape::None)), // 205
-    Some(("i64x2.add", Shape::None)), // 206
+    Some(("i64x2.extend_low_i32x4_s", Shape::None, Arity::Fixed(1, 1))), // 199
+    Some(("i64x2.extend_high_i32x4_s", Shape::None, Arity::Fixed(1, 1))), // 200
+    Some(("i64x2.extend_low_i32x4_u", Shape::None, Arity::Fixed(1, 1))), // 201
+    Some(("i64x2.extend_high_i32x4_u", Shape::None, Arity::Fixed(1, 1))), // 202
+    Some(("i64x2.shl", Shape::None, Arity::Fixed(2, 1))), // 203
+    Some(("i64x2.shr_s", Shape::None, Arity::Fixed(2, 1))), // 204
+    Some(("i64x2.shr_u", Shape::None, Arity::Fixed(2, 1))), // 205
+    Some(("i64x2.add", Shape::None, Arity::Fixed(2, 1))), // 206
     None, // 207
     None, // 208
-    Some(("i64x2.sub", Shape::None)), // 209
+    Some(("i64x2.sub", Shape::None, Arity::Fixed(2, 1))), // 209
     None, None, None, // 210
-    Some(("i64x2.mul", Shape::None)), // 213
-    Some(("i64x2.eq", Shape::None)), // 214
-    Some(("i64x2.ne", Shape::None)), // 215
-    Some(("i64x2.lt_s", Shape::None)), // 216
-    Some(("i64x2.gt_s", Shape::None)), // 217
-    Some(("i64x2.le_s", Shape::None)), // 218
-    Some(("i64x2.ge_s", Shape::None)), // 219
-    Some(("i64x2.extmul_low_i32x4_s", Shape::None)), // 220
-    Some(("i64x2.extmul_high_i32x4_s", Shape::None)), // 221
-    Some(("i64x2.extmul_low_i32x4_u", Shape::None)), // 222
-    Some(("i64x2.extmul_high_i32x4_u", Shape::None)), // 223
-    Some(("f32x4.abs", Shape::None)), // 224
-    Some(("f32x4.neg", Shape::None)), // 225
+    Some(("i64x2.mul", Shape::None, Arity::Fixed(2, 1))), // 213
+    Some(("i64x2.eq", Shape::None, Arity::Fixed(2, 1))), // 214
+    Some(("i64x2.ne", Shape::None, Arity::Fixed(2, 1))), // 215
+    Some(("i64x2.lt_s", Shape::None, Arity::Fixed(2, 1))), // 216
+    Some(("i64x2.gt_s", Shape::None, Arity::Fixed(2, 1))), // 217
+    Some(("i64x2.le_s", Shape::None, Arity::Fixed(2, 1))), // 218
+    Some(("i64x2.ge_s", Shape::None, Arity::Fixed(2, 1))), // 219
+    Some(("i64x2.extmul_low_i32x4_s", Shape::None, Arity::Fixed(2, 1))), // 220
+    Some(("i64x2.extmul_high_i32x4_s", Shape::None, Arity::Fixed(2, 1))), // 221
+    Some(("i64x2.extmul_low_i32x4_u", Shape::None, Arity::Fixed(2, 1))), // 222
+    Some(("i64x2.extmul_high_i32x4_u", Shape::None, Arity::Fixed(2, 1))), // 223
+    Some(("f32x4.abs", Shape::None, Arity::Fixed(1, 1))), // 224
+    Some(("f32x4.neg", Shape::None, Arity::Fixed(1, 1))), // 225
     None, // 226
-    Some(("f32x4.sqrt", Shape::None)), // 227
-    Some(("f32x4.add", Shape::None)), // 228
-    Some(("f32x4.sub", Shape::None)), // 229
-    Some(("f32x4.mul", Shape::None)), // 230
-    Some(("f32x4.div", Shape::None)), // 231
-    Some(("f32x4.min", Shape::None)), // 232
-    Some(("f32x4.max", Shape::None)), // 233
-    Some(("f32x4.pmin", Shape::None)), // 234
-    Some(("f32x4.pmax", Shape::None)), // 235
-    Some(("f64x2.abs", Shape::None)), // 236
-    Some(("f64x2.neg", Shape::None)), // 237
+    Some(("f32x4.sqrt", Shape::None, Arity::Fixed(1, 1))), // 227
+    Some(("f32x4.add", Shape::None, Arity::Fixed(2, 1))), // 228
+    Some(("f32x4.sub", Shape::None, Arity::Fixed(2, 1))), // 229
+    Some(("f32x4.mul", Shape::None, Arity::Fixed(2, 1))), // 230
+    Some(("f32x4.div", Shape::None, Arity::Fixed(2, 1))), // 231
+    Some(("f32x4.min", Shape::None, Arity::Fixed(2, 1))), // 232
+    Some(("f32x4.max", Shape::None, Arity::Fixed(2, 1))), // 233
+    Some(("f32x4.pmin", Shape::None, Arity::Fixed(2, 1))), // 234
+    Some(("f32x4.pmax", Shape::None, Arity::Fixed(2, 1))), // 235
+    Some(("f64x2.abs", Shape::None, Arity::Fixed(1, 1))), // 236
+    Some(("f64x2.neg", Shape::None, Arity::Fixed(1, 1))), // 237
     None, // 238
-    Some(("f64x2.sqrt", Shape::None)), // 239
-    Some(("f64x2.add", Shape::None)), // 240
-    Some(("f64x2.sub", Shape::None)), // 241
-    Some(("f64x2.mul", Shape::None)), // 242
-    Some(("f64x2.div", Shape::None)), // 243
-    Some(("f64x2.min", Shape::None)), // 244
-    Some(("f64x2.max", Shape::None)), // 245
-    Some(("f64x2.pmin", Shape::None)), // 246
-    Some(("f64x2.pmax", Shape::None)), // 247
-    Some(("i32x4.trunc_sat_f32x4_s", Shape::None)), // 248
-    Some(("i32x4.trunc_sat_f32x4_u", Shape::None)), // 249
-    Some(("f32x4.convert_i32x4_s", Shape::None)), // 250
-    Some(("f32x4.convert_i32x4_u", Shape::None)), // 251
-    Some(("i32x4.trunc_sat_f64x2_s_zero", Shape::None)), // 252
-    Some(("i32x4.trunc_sat_f64x2_u_zero", Shape::None)), // 253
-    Some(("f64x2.convert_low_i32x4_s", Shape::None)), // 254
-    Some(("f64x2.convert_low_i32x4_u", Shape::None)), // 255
-    Some(("i8x16.relaxed_swizzle", Shape::None)), // 256
-    Some(("i32x4.relaxed_trunc_f32x4_s", Shape::None)), // 257
-    Some(("i32x4.relaxed_trunc_f32x4_u", Shape::None)), // 258
-    Some(("i32x4.relaxed_trunc_f64x2_s_zero", Shape::None)), // 259
-    Some(("i32x4.relaxed_trunc_f64x2_u_zero", Shape::None)), // 260
-    Some(("f32x4.relaxed_madd", Shape::None)), // 261
-    Some(("f32x4.relaxed_nmadd", Shape::None)), // 262
-    Some(("f64x2.relaxed_madd", Shape::None)), // 263
-    Some(("f64x2.relaxed_nmadd", Shape::None)), // 264
-    Some(("i8x16.relaxed_laneselect", Shape::None)), // 265
-    Some(("i16x8.relaxed_laneselect", Shape::None)), // 266
-    Some(("i32x4.relaxed_laneselect", Shape::None)), // 267
-    Some(("i64x2.relaxed_laneselect", Shape::None)), // 268
-    Some(("f32x4.relaxed_min", Shape::None)), // 269
-    Some(("f32x4.relaxed_max", Shape::None)), // 270
-    Some(("f64x2.relaxed_min", Shape::None)), // 271
-    Some(("f64x2.relaxed_max", Shape::None)), // 272
-    Some(("i16x8.relaxed_q15mulr_s", Shape::None)), // 273
-    Some(("i16x8.relaxed_dot_i8x16_i7x16_s", Shape::None)), // 274
-    Some(("i32x4.relaxed_dot_i8x16_i7x16_add_s", Shape::None)), // 275
+    Some(("f64x2.sqrt", Shape::None, Arity::Fixed(1, 1))), // 239
+    Some(("f64x2.add", Shape::None, Arity::Fixed(2, 1))), // 240
+    Some(("f64x2.sub", Shape::None, Arity::Fixed(2, 1))), // 241
+    Some(("f64x2.mul", Shape::None, Arity::Fixed(2, 1))), // 242
+    Some(("f64x2.div", Shape::None, Arity::Fixed(2, 1))), // 243
+    Some(("f64x2.min", Shape::None, Arity::Fixed(2, 1))), // 244
+    Some(("f64x2.max", Shape::None, Arity::Fixed(2, 1))), // 245
+    Some(("f64x2.pmin", Shape::None, Arity::Fixed(2, 1))), // 246
+    Some(("f64x2.pmax", Shape::None, Arity::Fixed(2, 1))), // 247
+    Some(("i32x4.trunc_sat_f32x4_s", Shape::None, Arity::Fixed(1, 1))), // 248
+    Some(("i32x4.trunc_sat_f32x4_u", Shape::None, Arity::Fixed(1, 1))), // 249
+    Some(("f32x4.convert_i32x4_s", Shape::None, Arity::Fixed(1, 1))), // 250
+    Some(("f32x4.convert_i32x4_u", Shape::None, Arity::Fixed(1, 1))), // 251
+    Some(("i32x4.trunc_sat_f64x2_s_zero", Shape::None, Arity::Fixed(1, 1))), // 252
+    Some(("i32x4.trunc_sat_f64x2_u_zero", Shape::None, Arity::Fixed(1, 1))), // 253
+    Some(("f64x2.convert_low_i32x4_s", Shape::None, Arity::Fixed(1, 1))), // 254
+    Some(("f64x2.convert_low_i32x4_u", Shape::None, Arity::Fixed(1, 1))), // 255
+    Some(("i8x16.relaxed_swizzle", Shape::None, Arity::Fixed(2, 1))), // 256
+    Some(("i32x4.relaxed_trunc_f32x4_s", Shape::None, Arity::Fixed(1, 1))), // 257
+    Some(("i32x4.relaxed_trunc_f32x4_u", Shape::None, Arity::Fixed(1, 1))), // 258
+    Some(("i32x4.relaxed_trunc_f64x2_s_zero", Shape::None, Arity::Fixed(1, 1))), // 259
+    Some(("i32x4.relaxed_trunc_f64x2_u_zero", Shape::None, Arity::Fixed(1, 1))), // 260
+    Some(("f32x4.relaxed_madd", Shape::None, Arity::Fixed(3, 1))), // 261
+    Some(("f32x4.relaxed_nmadd", Shape::None, Arity::Fixed(3, 1))), // 262
+    Some(("f64x2.relaxed_madd", Shape::None, Arity::Fixed(3, 1))), // 263
+    Some(("f64x2.relaxed_nmadd", Shape::None, Arity::Fixed(3, 1))), // 264
+    Some(("i8x16.relaxed_laneselect", Shape::None, Arity::Fixed(3, 1))), // 265
+    Some(("i16x8.relaxed_laneselect", Shape::None, Arity::Fixed(3, 1))), // 266
+    Some(("i32x4.relaxed_laneselect", Shape::None, Arity::Fixed(3, 1))), // 267
+    Some(("i64x2.relaxed_laneselect", Shape::None, Arity::Fixed(3, 1))), // 268
+    Some(("f32x4.relaxed_min", Shape::None, Arity::Fixed(2, 1))), // 269
+    Some(("f32x4.relaxed_max", Shape::None, Arity::Fixed(2, 1))), // 270
+    Some(("f64x2.relaxed_min", Shape::None, Arity::Fixed(2, 1))), // 271
+    Some(("f64x2.relaxed_max", Shape::None, Arity::Fixed(2, 1))), // 272
+    Some(("i16x8.relaxed_q15mulr_s", Shape::None, Arity::Fixed(2, 1))), // 273
+    Some(("i16x8.relaxed_dot_i8x16_i7x16_s", Shape::None, Arity::Fixed(2, 1))), // 274
+    Some(("i32x4.relaxed_dot_i8x16_i7x16_add_s", Shape::None, Arity::Fixed(3, 1))), // 275
 ];

@@ -1,5 +1,5 @@
-//! Opcodes, their words, shapes and roles. What is expected is typed by hand.
-use wasmprinter_ops::opcode::{Opcode, Role, Shape, Space};
+//! Opcodes, their words, shapes, arities and roles. What is expected is typed by hand.
+use wasmprinter_ops::opcode::{Arity, Opcode, Role, Shape, Space};
 
 #[test]
 fn opcodes_have_words_and_shapes(rt: HostRuntime) {
@@ -66,6 +66,46 @@ fn opcodes_have_words_and_shapes(rt: HostRuntime) {
 }
 
 #[test]
+fn opcodes_have_arities(rt: HostRuntime) {
+    let rows = [
+        (0, 0x01, "nop", Arity::Fixed(0, 0)),
+        (0, 0x02, "block", Arity::OfBlock),
+        (0, 0x08, "throw", Arity::OfThrow),
+        (0, 0x0b, "end", Arity::OfBlock),
+        (0, 0x0c, "br", Arity::OfBranch),
+        (0, 0x0d, "br_if", Arity::OfBranchIf),
+        (0, 0x0e, "br_table", Arity::OfBranchTable),
+        (0, 0x0f, "return", Arity::OfReturn),
+        (0, 0x10, "call", Arity::OfCall),
+        (0, 0x11, "call_indirect", Arity::OfIndirectCall),
+        (0, 0x12, "return_call", Arity::OfReturnCall),
+        (0, 0x15, "return_call_ref", Arity::OfReturnIndirectCall),
+        (0, 0x1a, "drop", Arity::Fixed(1, 0)),
+        (0, 0x1b, "select", Arity::Fixed(3, 1)),
+        (0, 0x36, "i32.store", Arity::Fixed(2, 0)),
+        (0, 0x41, "i32.const", Arity::Fixed(0, 1)),
+        (0, 0x45, "i32.eqz", Arity::Fixed(1, 1)),
+        (0, 0x6a, "i32.add", Arity::Fixed(2, 1)),
+        (0, 0xd5, "br_on_null", Arity::OfBranchOnNull),
+        (0, 0xd6, "br_on_non_null", Arity::OfBranchOnNonNull),
+        (0xfb, 0, "struct.new", Arity::OfStruct),
+        (0xfb, 8, "array.new_fixed", Arity::OfCount),
+        (0xfb, 17, "array.copy", Arity::Fixed(5, 0)),
+        (0xfb, 24, "br_on_cast", Arity::OfBranchOnCast),
+        (0xfc, 10, "memory.copy", Arity::Fixed(3, 0)),
+        (0xfc, 19, "i64.add128", Arity::Fixed(4, 2)),
+        (0xfc, 21, "i64.mul_wide_s", Arity::Fixed(2, 2)),
+        (0xfd, 261, "f32x4.relaxed_madd", Arity::Fixed(3, 1)),
+        (0xfe, 0x1e, "i32.atomic.rmw.add", Arity::Fixed(2, 1)),
+    ];
+    for (prefix, number, word, arity) in rows {
+        let opcode = Opcode { prefix, number };
+        assert_eq!(rt; opcode.word(), word);
+        assert_eq!(rt; opcode.arity(), Some(arity));
+    }
+}
+
+#[test]
 fn other_opcodes_have_none(rt: HostRuntime) {
     let rows = [
         (0, 0x16),
@@ -88,6 +128,7 @@ fn other_opcodes_have_none(rt: HostRuntime) {
         let opcode = Opcode { prefix, number };
         assert_eq!(rt; opcode.word(), "");
         assert_eq!(rt; opcode.shape(), None);
+        assert_eq!(rt; opcode.arity(), None);
         assert_eq!(rt; opcode.role(), Role::Plain);
     }
 }

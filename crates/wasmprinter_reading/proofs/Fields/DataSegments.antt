@@ -20,10 +20,11 @@ use Rattle.wasmprinter_spec.specs.Layout.DataSegments.{named_memory, data_mode_p
 use Rattle.wasmprinter_spec.specs.Text.Items.{identified}
 use Rattle.wasmprinter_spec.specs.Text.DataSegments.{strings, with_bytes, active_in, segment, read_data}
 use Rattle.wasmprinter_lexical.proofs.Pieces.{Free, Bound}
-use Rattle.wasmprinter_lexical.proofs.Writes.{Writes, both_write, nothing_writes, gap_writes, break_writes, word_writes, quoted_bytes_writes, line_group_gap_writes}
+use Rattle.wasmprinter_lexical.proofs.Writes.{Writes, both_write, nothing_writes, gap_writes, break_writes, word_writes, quoted_bytes_writes, line_group_gap_writes, group_gap_writes}
 use Rattle.wasmprinter_reading.specs.Listed.{AreSignaturesInRange}
 use Rattle.wasmprinter_reading.proofs.Declarations.{id}
 use Rattle.wasmprinter_reading.proofs.Identifiers.{declaration-items, declaration_writes, index_writes}
+use Rattle.wasmprinter_reading.proofs.Folded.Lists.{IsUnpainted}
 use Rattle.wasmprinter_reading.proofs.Fields.Scopes.{own_id, own_index, AreScoped, own_index-reads}
 use Rattle.wasmprinter_reading.proofs.Ranged.{IsRangedExpression, IsRangedDataMode, IsRangedData}
 use Rattle.wasmprinter_reading.proofs.Fields.Expressions.{constant_held, constant_group_writes, AreIndexed, constant_group-items, IsOffset, offset_stands, no_offset}
@@ -43,16 +44,16 @@ abbrev pub bytes_items : Bool → List ℕ → Forest
 bytes_items true bs = Word (codes "...") End
 bytes_items false bs = String bs End
 
-abbrev pub data_mode_items : Scope → DataMode Operator → Forest → Forest
+abbrev pub data_mode_items : Scope → DataMode (Placed Operator) → Forest → Forest
 data_mode_items s PassiveData f = f
 data_mode_items s (ActiveData m offset) f = named_memory_items s m (Group (constant_held s (codes "offset") offset) f)
 
 -- a data segment without its identifier
-abbrev pub segment_items : Scope → Bool → Data Operator → Forest
+abbrev pub segment_items : Scope → Bool → Data (Placed Operator) → Forest
 segment_items s skeleton d = data_mode_items s d.mode (bytes_items skeleton d.bytes)
 
 -- what a data segment holds behind its word
-abbrev pub data_items : Scope → Bool → ℕ → Data Operator → Forest
+abbrev pub data_items : Scope → Bool → ℕ → Data (Placed Operator) → Forest
 data_items s skeleton i d = onto (own_id s row.Data i) (segment_items s skeleton d)
 
 -- ---- their pieces write it
@@ -62,7 +63,7 @@ unfolding class
 bytes_write true bs h = word_writes refl nothing_writes
 bytes_write false bs h = quoted_bytes_writes h nothing_writes
 
-module _ (s : Scope) (named : AreNamed s.names) (ranged : AreSignaturesInRange (signature_at s.types)) where
+module _ (s : Scope) (named : AreNamed s.names) (ranged : AreSignaturesInRange (signature_at s.types)) (bare : IsUnpainted s.folding) where
   named_memory_writes : (m : ℕ) → m < 2 ^ 32 → {qs : List piece.Piece} {f : Forest} → Writes Free qs Free f →
       Writes Free (named_memory s m ++ qs) Free (named_memory_items s m f)
   unfolding class
@@ -78,28 +79,28 @@ module _ (s : Scope) (named : AreNamed s.names) (ranged : AreSignaturesInRange (
           (gap_writes refl nothing_writes)) w
 
   data_mode_writes : (m : DataMode (Placed Operator)) → IsRangedDataMode m →
-      Writes Free (data_mode_pieces s m) Free (data_mode_items s (data_mode_without_places m) End)
+      Writes Free (data_mode_pieces s m) Free (data_mode_items s m End)
   unfolding data_mode_pieces class
   data_mode_writes PassiveData h = nothing_writes
   data_mode_writes (ActiveData m offset) h =
-      named_memory_writes m h.0 (both_write (constant_group_writes s named ranged (codes "offset") offset refl refl h.1) (gap_writes refl nothing_writes))
+      named_memory_writes m h.0 (both_write (constant_group_writes s named ranged bare (codes "offset") offset refl refl h.1) (gap_writes refl nothing_writes))
 
   named_memory_onto : (t : Bool) (m : ℕ) (g f : Forest) → onto (named_memory_items_by s t m (Group g End)) f ≡ named_memory_items_by s t m (Group g f)
   named_memory_onto true m g f = refl
   named_memory_onto false m g f = refl
 
-  data_mode_onto : (m : DataMode Operator) (f : Forest) → onto (data_mode_items s m End) f ≡ data_mode_items s m f
+  data_mode_onto : (m : DataMode (Placed Operator)) (f : Forest) → onto (data_mode_items s m End) f ≡ data_mode_items s m f
   data_mode_onto PassiveData f = refl
   data_mode_onto (ActiveData m offset) f = named_memory_onto (m == 0) m (constant_held s (codes "offset") offset) f
 
   pub data_writes : (skeleton : Bool) (i : ℕ) (d : Placed (Data (Placed Operator))) → i < 2 ^ 64 → IsRangedData d.value →
-      Writes Bound (data_pieces skeleton s i d) Bound (Group (Word (codes "data") (data_items s skeleton i (data_without_places d.value))) End)
+      Writes Bound (data_pieces skeleton s i d) Bound (Group (Word (codes "data") (data_items s skeleton i d.value)) End)
   unfolding data_pieces class
   data_writes skeleton i d small h =
-      let mode : DataMode Operator = data_mode_without_places d.value.mode in
+      let mode : DataMode (Placed Operator) = d.value.mode in
       let bytes : Forest = bytes_items skeleton d.value.bytes in
       let held : Writes Bound (data_pieces skeleton s i d) Bound (Group (Word (codes "data") (onto (own_id s row.Data i) (onto (data_mode_items s mode End) bytes))) End) =
-      break_writes (line_group_gap_writes (codes "data") _ refl refl
+      break_writes (group_gap_writes 1 (codes "data") _ refl refl
       (both_write (declaration_writes (s.names.items row.Data i) i (named.items row.Data i) small)
       (gap_writes {a = Bound} refl (both_write (data_mode_writes d.value.mode h.mode) (bytes_write skeleton d.value.bytes h.bytes))))) in
       rw (data_mode_onto mode bytes) at held
@@ -110,30 +111,30 @@ strings-items : (bs : List ℕ) → strings (String bs End) ≡ Some bs
 strings-items bs = ap (λ x. Some x) (append-nil bs)
 
 -- no identifier stands in front of the mode
-identified-segment : (s : Scope) (d : Data Operator) → identified (segment_items s false d) ≡ (None, segment_items s false d)
+identified-segment : (s : Scope) (d : Data (Placed Operator)) → identified (segment_items s false d) ≡ (None, segment_items s false d)
 identified-segment s d = by d.mode
   where
     active : (t : Bool) (m : ℕ) (g f : Forest) → identified (named_memory_items_by s t m (Group g f)) ≡ (None, named_memory_items_by s t m (Group g f))
     active true m g f = refl
     active false m g f = refl
 
-    by : (m : DataMode Operator) → identified (data_mode_items s m (String d.bytes End)) ≡ (None, data_mode_items s m (String d.bytes End))
+    by : (m : DataMode (Placed Operator)) → identified (data_mode_items s m (String d.bytes End)) ≡ (None, data_mode_items s m (String d.bytes End))
     by PassiveData = refl
     by (ActiveData m offset) = active (m == 0) m (constant_held s (codes "offset") offset) (String d.bytes End)
 
 -- the identifier of a data segment, and what it is
-pub identified-data : (s : Scope) (i : ℕ) (d : Data Operator) → identified (data_items s false i d) ≡ (id (s.names.items row.Data i), segment_items s false d)
+pub identified-data : (s : Scope) (i : ℕ) (d : Data (Placed Operator)) → identified (data_items s false i d) ≡ (id (s.names.items row.Data i), segment_items s false d)
 identified-data s i d = declaration-items (s.names.items row.Data i) (segment_items s false d) (identified-segment s d)
 
 module _ (s : Scope) (c : Context) (n : Counts) (scoped : AreScoped s c n) where
   -- every index in the mode is declared
   abbrev pub IsIndexedMode : DataMode (Placed Operator) → Type 0
   IsIndexedMode PassiveData = Unit {0}
-  IsIndexedMode (ActiveData m offset) = (m < n.memories) × AreIndexed n offset
+  IsIndexedMode (ActiveData m offset) = (m < n.memories) × AreIndexed s n offset
 
   -- an active segment, behind its memory
-  active-items : (m : ℕ) (offset : List (Placed Operator)) (f : Forest) → IsRangedExpression offset → AreIndexed n offset →
-      active_in c m (Group (constant_held s (codes "offset") (without_places offset)) f) ≡ with_bytes c (ActiveData m (without_places offset)) f
+  active-items : (m : ℕ) (offset : List (Placed Operator)) (f : Forest) → IsRangedExpression offset → AreIndexed s n offset →
+      active_in c m (Group (constant_held s (codes "offset") offset) f) ≡ with_bytes c (ActiveData m (without_places offset)) f
   active-items m offset f h d =
       ap (λ o. o >>= λ e. with_bytes c (ActiveData m e) f) (constant_group-items s c n scoped (codes "offset") no_offset offset h d)
 
@@ -145,25 +146,25 @@ module _ (s : Scope) (c : Context) (n : Counts) (scoped : AreScoped s c n) where
       ∙ ap (λ x. active_in c 0 (Group x f)) (sym o.is)
 
   segment-active : (t : Bool) (m : ℕ) → (m == 0) ≡ t → (offset : List (Placed Operator)) (f : Forest) → m < 2 ^ 32 → m < n.memories →
-      IsRangedExpression offset → AreIndexed n offset →
-      segment c (named_memory_items_by s t m (Group (constant_held s (codes "offset") (without_places offset)) f)) ≡ with_bytes c
+      IsRangedExpression offset → AreIndexed s n offset →
+      segment c (named_memory_items_by s t m (Group (constant_held s (codes "offset") offset) f)) ≡ with_bytes c
       (ActiveData m (without_places offset)) f
   segment-active true m e offset f small declared h d =
       segment-offset _ f (offset_stands s offset h) ∙ active-items 0 offset f h d ∙ ap (λ i. with_bytes c (ActiveData i (without_places offset)) f)
       (sym (eqb-true m 0 e))
   segment-active false m e offset f small declared h d =
-      ap (λ o. o >>= λ i. active_in c i (Group (constant_held s (codes "offset") (without_places offset)) f))
+      ap (λ o. o >>= λ i. active_in c i (Group (constant_held s (codes "offset") offset) f))
       (own_index-reads s c n scoped row.Memory (λ names f. refl) m declared small)
       ∙ active-items m offset f h d
 
   segment-items : (m : DataMode (Placed Operator)) (bs : List ℕ) → IsRangedDataMode m → IsIndexedMode m →
-      segment c (data_mode_items s (data_mode_without_places m) (String bs End)) ≡ with_bytes c (data_mode_without_places m) (String bs End)
+      segment c (data_mode_items s m (String bs End)) ≡ with_bytes c (data_mode_without_places m) (String bs End)
   segment-items PassiveData bs h d = refl
   segment-items (ActiveData m offset) bs h d = segment-active (m == 0) m refl offset (String bs End) h.0 d.0 h.1 d.1
 
   pub read_data-items : (i : ℕ) (d : Data (Placed Operator)) → IsRangedData d → IsIndexedMode d.mode →
-      read_data c (data_items s false i (data_without_places d)) ≡ Some (data_without_places d)
+      read_data c (data_items s false i d) ≡ Some (data_without_places d)
   read_data-items i d h k =
-      ap (λ x. segment c x.1) (identified-data s i (data_without_places d))
+      ap (λ x. segment c x.1) (identified-data s i d)
       ∙ segment-items d.mode d.bytes h.mode k
       ∙ ap (option_map (data_of (data_mode_without_places d.mode))) (strings-items d.bytes)

@@ -22,11 +22,12 @@ use Rattle.wasmprinter_spec.specs.Text.Items.{identified}
 use Rattle.wasmprinter_spec.specs.Text.Types.{ref_named, ref_group}
 use Rattle.wasmprinter_spec.specs.Text.Elements.{function_indices, expressions, typed_items, items, with_mode, active_in, segment, read_element}
 use Rattle.wasmprinter_lexical.proofs.Pieces.{Free, Bound}
-use Rattle.wasmprinter_lexical.proofs.Writes.{Writes, both_write, nothing_writes, gap_writes, break_writes, word_writes, line_group_gap_writes}
+use Rattle.wasmprinter_lexical.proofs.Writes.{Writes, both_write, nothing_writes, gap_writes, break_writes, word_writes, line_group_gap_writes, group_gap_writes}
 use Rattle.wasmprinter_reading.specs.Listed.{AreSignaturesInRange}
 use Rattle.wasmprinter_reading.proofs.Items.{leading_item-reads}
 use Rattle.wasmprinter_reading.proofs.Declarations.{id}
 use Rattle.wasmprinter_reading.proofs.Identifiers.{index_items, declaration-items, declaration_writes, index_writes}
+use Rattle.wasmprinter_reading.proofs.Folded.Lists.{IsUnpainted}
 use Rattle.wasmprinter_reading.proofs.Fields.Scopes.{own_id, own_index, AreScoped, own_index-reads, type_bound, type_indices-read, heap_bounded}
 use Rattle.wasmprinter_reading.proofs.Ranged.{IsRangedExpression, IsNamedTable, IsRangedMode, AreRangedItems, IsRangedElement}
 use Rattle.wasmprinter_reading.proofs.Types.Trees.{ref_items_by, ref_items, ref_writes}
@@ -46,21 +47,21 @@ module _ (s : Scope) where
   function_row [] = End
   function_row (i ∷ is) = onto (own_index s row.Func i) (function_row is)
 
-  abbrev pub expressions_items : List (List Operator) → Forest
+  abbrev pub expressions_items : List (List (Placed Operator)) → Forest
   expressions_items [] = End
   expressions_items (e ∷ es) = Group (constant_held s (codes "item") e) (expressions_items es)
 
-  abbrev pub items_items : Items Operator → Forest
+  abbrev pub items_items : Items (Placed Operator) → Forest
   items_items (Functions is) = Word (codes "func") (function_row is)
   items_items (Expressions t es) = onto (ref_items s.names t) (expressions_items es)
 
   -- the items, or three points in a skeleton
-  abbrev pub shown_items_items : Bool → Items Operator → Forest
+  abbrev pub shown_items_items : Bool → Items (Placed Operator) → Forest
   shown_items_items true is = Word (codes "...") End
   shown_items_items false is = items_items is
 
   -- what stands before the items
-  abbrev pub mode_items : Bool → Mode Operator → Forest → Forest
+  abbrev pub mode_items : Bool → Mode (Placed Operator) → Forest → Forest
   mode_items names Passive f = f
   mode_items names Declared f = Word (codes "declare") f
   mode_items names (Active t offset) f = named_table_items s names t (Group (constant_held s (codes "offset") offset) f)
@@ -68,7 +69,7 @@ module _ (s : Scope) where
   -- an element segment without its identifier
   abbrev pub segment_items : Bool → ElementEntry → Forest
   segment_items skeleton e =
-      mode_items e.names_table (mode_without_places e.element.mode) (shown_items_items skeleton (items_without_places e.element.items))
+      mode_items e.names_table e.element.mode (shown_items_items skeleton e.element.items)
 
   -- what an element segment holds behind its word
   abbrev pub element_items : Bool → ℕ → ElementEntry → Forest
@@ -76,7 +77,7 @@ module _ (s : Scope) where
 
 -- ---- their pieces write it
 
-module _ (s : Scope) (named : AreNamed s.names) (ranged : AreSignaturesInRange (signature_at s.types)) where
+module _ (s : Scope) (named : AreNamed s.names) (ranged : AreSignaturesInRange (signature_at s.types)) (bare : IsUnpainted s.folding) where
   functions_write : (is : List ℕ) → AllByRecursion (λ i. i < 2 ^ 32) is → Writes Bound (layout.function_items s is) Bound (function_row s is)
   unfolding layout.function_items
   functions_write [] h = nothing_writes
@@ -85,63 +86,63 @@ module _ (s : Scope) (named : AreNamed s.names) (ranged : AreSignaturesInRange (
       gap_writes refl (both_write (index_writes (s.names.items row.Func i) i (named.items row.Func i) small) (functions_write is h.1))
 
   expressions_write : (es : List (List (Placed Operator))) → AllByRecursion IsRangedExpression es →
-      Writes Bound (layout.expression_items s es) Bound (expressions_items s (map without_places es))
+      Writes Bound (layout.expression_items s es) Bound (expressions_items s es)
   unfolding layout.expression_items class
   expressions_write [] h = nothing_writes
   expressions_write (e ∷ es) h =
-      gap_writes refl (both_write (constant_group_writes s named ranged (codes "item") e refl refl h.0) (expressions_write es h.1))
+      gap_writes refl (both_write (constant_group_writes s named ranged bare (codes "item") e refl refl h.0) (expressions_write es h.1))
 
-  items_write : (is : Items (Placed Operator)) → AreRangedItems is → Writes Free (items_pieces s is) Bound (items_items s (items_without_places is))
+  items_write : (is : Items (Placed Operator)) → AreRangedItems is → Writes Free (items_pieces s is) Bound (items_items s is)
   unfolding items_pieces class
   items_write (Functions is) h = word_writes refl (functions_write is h)
   items_write (Expressions t es) h = both_write (ref_writes s.names named t h.0) (expressions_write es h.1)
 
   shown_items_write : (skeleton : Bool) (is : Items (Placed Operator)) → AreRangedItems is →
-      Writes Free (shown_items skeleton s is) Bound (shown_items_items s skeleton (items_without_places is))
+      Writes Free (shown_items skeleton s is) Bound (shown_items_items s skeleton is)
   unfolding class
   shown_items_write true is h = word_writes refl nothing_writes
   shown_items_write false is h = items_write is h
 
   -- the mode, and a blank, before the items
   mode_writes : (names : Bool) (m : Mode (Placed Operator)) → IsRangedMode names m → {qs : List piece.Piece} {f : Forest} → Writes Free qs Bound f →
-      Writes Bound (mode_pieces s names m ++ (piece.Gap ∷ qs)) Bound (mode_items s names (mode_without_places m) f)
+      Writes Bound (mode_pieces s names m ++ (piece.Gap ∷ qs)) Bound (mode_items s names m f)
   unfolding mode_pieces class
   mode_writes names Passive h w = gap_writes refl w
   mode_writes names Declared h w = gap_writes refl (word_writes refl (gap_writes refl w))
   mode_writes names (Active t offset) h {qs} {f} w = by names h.0
     where
       by : (b : Bool) → IsNamedTable b t →
-          Writes Bound ((named_table s b t ++ (piece.Gap ∷ constant_group s (codes "offset") offset)) ++ (piece.Gap ∷ qs)) Bound
-          (named_table_items s b t (Group (constant_held s (codes "offset") (without_places offset)) f))
+          Writes Bound ((named_table s b t ++ (piece.Gap ∷ constant_group s 2 (codes "offset") offset)) ++ (piece.Gap ∷ qs)) Bound
+          (named_table_items s b t (Group (constant_held s (codes "offset") offset) f))
       by true k =
           let small : t < 2 ^ 64 = omega (arith, k) in
           gap_writes refl (both_write (both_write
           (line_group_gap_writes (codes "table") _ refl refl (index_writes (s.names.items row.Table t) t (named.items row.Table t) small))
-          (gap_writes {a = Bound} refl (constant_group_writes s named ranged (codes "offset") offset refl refl h.1))) (gap_writes refl w))
-      by false k = both_write (gap_writes refl (constant_group_writes s named ranged (codes "offset") offset refl refl h.1)) (gap_writes refl w)
+          (gap_writes {a = Bound} refl (constant_group_writes s named ranged bare (codes "offset") offset refl refl h.1))) (gap_writes refl w))
+      by false k = both_write (gap_writes refl (constant_group_writes s named ranged bare (codes "offset") offset refl refl h.1)) (gap_writes refl w)
 
   pub element_writes : (skeleton : Bool) (i : ℕ) (e : Placed ElementEntry) → i < 2 ^ 64 → IsRangedElement e.value →
       Writes Bound (element_pieces skeleton s i e) Bound (Group (Word (codes "elem") (element_items s skeleton i e.value)) End)
   unfolding element_pieces class
   element_writes skeleton i e small h =
-      break_writes (line_group_gap_writes (codes "elem") _ refl refl
+      break_writes (group_gap_writes 1 (codes "elem") _ refl refl
       (both_write (declaration_writes (s.names.items row.Elem i) i (named.items row.Elem i) small)
       (mode_writes e.value.names_table e.value.element.mode h.mode (shown_items_write skeleton e.value.element.items h.items))))
 
 -- ---- they read back
 
 -- no identifier stands in front of the items
-identified-items : (s : Scope) (is : Items Operator) → identified (items_items s is) ≡ (None, items_items s is)
+identified-items : (s : Scope) (is : Items (Placed Operator)) → identified (items_items s is) ≡ (None, items_items s is)
 identified-items s (Functions is) = refl
 identified-items s (Expressions t es) = identified-ref s.names t.nullable t.heap (expressions_items s es)
 
 identified-segment : (s : Scope) (e : ElementEntry) → identified (segment_items s false e) ≡ (None, segment_items s false e)
-identified-segment s e = by e.names_table (mode_without_places e.element.mode)
+identified-segment s e = by e.names_table e.element.mode
   where
-    by : (names : Bool) (m : Mode Operator) →
-        identified (mode_items s names m (items_items s (items_without_places e.element.items))) ≡
-        (None, mode_items s names m (items_items s (items_without_places e.element.items)))
-    by names Passive = identified-items s (items_without_places e.element.items)
+    by : (names : Bool) (m : Mode (Placed Operator)) →
+        identified (mode_items s names m (items_items s e.element.items)) ≡
+        (None, mode_items s names m (items_items s e.element.items))
+    by names Passive = identified-items s e.element.items
     by names Declared = refl
     by true (Active t offset) = refl
     by false (Active t offset) = refl
@@ -159,12 +160,12 @@ first_function c (Some n) i f is h k = rw (h, k)
 module _ (s : Scope) (c : Context) (n : Counts) (scoped : AreScoped s c n) where
   -- every index in the mode and in the items is declared
   abbrev pub IsIndexedMode : Mode (Placed Operator) → Type 0
-  IsIndexedMode (Active t offset) = (t < n.tables) × AreIndexed n offset
+  IsIndexedMode (Active t offset) = (t < n.tables) × AreIndexed s n offset
   IsIndexedMode _ = Unit {0}
 
   abbrev pub AreIndexedItems : Items (Placed Operator) → Type 0
   AreIndexedItems (Functions is) = AllByRecursion (λ i. i < n.functions) is
-  AreIndexedItems (Expressions t es) = IsDeclaredHeap n.types t.heap × AllByRecursion (AreIndexed n) es
+  AreIndexedItems (Expressions t es) = IsDeclaredHeap n.types t.heap × AllByRecursion (AreIndexed s n) es
 
   functions-items : (is : List ℕ) → AllByRecursion (λ i. i < 2 ^ 32) is → AllByRecursion (λ i. i < n.functions) is →
       function_indices c (function_row s is) ≡ Some is
@@ -173,16 +174,16 @@ module _ (s : Scope) (c : Context) (n : Counts) (scoped : AreScoped s c n) where
       first_function c (s.names.items row.Func i) i (function_row s is) is
       (own_index-reads s c n scoped row.Func (λ names f. refl) i d.0 h.0) (functions-items is h.1 d.1)
 
-  expressions-items : (es : List (List (Placed Operator))) → AllByRecursion IsRangedExpression es → AllByRecursion (AreIndexed n) es →
-      expressions c (expressions_items s (map without_places es)) ≡ Some (map without_places es)
+  expressions-items : (es : List (List (Placed Operator))) → AllByRecursion IsRangedExpression es → AllByRecursion (AreIndexed s n) es →
+      expressions c (expressions_items s es) ≡ Some (map without_places es)
   expressions-items [] h d = refl
   expressions-items (e ∷ es) h d = rw (constant_group-items s c n scoped (codes "item") no_item e h.0 d.0, expressions-items es h.1 d.1)
 
   typed_items-items : (t : RefType) (es : List (List (Placed Operator))) → IsDeclaredHeap (type_bound s c n scoped) t.heap → AllByRecursion IsRangedExpression es →
-      AllByRecursion (AreIndexed n) es →
-      typed_items c (onto (ref_items s.names t) (expressions_items s (map without_places es))) ≡ Some (Expressions t (map without_places es))
+      AllByRecursion (AreIndexed s n) es →
+      typed_items c (onto (ref_items s.names t) (expressions_items s es)) ≡ Some (Expressions t (map without_places es))
   typed_items-items t es r h d =
-      let rest : Forest = expressions_items s (map without_places es) in
+      let rest : Forest = expressions_items s es in
       rw (
         leading_item-reads ref_named (ref_group c.spaces.types) (ref_items s.names t) t rest
             (ref_item s.names c.spaces.types (type_bound s c n scoped) (type_indices-read s c n scoped) t.nullable t.heap r),
@@ -202,21 +203,21 @@ module _ (s : Scope) (c : Context) (n : Counts) (scoped : AreScoped s c n) where
   segment-typed false h f = refl
 
   items-items : (is : Items (Placed Operator)) → AreRangedItems is → AreIndexedItems is →
-      items c (items_items s (items_without_places is)) ≡ Some (items_without_places is)
+      items c (items_items s is) ≡ Some (items_without_places is)
   items-items (Functions is) h d = rw (functions-items is h d)
   items-items (Expressions t es) h d =
-      items-typed t.nullable t.heap (expressions_items s (map without_places es))
+      items-typed t.nullable t.heap (expressions_items s es)
       ∙ typed_items-items t es (heap_bounded s c n scoped t.heap h.0 d.0) h.1 d.1
 
   -- a passive segment
   segment-passive : (is : Items (Placed Operator)) →
-      segment c (items_items s (items_without_places is)) ≡ with_mode c Passive (items_items s (items_without_places is))
+      segment c (items_items s is) ≡ with_mode c Passive (items_items s is)
   segment-passive (Functions is) = refl
-  segment-passive (Expressions t es) = segment-typed t.nullable t.heap (expressions_items s (map without_places es))
+  segment-passive (Expressions t es) = segment-typed t.nullable t.heap (expressions_items s es)
 
   -- an active segment, behind its table
-  active-items : (t : ℕ) (offset : List (Placed Operator)) (f : Forest) → IsRangedExpression offset → AreIndexed n offset →
-      active_in c t (Group (constant_held s (codes "offset") (without_places offset)) f) ≡ with_mode c (Active t (without_places offset)) f
+  active-items : (t : ℕ) (offset : List (Placed Operator)) (f : Forest) → IsRangedExpression offset → AreIndexed s n offset →
+      active_in c t (Group (constant_held s (codes "offset") offset) f) ≡ with_mode c (Active t (without_places offset)) f
   active-items t offset f h d =
       ap (λ o. o >>= λ e. with_mode c (Active t e) f) (constant_group-items s c n scoped (codes "offset") no_offset offset h d)
 
@@ -232,19 +233,19 @@ module _ (s : Scope) (c : Context) (n : Counts) (scoped : AreScoped s c n) where
       ∙ ap (λ x. active_in c 0 (Group x f)) (sym o.is)
 
   segment-active : (names : Bool) (t : ℕ) (offset : List (Placed Operator)) (f : Forest) → IsNamedTable names t → t < n.tables → IsRangedExpression offset →
-      AreIndexed n offset →
-      segment c (named_table_items s names t (Group (constant_held s (codes "offset") (without_places offset)) f)) ≡ with_mode c
+      AreIndexed s n offset →
+      segment c (named_table_items s names t (Group (constant_held s (codes "offset") offset) f)) ≡ with_mode c
       (Active t (without_places offset)) f
   segment-active true t offset f small declared h d =
-      ap (λ o. o >>= λ i. active_in c i (Group (constant_held s (codes "offset") (without_places offset)) f))
+      ap (λ o. o >>= λ i. active_in c i (Group (constant_held s (codes "offset") offset) f))
       (own_index-reads s c n scoped row.Table (λ names f. refl) t declared small)
       ∙ active-items t offset f h d
   segment-active false t offset f zero declared h d =
       segment-offset _ f (offset_stands s offset h) ∙ active-items 0 offset f h d ∙ ap (λ i. with_mode c (Active i (without_places offset)) f) (sym zero)
 
   segment-items : (names : Bool) (m : Mode (Placed Operator)) (is : Items (Placed Operator)) → IsRangedMode names m → IsIndexedMode m →
-      segment c (mode_items s names (mode_without_places m) (items_items s (items_without_places is))) ≡ with_mode c (mode_without_places m)
-      (items_items s (items_without_places is))
+      segment c (mode_items s names m (items_items s is)) ≡ with_mode c (mode_without_places m)
+      (items_items s is)
   segment-items names Passive is h d = segment-passive is
   segment-items names Declared is h d = refl
   segment-items names (Active t offset) is h d = segment-active names t offset _ h.0 d.0 h.1 d.1

@@ -1,8 +1,8 @@
 -- Functions among the fields of a module.
-use Rattle.std.proofs.Common.{◌≡◌, ℕ, zero, suc, ◌+◌, ◌-◌, ◌<◌, ◌≤◌, ◌^◌, true, false, Bool, cond, List, [], ◌∷◌, ◌++◌, length, Option, Some, None, refl, ap, ◌∙◌, subst, codes, replicate, arith}
+use Rattle.std.proofs.Common.{◌≡◌, ℕ, zero, suc, ◌+◌, ◌-◌, ◌<◌, ◌≤◌, ◌^◌, true, false, Bool, bytes_eq, cond, List, [], ◌∷◌, ◌++◌, length, Option, Some, None, refl, ap, ◌∙◌, subst, codes, replicate, arith}
 use Rattle.std.specs.List.{AllByRecursion}
 use Rattle.wasmprinter_spec.specs.Character.{class}
-use Rattle.wasmprinter_spec.specs.Forest.{Forest, End, Word, Group, onto}
+use Rattle.wasmprinter_spec.specs.Forest.{Forest, End, Word, Group, Note, onto}
 use Rattle.wasmprinter_spec.specs.Grammar.{Placed}
 use Rattle.wasmprinter_spec.specs.Types.{ValType, FuncType, signature_at}
 use Rattle.wasmprinter_spec.specs.Row as row
@@ -18,10 +18,10 @@ use Rattle.wasmprinter_spec.specs.Piece as piece
 use Rattle.wasmprinter_spec.specs.Piece.{Piece, Gap}
 use Rattle.wasmprinter_spec.specs.Layout.Groups.{group_gap_at, breaks, has_break}
 use Rattle.wasmprinter_spec.specs.Layout.Variables.{Variables, grouped}
-use Rattle.wasmprinter_spec.specs.Layout.Declarations.{Scope}
+use Rattle.wasmprinter_spec.specs.Layout.Declarations.{Scope, Folding}
 use Rattle.wasmprinter_spec.specs.Layout.Types.{parameters_of}
-use Rattle.wasmprinter_spec.specs.Layout.Operators.{OverLines, Setting, hint_pieces, operator_pieces, operators_pieces}
-use Rattle.wasmprinter_spec.specs.Layout.Functions.{locals_place, local_line, local_pieces, header_pieces, body_pieces, inner_pieces, function_group}
+use Rattle.wasmprinter_spec.specs.Layout.Operators.{Setting, hint_pieces, operator_pieces, operators_pieces}
+use Rattle.wasmprinter_spec.specs.Layout.Functions.{locals_place, local_line, local_pieces, header_pieces, over_lines, result_count, body_by, body_pieces, inner_pieces, function_group}
 use Rattle.wasmprinter_spec.specs.IndexSpaces.{Identifiers, index_space, space_in, index, Context}
 use Rattle.wasmprinter_spec.specs.Text.Items.{identified, groups, ids_of}
 use Rattle.wasmprinter_spec.specs.Text.Types.{val_types, variables, signature}
@@ -37,29 +37,26 @@ use Rattle.wasmprinter_reading.proofs.Spaces.{identifiers_space}
 use Rattle.wasmprinter_reading.proofs.Types.Ranged.{IsRangedVal}
 use Rattle.wasmprinter_reading.proofs.Types.Trees.{groups_items, signature_items, type_use_items, HaveTypes, HaveNames, grouped_types, grouped_names, variables_write, groups_write}
 use Rattle.wasmprinter_reading.proofs.Types.Back.{variables_leave, variables_take, IsBehindSignature, printed_signature, signature-items, own_parameters}
-use Rattle.wasmprinter_reading.proofs.Operators.Lists.{expression_items, hinted_items, chunks_of, unfolded-operators, hinted_write, expression_reads}
+use Rattle.wasmprinter_reading.proofs.Operators.Lists.{expression_items, hinted_items, chunks_of, hinted_write, expression_reads}
+use Rattle.wasmprinter_reading.proofs.Tabled.{StandsAlone}
+use Rattle.wasmprinter_reading.proofs.Folded.Lists.{IsUnpainted, AreFoldable, list_items, folded_list_writes, unfolded-list}
+use Rattle.wasmprinter_reading.proofs.Folded.Begins.{BeginsCode, list_begins}
 use Rattle.wasmprinter_reading.proofs.Fields.Scopes.{own_index, AreScoped, own_index-reads, type_bound, type_indices-read, vals_bounded, signature_bounded, signature_declared}
 use Rattle.wasmprinter_reading.proofs.Fields.Headers.{header_items, header_writes, identified-header}
 
 -- ---- what functions are written as
 
--- what the operators of a body at this place are laid out by
-abbrev pub body_setting : Scope → ℕ → Setting
-body_setting s place = record { form = OverLines; signature = signature_at s.types; nesting = 2; names = s.names; function = s.function; body = place }
-
 -- the locals behind so many parameters
 abbrev local_items : Scope → ℕ → List ValType → Forest
 local_items s count ls = groups_items s.names (codes "local") (grouped (s.names.locals s.function) count ls)
 
--- what a function holds behind its type
-abbrev inner_items : Scope → ℕ → PlacedFunction → Forest
-inner_items s count f =
-    onto (local_items s count (locals_of f.body.value.locals)) (expression_items (body_setting s f.body.place) (without_places f.body.value.operators))
+-- the operators, with their hints or without
+abbrev pub body_items : Bool → Scope → List (Placed Hint) → PlacedFunction → Forest
+body_items hints s hs f = list_items hints s.folding (result_count s f.type_index) (over_lines s f.body.place) hs f.body.value.operators
 
--- the same with hints
-abbrev inner_hinted : Scope → List (Placed Hint) → ℕ → PlacedFunction → Forest
-inner_hinted s hs count f =
-    onto (local_items s count (locals_of f.body.value.locals)) (hinted_items (body_setting s f.body.place) hs 0 [] f.body.value.operators)
+-- what a function holds behind its type
+abbrev inner_items : Bool → Scope → List (Placed Hint) → ℕ → PlacedFunction → Forest
+inner_items hints s hs count f = onto (local_items s count (locals_of f.body.value.locals)) (body_items hints s hs f)
 
 -- a function with this behind its type, or a skeleton
 abbrev function_items_by : Bool → Scope → PlacedFunction → Forest → Forest
@@ -73,13 +70,13 @@ function_scope s i = record s { function = i }
 abbrev own_parameter_count : Scope → PlacedFunction → ℕ
 own_parameter_count s f = parameter_count (signature_at s.types f.type_index)
 
-abbrev pub function_items : Bool → Scope → ℕ → PlacedFunction → Forest
-function_items skeleton s i f =
-    function_items_by skeleton (function_scope s i) f (inner_items (function_scope s i) (own_parameter_count s f) f)
+abbrev pub function_items : Bool → Scope → ℕ → List (Placed Hint) → PlacedFunction → Forest
+function_items skeleton s i hs f =
+    function_items_by skeleton (function_scope s i) f (inner_items false (function_scope s i) hs (own_parameter_count s f) f)
 
 abbrev pub function_hinted : Bool → Scope → ℕ → List (Placed Hint) → PlacedFunction → Forest
 function_hinted skeleton s i hs f =
-    function_items_by skeleton (function_scope s i) f (inner_hinted (function_scope s i) hs (own_parameter_count s f) f)
+    function_items_by skeleton (function_scope s i) f (inner_items true (function_scope s i) hs (own_parameter_count s f) f)
 
 -- functions from i on, each with its hints
 abbrev pub functions_hinted : Bool → Scope → List FunctionHints → ℕ → List PlacedFunction → Forest
@@ -112,11 +109,11 @@ hint_breaks nesting (Some h) ps e = refl
 
 -- operators begin with a line
 body_breaks : (s : Scope) (place : ℕ) (hs : List (Placed Hint)) (o : Placed Operator) (os : List (Placed Operator)) →
-    has_break (operators_pieces (body_setting s place) hs true 0 [] (o ∷ os)) ≡ true
+    has_break (operators_pieces (over_lines s place) hs true 0 [] (o ∷ os)) ≡ true
 unfolding operators_pieces operator_pieces
 body_breaks s place hs o os = hint_breaks (2 + 0) (next_hint (o.place - place) hs) _ refl
 
-module _ (s : Scope) (named : AreNamed s.names) (ranged : AreSignaturesInRange (signature_at s.types)) where
+module _ (s : Scope) (named : AreNamed s.names) (ranged : AreSignaturesInRange (signature_at s.types)) (bare : IsUnpainted s.folding) where
   local_line_writes : (place : Option ℕ) (gs : List Variables) → AllByRecursion HaveNames gs → AllByRecursion (HaveTypes IsRangedVal) gs →
       Writes Bound (local_line s.names place gs) Bound (groups_items s.names (codes "local") gs)
   unfolding local_line class
@@ -135,24 +132,24 @@ module _ (s : Scope) (named : AreNamed s.names) (ranged : AreSignaturesInRange (
       (grouped_types IsRangedVal own count (locals_of es) (locals_ranged es r))
 
   body_writes : (place : ℕ) (hs : List (Placed Hint)) (os : List (Placed Operator)) → AllByRecursion IsListed (without_places os) →
-      WritesNoted Bound (operators_pieces (body_setting s place) hs true 0 [] os) Ended (expression_items (body_setting s place) (without_places os))
-      (hinted_items (body_setting s place) hs 0 [] os)
-  body_writes place hs os l = behind_anything Bound (hinted_write (body_setting s place) named ranged hs os l)
+      WritesNoted Bound (operators_pieces (over_lines s place) hs true 0 [] os) Ended (expression_items (over_lines s place) (without_places os))
+      (hinted_items (over_lines s place) hs 0 [] os)
+  body_writes place hs os l = behind_anything Bound (hinted_write (over_lines s place) named ranged hs os l)
 
-  empty_body_writes : (place : ℕ) (hs : List (Placed Hint)) → Writes Bound (operators_pieces (body_setting s place) hs true 0 [] []) Bound End
+  empty_body_writes : (place : ℕ) (hs : List (Placed Hint)) → Writes Bound (operators_pieces (over_lines s place) hs true 0 [] []) Bound End
   unfolding operators_pieces
   empty_body_writes place hs = nothing_writes
 
   -- a function closes on a line of its own behind its operators, so that no comment hides its parenthesis
   pub function_group_writes : {a : Edge} → is_open a ≡ true → (skeleton offsets : Bool) (hs : List (Placed Hint)) (f : PlacedFunction) → s.function < 2 ^ 64 → IsRangedFunction f →
       WritesNoted a (function_group skeleton offsets s hs f) Bound
-      (Group (Word (codes "func") (function_items_by skeleton s f (inner_items s (own_parameter_count s f) f))) End)
-      (Group (Word (codes "func") (function_items_by skeleton s f (inner_hinted s hs (own_parameter_count s f) f))) End)
-  unfolding function_group inner_pieces body_pieces class
+      (Group (Word (codes "func") (function_items_by skeleton s f (inner_items false s hs (own_parameter_count s f) f))) End)
+      (Group (Word (codes "func") (function_items_by skeleton s f (inner_items true s hs (own_parameter_count s f) f))) End)
+  unfolding function_group inner_pieces body_pieces body_by class
   function_group_writes e true offsets hs f h r =
       let rest : Writes Bound (Gap ∷ (piece.Word (codes "...") ∷ [])) Bound (Word (codes "...") End) = search writing in
       line_group_gap_writes (codes "func") _ e refl (header_writes s named ranged Func (Some s.function) s.function f.type_index _ _ _ h r.type_index rest)
-  function_group_writes {a = a} e false offsets hs f h r = by f.body.value.operators r.body.listed
+  function_group_writes {a = a} e false offsets hs f h r = by s.folding bare
     where
       place : ℕ
       place = f.body.place
@@ -169,33 +166,60 @@ module _ (s : Scope) (named : AreNamed s.names) (ranged : AreSignaturesInRange (
       own_items : Forest → Forest
       own_items x = header_items s Func (Some s.function) s.function f.type_index (onto (local_items s (own_parameter_count s f) (locals_of locals)) x)
 
-      by : (os : List (Placed Operator)) → AllByRecursion IsListed (without_places os) →
-          WritesNoted a (group_gap_at offsets f.body.value.end 1 (codes "func") (header ++ (own_locals ++ operators_pieces (body_setting s place) hs true 0 [] os))) Bound
-          (Group (Word (codes "func") (own_items (expression_items (body_setting s place) (without_places os)))) End)
-          (Group (Word (codes "func") (own_items (hinted_items (body_setting s place) hs 0 [] os))) End)
-      by [] l =
+      flat : (os : List (Placed Operator)) → AllByRecursion IsListed (without_places os) →
+          WritesNoted a (group_gap_at offsets f.body.value.end 1 (codes "func") (header ++ (own_locals ++ operators_pieces (over_lines s place) hs true 0 [] os))) Bound
+          (Group (Word (codes "func") (own_items (expression_items (over_lines s place) (without_places os)))) End)
+          (Group (Word (codes "func") (own_items (hinted_items (over_lines s place) hs 0 [] os))) End)
+      flat [] l =
           group_gap_at_writes offsets f.body.value.end 1 (codes "func") _ e refl
           (header_writes s named ranged Func (Some s.function) s.function f.type_index _ _ _ h r.type_index
           (both_write (local_writes (own_parameter_count s f) locals r.body.locals) (empty_body_writes place hs)))
-      by (o ∷ os) l =
+      flat (o ∷ os) l =
           ended_group_gap_at_writes offsets f.body.value.end 1 (codes "func") _ e refl
           (has_break-behind header _ (has_break-behind own_locals _ (body_breaks s place hs o os)))
           (header_writes s named ranged Func (Some s.function) s.function f.type_index _ _ _ h r.type_index
           (both_write (local_writes (own_parameter_count s f) locals r.body.locals) (body_writes place hs (o ∷ os) l)))
 
-pub function_writes : (s : Scope) → AreNamed s.names → AreSignaturesInRange (signature_at s.types) → {a : Edge} → is_open a ≡ true → (skeleton offsets : Bool) (i : ℕ)
+      own : Option ℕ
+      own = result_count s f.type_index
+
+      by : (folding : Option Folding) → IsUnpainted folding →
+          WritesNoted a (group_gap_at offsets f.body.value.end 1 (codes "func") (header ++ (own_locals ++ body_by folding own (over_lines s place) hs f.body.value.operators))) Bound
+          (Group (Word (codes "func") (own_items (list_items false folding own (over_lines s place) hs f.body.value.operators))) End)
+          (Group (Word (codes "func") (own_items (list_items true folding own (over_lines s place) hs f.body.value.operators))) End)
+      by None b = flat f.body.value.operators r.body.listed
+      by (Some x) b =
+          group_gap_at_writes offsets f.body.value.end 1 (codes "func") _ e refl
+          (header_writes s named ranged Func (Some s.function) s.function f.type_index _ _ _ h r.type_index
+          (both_write (local_writes (own_parameter_count s f) locals r.body.locals)
+          (folded_list_writes x b own (over_lines s place) named ranged hs f.body.value.operators r.body.listed)))
+
+pub function_writes : (s : Scope) → AreNamed s.names → AreSignaturesInRange (signature_at s.types) → IsUnpainted s.folding → {a : Edge} → is_open a ≡ true → (skeleton offsets : Bool) (i : ℕ)
     (hs : List (Placed Hint)) (f : PlacedFunction) → i < 2 ^ 64 → IsRangedFunction f →
-    WritesNoted a (function_group skeleton offsets (function_scope s i) hs f) Bound (Group (Word (codes "func") (function_items skeleton s i f)) End)
+    WritesNoted a (function_group skeleton offsets (function_scope s i) hs f) Bound (Group (Word (codes "func") (function_items skeleton s i hs f)) End)
     (Group (Word (codes "func") (function_hinted skeleton s i hs f)) End)
-function_writes s named ranged e skeleton offsets i hs f h r = function_group_writes (function_scope s i) named ranged e skeleton offsets hs f h r
+function_writes s named ranged bare e skeleton offsets i hs f h r = function_group_writes (function_scope s i) named ranged bare e skeleton offsets hs f h r
 
 -- ---- they read back
 
-groups_operators : {A : Type 0} (read : Forest → Option (List A)) (w : List ℕ) (s : Setting) (os : List Operator) →
-    groups read w (expression_items s os) ≡ Some ([], expression_items s os)
+-- operators don't begin as parameters, results or locals do
+groups_operators : {A : Type 0} (read : Forest → Option (List A)) (w : List ℕ) → ((v : List ℕ) → StandsAlone v → bytes_eq v w ≡ false) → (f : Forest) → BeginsCode f →
+    groups read w f ≡ Some ([], f)
 unfolding groups
-groups_operators read w s [] = refl
-groups_operators read w s (o ∷ os) = refl
+groups_operators read w off End b = refl
+groups_operators read w off (Word v f) b = refl
+groups_operators read w off (Group (Word v g) f) b = rw (off v b)
+groups_operators read w off (Note id g f) b = refl
+groups_operators read w off _ b = absurd b
+
+no_param : (v : List ℕ) → StandsAlone v → bytes_eq v (codes "param") ≡ false
+no_param v a = a.others.1.1.1.1.1.1.1.1.0
+
+no_result : (v : List ℕ) → StandsAlone v → bytes_eq v (codes "result") ≡ false
+no_result v a = a.others.1.1.1.1.1.1.1.1.1.0
+
+no_local : (v : List ℕ) → StandsAlone v → bytes_eq v (codes "local") ≡ false
+no_local v a = a.others.1.1.1.1.1.1.1.0
 
 -- parameters and the locals behind them are one space
 variables_space : (named : ℕ → Option Named) → AreDistinct named → (count : ℕ) (ls : List ValType) → count + length ls ≤ 2 ^ 64 →
@@ -243,7 +267,7 @@ module _ (s : Scope) (c : Context) (n : Counts) (scoped : AreScoped s c n) (i co
   own_few row.Data = scoped.names.few row.Data
   own_few row.Label = scoped.names.few row.Label
 
-  own_names : HaveSameNames (body_setting (function_scope s i) place) own_context own_counts
+  own_names : HaveSameNames (over_lines (function_scope s i) place) own_context own_counts
   own_names = record {
     spaces = own_spaces;
     fields = scoped.names.fields;
@@ -254,13 +278,13 @@ module _ (s : Scope) (c : Context) (n : Counts) (scoped : AreScoped s c n) (i co
     structures = scoped.names.structures;
   }
 
-  own_types : HaveSameTypes (body_setting (function_scope s i) place) own_context own_counts
+  own_types : HaveSameTypes (over_lines (function_scope s i) place) own_context own_counts
   own_types = record { read = scoped.types.read; counted = scoped.types.counted; in_range = scoped.types.in_range }
 
   body_reads : (f : PlacedFunction) → IsRangedFunction f → AllByRecursion (IsIndexedOperator own_counts) (without_places f.body.value.operators) →
-      read_operators own_context (chunks_of (body_setting (function_scope s i) place) 0 [] (without_places f.body.value.operators)) ≡ Some (without_places f.body.value.operators)
+      read_operators own_context (chunks_of (over_lines (function_scope s i) place) 0 [] (without_places f.body.value.operators)) ≡ Some (without_places f.body.value.operators)
   body_reads f h d =
-      expression_reads (body_setting (function_scope s i) place) own_context own_counts own_types own_names scoped.apart
+      expression_reads (over_lines (function_scope s i) place) own_context own_counts own_types own_names scoped.apart
       f.body.value.operators (record { listed = h.body.listed; nested = h.body.nested; count = h.body.count; indexed = d })
 
 -- how many parameters and locals a function has
@@ -273,25 +297,27 @@ counts_with n t f = record n { locals = variable_count t f }
 
 module _ (s : Scope) (c : Context) (n : Counts) (scoped : AreScoped s c n) where
   -- what a function holds behind its identifier
-  typed-items : (i : ℕ) (t : FuncType) (f : PlacedFunction) → signature_at s.types f.type_index ≡ Some t → IsRangedFunction f →
+  typed-items : (i : ℕ) (hs : List (Placed Hint)) (t : FuncType) (f : PlacedFunction) → signature_at s.types f.type_index ≡ Some t → IsRangedFunction f →
       AllByRecursion (IsDeclaredVal n.types) (locals_of f.body.value.locals) → variable_count (Some t) f ≤ 2 ^ 64 →
-      AllByRecursion (IsIndexedOperator (counts_with n (Some t) f)) (without_places f.body.value.operators) →
-      function_of_type c (onto (type_use_items s.names (Some i) f.type_index (Some t)) (inner_items (function_scope s i) (length t.params) f)) ≡ Some (function_of f)
-  typed-items i t f own h locals few d =
+      AllByRecursion (IsIndexedOperator (counts_with n (Some t) f)) (without_places f.body.value.operators) → AreFoldable s.folding f.body.value.operators →
+      function_of_type c (onto (type_use_items s.names (Some i) f.type_index (Some t)) (inner_items false (function_scope s i) hs (length t.params) f)) ≡ Some (function_of f)
+  typed-items i hs t f own h locals few d foldable =
       let ids : Identifiers = c.spaces.types in
       let os : List Operator = without_places f.body.value.operators in
       let ls : List ValType = locals_of f.body.value.locals in
       let named : ℕ → Option Named = s.names.locals i in
       let count : ℕ = length t.params in
-      let setting : Setting = body_setting (function_scope s i) f.body.place in
-      let code : Forest = expression_items setting os in
+      let setting : Setting = over_lines (function_scope s i) f.body.place in
+      let code : Forest = body_items false (function_scope s i) hs f in
+      let begins : BeginsCode code =
+      list_begins s.folding (result_count (function_scope s i) f.type_index) setting scoped.named scoped.types.in_range hs f.body.value.operators h.body.listed in
       let gs : List Variables = grouped named count ls in
       let rest : Forest = onto (groups_items s.names (codes "local") gs) code in
       let bound : ℕ = type_bound s c n scoped in
       let reads = type_indices-read s c n scoped in
       let behind : IsBehindSignature ids rest = record {
-        params = variables_leave s.names (variables ids) (codes "param") (codes "local") gs code refl (groups_operators (variables ids) (codes "param") setting os);
-        results = variables_leave s.names (val_types ids) (codes "result") (codes "local") gs code refl (groups_operators (val_types ids) (codes "result") setting os);
+        params = variables_leave s.names (variables ids) (codes "param") (codes "local") gs code refl (groups_operators (variables ids) (codes "param") no_param code begins);
+        results = variables_leave s.names (val_types ids) (codes "result") (codes "local") gs code refl (groups_operators (val_types ids) (codes "result") no_result code begins);
       } in
       let type : index ids (own_index s Types f.type_index) ≡ Some f.type_index =
       own_index-reads s c n scoped Types (λ names g. refl) f.type_index (signature_declared s c n scoped t f.type_index own) h.type_index in
@@ -299,13 +325,13 @@ module _ (s : Scope) (c : Context) (n : Counts) (scoped : AreScoped s c n) where
       signature-items s.names ids bound reads (Some i) t rest (signature_bounded s c n scoped t f.type_index own) behind in
       let variables : groups (variables ids) (codes "local") rest ≡ Some (declared_from named count ls, code) =
       variables_take s.names ids bound reads named count (codes "local") ls code
-      (vals_bounded s c n scoped ls (locals_ranged f.body.value.locals h.body.locals) locals) (groups_operators (variables ids) (codes "local") setting os) in
+      (vals_bounded s c n scoped ls (locals_ranged f.body.value.locals h.body.locals) locals) (groups_operators (variables ids) (codes "local") no_local code begins) in
       let read : c.signature f.type_index ≡ Some t = scoped.types.read f.type_index ∙ own in
       rw (
         type,
         sig,
         variables,
-        unfolded-operators setting 0 [] os h.body.listed,
+        unfolded-list s.folding (result_count (function_scope s i) f.type_index) setting scoped.named scoped.types.in_range hs f.body.value.operators h.body.listed h.body.nested foldable,
         read,
         own_parameters (parameters_of s.names (Some i)) t,
         variables_space named (scoped.apart.locals i) count ls few,
@@ -313,20 +339,20 @@ module _ (s : Scope) (c : Context) (n : Counts) (scoped : AreScoped s c n) where
         types_of-declared named count ls,
       )
 
-  pub read_function-items : (i : ℕ) (t : FuncType) (f : PlacedFunction) → signature_at s.types f.type_index ≡ Some t → IsRangedFunction f →
+  pub read_function-items : (i : ℕ) (hs : List (Placed Hint)) (t : FuncType) (f : PlacedFunction) → signature_at s.types f.type_index ≡ Some t → IsRangedFunction f →
       AllByRecursion (IsDeclaredVal n.types) (locals_of f.body.value.locals) → variable_count (signature_at s.types f.type_index) f ≤ 2 ^ 64 →
       AllByRecursion (IsIndexedOperator (counts_with n (signature_at s.types f.type_index) f)) (without_places f.body.value.operators) →
-      read_function c (function_items false s i f) ≡ Some (function_of f)
-  read_function-items i t f own h locals few d =
-      let rest : Option FuncType → Forest = λ x. inner_items (function_scope s i) (parameter_count x) f in
+      AreFoldable s.folding f.body.value.operators → read_function c (function_items false s i hs f) ≡ Some (function_of f)
+  read_function-items i hs t f own h locals few d foldable =
+      let rest : Option FuncType → Forest = λ x. inner_items false (function_scope s i) hs (parameter_count x) f in
       let os : List Operator = without_places f.body.value.operators in
       ap (λ x. function_of_type c x.1) (identified-header (function_scope s i) Func (Some i) i f.type_index (rest (signature_at s.types f.type_index)))
       ∙ ap (λ x. function_of_type c (onto (type_use_items s.names (Some i) f.type_index x) (rest x))) own
-      ∙ typed-items i t f own h locals (subst (λ x. variable_count x f ≤ 2 ^ 64) own few)
-      (subst (λ x. AllByRecursion (IsIndexedOperator (counts_with n x f)) os) own d)
+      ∙ typed-items i hs t f own h locals (subst (λ x. variable_count x f ≤ 2 ^ 64) own few)
+      (subst (λ x. AllByRecursion (IsIndexedOperator (counts_with n x f)) os) own d) foldable
 
 -- the identifier of a function
-pub identified-function : (s : Scope) (i : ℕ) (f : PlacedFunction) → (identified (function_items false s i f)).0 ≡ id (s.names.items Func i)
-identified-function s i f =
+pub identified-function : (s : Scope) (i : ℕ) (hs : List (Placed Hint)) (f : PlacedFunction) → (identified (function_items false s i hs f)).0 ≡ id (s.names.items Func i)
+identified-function s i hs f =
     ap (λ x. x.0)
-    (identified-header (function_scope s i) Func (Some i) i f.type_index (inner_items (function_scope s i) (parameter_count (signature_at s.types f.type_index)) f))
+    (identified-header (function_scope s i) Func (Some i) i f.type_index (inner_items false (function_scope s i) hs (parameter_count (signature_at s.types f.type_index)) f))

@@ -8,7 +8,7 @@ use Rattle.wasmprinter_spec.specs.Row as row
 use Rattle.wasmprinter_spec.specs.Names.{Names, AreNamed}
 use Rattle.wasmprinter_spec.specs.Operator.{Operator}
 use Rattle.wasmprinter_spec.specs.Placed.{Global}
-use Rattle.wasmprinter_spec.specs.Module.{without_places, global_without_places}
+use Rattle.wasmprinter_spec.specs.Module.{global_without_places}
 use Rattle.wasmprinter_spec.specs.Indexed.{Counts, IsDeclaredVal}
 use Rattle.wasmprinter_spec.specs.IndexSpaces.{Context}
 use Rattle.wasmprinter_spec.specs.Layout.ValTypes.{val_pieces}
@@ -18,7 +18,7 @@ use Rattle.wasmprinter_spec.specs.Text.Items.{identified}
 use Rattle.wasmprinter_spec.specs.Text.Types.{val_named, val_group, val_type}
 use Rattle.wasmprinter_spec.specs.Text.Globals.{global_named, global_group, global_type, read_global}
 use Rattle.wasmprinter_lexical.proofs.Pieces.{Free, Bound}
-use Rattle.wasmprinter_lexical.proofs.Writes.{Writes, both_write, nothing_writes, gap_writes, break_writes, line_group_gap_writes, type_group_then}
+use Rattle.wasmprinter_lexical.proofs.Writes.{Writes, both_write, nothing_writes, gap_writes, break_writes, group_gap_writes, type_group_then}
 use Rattle.wasmprinter_reading.specs.Listed.{AreSignaturesInRange}
 use Rattle.wasmprinter_reading.proofs.Items.{ReadsItem, one_item-reads, leading_item-reads}
 use Rattle.wasmprinter_reading.proofs.Ranged.{IsRangedGlobal}
@@ -27,6 +27,7 @@ use Rattle.wasmprinter_reading.proofs.Types.Trees.{val_items, val_writes}
 use Rattle.wasmprinter_reading.proofs.Types.Back.{identified-val, IsValItem, val_is_item, val_item}
 use Rattle.wasmprinter_reading.proofs.Declarations.{id}
 use Rattle.wasmprinter_reading.proofs.Identifiers.{declaration-items, declaration_writes}
+use Rattle.wasmprinter_reading.proofs.Folded.Lists.{IsUnpainted}
 use Rattle.wasmprinter_reading.proofs.Fields.Scopes.{own_id, AreScoped, type_bound, type_indices-read, val_bounded}
 use Rattle.wasmprinter_reading.proofs.Fields.Expressions.{constant_items, in_line_writes, AreIndexed, expression-items}
 
@@ -40,8 +41,8 @@ abbrev pub global_type_items : Names → GlobalType → Forest
 global_type_items names t = mutable_items names t.mutable t.type
 
 -- what a global holds behind its word
-abbrev pub global_items : Scope → ℕ → Global Operator → Forest
-global_items s i g = onto (own_id s row.Global i) (onto (global_type_items s.names g.type) (constant_items s g.init))
+abbrev pub global_items : Scope → ℕ → Global (Placed Operator) → Forest
+global_items s i g = onto (own_id s row.Global i) (onto (global_type_items s.names g.type) (constant_items s 2 g.init))
 
 -- ---- their pieces write it
 
@@ -55,15 +56,15 @@ module _ (names : Names) (named : AreNamed names) where
   unfolding global_type_pieces
   global_type_writes t h = mutable_writes t.mutable t.type h
 
-pub global_writes : (s : Scope) → AreNamed s.names → AreSignaturesInRange (signature_at s.types) → (i : ℕ) (g : Placed (Global (Placed Operator))) → i < 2 ^ 64 →
+pub global_writes : (s : Scope) → AreNamed s.names → AreSignaturesInRange (signature_at s.types) → IsUnpainted s.folding → (i : ℕ) (g : Placed (Global (Placed Operator))) → i < 2 ^ 64 →
     IsRangedGlobal g.value →
-    Writes Bound (global_pieces s i g) Bound (Group (Word (codes "global") (global_items s i (global_without_places g.value))) End)
+    Writes Bound (global_pieces s i g) Bound (Group (Word (codes "global") (global_items s i g.value)) End)
 unfolding global_pieces class
-global_writes s named ranged i g small h =
-    break_writes (line_group_gap_writes (codes "global") _ refl refl
+global_writes s named ranged bare i g small h =
+    break_writes (group_gap_writes 1 (codes "global") _ refl refl
     (both_write (declaration_writes (s.names.items row.Global i) i (named.items row.Global i) small)
     (gap_writes {a = Bound} refl (both_write (global_type_writes s.names named g.value.type h.type)
-    (gap_writes {a = Bound} refl (in_line_writes s named ranged g.value.init h.init))))))
+    (gap_writes {a = Bound} refl (in_line_writes s named ranged bare 2 g.value.init h.init))))))
 
 -- ---- they read back
 
@@ -77,11 +78,11 @@ pub identified-global_type : (names : Names) (t : GlobalType) (f : Forest) →
 identified-global_type names t f = identified-mutable names t.mutable t.type f
 
 -- the identifier of a global, and what it is
-pub identified-global : (s : Scope) (i : ℕ) (g : Global Operator) →
-    identified (global_items s i g) ≡ (id (s.names.items row.Global i), onto (global_type_items s.names g.type) (constant_items s g.init))
+pub identified-global : (s : Scope) (i : ℕ) (g : Global (Placed Operator)) →
+    identified (global_items s i g) ≡ (id (s.names.items row.Global i), onto (global_type_items s.names g.type) (constant_items s 2 g.init))
 identified-global s i g =
-    declaration-items (s.names.items row.Global i) (onto (global_type_items s.names g.type) (constant_items s g.init))
-    (identified-global_type s.names g.type (constant_items s g.init))
+    declaration-items (s.names.items row.Global i) (onto (global_type_items s.names g.type) (constant_items s 2 g.init))
+    (identified-global_type s.names g.type (constant_items s 2 g.init))
 
 module _ (s : Scope) (c : Context) (n : Counts) (scoped : AreScoped s c n) where
   as_global : (f : Forest) (t : ValType) → IsValItem s.names c.spaces.types (type_bound s c n scoped) (type_indices-read s c n scoped) f t →
@@ -103,8 +104,8 @@ module _ (s : Scope) (c : Context) (n : Counts) (scoped : AreScoped s c n) where
   global_type-items t f h d =
       leading_item-reads global_named (global_group c) (global_type_items s.names t) t f (mutable_item t.mutable t.type (val_bounded s c n scoped t.type h d))
 
-  pub read_global-items : (i : ℕ) (g : Global (Placed Operator)) → IsRangedGlobal g → IsDeclaredVal n.types g.type.type → AreIndexed n g.init →
-      read_global c (global_items s i (global_without_places g)) ≡ Some (global_without_places g)
+  pub read_global-items : (i : ℕ) (g : Global (Placed Operator)) → IsRangedGlobal g → IsDeclaredVal n.types g.type.type → AreIndexed s n g.init →
+      read_global c (global_items s i g) ≡ Some (global_without_places g)
   read_global-items i g h d e =
-      let rest : Forest = constant_items s (without_places g.init) in
-      rw (identified-global s i (global_without_places g), global_type-items g.type rest h.type d, expression-items s c n scoped g.init h.init e)
+      let rest : Forest = constant_items s 2 g.init in
+      rw (identified-global s i g, global_type-items g.type rest h.type d, expression-items s c n scoped 2 g.init h.init e)

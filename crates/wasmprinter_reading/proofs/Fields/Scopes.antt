@@ -4,7 +4,7 @@ use Rattle.std.specs.List.{AllByRecursion}
 use Rattle.wasmprinter_spec.specs.Forest.{Forest}
 use Rattle.wasmprinter_spec.specs.Types.{HeapType, ValType, FuncType, signature_at, ExternKind, FuncKind, TableKind, MemoryKind, GlobalKind, TagKind}
 use Rattle.wasmprinter_spec.specs.Row.{Space, Types}
-use Rattle.wasmprinter_spec.specs.Names.{Names, AreApart, in_function, identifiers}
+use Rattle.wasmprinter_spec.specs.Names.{Names, AreApart, AreNamed, in_function, identifiers}
 use Rattle.wasmprinter_spec.specs.Indexed.{Counts, IsIndex, IsDeclaredHeap, IsDeclaredVal, IsDeclaredFunc, parameter_count, space_of}
 use Rattle.wasmprinter_spec.specs.IndexSpaces.{space_in, index, Context}
 use Rattle.wasmprinter_spec.specs.Layout.Declarations.{Scope}
@@ -24,9 +24,10 @@ own_index s space i = index_items (s.names.items space i) i
 
 -- types and identifiers are the same, and identifiers are apart
 pub record AreScoped (s : Scope) (c : Context) (n : Counts) : Type 0 where
-  pub types : HaveSameTypes (in_line s) c n
-  pub names : HaveSameNames (in_line s) c n
+  pub types : HaveSameTypes (in_line s 2) c n
+  pub names : HaveSameNames (in_line s 2) c n
   pub apart : AreApart s.names
+  pub named : AreNamed s.names
   pub few : (i : ℕ) → parameter_count (signature_at s.types i) < 2 ^ 32
 
 -- a space of the module

@@ -17,10 +17,11 @@ use Rattle.wasmprinter_spec.specs.Layout.Declarations.{Scope}
 use Rattle.wasmprinter_spec.specs.Layout.Tables.{table_type_pieces, init_pieces, table_pieces}
 use Rattle.wasmprinter_spec.specs.Text.Items.{identified}
 use Rattle.wasmprinter_spec.specs.Text.Types.{ref_named, ref_group}
+use Rattle.wasmprinter_spec.specs.Text.Expressions.{expression}
 use Rattle.wasmprinter_spec.specs.Text.Tables.{table_type, init, read_table}
 use Rattle.wasmprinter_lexical.proofs.Grown.{onto_assoc}
 use Rattle.wasmprinter_lexical.proofs.Pieces.{Free, Bound}
-use Rattle.wasmprinter_lexical.proofs.Writes.{Writes, both_write, nothing_writes, gap_writes, break_writes, line_group_gap_writes}
+use Rattle.wasmprinter_lexical.proofs.Writes.{Writes, both_write, nothing_writes, gap_writes, break_writes, group_gap_writes}
 use Rattle.wasmprinter_reading.specs.Listed.{AreSignaturesInRange}
 use Rattle.wasmprinter_reading.proofs.Items.{leading_item-reads}
 use Rattle.wasmprinter_reading.proofs.Ranged.{IsRangedTableType, IsRangedInit, IsRangedTable}
@@ -29,6 +30,7 @@ use Rattle.wasmprinter_reading.proofs.Types.Back.{ref_item}
 use Rattle.wasmprinter_reading.proofs.Fields.Limits.{wide_items, limits_items, wide_writes, limits_write, IsNoNumber, address_type-items, limits-items, identified-limits}
 use Rattle.wasmprinter_reading.proofs.Declarations.{id}
 use Rattle.wasmprinter_reading.proofs.Identifiers.{declaration-items, declaration_writes}
+use Rattle.wasmprinter_reading.proofs.Folded.Lists.{IsUnpainted}
 use Rattle.wasmprinter_reading.proofs.Fields.Scopes.{own_id, AreScoped, type_bound, type_indices-read, heap_bounded}
 use Rattle.wasmprinter_reading.proofs.Fields.Expressions.{constant_items, in_line_writes, AreIndexed, expression-items}
 
@@ -37,12 +39,12 @@ use Rattle.wasmprinter_reading.proofs.Fields.Expressions.{constant_items, in_lin
 abbrev pub table_type_items : Names → TableType → Forest
 table_type_items names t = onto (wide_items t.wide) (onto (limits_items t.limits) (ref_items names t.element))
 
-abbrev pub init_items : Scope → Option (List Operator) → Forest
+abbrev pub init_items : Scope → Option (List (Placed Operator)) → Forest
 init_items s None = End
-init_items s (Some os) = constant_items s os
+init_items s (Some os) = constant_items s 2 os
 
 -- what a table holds behind its word
-abbrev pub table_items : Scope → ℕ → Table Operator → Forest
+abbrev pub table_items : Scope → ℕ → Table (Placed Operator) → Forest
 table_items s i t = onto (own_id s row.Table i) (onto (table_type_items s.names t.type) (init_items s t.init))
 
 -- ---- their pieces write it
@@ -52,17 +54,17 @@ unfolding table_type_pieces
 table_type_writes names named t h =
     both_write (wide_writes t.wide) (both_write (limits_write t.limits h.min h.max) (gap_writes refl (ref_writes names named t.element h.element)))
 
-module _ (s : Scope) (named : AreNamed s.names) (ranged : AreSignaturesInRange (signature_at s.types)) where
-  init_writes : (i : Option (List (Placed Operator))) → IsRangedInit i → Writes Bound (init_pieces s i) Bound (init_items s (option_map without_places i))
+module _ (s : Scope) (named : AreNamed s.names) (ranged : AreSignaturesInRange (signature_at s.types)) (bare : IsUnpainted s.folding) where
+  init_writes : (i : Option (List (Placed Operator))) → IsRangedInit i → Writes Bound (init_pieces s i) Bound (init_items s i)
   unfolding init_pieces
   init_writes None h = nothing_writes
-  init_writes (Some os) h = gap_writes refl (in_line_writes s named ranged os h)
+  init_writes (Some os) h = gap_writes refl (in_line_writes s named ranged bare 2 os h)
 
   pub table_writes : (i : ℕ) (t : Placed (Table (Placed Operator))) → i < 2 ^ 64 → IsRangedTable t.value →
-      Writes Bound (table_pieces s i t) Bound (Group (Word (codes "table") (table_items s i (table_without_places t.value))) End)
+      Writes Bound (table_pieces s i t) Bound (Group (Word (codes "table") (table_items s i t.value)) End)
   unfolding table_pieces class
   table_writes i t small h =
-      break_writes (line_group_gap_writes (codes "table") _ refl refl
+      break_writes (group_gap_writes 1 (codes "table") _ refl refl
       (both_write (declaration_writes (s.names.items row.Table i) i (named.items row.Table i) small)
       (gap_writes {a = Bound} refl (both_write (table_type_writes s.names named t.value.type h.type) (init_writes t.value.init h.init)))))
 
@@ -86,7 +88,7 @@ pub identified-table_type : (names : Names) (t : TableType) (f : Forest) → ide
 identified-table_type names t f = rw (table_type_onto names t f) (identified-limits t.wide t.limits (onto (ref_items names t.element) f))
 
 -- the identifier of a table, and what it is
-pub identified-table : (s : Scope) (i : ℕ) (t : Table Operator) →
+pub identified-table : (s : Scope) (i : ℕ) (t : Table (Placed Operator)) →
     identified (table_items s i t) ≡ (id (s.names.items row.Table i), onto (table_type_items s.names t.type) (init_items s t.init))
 identified-table s i t =
     declaration-items (s.names.items row.Table i) (onto (table_type_items s.names t.type) (init_items s t.init)) (identified-table_type s.names t.type (init_items s t.init))
@@ -107,16 +109,21 @@ module _ (s : Scope) (c : Context) (n : Counts) (scoped : AreScoped s c n) where
 
   abbrev pub IsIndexedInit : Option (List (Placed Operator)) → Type 0
   IsIndexedInit None = Unit {0}
-  IsIndexedInit (Some os) = AreIndexed n os
+  IsIndexedInit (Some os) = AreIndexed s n os
+
+  -- what reads as an operator and others is something
+  something_reads : (f : Forest) (o : Operator) (os : List Operator) → expression c f ≡ Some (o ∷ os) → init c f ≡ Some (Some (o ∷ os))
+  something_reads End o os e = absurd cc
+  something_reads _ o os e = ap (option_map Some) e
 
   init-items : (i : Option (List (Placed Operator))) → IsRangedInit i → HasNoEmptyInit i → IsIndexedInit i →
-      init c (init_items s (option_map without_places i)) ≡ Some (option_map without_places i)
+      init c (init_items s i) ≡ Some (option_map without_places i)
   init-items None h some d = refl
   init-items (Some []) h some d = absurd some
-  init-items (Some (o ∷ os)) h some d = ap (option_map Some) (expression-items s c n scoped (o ∷ os) h d)
+  init-items (Some (o ∷ os)) h some d = something_reads (constant_items s 2 (o ∷ os)) o.value (without_places os) (expression-items s c n scoped 2 (o ∷ os) h d)
 
   pub read_table-items : (i : ℕ) (t : Table (Placed Operator)) → IsRangedTable t → HasNoEmptyInit t.init → IsDeclaredHeap n.types t.type.element.heap →
-      IsIndexedInit t.init → read_table c (table_items s i (table_without_places t)) ≡ Some (table_without_places t)
+      IsIndexedInit t.init → read_table c (table_items s i t) ≡ Some (table_without_places t)
   read_table-items i t h some d e =
-      let rest : Forest = init_items s (option_map without_places t.init) in
-      rw (identified-table s i (table_without_places t), table_type-items t.type rest h.type d, init-items t.init h.init some e)
+      let rest : Forest = init_items s t.init in
+      rw (identified-table s i t, table_type-items t.type rest h.type d, init-items t.init h.init some e)

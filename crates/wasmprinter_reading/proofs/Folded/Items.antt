@@ -3,7 +3,7 @@ use Rattle.std.proofs.Common.{◌≡◌, ℕ, ◌-◌, Bool, true, false, List, 
 use Rattle.std.specs.List.{AllByRecursion}
 use Rattle.wasmprinter_spec.specs.Grammar.{Placed}
 use Rattle.wasmprinter_spec.specs.Token.{Token}
-use Rattle.wasmprinter_spec.specs.Forest.{Forest, End, grow, the_one, cut}
+use Rattle.wasmprinter_spec.specs.Forest.{Forest, End, String, grow, the_one, cut}
 use Rattle.wasmprinter_spec.specs.Operator.{Operator}
 use Rattle.wasmprinter_spec.specs.Row.{Role, Plain, Opens, OpensIf, OpensTry, Turns, Catches, CatchesAll, Delegates, Ends}
 use Rattle.wasmprinter_spec.specs.Table.{rows_of, word_of, role_of, shape_of}
@@ -11,23 +11,27 @@ use Rattle.wasmprinter_spec.specs.Labels.{Label, labels_after, count_after, outs
 use Rattle.wasmprinter_spec.specs.Module.{without_places}
 use Rattle.wasmprinter_spec.specs.Customs.Hints.{Hint, next_hint, hint_behind}
 use Rattle.wasmprinter_spec.specs.Names.{IsNamedIfAny, AreNamed}
-use Rattle.wasmprinter_spec.specs.Piece.{Piece, Word, all_tokens}
+use Rattle.wasmprinter_spec.specs.Piece.{Piece, Word, flag_byte}
 use Rattle.wasmprinter_spec.specs.Layout.Operators.{Form, Setting, pieces_by}
 use Rattle.wasmprinter_spec.specs.Layout.Folded.{item, items}
 use Rattle.wasmprinter_spec.specs.Folding.Arities.{Signatures, label_of_block, label_counts_after}
 use Rattle.wasmprinter_spec.specs.Folding.Code.{Item, role}
+use Rattle.wasmprinter_spec.specs.Folding.Refusals.{is_hintless}
 use Rattle.wasmprinter_spec.specs.Folding.Unfolding.{Told, told_as, told}
-use Rattle.wasmprinter_spec.specs.Code.{Chunk, chunk, word_chunk, role_by}
+use Rattle.wasmprinter_spec.specs.Code.{Chunk, chunk, word_chunk, hinted, role_by}
 use Rattle.wasmprinter_lexical.proofs.Grown.{one-flat}
 use Rattle.wasmprinter_lexical.proofs.Noted.{noted-cut}
 use Rattle.wasmprinter_lexical.proofs.Pieces.{Edge, Bound}
-use Rattle.wasmprinter_lexical.proofs.Writes.{Writes}
+use Rattle.wasmprinter_lexical.proofs.Respelled.{all_lexed}
+use Rattle.wasmprinter_lexical.proofs.Writes.{Writes, writes_lexed}
 use Rattle.wasmprinter_reading.specs.Listed.{IsListed, AreSignaturesInRange}
 use Rattle.wasmprinter_reading.proofs.Operators.Arguments.{AreArguments}
 use Rattle.wasmprinter_reading.proofs.Operators.Forms.{behind}
 use Rattle.wasmprinter_reading.proofs.Operators.Immediates.{items_by, arguments_by, writes_by}
 use Rattle.wasmprinter_reading.proofs.Operators.Open.{outside_labels, after_labels}
 use Rattle.wasmprinter_reading.proofs.Operators.Lists.{arguments_items, chunks_of}
+use Rattle.wasmprinter_spec.proofs.OneLine.{IsOneLine, then_stay}
+use Rattle.wasmprinter_spec.proofs.ImmediateLines.{by_shape_stay}
 use Rattle.wasmprinter_reading.proofs.Folded.Words.{IsBare, turn_is_bare, end_is_bare, role_by-rows}
 
 -- ---- what pieces write
@@ -38,10 +42,10 @@ forest_or_end (Some f) = cut f
 
 -- the items of pieces, without annotations
 abbrev pub items_of : List Piece → Forest
-items_of ps = forest_or_end (the_one (grow (all_tokens ps)))
+items_of ps = forest_or_end (the_one (grow (all_lexed ps)))
 
 pub items_of-writes : {a b : Edge} {ps : List Piece} {f : Forest} → Writes a ps b f → items_of ps ≡ f
-items_of-writes w = ap (λ (t : List Token). forest_or_end (the_one (grow t))) w.tokens ∙ ap forest_or_end (one-flat w.whole) ∙ noted-cut w.noted ∙ w.without
+items_of-writes w = ap (λ (t : List Token). forest_or_end (the_one (grow t))) (writes_lexed w ∙ w.tokens) ∙ ap forest_or_end (one-flat w.whole) ∙ noted-cut w.noted ∙ w.without
 
 -- ---- one operator
 
@@ -72,35 +76,54 @@ pub record IsPrinted (form : Form) (x : Item) : Type 0 where
   pub are : AreArguments (arguments x)
   pub writes : Writes Bound (rest x) (behind form) (arguments x)
   pub bare : is_bare (role x) ≡ true → arguments x ≡ End
+  pub line : IsOneLine x.pieces
 
 -- as the reader has it
 abbrev pub item_chunk : Item → Chunk
 item_chunk x = chunk (rows_of (word x)) (arguments x)
 
-abbrev pub told_chunk : Told → Chunk
-told_chunk None = word_chunk (codes "end")
-told_chunk (Some x) = item_chunk x
+-- with its hint, or without
+abbrev pub noted_chunk : Bool → Option (Placed Hint) → Chunk → Chunk
+noted_chunk true (Some h) c = hinted (String (flag_byte h.value.taken ∷ []) End) c
+noted_chunk true None c = c
+noted_chunk false h c = c
 
-abbrev pub told_chunks : List Told → List Chunk
-told_chunks ts = map told_chunk ts
+abbrev pub own_chunk : Bool → Item → Chunk
+own_chunk hints x = noted_chunk hints x.hint (item_chunk x)
+
+abbrev pub told_chunk : Bool → Told → Chunk
+told_chunk hints None = word_chunk (codes "end")
+told_chunk hints (Some x) = own_chunk hints x
+
+abbrev pub told_chunks : Bool → List Told → List Chunk
+told_chunks hints ts = map (told_chunk hints) ts
+
+-- where hints are shown, such an operator has none
+abbrev pub IsHintless : Bool → Item → Type 0
+IsHintless false x = Unit {0}
+IsHintless true x = is_hintless (role x) ≡ true → x.hint ≡ None
+
+hintless_chunk : (hints : Bool) (x : Item) → IsHintless hints x → is_hintless (role x) ≡ true → own_chunk hints x ≡ item_chunk x
+hintless_chunk false x h e = refl
+hintless_chunk true x h e = ap (λ i. noted_chunk true i (item_chunk x)) (h e)
 
 -- `else`
-pub turn_chunk : {form : Form} (x : Item) → IsPrinted form x → role x ≡ Turns → item_chunk x ≡ word_chunk (codes "else")
-turn_chunk x h e =
+pub turn_chunk : {form : Form} (hints : Bool) (x : Item) → IsPrinted form x → IsHintless hints x → role x ≡ Turns → own_chunk hints x ≡ word_chunk (codes "else")
+turn_chunk hints x h k e =
     let b : IsBare x.operator.value (codes "else") = turn_is_bare x.operator.value h.listed e in
-    ap₂ (λ w f. chunk (rows_of w) f) b.word (h.bare (ap is_bare e))
+    hintless_chunk hints x k (ap is_hintless e) ∙ ap₂ (λ w f. chunk (rows_of w) f) b.word (h.bare (ap is_bare e))
 
-end_chunk : {form : Form} (x : Item) → IsPrinted form x → role x ≡ Ends → item_chunk x ≡ word_chunk (codes "end")
-end_chunk x h e =
+end_chunk : {form : Form} (hints : Bool) (x : Item) → IsPrinted form x → IsHintless hints x → role x ≡ Ends → own_chunk hints x ≡ word_chunk (codes "end")
+end_chunk hints x h k e =
     let b : IsBare x.operator.value (codes "end") = end_is_bare x.operator.value h.listed e in
-    ap₂ (λ w f. chunk (rows_of w) f) b.word (h.bare (ap is_bare e))
+    hintless_chunk hints x k (ap is_hintless e) ∙ ap₂ (λ w f. chunk (rows_of w) f) b.word (h.bare (ap is_bare e))
 
 -- what is told of an operator is its chunk
-told_item : {form : Form} (x : Item) → IsPrinted form x → told_chunk (told_as (role x) x) ≡ item_chunk x
-told_item x h = by (role x) refl
+told_item : {form : Form} (hints : Bool) (x : Item) → IsPrinted form x → IsHintless hints x → told_chunk hints (told_as (role x) x) ≡ own_chunk hints x
+told_item hints x h k = by (role x) refl
   where
-    by : (r : Role) → role x ≡ r → told_chunk (told_as r x) ≡ item_chunk x
-    by Ends e = sym (end_chunk x h e)
+    by : (r : Role) → role x ≡ r → told_chunk hints (told_as r x) ≡ own_chunk hints x
+    by Ends e = sym (end_chunk hints x h k e)
     by Plain e = refl
     by Opens e = refl
     by OpensIf e = refl
@@ -110,12 +133,18 @@ told_item x h = by (role x) refl
     by CatchesAll e = refl
     by Delegates e = refl
 
-pub told_items : (form : Form) (xs : List Item) → AllByRecursion (IsPrinted form) xs → told_chunks (told xs) ≡ map item_chunk xs
-told_items form [] h = refl
-told_items form (x ∷ xs) h = ap₂ (λ c cs. c ∷ cs) (told_item x h.0) (told_items form xs h.1)
+pub told_items : (hints : Bool) (form : Form) (xs : List Item) → AllByRecursion (IsPrinted form) xs → AllByRecursion (IsHintless hints) xs →
+    told_chunks hints (told xs) ≡ map (own_chunk hints) xs
+told_items hints form [] h k = refl
+told_items hints form (x ∷ xs) h k = ap₂ (λ c cs. c ∷ cs) (told_item hints x h.0 k.0) (told_items hints form xs h.1 k.1)
+
+-- without hints nothing is asked
+pub unasked : (xs : List Item) → AllByRecursion (IsHintless false) xs
+unasked [] = tt
+unasked (x ∷ xs) = (tt, unasked xs)
 
 -- they stand to their blocks as the operators do
-pub told_roles : (form : Form) (xs : List Item) → AllByRecursion (IsPrinted form) xs → map (λ c. role_by c.rows) (map item_chunk xs) ≡ map role xs
+pub told_roles : (form : Form) (xs : List Item) → AllByRecursion (IsPrinted form) xs → map (λ c. role_by c.rows) (map (own_chunk false) xs) ≡ map role xs
 told_roles form [] h = refl
 told_roles form (x ∷ xs) h = ap₂ (λ c cs. c ∷ cs) (role_by-rows x.operator.value h.0.listed) (told_roles form xs h.1)
 
@@ -157,6 +186,7 @@ module _ (s : Setting) (named : AreNamed s.names) (ranged : AreSignaturesInRange
         are = subst AreArguments (sym e) (arguments_by s (inside is xs) (outside is xs) own (shape_of o.value.opcode) o.value.immediates l.range);
         writes = subst (Writes Bound (rest (item s signatures hint own xs ls o)) (behind s.form)) (sym e) (item_writes own xs o h k l);
         bare = λ b. e ∙ bare_by_role s (inside is xs) (outside is xs) own o.value l b;
+        line = then_stay refl (by_shape_stay s (inside is xs) (outside is xs) own (shape_of o.value.opcode) o.value.immediates);
       }
 
   pub items_printed : (hs : List (Placed Hint)) (n : ℕ) (xs : List Label) (ls : List (Option ℕ)) (os : List (Placed Operator)) →
@@ -176,7 +206,7 @@ module _ (s : Setting) (named : AreNamed s.names) (ranged : AreSignaturesInRange
   -- they are the operators of the flat text
   pub items_chunks : (hs : List (Placed Hint)) (n : ℕ) (xs : List Label) (ls : List (Option ℕ)) (os : List (Placed Operator)) →
       AllByRecursion IsNamedIfAny xs → AllByRecursion IsListed (without_places os) →
-      map item_chunk (items s signatures hs n xs ls os) ≡ chunks_of s n xs (without_places os)
+      map (own_chunk false) (items s signatures hs n xs ls os) ≡ chunks_of s n xs (without_places os)
   unfolding items
   items_chunks hs n xs ls [] h l = refl
   items_chunks hs n xs ls (o ∷ os) h l =

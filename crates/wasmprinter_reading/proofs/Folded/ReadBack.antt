@@ -1,97 +1,118 @@
 -- The text of folded operators reads back.
-use Rattle.std.proofs.Common.{◌≡◌, ℕ, List, [], Option, Some, None, option_map, true, false, map, refl, sym, ap, ◌∙◌, subst}
+use Rattle.std.proofs.Common.{◌≡◌, ℕ, Bool, List, [], ◌∷◌, Some, true, false, map, sym, ap, ◌∙◌, subst}
+use Rattle.std.proofs.lemmas.Simd.{map-map}
 use Rattle.std.specs.List.{AllByRecursion}
 use Rattle.wasmprinter_spec.specs.Grammar.{Placed, ◌>>=◌}
-use Rattle.wasmprinter_spec.specs.Forest.{forest, cut}
+use Rattle.wasmprinter_spec.specs.Forest.{cut}
 use Rattle.wasmprinter_spec.specs.Operator.{Operator}
 use Rattle.wasmprinter_spec.specs.Module.{without_places}
 use Rattle.wasmprinter_spec.specs.Names.{AreNamed}
 use Rattle.wasmprinter_spec.specs.Customs.Hints.{Hint}
-use Rattle.wasmprinter_spec.specs.Call.{text_of}
 use Rattle.wasmprinter_spec.specs.Options.{Options, IsBlank}
-use Rattle.wasmprinter_spec.specs.Piece.{Piece, all_calls}
 use Rattle.wasmprinter_spec.specs.Code.{unfolded}
 use Rattle.wasmprinter_spec.specs.Text.Operators.{read_operators}
-use Rattle.wasmprinter_spec.specs.Layout.Operators.{Setting}
-use Rattle.wasmprinter_spec.specs.Layout.Folded.{items, node_pieces, folded_pieces}
+use Rattle.wasmprinter_spec.specs.Layout.Operators.{Form, Setting}
+use Rattle.wasmprinter_spec.specs.Layout.Folded.{items, node_pieces}
 use Rattle.wasmprinter_spec.specs.Folding.Arities.{Signatures}
-use Rattle.wasmprinter_spec.specs.Folding.Code as folding
-use Rattle.wasmprinter_spec.specs.Folding.Code.{Item, Code, flat, IsFit}
+use Rattle.wasmprinter_spec.specs.Folding.Code.{Item, Code, flat, code_of}
 use Rattle.wasmprinter_spec.specs.Folding.Tree.{Nodes, tree}
 use Rattle.wasmprinter_spec.proofs.Folding.{unfolded-tree}
 use Rattle.wasmprinter_spec.proofs.FoldingCode.{code_of-tree}
 use Rattle.wasmprinter_lexical.proofs.Noted.{noted-cut}
-use Rattle.wasmprinter_lexical.proofs.Writes.{writes_forest}
+use Rattle.wasmprinter_lexical.proofs.Pieces.{Free, Bound}
+use Rattle.wasmprinter_lexical.proofs.Writes.{WritesNoted, writes_forest, respelled_write}
 use Rattle.wasmprinter_reading.specs.Listed.{IsListed, AreSignaturesInRange}
-use Rattle.wasmprinter_reading.specs.FoldedLaws.{FoldedOperatorsReadBack}
+use Rattle.wasmprinter_reading.specs.FoldedLaws.{uncounted, FoldedOperatorsReadBack}
 use Rattle.wasmprinter_reading.proofs.Operators.Lists.{chunks_of, expression_reads}
-use Rattle.wasmprinter_reading.proofs.Folded.Items.{IsPrinted, item_chunk, told_chunks, told_items, items_printed, items_chunks}
+use Rattle.wasmprinter_reading.proofs.Folded.Items.{IsPrinted, own_chunk, IsHintless, unasked, told_chunks, told_items, items_printed, items_chunks}
+use Rattle.wasmprinter_reading.proofs.Folded.Heads.{heads-tree}
 use Rattle.wasmprinter_reading.proofs.Folded.Rows.{IsRow, row-tree}
 use Rattle.wasmprinter_reading.proofs.Folded.Reads.{row_items, row_unfolds}
-use Rattle.wasmprinter_reading.proofs.Folded.Texts.{whole_pieces, nodes_text}
+use Rattle.wasmprinter_reading.proofs.Folded.Texts.{nodes_spelled}
+use Rattle.wasmprinter_reading.proofs.Folded.Spelled.{row_spelled}
 use Rattle.wasmprinter_reading.proofs.Folded.Writes.{nodes_write}
 
--- ---- nodes
+-- nodes as they are printed write their groups
+pub printed_nodes_write : (o : Options) → IsBlank o.indent → (form : Form) (f : Nodes) → IsRow form f → (nesting : ℕ) →
+    WritesNoted Free (node_pieces o false form true nesting f) Bound (row_items false f) (row_items true f)
+printed_nodes_write o blank form f h nesting =
+    respelled_write (nodes_spelled o blank form true nesting f (row_spelled o blank form f h)) (nodes_write o form f h nesting)
 
--- The text of nodes is the nested groups that they are written as.
-pub nodes_forest : (o : Options) → IsBlank o.indent → (s : Setting) (nesting : ℕ) (f : Nodes) → IsRow s.form f →
-    (forest (text_of (all_calls o (node_pieces o s.form true nesting f))) >>= λ g. Some (cut g)) ≡ Some (row_items false f)
-nodes_forest o blank s nesting f h =
-    let w = nodes_write o s.form f h nesting in
-    ap (λ t. forest t >>= λ g. Some (cut g)) (nodes_text o s.form true nesting f)
-    ∙ ap (λ g. g >>= λ k. Some (cut k)) (writes_forest o blank (whole_pieces o s.form true nesting f) w)
-    ∙ ap (λ g. Some g) (noted-cut w.noted ∙ w.without)
+-- ---- items that are folded
 
--- ---- the list of operators that is folded
+-- by whatever numbers of operands and results they have
+module _ (form : Form) (xs : List Item) (printed : AllByRecursion (IsPrinted form) xs) (code : Code) (is : code_of xs ≡ Some code) where
+  code_printed : AllByRecursion (IsPrinted form) (flat code)
+  code_printed = subst (AllByRecursion (IsPrinted form)) (sym (code_of-tree xs code is).0) printed
 
--- the tree that is printed
-record HasTree (o : Options) (s : Setting) (signatures : Signatures) (hs : List (Placed Hint)) (os : List (Placed Operator)) (ps : List Piece) : Type 0 where
-  code : Code
-  is : folding.code_of (items s signatures hs 0 [] [] os) ≡ Some code
-  printed : node_pieces o s.form true s.nesting (tree code) ≡ ps
+  -- their nodes are such as a text may hold
+  nodes_row : IsRow form (tree code)
+  nodes_row = row-tree form code (code_of-tree xs code is).1 code_printed
 
-has_tree : (o : Options) (s : Setting) (signatures : Signatures) (hs : List (Placed Hint)) (os : List (Placed Operator)) (ps : List Piece) →
-    folded_pieces o s signatures hs os ≡ Some ps → HasTree o s signatures hs os ps
-unfolding folded_pieces
-has_tree o s signatures hs os ps e = by (folding.code_of (items s signatures hs 0 [] [] os)) refl e
-  where
-    by : (c : Option Code) → folding.code_of (items s signatures hs 0 [] [] os) ≡ c → option_map (λ (x : Code). node_pieces o s.form true s.nesting (tree x)) c ≡ Some ps →
-        HasTree o s signatures hs os ps
-    by None f g = absurd cc
-    by (Some x) f g = record { code = x; is = f; printed = cc }
+  -- The reader takes what they are written as for the operators in their flat order, each with its hint if hints are shown.
+  nodes_unfold : (hints : Bool) → AllByRecursion (IsHintless hints) xs → unfolded (row_items hints (tree code)) ≡ Some (map (own_chunk hints) xs)
+  nodes_unfold hints h =
+      let rule = code_of-tree xs code is in
+      let hintless : AllByRecursion (IsHintless hints) (flat code) = subst (AllByRecursion (IsHintless hints)) (sym rule.0) h in
+      row_unfolds hints form (tree code) nodes_row (heads-tree (IsHintless hints) code hintless)
+      ∙ ap (λ ts. Some (told_chunks hints ts)) (unfolded-tree code rule.1)
+      ∙ ap (λ cs. Some cs) (told_items hints form (flat code) code_printed hintless)
+      ∙ ap (λ xs. Some (map (own_chunk hints) xs)) rule.0
+
+-- ---- the list of operators that is folded, by the numbers that signatures give
 
 module _ (s : Setting) (named : AreNamed s.names) (ranged : AreSignaturesInRange s.signature) (signatures : Signatures)
     (hs : List (Placed Hint)) (os : List (Placed Operator)) (listed : AllByRecursion IsListed (without_places os)) (code : Code)
-    (is : folding.code_of (items s signatures hs 0 [] [] os) ≡ Some code) where
-  all_printed : AllByRecursion (IsPrinted s.form) (flat code)
-  all_printed =
-      subst (AllByRecursion (IsPrinted s.form)) (sym (code_of-tree (items s signatures hs 0 [] [] os) code is).0) (items_printed s named ranged signatures hs 0 [] [] os tt listed)
+    (is : code_of (items s signatures hs 0 [] [] os) ≡ Some code) where
+  abbrev own_items : List Item
+  own_items = items s signatures hs 0 [] [] os
+
+  own_printed : AllByRecursion (IsPrinted s.form) own_items
+  own_printed = items_printed s named ranged signatures hs 0 [] [] os tt listed
 
   -- its nodes are such as a text may hold
   pub tree_row : IsRow s.form (tree code)
-  tree_row = row-tree s.form code (code_of-tree (items s signatures hs 0 [] [] os) code is).1 all_printed
+  tree_row = nodes_row s.form own_items own_printed code is
 
-  -- The reader takes what they are written as for the operators of the flat text, in the same order.
+  -- The reader takes what they are written as for the operators in their flat order, each with its hint if hints are shown.
+  pub tree_unfolds_at : (hints : Bool) → AllByRecursion (IsHintless hints) (items s signatures hs 0 [] [] os) →
+      unfolded (row_items hints (tree code)) ≡ Some (map (own_chunk hints) (items s signatures hs 0 [] [] os))
+  tree_unfolds_at hints h = nodes_unfold s.form own_items own_printed code is hints h
+
+  -- those of the flat text
   pub tree_unfolds : unfolded (row_items false (tree code)) ≡ Some (chunks_of s 0 [] (without_places os))
-  tree_unfolds =
-      let rule = code_of-tree (items s signatures hs 0 [] [] os) code is in
-      row_unfolds s.form (tree code) tree_row
-      ∙ ap (λ ts. Some (told_chunks ts)) (unfolded-tree code rule.1)
-      ∙ ap (λ cs. Some cs) (told_items s.form (flat code) all_printed)
-      ∙ ap (λ xs. Some (map item_chunk xs)) rule.0
-      ∙ ap (λ cs. Some cs) (items_chunks s named ranged signatures hs 0 [] [] os tt listed)
+  tree_unfolds = tree_unfolds_at false (unasked own_items) ∙ ap (λ cs. Some cs) (items_chunks s named ranged signatures hs 0 [] [] os tt listed)
+
+-- ---- other numbers of operands and results
+
+-- what is printed of an item has nothing of them
+recounted : (form : Form) (x : Item) (takes gives : ℕ) → IsPrinted form x → IsPrinted form (record x { takes = takes; gives = gives })
+recounted form x takes gives h = record { listed = h.listed; pieces = h.pieces; are = h.are; writes = h.writes; bare = h.bare; line = h.line }
+
+printed_uncounted : (form : Form) (xs : List Item) → AllByRecursion (IsPrinted form) xs → AllByRecursion (IsPrinted form) (map uncounted xs)
+printed_uncounted form [] h = tt
+printed_uncounted form (x ∷ xs) h = (recounted form x 0 0 h.0, printed_uncounted form xs h.1)
+
+uncounted_printed : (form : Form) (xs : List Item) → AllByRecursion (IsPrinted form) (map uncounted xs) → AllByRecursion (IsPrinted form) xs
+uncounted_printed form [] h = tt
+uncounted_printed form (x ∷ xs) h = (recounted form (uncounted x) x.takes x.gives h.0, uncounted_printed form xs h.1)
+
+-- nor has its chunk
+chunks-uncounted : (xs : List Item) → map (own_chunk false) (map uncounted xs) ≡ map (own_chunk false) xs
+chunks-uncounted xs = map-map (own_chunk false) uncounted xs
 
 -- ---- the law
 
 pub folded_operators_read_back : FoldedOperatorsReadBack
-folded_operators_read_back s apart named c n types same signatures hs os h o blank ps e =
-    let t = has_tree o s signatures hs os ps e in
-    let f : Nodes = tree t.code in
-    let row : IsRow s.form f = tree_row s named types.in_range signatures hs os h.listed t.code t.is in
-    let w = nodes_write o s.form f row s.nesting in
-    ap (λ qs. forest (text_of (all_calls o qs)) >>= λ g. unfolded (cut g) >>= read_operators c) (sym t.printed)
-    ∙ ap (λ x. forest x >>= λ g. unfolded (cut g) >>= read_operators c) (nodes_text o s.form true s.nesting f)
-    ∙ ap (λ g. g >>= λ k. unfolded (cut k) >>= read_operators c) (writes_forest o blank (whole_pieces o s.form true s.nesting f) w)
+folded_operators_read_back s apart named c n types same signatures hs os h xs e code is o blank =
+    let ys : List Item = items s signatures hs 0 [] [] os in
+    let own : AllByRecursion (IsPrinted s.form) ys = items_printed s named types.in_range signatures hs 0 [] [] os tt h.listed in
+    let printed : AllByRecursion (IsPrinted s.form) xs = uncounted_printed s.form xs (subst (AllByRecursion (IsPrinted s.form)) (sym e) (printed_uncounted s.form ys own)) in
+    let chunks : map (own_chunk false) xs ≡ chunks_of s 0 [] (without_places os) =
+    sym (chunks-uncounted xs) ∙ ap (map (own_chunk false)) e ∙ chunks-uncounted ys ∙ items_chunks s named types.in_range signatures hs 0 [] [] os tt h.listed in
+    let f : Nodes = tree code in
+    let w = printed_nodes_write o blank s.form f (nodes_row s.form xs printed code is) s.nesting in
+    ap (λ g. g >>= λ k. unfolded (cut k) >>= read_operators c) (writes_forest o blank (node_pieces o false s.form true s.nesting f) w)
     ∙ ap (λ g. unfolded g >>= read_operators c) (noted-cut w.noted ∙ w.without)
-    ∙ ap (λ cs. cs >>= read_operators c) (tree_unfolds s named types.in_range signatures hs os h.listed t.code t.is)
+    ∙ ap (λ cs. cs >>= read_operators c) (nodes_unfold s.form xs printed code is false (unasked xs) ∙ ap (λ cs. Some cs) chunks)
     ∙ expression_reads s c n types same apart os h

@@ -1,24 +1,29 @@
 -- What nodes are written as, and that the reader takes it as the operators that the nodes say, in their flat order.
-use Rattle.std.proofs.Common.{◌≡◌, ℕ, Bool, true, false, List, [], ◌∷◌, ◌++◌, map, Option, Some, None, refl, sym, ap, ap₂, ◌∙◌, append_assoc, append-nil, codes}
+use Rattle.std.proofs.Common.{◌≡◌, ℕ, Bool, true, false, List, [], ◌∷◌, ◌++◌, map, Option, Some, None, option_map, refl, sym, ap, ap₂, ◌∙◌, append_assoc, append-nil, codes}
 use Rattle.std.proofs.lemmas.List.{map-append}
 use Rattle.wasmprinter_spec.specs.Grammar.{Placed, ◌>>=◌}
-use Rattle.wasmprinter_spec.specs.Forest.{Forest, End, Word, Group, onto}
+use Rattle.wasmprinter_spec.specs.Forest.{Forest, End, Word, String, Group, onto}
 use Rattle.wasmprinter_spec.specs.Operator.{Operator}
 use Rattle.wasmprinter_spec.specs.Table.{rows_of}
 use Rattle.wasmprinter_spec.specs.Customs.Hints.{Hint}
+use Rattle.wasmprinter_spec.specs.Row.{Ends}
+use Rattle.wasmprinter_spec.specs.Stepped.{stops}
+use Rattle.wasmprinter_spec.specs.Nesting.{advance, at_start}
+use Rattle.wasmprinter_spec.specs.Piece.{flag_byte}
 use Rattle.wasmprinter_spec.specs.Layout.Operators.{Form}
 use Rattle.wasmprinter_spec.specs.Layout.Folded.{head_hint}
 use Rattle.wasmprinter_spec.specs.Folding.Code.{Item, role}
 use Rattle.wasmprinter_spec.specs.Folding.Tree.{Head, Of, Then, Else, Nodes, Nil, Snoc}
 use Rattle.wasmprinter_spec.specs.Folding.Unfolding.{Told, Elsewhere, Within, unfolded_as, unfold_at, unfolded}
 use Rattle.wasmprinter_spec.specs.Code as code
-use Rattle.wasmprinter_spec.specs.Code.{Chunk, chunk, word_chunk, Instruction, Folded, code_of, flattened, operands, branches, folded_as, before, branch, ThenHead, ElseHead, OperatorHead, head, with_group, code}
+use Rattle.wasmprinter_spec.specs.Code.{Chunk, chunk, word_chunk, Instruction, Folded, code_of, flattened, operands, branches, folded_as, before, branch, ThenHead, ElseHead, OperatorHead, head, with_group, with_hint, role_by, code}
 use Rattle.wasmprinter_lexical.proofs.Grown.{onto-End, onto_assoc}
 use Rattle.wasmprinter_reading.proofs.Operators.Arguments.{arguments_front}
 use Rattle.wasmprinter_reading.proofs.Operators.Forms.{hint_items}
 use Rattle.wasmprinter_reading.proofs.Folded.Words.{is_folded, HasRows, rows_for, head-folded}
-use Rattle.wasmprinter_reading.proofs.Folded.Items.{word, arguments, IsPrinted, item_chunk, told_chunks, turn_chunk}
-use Rattle.wasmprinter_reading.proofs.Folded.Rows.{are_nested, IsRow, no_nodes, a_plain, a_block, an_if, an_if_else}
+use Rattle.wasmprinter_reading.proofs.Folded.Items.{word, arguments, IsPrinted, item_chunk, noted_chunk, own_chunk, IsHintless, told_chunk, told_chunks, turn_chunk}
+use Rattle.wasmprinter_reading.proofs.Folded.Heads.{AllHeads}
+use Rattle.wasmprinter_reading.proofs.Folded.Rows.{are_nested, IsNested, IsRow, no_nodes, a_plain, a_block, an_if, an_if_else}
 
 -- ---- what nodes are written as
 
@@ -108,116 +113,157 @@ else_reads held g is js cs e f n eg = branch_reads code.Else held g is js cs e f
 -- ---- nodes in a row
 
 -- They are folded operators, which are those that the nodes say.
-pub record Reads (f : Nodes) : Type 0 where
+pub record Reads (hints : Bool) (f : Nodes) : Type 0 where
   pub folds : List Fold
-  pub say : chunks_in folds ≡ told_chunks (unfolded f)
-  pub reads : (g : Forest) (is : List Instruction) → code g ≡ Some (code_of End is) → code (onto (row_items false f) g) ≡ Some (code_of End (map as_folded folds ++ is))
+  pub say : chunks_in folds ≡ told_chunks hints (unfolded f)
+  pub reads : (g : Forest) (is : List Instruction) → code g ≡ Some (code_of End is) → code (onto (row_items hints f) g) ≡ Some (code_of End (map as_folded folds ++ is))
 
-alone_reads : (f : Nodes) (r : Reads f) → code (row_items false f) ≡ Some (code_of End (map as_folded r.folds))
-alone_reads f r =
-    ap code (sym (onto-End (row_items false f))) ∙ r.reads End [] refl ∙ ap (λ (is : List Instruction). Some (code_of End is)) (append-nil (map as_folded r.folds))
+alone_reads : (hints : Bool) (f : Nodes) (r : Reads hints f) → code (row_items hints f) ≡ Some (code_of End (map as_folded r.folds))
+alone_reads hints f r =
+    ap code (sym (onto-End (row_items hints f))) ∙ r.reads End [] refl ∙ ap (λ (is : List Instruction). Some (code_of End is)) (append-nil (map as_folded r.folds))
 
-told_append : (a b : List Told) → told_chunks (a ++ b) ≡ told_chunks a ++ told_chunks b
-told_append [] b = refl
-told_append (t ∷ a) b = simp (told_append a b)
+told_append : (hints : Bool) (a b : List Told) → told_chunks hints (a ++ b) ≡ told_chunks hints a ++ told_chunks hints b
+told_append hints [] b = refl
+told_append hints (t ∷ a) b = simp (told_append hints a b)
+
+-- hints don't matter to nesting
+same_rows : (hints : Bool) (t : Told) → (told_chunk hints t).rows ≡ (told_chunk false t).rows
+same_rows hints None = refl
+same_rows hints (Some x) = by hints x.hint
+  where
+    by : (b : Bool) (h : Option (Placed Hint)) → (noted_chunk b h (item_chunk x)).rows ≡ (item_chunk x).rows
+    by true (Some h) = refl
+    by true None = refl
+    by false h = refl
+
+same_roles : (hints : Bool) (ts : List Told) → map (λ c. role_by c.rows) (told_chunks hints ts) ≡ map (λ c. role_by c.rows) (told_chunks false ts)
+same_roles hints [] = refl
+same_roles hints (t ∷ ts) = ap₂ (λ rs l. role_by rs ∷ l) (same_rows hints t) (same_roles hints ts)
+
+nested_at : (hints : Bool) (f : Nodes) → IsNested f → are_nested (told_chunks hints (unfolded f)) ≡ true
+nested_at hints f h = ap (λ rs. stops advance at_start rs Ends) (same_roles hints (unfolded f)) ∙ h
 
 -- both cases of an `if`, and its `end`
-told_cases : (g h o : List Told) (x y : Item) → item_chunk y ≡ word_chunk (codes "else") →
-    told_chunks (((g ++ Some x ∷ h) ++ Some y ∷ o) ++ None ∷ [])
-    ≡ told_chunks g ++ item_chunk x ∷ ((told_chunks h ++ word_chunk (codes "else") ∷ told_chunks o) ++ word_chunk (codes "end") ∷ [])
-told_cases g h o x y e =
+told_cases : (hints : Bool) (g h o : List Told) (x y : Item) → own_chunk hints y ≡ word_chunk (codes "else") →
+    told_chunks hints (((g ++ Some x ∷ h) ++ Some y ∷ o) ++ None ∷ [])
+    ≡ told_chunks hints g ++ own_chunk hints x ∷ ((told_chunks hints h ++ word_chunk (codes "else") ∷ told_chunks hints o) ++ word_chunk (codes "end") ∷ [])
+told_cases hints g h o x y e =
     let end : List Chunk = word_chunk (codes "end") ∷ [] in
-    told_append ((g ++ Some x ∷ h) ++ Some y ∷ o) (None ∷ [])
-    ∙ ap (λ l. l ++ end) (told_append (g ++ Some x ∷ h) (Some y ∷ o) ∙ ap₂ (λ a c. a ++ c ∷ told_chunks o) (told_append g (Some x ∷ h)) e)
-    ∙ ap (λ l. l ++ end) (append_assoc (told_chunks g) (item_chunk x ∷ told_chunks h) (word_chunk (codes "else") ∷ told_chunks o))
-    ∙ append_assoc (told_chunks g) (item_chunk x ∷ (told_chunks h ++ word_chunk (codes "else") ∷ told_chunks o)) end
+    told_append hints ((g ++ Some x ∷ h) ++ Some y ∷ o) (None ∷ [])
+    ∙ ap (λ l. l ++ end) (told_append hints (g ++ Some x ∷ h) (Some y ∷ o) ∙ ap₂ (λ a c. a ++ c ∷ told_chunks hints o) (told_append hints g (Some x ∷ h)) e)
+    ∙ ap (λ l. l ++ end) (append_assoc (told_chunks hints g) (own_chunk hints x ∷ told_chunks hints h) (word_chunk (codes "else") ∷ told_chunks hints o))
+    ∙ append_assoc (told_chunks hints g) (own_chunk hints x ∷ (told_chunks hints h ++ word_chunk (codes "else") ∷ told_chunks hints o)) end
 
 -- what an operator's own node says
 abbrev own_told : Item → Nodes → List Told
 own_told x held = unfolded_as (role x) x (unfold_at Elsewhere held) (unfold_at (Within x) held)
 
--- one more node
-one_more : (b : Nodes) (x : Item) (r : ℕ) (held : Nodes) (rb : Reads b) (n : Fold) → n.front ++ n.own ∷ n.behind ≡ told_chunks (own_told x held) →
-    ((g : Forest) (is : List Instruction) → code g ≡ Some (code_of End is) → code (Group (head_items (Of x) (row_items false held)) g) ≡ Some (code_of End (as_folded n ∷ is))) →
-    Reads (Snoc b (Of x) r held)
-one_more b x r held rb n says reads = record {
-  folds = rb.folds ++ (n ∷ []);
-  say =
-      chunks_in-append rb.folds (n ∷ [])
-      ∙ ap₂ (λ a c. a ++ c) rb.say (ap (λ (l : List Chunk). n.front ++ n.own ∷ l) (append-nil n.behind) ∙ says)
-      ∙ sym (told_append (unfolded b) (own_told x held));
-  reads = λ g is e.
-      let own : Forest = Group (head_items (Of x) (row_items false held)) End in
-      ap code (onto_assoc (row_items false b) own g)
-      ∙ rb.reads (onto own g) (as_folded n ∷ is) (reads g is e)
-      ∙ ap (λ (l : List Instruction). Some (code_of End l))
-      (sym (append_assoc (map as_folded rb.folds) (as_folded n ∷ []) is) ∙ ap (λ (l : List Instruction). l ++ is) (sym (map-append as_folded rb.folds (n ∷ []))));
-}
+hint_none : (hints : Bool) (f : Forest) → hint_at hints None f ≡ f
+hint_none true f = refl
+hint_none false f = refl
 
--- each kind of node in its turn
-pub row_reads : (form : Form) (f : Nodes) → IsRow form f → Reads f
-row_reads form f no_nodes = record { folds = []; say = refl; reads = λ g is e. e }
-row_reads form f (a_plain b x r held p h rb rh) =
-    let k : Reads held = row_reads form held rh in
-    let n : Fold = record { front = chunks_in k.folds; own = item_chunk x; behind = [] } in
-    one_more b x r held (row_reads form b rb) n
-    (ap (λ (l : List Chunk). l ++ item_chunk x ∷ []) k.say
-    ∙ sym (told_append (unfolded held) (Some x ∷ []))
-    ∙ ap (λ t. told_chunks (unfolded_as t x (unfold_at Elsewhere held) (unfold_at (Within x) held))) (sym p))
-    (λ g is e. operator_reads form x h (row_items false held) g (map as_folded k.folds) is (as_folded n) (ap is_folded p) (alone_reads held k) (rw (p, operands-folds k.folds) refl) e)
-row_reads form f (a_block b x r held p h rb rh nested) =
-    let k : Reads held = row_reads form held rh in
-    let end : Chunk = word_chunk (codes "end") in
-    let n : Fold = record { front = []; own = item_chunk x; behind = chunks_in k.folds ++ end ∷ [] } in
-    let same : are_nested (chunks_in k.folds) ≡ true = ap are_nested k.say ∙ nested in
-    one_more b x r held (row_reads form b rb) n
-    (ap (λ (l : List Chunk). item_chunk x ∷ (l ++ end ∷ [])) k.say
-    ∙ ap (λ (l : List Chunk). item_chunk x ∷ l) (sym (told_append (unfolded held) (None ∷ [])))
-    ∙ ap (λ t. told_chunks (unfolded_as t x (unfold_at Elsewhere held) (unfold_at (Within x) held))) (sym p))
-    (λ g is e. operator_reads form x h (row_items false held) g (map as_folded k.folds) is (as_folded n) (ap is_folded p) (alone_reads held k)
-    (rw (p, flattened-folds k.folds, same) refl) e)
-row_reads form f (an_if b x r given q held p h rb rg rh nested) =
-    let j : Reads given = row_reads form given rg in
-    let k : Reads held = row_reads form held rh in
-    let end : Chunk = word_chunk (codes "end") in
-    let yes : List Chunk = chunks_in k.folds in
-    let n : Fold = record { front = chunks_in j.folds ++ []; own = item_chunk x; behind = yes ++ end ∷ [] } in
-    let same : are_nested yes ≡ true = ap are_nested k.say ∙ nested in
-    let node : Nodes = Snoc given (Then x) q held in
-    let cases : code (row_items false node) ≡ Some (code_of End (map as_folded j.folds ++ code.Then yes ∷ [])) =
-    j.reads (Group (Word (codes "then") (row_items false held)) End) (code.Then yes ∷ [])
-    (then_reads (row_items false held) End (map as_folded k.folds) [] yes (alone_reads held k) (flattened-folds k.folds) same refl) in
-    one_more b x r node (row_reads form b rb) n
-    (simp (j.say, k.say, append-nil, append_assoc, told_append, p))
-    (λ g is e. operator_reads form x h (row_items false node) g (map as_folded j.folds ++ code.Then yes ∷ []) is (as_folded n) (ap is_folded p) cases
-    (rw (p, branches-folds j.folds (code.Then yes ∷ []) [] yes refl) refl) e)
-row_reads form f (an_if_else b x r given q held y t other p h rb rg rh nested py hy ro nested_other) =
-    let j : Reads given = row_reads form given rg in
-    let k : Reads held = row_reads form held rh in
-    let l : Reads other = row_reads form other ro in
-    let end : Chunk = word_chunk (codes "end") in
-    let turn : Chunk = word_chunk (codes "else") in
-    let yes : List Chunk = chunks_in k.folds in
-    let otherwise : List Chunk = chunks_in l.folds in
-    let n : Fold = record { front = chunks_in j.folds ++ []; own = item_chunk x; behind = (yes ++ turn ∷ otherwise) ++ end ∷ [] } in
-    let same : are_nested yes ≡ true = ap are_nested k.say ∙ nested in
-    let same_other : are_nested otherwise ≡ true = ap are_nested l.say ∙ nested_other in
-    let node : Nodes = Snoc (Snoc given (Then x) q held) (Else y) t other in
-    let both : List Instruction = code.Then yes ∷ code.Else otherwise ∷ [] in
-    let first : Forest = Group (Word (codes "then") (row_items false held)) End in
-    let second : Forest = Group (Word (codes "else") (row_items false other)) End in
-    let cases : code (row_items false node) ≡ Some (code_of End (map as_folded j.folds ++ both)) =
-    ap code (onto_assoc (row_items false given) first second)
-    ∙ j.reads (onto first second) both
-    (then_reads (row_items false held) second (map as_folded k.folds) (code.Else otherwise ∷ []) yes (alone_reads held k) (flattened-folds k.folds) same
-    (else_reads (row_items false other) End (map as_folded l.folds) [] otherwise (alone_reads other l) (flattened-folds l.folds) same_other refl)) in
-    one_more b x r node (row_reads form b rb) n
-    (rw (append-nil (chunks_in j.folds), j.say, k.say, l.say, p) (sym (told_cases (unfolded given) (unfolded held) (unfolded other) x y (turn_chunk y hy py))))
-    (λ g is e. operator_reads form x h (row_items false node) g (map as_folded j.folds ++ both) is (as_folded n) (ap is_folded p) cases
-    (rw (p, branches-folds j.folds both [] (yes ++ turn ∷ otherwise) refl) refl) e)
+-- the hint in front of a folded operator is its own
+noted_fold : Bool → Option (Placed Hint) → Fold → Fold
+noted_fold hints h n = record n { own = noted_chunk hints h n.own }
 
--- nodes read as the operators that they say
-pub row_unfolds : (form : Form) (f : Nodes) → IsRow form f → code.unfolded (row_items false f) ≡ Some (told_chunks (unfolded f))
-row_unfolds form f h =
-    let r : Reads f = row_reads form f h in
-    rw (alone_reads f r, flattened-folds r.folds, r.say) refl
+note_reads : (hints : Bool) (h : Option (Placed Hint)) (n : Fold) (f g : Forest) (is : List Instruction) → code (Group f g) ≡ Some (code_of End (as_folded n ∷ is)) →
+    code (onto (hint_at hints h (Group f End)) g) ≡ Some (code_of End (as_folded (noted_fold hints h n) ∷ is))
+unfolding noted_fold
+note_reads true (Some h) n f g is e = ap (option_map (with_hint (String (flag_byte h.value.taken ∷ []) End))) e
+note_reads true None n f g is e = e
+note_reads false h n f g is e = e
+
+module _ (hints : Bool) where
+  -- one more node
+  one_more : (b : Nodes) (x : Item) (r : ℕ) (held : Nodes) (rb : Reads hints b) (n : Fold) → n.own ≡ item_chunk x →
+      n.front ++ own_chunk hints x ∷ n.behind ≡ told_chunks hints (own_told x held) →
+      ((g : Forest) (is : List Instruction) → code g ≡ Some (code_of End is) → code (Group (head_items (Of x) (row_items hints held)) g) ≡ Some (code_of End (as_folded n ∷ is))) →
+      Reads hints (Snoc b (Of x) r held)
+  unfolding noted_fold
+  one_more b x r held rb n its says reads =
+      let k : Fold = noted_fold hints x.hint n in
+      let own : k.own ≡ own_chunk hints x = ap (noted_chunk hints x.hint) its in
+      record {
+        folds = rb.folds ++ (k ∷ []);
+        say =
+            chunks_in-append rb.folds (k ∷ [])
+            ∙ ap₂ (λ a c. a ++ c) rb.say (ap (λ (l : List Chunk). n.front ++ k.own ∷ l) (append-nil n.behind) ∙ ap (λ c. n.front ++ c ∷ n.behind) own ∙ says)
+            ∙ sym (told_append hints (unfolded b) (own_told x held));
+        reads = λ g is e.
+            let inner : Forest = head_items (Of x) (row_items hints held) in
+            let mine : Forest = hint_at hints x.hint (Group inner End) in
+            ap code (onto_assoc (row_items hints b) mine g)
+            ∙ rb.reads (onto mine g) (as_folded k ∷ is) (note_reads hints x.hint n inner g is (reads g is e))
+            ∙ ap (λ (l : List Instruction). Some (code_of End l))
+            (sym (append_assoc (map as_folded rb.folds) (as_folded k ∷ []) is) ∙ ap (λ (l : List Instruction). l ++ is) (sym (map-append as_folded rb.folds (k ∷ []))));
+      }
+
+  -- each kind of node in its turn
+  row_reads : (form : Form) (f : Nodes) → IsRow form f → AllHeads (IsHintless hints) f → Reads hints f
+  row_reads form f no_nodes a = record { folds = []; say = refl; reads = λ g is e. e }
+  row_reads form f (a_plain b x r held p h rb rh) a =
+      let k : Reads hints held = row_reads form held rh a.2 in
+      let n : Fold = record { front = chunks_in k.folds; own = item_chunk x; behind = [] } in
+      one_more b x r held (row_reads form b rb a.1) n refl
+      (ap (λ (l : List Chunk). l ++ own_chunk hints x ∷ []) k.say
+      ∙ sym (told_append hints (unfolded held) (Some x ∷ []))
+      ∙ ap (λ t. told_chunks hints (unfolded_as t x (unfold_at Elsewhere held) (unfold_at (Within x) held))) (sym p))
+      (λ g is e. operator_reads form x h (row_items hints held) g (map as_folded k.folds) is (as_folded n) (ap is_folded p) (alone_reads hints held k) (rw (p, operands-folds k.folds) refl) e)
+  row_reads form f (a_block b x r held p h rb rh nested) a =
+      let k : Reads hints held = row_reads form held rh a.2 in
+      let end : Chunk = word_chunk (codes "end") in
+      let n : Fold = record { front = []; own = item_chunk x; behind = chunks_in k.folds ++ end ∷ [] } in
+      let same : are_nested (chunks_in k.folds) ≡ true = ap are_nested k.say ∙ nested_at hints held nested in
+      one_more b x r held (row_reads form b rb a.1) n refl
+      (ap (λ (l : List Chunk). own_chunk hints x ∷ (l ++ end ∷ [])) k.say
+      ∙ ap (λ (l : List Chunk). own_chunk hints x ∷ l) (sym (told_append hints (unfolded held) (None ∷ [])))
+      ∙ ap (λ t. told_chunks hints (unfolded_as t x (unfold_at Elsewhere held) (unfold_at (Within x) held))) (sym p))
+      (λ g is e. operator_reads form x h (row_items hints held) g (map as_folded k.folds) is (as_folded n) (ap is_folded p) (alone_reads hints held k)
+      (rw (p, flattened-folds k.folds, same) refl) e)
+  row_reads form f (an_if b x r given q held p h rb rg rh nested) a =
+      let j : Reads hints given = row_reads form given rg a.2.1 in
+      let k : Reads hints held = row_reads form held rh a.2.2 in
+      let end : Chunk = word_chunk (codes "end") in
+      let yes : List Chunk = chunks_in k.folds in
+      let n : Fold = record { front = chunks_in j.folds ++ []; own = item_chunk x; behind = yes ++ end ∷ [] } in
+      let same : are_nested yes ≡ true = ap are_nested k.say ∙ nested_at hints held nested in
+      let node : Nodes = Snoc given (Then x) q held in
+      let cases : code (row_items hints node) ≡ Some (code_of End (map as_folded j.folds ++ code.Then yes ∷ [])) =
+      ap (λ u. code (onto (row_items hints given) u)) (hint_none hints (Group (Word (codes "then") (row_items hints held)) End))
+      ∙ j.reads (Group (Word (codes "then") (row_items hints held)) End) (code.Then yes ∷ [])
+      (then_reads (row_items hints held) End (map as_folded k.folds) [] yes (alone_reads hints held k) (flattened-folds k.folds) same refl) in
+      one_more b x r node (row_reads form b rb a.1) n refl
+      (simp (j.say, k.say, append-nil, append_assoc, told_append hints, p))
+      (λ g is e. operator_reads form x h (row_items hints node) g (map as_folded j.folds ++ code.Then yes ∷ []) is (as_folded n) (ap is_folded p) cases
+      (rw (p, branches-folds j.folds (code.Then yes ∷ []) [] yes refl) refl) e)
+  row_reads form f (an_if_else b x r given q held y t other p h rb rg rh nested py hy ro nested_other) a =
+      let j : Reads hints given = row_reads form given rg a.2.1.1 in
+      let k : Reads hints held = row_reads form held rh a.2.1.2 in
+      let l : Reads hints other = row_reads form other ro a.2.2 in
+      let end : Chunk = word_chunk (codes "end") in
+      let turn : Chunk = word_chunk (codes "else") in
+      let yes : List Chunk = chunks_in k.folds in
+      let otherwise : List Chunk = chunks_in l.folds in
+      let n : Fold = record { front = chunks_in j.folds ++ []; own = item_chunk x; behind = (yes ++ turn ∷ otherwise) ++ end ∷ [] } in
+      let same : are_nested yes ≡ true = ap are_nested k.say ∙ nested_at hints held nested in
+      let same_other : are_nested otherwise ≡ true = ap are_nested l.say ∙ nested_at hints other nested_other in
+      let node : Nodes = Snoc (Snoc given (Then x) q held) (Else y) t other in
+      let both : List Instruction = code.Then yes ∷ code.Else otherwise ∷ [] in
+      let first : Forest = Group (Word (codes "then") (row_items hints held)) End in
+      let second : Forest = Group (Word (codes "else") (row_items hints other)) End in
+      let cases : code (row_items hints node) ≡ Some (code_of End (map as_folded j.folds ++ both)) =
+      ap₂ (λ u v. code (onto (onto (row_items hints given) u) v)) (hint_none hints first) (hint_none hints second)
+      ∙ ap code (onto_assoc (row_items hints given) first second)
+      ∙ j.reads (onto first second) both
+      (then_reads (row_items hints held) second (map as_folded k.folds) (code.Else otherwise ∷ []) yes (alone_reads hints held k) (flattened-folds k.folds) same
+      (else_reads (row_items hints other) End (map as_folded l.folds) [] otherwise (alone_reads hints other l) (flattened-folds l.folds) same_other refl)) in
+      one_more b x r node (row_reads form b rb a.1) n refl
+      (rw (append-nil (chunks_in j.folds), j.say, k.say, l.say, p) (sym (told_cases hints (unfolded given) (unfolded held) (unfolded other) x y (turn_chunk hints y hy a.2.0 py))))
+      (λ g is e. operator_reads form x h (row_items hints node) g (map as_folded j.folds ++ both) is (as_folded n) (ap is_folded p) cases
+      (rw (p, branches-folds j.folds both [] (yes ++ turn ∷ otherwise) refl) refl) e)
+
+  -- nodes read as the operators that they say
+  pub row_unfolds : (form : Form) (f : Nodes) → IsRow form f → AllHeads (IsHintless hints) f → code.unfolded (row_items hints f) ≡ Some (told_chunks hints (unfolded f))
+  row_unfolds form f h a =
+      let r : Reads hints f = row_reads form f h a in
+      rw (alone_reads hints f r, flattened-folds r.folds, r.say) refl

@@ -1,5 +1,5 @@
 -- Nodes that a text may hold: what stands in each, and that the tree of a list of operators is made of such nodes.
-use Rattle.std.proofs.Common.{◌≡◌, ℕ, Bool, true, List, [], ◌∷◌, ◌++◌, map, sym, ap, ◌∙◌, subst}
+use Rattle.std.proofs.Common.{◌≡◌, ℕ, Bool, true, false, List, ◌∷◌, ◌++◌, map, sym, ap, ◌∙◌, subst}
 use Rattle.std.specs.List.{AllByRecursion}
 use Rattle.wasmprinter_spec.specs.Row as row
 use Rattle.wasmprinter_spec.specs.Row.{Role, Opens, OpensIf, Turns, Ends}
@@ -13,14 +13,15 @@ use Rattle.wasmprinter_spec.specs.Folding.Unfolding.{unfolded}
 use Rattle.wasmprinter_spec.specs.Code.{Chunk, role_by}
 use Rattle.wasmprinter_spec.proofs.Folding.{joined-front-last, AreLast, AreLast-operands, unfolded-tree}
 use Rattle.wasmprinter_spec.proofs.FoldingCode.{code_of-flat, code_of-nests}
-use Rattle.wasmprinter_reading.proofs.Folded.Items.{IsPrinted, told_chunks, told_items, told_roles}
+use Rattle.wasmprinter_reading.proofs.Each.{all_parts}
+use Rattle.wasmprinter_reading.proofs.Folded.Items.{IsPrinted, told_chunks, told_items, unasked, told_roles}
 
 abbrev pub are_nested : List Chunk → Bool
 are_nested cs = stops advance at_start (map (λ c. role_by c.rows) cs) Ends
 
 -- what a block or a case of an `if` holds is well nested by itself
 abbrev pub IsNested : Nodes → Type 0
-IsNested f = are_nested (told_chunks (unfolded f)) ≡ true
+IsNested f = are_nested (told_chunks false (unfolded f)) ≡ true
 
 -- Nodes in a row, by the last of them: the node of a plain operator with its operands, of a block with what it holds, or of an `if` with the nodes that are
 -- given to it and with its cases.
@@ -51,7 +52,7 @@ module _ (form : Form) where
 
   -- ---- the tree of code
 
-  row-with_operands : (f : Nodes) (x : Item) (o : Operands) → role x ≡ row.Plain → IsPrinted form x → AreLast f o → IsRow form f → IsRow form (with_operands f x o)
+  row-with_operands : (f : Nodes) (x : Item) (o : Operands) → role x ≡ row.Plain → IsPrinted form x → AreLast f o → IsRow form f → IsRow form (with_operands f (Of x) x.gives o)
   row-with_operands f x (Fit before run) e p l h =
       let ps = parts before run (subst (IsRow form) l h) in
       a_plain before x _ run e p ps.0 ps.1
@@ -61,31 +62,27 @@ module _ (form : Form) where
   -- code is well nested
   nested-code : (code : Code) → IsFit code → AllByRecursion (IsPrinted form) (flat code) → IsNested (tree code)
   nested-code code h p =
-      ap (λ ts. are_nested (told_chunks ts)) (unfolded-tree code h)
-      ∙ ap are_nested (told_items form (flat code) p)
+      ap (λ ts. are_nested (told_chunks false ts)) (unfolded-tree code h)
+      ∙ ap are_nested (told_items false form (flat code) p (unasked (flat code)))
       ∙ ap (λ rs. stops advance at_start rs Ends) (told_roles form (flat code) p)
       ∙ stops_at_end (map role (flat code)) (code_of-nests (flat code) code (code_of-flat code h)).0
-
-  all_parts : (a b : List Item) → AllByRecursion (IsPrinted form) (a ++ b) → AllByRecursion (IsPrinted form) a × AllByRecursion (IsPrinted form) b
-  all_parts [] b h = (tt, h)
-  all_parts (x ∷ a) b h = let ps = all_parts a b h.1 in ((h.0, ps.0), ps.1)
 
   row-tree_behind : (f : Nodes) (code : Code) → IsFit code → AllByRecursion (IsPrinted form) (flat code) → IsRow form f → IsRow form (tree_behind f code)
   row-tree_behind f Done h p r = r
   row-tree_behind f (Plain x rest) h p r =
       row-tree_behind (folded f x) rest h.1 p.1 (row-with_operands f x (operands x.takes f) h.0 p.0 (AreLast-operands x.takes f) r)
   row-tree_behind f (Block x body end rest) h p r =
-      let ps = all_parts (flat body) (end ∷ flat rest) p.1 in
+      let ps = all_parts (IsPrinted form) (flat body) (end ∷ flat rest) p.1 in
       row-tree_behind (Snoc f (Of x) x.gives (tree_behind Nil body)) rest h.3 ps.1.1
       (a_block f x x.gives (tree_behind Nil body) h.0 p.0 r (row-tree_behind Nil body h.1 ps.0 no_nodes) (nested-code body h.1 ps.0))
   row-tree_behind f (If x body end rest) h p r =
-      let ps = all_parts (flat body) (end ∷ flat rest) p.1 in
+      let ps = all_parts (IsPrinted form) (flat body) (end ∷ flat rest) p.1 in
       let es = ends f r in
       row-tree_behind (Snoc (front f) (Of x) x.gives (Snoc (last f) (Then x) 0 (tree_behind Nil body))) rest h.3 ps.1.1
       (an_if (front f) x x.gives (last f) 0 (tree_behind Nil body) h.0 p.0 es.0 es.1 (row-tree_behind Nil body h.1 ps.0 no_nodes) (nested-code body h.1 ps.0))
   row-tree_behind f (IfElse x body turn other end rest) h p r =
-      let ps = all_parts (flat body) (turn ∷ (flat other ++ end ∷ flat rest)) p.1 in
-      let qs = all_parts (flat other) (end ∷ flat rest) ps.1.1 in
+      let ps = all_parts (IsPrinted form) (flat body) (turn ∷ (flat other ++ end ∷ flat rest)) p.1 in
+      let qs = all_parts (IsPrinted form) (flat other) (end ∷ flat rest) ps.1.1 in
       let es = ends f r in
       row-tree_behind
       (Snoc (front f) (Of x) x.gives (Snoc (Snoc (last f) (Then x) 0 (tree_behind Nil body)) (Else turn) 0 (tree_behind Nil other))) rest h.5 qs.1.1

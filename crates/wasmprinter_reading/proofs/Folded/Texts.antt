@@ -1,15 +1,17 @@
 -- The text of folded operators is that of pieces that read by themselves: those of each operator's immediates, and the annotation of each hint.
-use Rattle.std.proofs.Common.{◌≡◌, ℕ, ◌+◌, ◌==◌, Bool, true, false, ◌&&◌, ◌||◌, true≢false, List, [], ◌∷◌, ◌++◌, Option, Some, None, refl, sym, ap, ap₂, ◌∙◌, append_assoc, append-nil, codes}
+use Rattle.std.proofs.Common.{◌≡◌, ℕ, ◌+◌, ◌==◌, Bool, true, false, ◌&&◌, ◌||◌, true≢false, List, [], ◌∷◌, ◌++◌, Option, Some, None, refl, sym, ap, ◌∙◌, append_assoc, append-nil, codes}
 use Rattle.std.proofs.lemmas.Bool.{and_parts, and_from}
+use Rattle.std.specs.Option.{is_none}
 use Rattle.wasmprinter_spec.specs.Grammar.{Placed}
 use Rattle.wasmprinter_spec.specs.Customs.Hints.{Hint}
-use Rattle.wasmprinter_spec.specs.Options.{Options}
-use Rattle.wasmprinter_spec.specs.Call.{text_of}
-use Rattle.wasmprinter_spec.specs.Piece.{Piece, Word, OpenPlain, Shut, Ending, PlainEnding, HintNote, text, all_calls}
+use Rattle.wasmprinter_spec.specs.Options.{Options, IsBlank}
+use Rattle.wasmprinter_spec.specs.Piece.{Piece, Word, OpenPlain, Shut, Ending, PlainEnding, HintNote, text}
 use Rattle.wasmprinter_spec.specs.Layout.Operators.{Form, before_word}
-use Rattle.wasmprinter_spec.specs.Layout.Folded.{head_place, head_text, head_hint, has_line_comment, comment_end, node_hint, is_none, node_pieces}
+use Rattle.wasmprinter_spec.specs.Layout.Folded.{head_place, head_text, head_hint, has_line_comment, comment_end, node_hint, node_pieces}
 use Rattle.wasmprinter_spec.specs.Folding.Tree.{Head, Of, Then, Else, Nodes, Nil, Snoc, is_nil}
-use Rattle.wasmprinter_lexical.proofs.Pieces.{Edge, Free, Bound, Opened, Ended, leaves, may_follow, pieces_follow, all_text, text_of-all_calls}
+use Rattle.wasmprinter_lexical.proofs.Pieces.{Edge, Free, Bound, Opened, Ended, leaves, may_follow, pieces_follow, all_text}
+use Rattle.wasmprinter_lexical.proofs.Respelled.{Respelled, same_spelled, equal_spelled, both_spelled, then_spelled}
+use Rattle.wasmprinter_lexical.proofs.Writes.{pieces_tokens}
 
 -- ---- the pieces
 
@@ -38,70 +40,49 @@ whole_pieces o form first nesting (Snoc before head results held) =
     ++ (before_word form (leads && is_none (head_hint head)) place nesting
     ++ (opened (head_pieces head) ++ (comment_end (is_nil held) s place nesting ++ (whole_pieces o form false (nesting + 1) held ++ (Shut ∷ []))))))
 
--- ---- their text
+-- ---- they are printed as the nodes are
 
 module _ (o : Options) where
-  all_text-append : (ps qs : List Piece) → all_text o (ps ++ qs) ≡ all_text o ps ++ all_text o qs
-  all_text-append [] qs = refl
-  all_text-append (p ∷ ps) qs = ap (λ t. text o p ++ t) (all_text-append ps qs) ∙ sym (append_assoc (text o p) (all_text o ps) (all_text o qs))
+  -- a parenthesis with a text that stands for pieces
+  abbrev pub HeadSpelled : Head → Type 0
+  HeadSpelled h = Respelled (OpenPlain (head_text o h) ∷ []) (opened (head_pieces h))
 
-  both_texts : (ps ps' qs qs' : List Piece) → all_text o ps ≡ all_text o ps' → all_text o qs ≡ all_text o qs' → all_text o (ps ++ qs) ≡ all_text o (ps' ++ qs')
-  both_texts ps ps' qs qs' e f = all_text-append ps qs ∙ ap₂ (λ a b. a ++ b) e f ∙ sym (all_text-append ps' qs')
+  abbrev pub AreSpelled : Nodes → Type 0
+  AreSpelled Nil = Unit {0}
+  AreSpelled (Snoc b h r held) = HeadSpelled h × AreSpelled b × AreSpelled held
 
-  opened_text : (ps : List Piece) → all_text o (opened ps) ≡ 40 ∷ all_text o ps
-  opened_text [] = refl
-  opened_text (Word w ∷ ps) = refl
-  opened_text (_ ∷ ps) = refl
+  module _ (blank : IsBlank o.indent) where
+    note_spelled : (taken : Bool) → Respelled (Word (text o (HintNote taken)) ∷ []) (HintNote taken ∷ [])
+    note_spelled taken = record {
+      text = λ p. ap (λ t. t ++ []) (append-nil (text o (HintNote taken)));
+      tokens = ap (λ t. t ++ []) (pieces_tokens o blank (HintNote taken ∷ []) refl (tt, tt));
+    }
 
-  head_opens : (h : Head) → all_text o (OpenPlain (head_text o h) ∷ []) ≡ all_text o (opened (head_pieces h))
-  head_opens (Of x) =
-      ap (λ t. 40 ∷ t) (append-nil (head_text o (Of x) ++ []) ∙ append-nil (head_text o (Of x)) ∙ text_of-all_calls o x.pieces)
-      ∙ sym (opened_text x.pieces)
-  head_opens (Then x) = refl
-  head_opens (Else x) = refl
+    hint_spelled : (form : Form) (first : Bool) (place nesting : ℕ) (h : Option (Placed Hint)) →
+        Respelled (node_hint o form first place nesting h) (whole_hint form first place nesting h)
+    hint_spelled form first place nesting None = same_spelled
+    hint_spelled form first place nesting (Some h) = both_spelled same_spelled (note_spelled h.value.taken)
 
-  hint_text : (form : Form) (first : Bool) (place nesting : ℕ) (h : Option (Placed Hint)) →
-      all_text o (node_hint o form first place nesting h) ≡ all_text o (whole_hint form first place nesting h)
-  hint_text form first place nesting None = refl
-  hint_text form first place nesting (Some h) =
-      both_texts (before_word form first place nesting) (before_word form first place nesting) (Word (text o (HintNote h.value.taken)) ∷ []) (HintNote h.value.taken ∷ []) refl
-      (ap (λ t. t ++ []) (append-nil (text o (HintNote h.value.taken))))
-
-  whole_text : (form : Form) (first : Bool) (nesting : ℕ) (f : Nodes) → all_text o (node_pieces o form first nesting f) ≡ all_text o (whole_pieces o form first nesting f)
-  unfolding node_pieces
-  whole_text form first nesting Nil = refl
-  whole_text form first nesting (Snoc b h r held) =
-      let place : ℕ = head_place h in
-      let s : List ℕ = head_text o h in
-      let leads : Bool = first && is_nil b in
-      let end : List Piece = comment_end (is_nil held) s place nesting in
-      let word : List Piece = before_word form (leads && is_none (head_hint h)) place nesting in
-      let held_inside : List Piece = node_pieces o form false (nesting + 1) held in
-      let whole_inside : List Piece = whole_pieces o form false (nesting + 1) held in
-      let inner : List Piece = end ++ held_inside ++ (Shut ∷ []) in
-      let whole_inner : List Piece = end ++ (whole_inside ++ (Shut ∷ [])) in
-      let hint : List Piece = node_hint o form leads place nesting (head_hint h) in
-      let hint_whole : List Piece = whole_hint form leads place nesting (head_hint h) in
-      let before : List Piece = node_pieces o form first nesting b in
-      let whole_before : List Piece = whole_pieces o form first nesting b in
-      let same_inner : all_text o inner ≡ all_text o whole_inner =
-      both_texts (end ++ held_inside) (end ++ whole_inside) (Shut ∷ []) (Shut ∷ [])
-      (both_texts end end held_inside whole_inside refl (whole_text form false (nesting + 1) held)) refl
-      ∙ ap (all_text o) (append_assoc end whole_inside (Shut ∷ [])) in
-      let group : List Piece = OpenPlain s ∷ inner in
-      let whole_group : List Piece = opened (head_pieces h) ++ whole_inner in
-      let same_group : all_text o group ≡ all_text o whole_group =
-      both_texts (OpenPlain s ∷ []) (opened (head_pieces h)) inner whole_inner (head_opens h) same_inner in
-      both_texts (before ++ hint ++ word) (whole_before ++ hint_whole ++ word) group whole_group
-      (both_texts (before ++ hint) (whole_before ++ hint_whole) word word
-      (both_texts before whole_before hint hint_whole (whole_text form first nesting b) (hint_text form leads place nesting (head_hint h))) refl) same_group
-      ∙ ap (all_text o) (append_assoc (whole_before ++ hint_whole) word whole_group ∙ append_assoc whole_before hint_whole (word ++ whole_group))
-
-  -- the text of nodes
-  pub nodes_text : (form : Form) (first : Bool) (nesting : ℕ) (f : Nodes) →
-      text_of (all_calls o (node_pieces o form first nesting f)) ≡ text_of (all_calls o (whole_pieces o form first nesting f))
-  nodes_text form first nesting f =
-      text_of-all_calls o (node_pieces o form first nesting f) ∙ whole_text form first nesting f ∙ sym (text_of-all_calls o (whole_pieces o form first nesting f))
+    pub nodes_spelled : (form : Form) (first : Bool) (nesting : ℕ) (f : Nodes) → AreSpelled f →
+        Respelled (node_pieces o false form first nesting f) (whole_pieces o form first nesting f)
+    unfolding node_pieces
+    nodes_spelled form first nesting Nil k = same_spelled
+    nodes_spelled form first nesting (Snoc b h r held) k =
+        let place : ℕ = head_place h in
+        let leads : Bool = first && is_nil b in
+        let end : List Piece = comment_end (is_nil held) (head_text o h) place nesting in
+        let word : List Piece = before_word form (leads && is_none (head_hint h)) place nesting in
+        let whole_inside : List Piece = whole_pieces o form false (nesting + 1) held in
+        let whole_group : List Piece = opened (head_pieces h) ++ (end ++ (whole_inside ++ (Shut ∷ []))) in
+        let hint_whole : List Piece = whole_hint form leads place nesting (head_hint h) in
+        let whole_before : List Piece = whole_pieces o form first nesting b in
+        let inner : Respelled ((end ++ node_pieces o false form false (nesting + 1) held) ++ (Shut ∷ [])) (end ++ (whole_inside ++ (Shut ∷ []))) =
+        then_spelled (both_spelled (both_spelled (same_spelled {ps = end}) (nodes_spelled form false (nesting + 1) held k.2)) (same_spelled {ps = Shut ∷ []}))
+        (equal_spelled (append_assoc end whole_inside (Shut ∷ []))) in
+        then_spelled
+        (both_spelled (both_spelled (both_spelled (nodes_spelled form first nesting b k.1) (hint_spelled form leads place nesting (head_hint h))) (same_spelled {ps = word}))
+        (both_spelled k.0 inner))
+        (equal_spelled (append_assoc (whole_before ++ hint_whole) word whole_group ∙ append_assoc whole_before hint_whole (word ++ whole_group)))
 
 -- ---- where no two semicolons follow one another, no comment goes up to the end of the line
 

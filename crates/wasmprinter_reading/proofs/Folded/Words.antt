@@ -9,7 +9,7 @@ use Rattle.wasmprinter_reading.specs.Listed.{IsListed}
 use Rattle.wasmprinter_reading.proofs.Bytes.{bytes_same}
 use Rattle.wasmprinter_reading.proofs.Tabled.{all, all_at, In, HasRow, row_for, group_words, is_part_word, is_group_word, StandsAlone, none_among}
 use Rattle.wasmprinter_reading.proofs.Operators.Rows.{IsSome, rows_of-row, first_of_rows}
-use Rattle.wasmprinter_reading.proofs.Fields.Expressions.{head-alone}
+use Rattle.wasmprinter_reading.proofs.Operators.Alone.{head-alone}
 
 -- ---- tests
 
@@ -112,7 +112,7 @@ rows_for o h =
 pub role_by-rows : (o : Operator) → IsListed o → role_by (rows_of (word_of o.opcode)) ≡ role_of o.opcode
 role_by-rows o h = let r : HasRows o = rows_for o h in ap role_by r.are ∙ r.role
 
-leads_alone : (r : Row) → In r table → is_folded r.role ≡ true → StandsAlone r.word
+pub leads_alone : (r : Row) → In r table → is_folded r.role ≡ true → StandsAlone r.word
 leads_alone r i p =
     let either : (not (is_folded r.role) || (not (is_part_word r.word) && not (is_group_word r.word))) ≡ true = all_at may_lead r table folded_words i in
     let both : (not (is_part_word r.word) && not (is_group_word r.word)) ≡ true =

@@ -2,6 +2,7 @@
 use Rattle.std.proofs.Common.{◌≡◌, ℕ, ◌+◌, Bool, true, false, ◌&&◌, cond, List, [], ◌∷◌, ◌++◌, Option, Some, None, refl, sym, ap, ◌∙◌, subst, append_assoc, codes}
 use Rattle.std.proofs.lemmas.Bool.{and_parts}
 use Rattle.wasmprinter_spec.specs.Character.{class}
+use Rattle.std.specs.Option.{is_none}
 use Rattle.wasmprinter_spec.specs.Grammar.{Placed}
 use Rattle.wasmprinter_spec.specs.Token.{left, right, word}
 use Rattle.wasmprinter_spec.specs.Forest.{Forest, End, Word, Group, onto}
@@ -11,13 +12,14 @@ use Rattle.wasmprinter_spec.specs.Options.{Options}
 use Rattle.wasmprinter_spec.specs.Piece as piece
 use Rattle.wasmprinter_spec.specs.Piece.{Piece, Break, OpenPlain, Shut, HintNote}
 use Rattle.wasmprinter_spec.specs.Layout.Operators.{Form, OverLines, InLine, before_word}
-use Rattle.wasmprinter_spec.specs.Layout.Folded.{head_place, head_text, head_hint, has_line_comment, comment_end, is_none}
+use Rattle.wasmprinter_spec.specs.Layout.Folded.{head_place, head_text, head_hint, has_line_comment, comment_end}
 use Rattle.wasmprinter_spec.specs.Folding.Code.{Item}
 use Rattle.wasmprinter_spec.specs.Folding.Tree.{Head, Of, Then, Else, Nodes, Nil, Snoc, is_nil}
 use Rattle.wasmprinter_lexical.proofs.Grown.{onto-End}
 use Rattle.wasmprinter_lexical.proofs.Noted.{no_items, a_word, a_group}
 use Rattle.wasmprinter_lexical.proofs.Runs.{is_word}
 use Rattle.wasmprinter_lexical.proofs.Pieces.{Edge, Free, Bound, leaves, may_follow, pieces_follow, all_text, text_of-all_calls}
+use Rattle.wasmprinter_lexical.proofs.Respelled.{same_spelled, first_spelled, both_spelled}
 use Rattle.wasmprinter_lexical.proofs.Writes.{Writes, WritesNoted, writes_joined, all_tokens-append, ArePieces-append, both_write, nothing_writes, free_writes, break_writes, hint_note_writes, behind_anything, plain_group_then}
 use Rattle.wasmprinter_reading.proofs.Tabled.{HasRow, row_for}
 use Rattle.wasmprinter_reading.proofs.Operators.Forms.{behind, may_end, ahead, before_writes, hint_items, goes_on, at_free}
@@ -41,10 +43,13 @@ group_closes v ps h w = plain_group_then refl h w nothing_writes
 text_closes : {f : Forest} {c : Edge} (o : Options) (v : List ℕ) (ps : List Piece) → is_word v ≡ true → has_line_comment (all_text o ps) ≡ false → Writes Bound ps c f →
     Writes Free (OpenPlain v ∷ (ps ++ (Shut ∷ []))) Bound (Group (Word v f) End)
 text_closes o v ps h n w = record {
-  joins = λ qs g. subst (λ t. pieces_follow Bound t ≡ true) (sym (append_assoc ps (Shut ∷ []) qs)) (shut_joins o Bound ps qs refl n (writes_joined w) (loosened_list qs g));
-  are = (h, ArePieces-append ps (Shut ∷ []) w.are (tt, tt));
+  printed = OpenPlain v ∷ (w.printed ++ (Shut ∷ []));
+  spelled = first_spelled (OpenPlain v) (both_spelled w.spelled same_spelled);
+  joins = λ qs g. subst (λ t. pieces_follow Bound t ≡ true) (sym (append_assoc w.printed (Shut ∷ []) qs))
+      (shut_joins o Bound w.printed qs refl (ap has_line_comment (sym (w.spelled.text o)) ∙ n) (writes_joined w) (loosened_list qs g));
+  are = (h, ArePieces-append w.printed (Shut ∷ []) w.are (tt, tt));
   whole = Group (Word v w.whole) End;
-  tokens = ap (λ t. left ∷ (word v ∷ t)) (all_tokens-append ps (Shut ∷ []) ∙ ap (λ t. t ++ right ∷ []) w.tokens);
+  tokens = ap (λ t. left ∷ (word v ∷ t)) (all_tokens-append w.printed (Shut ∷ []) ∙ ap (λ t. t ++ right ∷ []) w.tokens);
   noted = a_group (a_word w.noted) no_items;
   without = ap (λ g. Group (Word v g) End) w.without;
 }
@@ -64,7 +69,7 @@ module _ (o : Options) (form : Form) where
       by false e = subst (λ g. Writes Free (OpenPlain v ∷ (ps ++ (Shut ∷ []))) Bound (Group (Word v g) End)) (sym (onto-End f)) (text_closes o v ps h (n e) w)
 
   -- nodes in a row, unless there is none
-  abbrev RowWrites : Bool → ℕ → Nodes → Type 0
+  abbrev pub RowWrites : Bool → ℕ → Nodes → Type 0
   RowWrites first nesting Nil = Unit {0}
   RowWrites first nesting (Snoc b h r held) =
       WritesNoted (ahead form first) (whole_pieces o form first nesting (Snoc b h r held)) Bound (row_items false (Snoc b h r held)) (row_items true (Snoc b h r held))
@@ -143,7 +148,7 @@ module _ (o : Options) (form : Form) where
   one_more (Snoc c i q inner) h r held true nesting k g = both_write k (behind_group (led false (head_place h) nesting (head_hint h) g))
   one_more (Snoc c i q inner) h r held false nesting k g = both_write k (behind_group (led false (head_place h) nesting (head_hint h) g))
 
-  row_writes : (f : Nodes) → IsRow form f → (first : Bool) (nesting : ℕ) → RowWrites first nesting f
+  pub row_writes : (f : Nodes) → IsRow form f → (first : Bool) (nesting : ℕ) → RowWrites first nesting f
   row_writes f no_nodes first nesting = tt
   row_writes f (a_plain b x r held e p rb rh) first nesting =
       one_more b (Of x) r held first nesting (row_writes b rb first nesting) (operator_group x p nesting held (row_writes held rh false (nesting + 1)))

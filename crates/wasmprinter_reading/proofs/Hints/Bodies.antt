@@ -84,7 +84,7 @@ arguments_noted (Group (Word w x) a) h g f k rs law _ (a_group {f = z} (a_word {
 arguments_noted _ h g f k rs law z n = absurd h
 
 -- the flag of a hint is read from its byte
-flag-byte : (taken : Bool) → flag (flag_byte taken) ≡ Some taken
+pub flag-byte : (taken : Bool) → flag (flag_byte taken) ≡ Some taken
 flag-byte true = refl
 flag-byte false = refl
 

@@ -6,7 +6,7 @@ use Rattle.wasmprinter_spec.specs.Forest.{Forest, End, Word, Name, String, Group
 use Rattle.wasmprinter_spec.specs.Types.{ValType, FuncType, SubType, ExternType, FuncExtern, TableExtern, MemoryExtern, GlobalExtern, TagExtern, signature_at}
 use Rattle.wasmprinter_spec.specs.Row.{Func}
 use Rattle.wasmprinter_spec.specs.Labels.{Named}
-use Rattle.wasmprinter_spec.specs.Names.{Names}
+use Rattle.wasmprinter_spec.specs.Names.{Names, AreNamed}
 use Rattle.wasmprinter_spec.specs.Placed.{TypeGroup, Import, PlacedFunction}
 use Rattle.wasmprinter_spec.specs.Module.{without_places, imported, selected_first, func_import, locals_of}
 use Rattle.wasmprinter_spec.specs.Indexed.{parameter_count}
@@ -18,8 +18,12 @@ use Rattle.wasmprinter_spec.specs.Layout.Types.{parameters_of}
 use Rattle.wasmprinter_spec.specs.Layout.Declarations.{Scope}
 use Rattle.wasmprinter_spec.specs.Layout.Imports.{Numbers, number_of, numbers_behind}
 use Rattle.wasmprinter_spec.specs.Text.Hints.{header_words, chunk_hints, function_hints_in, field_hints}
+use Rattle.wasmprinter_spec.specs.Layout.Functions.{over_lines, result_count}
+use Rattle.wasmprinter_spec.specs.Folding.Refusals.{misplaced_in, misplaced_from}
 use Rattle.wasmprinter_lexical.proofs.Grown.{onto_assoc}
 use Rattle.wasmprinter_lexical.proofs.Noted.{Noted, no_items, a_word, a_name, a_noted_name, a_string, a_group, a_note}
+use Rattle.wasmprinter_reading.specs.Listed.{AreSignaturesInRange}
+use Rattle.wasmprinter_reading.proofs.Folded.Lists.{AreFoldable}
 use Rattle.wasmprinter_reading.proofs.Ranged.{IsRangedFunction}
 use Rattle.wasmprinter_reading.proofs.Identifiers.{id_items}
 use Rattle.wasmprinter_reading.proofs.Numbered.{rows}
@@ -27,9 +31,11 @@ use Rattle.wasmprinter_reading.proofs.Sorted.{field_rows}
 use Rattle.wasmprinter_reading.proofs.Types.Trees.{groups_items, group_items, signature_if_any_items, type_use_items, members_items, type_group_items_by, type_section_items}
 use Rattle.wasmprinter_reading.proofs.Fields.Start.{start_items}
 use Rattle.wasmprinter_reading.proofs.Fields.Imports.{extern_word, extern_items, imports_items}
-use Rattle.wasmprinter_reading.proofs.Fields.Functions.{body_setting, function_scope, function_hinted, functions_hinted}
+use Rattle.wasmprinter_reading.proofs.Fields.Functions.{function_scope, function_hinted, functions_hinted}
 use Rattle.wasmprinter_reading.proofs.Customs.Notes.{AreNotes}
-use Rattle.wasmprinter_reading.proofs.Hints.Bodies.{taken_hints, all_taken, operators_hints, AreHeader, header_onto, header_noted}
+use Rattle.wasmprinter_reading.proofs.Each.{nothing_joined}
+use Rattle.wasmprinter_reading.proofs.Hints.FoldedBodies.{is_folding, list_hints}
+use Rattle.wasmprinter_reading.proofs.Hints.Bodies.{taken_hints, all_taken, AreHeader, header_onto, header_noted}
 
 -- Items behind so many functions have these hints, whatever annotations stand behind their identifiers.
 pub record HasHints (i : ℕ) (g : Forest) (hs : List OperatorHint) : Type 0 where
@@ -153,17 +159,19 @@ id_is : (o : Option Named) → AreHeader (id_items o)
 id_is None = tt
 id_is (Some n) = tt
 
-module _ (s : Scope) where
-  function_has : (i : ℕ) (hs : List (Placed Hint)) (f : PlacedFunction) → IsRangedFunction f → (y : Forest) → Noted y (function_hinted false s i hs f) →
+module _ (s : Scope) (named : AreNamed s.names) (ranged : AreSignaturesInRange (signature_at s.types)) where
+  function_has : (i : ℕ) (hs : List (Placed Hint)) (f : PlacedFunction) → IsRangedFunction f → AreFoldable s.folding f.body.value.operators →
+      (is_folding s.folding ≡ true → misplaced_in f.body.place hs f.body.value.operators ≡ []) → (y : Forest) → Noted y (function_hinted false s i hs f) →
       function_hints_in i y ≡ Some (taken_hints i 0 f.body.place hs f.body.value.operators)
-  function_has i hs f h y n =
+  function_has i hs f h foldable fit y n =
       let rs : List OperatorHint = taken_hints i 0 f.body.place hs f.body.value.operators in
       let P : Forest → Type 0 = λ b. (unfolded b >>= chunk_hints i 0) ≡ Some rs in
       let ls : List Variables = grouped (s.names.locals i) (parameter_count (signature_at s.types f.type_index)) (locals_of f.body.value.locals) in
       header_noted P (id_items (s.names.items Func i)) (id_is (s.names.items Func i)) _
       (header_noted P (type_use_items s.names (Some i) f.type_index (signature_at s.types f.type_index)) (refl, signature_is s.names (Some i) (signature_at s.types f.type_index)) _
       (header_noted P (groups_items s.names (codes "local") ls) (groups_are s.names (codes "local") ls refl) _
-      (operators_hints (body_setting (function_scope s i) f.body.place) i hs f.body.value.operators h.body.listed))) y n
+      (list_hints s.folding (result_count (function_scope s i) f.type_index) (over_lines (function_scope s i) f.body.place) i named ranged hs f.body.value.operators
+      h.body.listed h.body.nested foldable fit))) y n
 
   function_before : (i : ℕ) (x : Forest) (rs : List OperatorHint) → ((y : Forest) → Noted y x → function_hints_in i y ≡ Some rs) →
       {g : Forest} {hs : List OperatorHint} → HasHints (i + 1) g hs → HasHints i (Group (Word (codes "func") x) g) (rs ++ hs)
@@ -172,12 +180,14 @@ module _ (s : Scope) where
       by : (z : Forest) → Noted z (Group (Word (codes "func") x) g) → field_hints i z ≡ Some (rs ++ hs)
       by _ (a_group {f = z} (a_word {f = y} m) n) = rw (has y m, h.law z n)
 
-  pub functions_before : (es : List FunctionHints) (i : ℕ) (fs : List PlacedFunction) → AllByRecursion IsRangedFunction fs → {g : Forest} {hs : List OperatorHint} →
+  pub functions_before : (es : List FunctionHints) (i : ℕ) (fs : List PlacedFunction) → AllByRecursion IsRangedFunction fs →
+      AllByRecursion (λ f. AreFoldable s.folding f.body.value.operators) fs → (is_folding s.folding ≡ true → misplaced_from es i fs ≡ []) → {g : Forest} {hs : List OperatorHint} →
       HasHints (i + length fs) g hs → HasHints i (onto (functions_hinted false s es i fs) g) (all_taken es i fs ++ hs)
-  functions_before es i [] k {g = g} {hs = hs} h = subst (λ j. HasHints j g hs) (omega arith) h
-  functions_before es i (f ∷ fs) k {g = g} {hs = hs} h =
+  functions_before es i [] k l fit {g = g} {hs = hs} h = subst (λ j. HasHints j g hs) (omega arith) h
+  functions_before es i (f ∷ fs) k l fit {g = g} {hs = hs} h =
       let rs : List OperatorHint = taken_hints i 0 f.body.place (next_hints i es) f.body.value.operators in
       let behind : List OperatorHint = all_taken (hints_behind i es) (i + 1) fs in
-      let rest = functions_before (hints_behind i es) (i + 1) fs k.1 {g = g} {hs = hs} (subst (λ j. HasHints j g hs) (omega arith) h) in
+      let parts = λ (e : is_folding s.folding ≡ true). nothing_joined (misplaced_in f.body.place (next_hints i es) f.body.value.operators) (misplaced_from (hints_behind i es) (i + 1) fs) (fit e) in
+      let rest = functions_before (hints_behind i es) (i + 1) fs k.1 l.1 (λ e. (parts e).1) {g = g} {hs = hs} (subst (λ j. HasHints j g hs) (omega arith) h) in
       subst (HasHints i (onto (functions_hinted false s es i (f ∷ fs)) g)) (sym (append_assoc rs behind hs))
-      (function_before i (function_hinted false s i (next_hints i es) f) rs (function_has i (next_hints i es) f k.0) rest)
+      (function_before i (function_hinted false s i (next_hints i es) f) rs (function_has i (next_hints i es) f k.0 l.0 (λ e. (parts e).0)) rest)

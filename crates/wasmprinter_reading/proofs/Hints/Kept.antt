@@ -1,5 +1,5 @@
 -- The hints of a module whose hint section is well formed are those of its text.
-use Rattle.std.proofs.Common.{◌≡◌, ℕ, ◌+◌, ◌&&◌, true, false, List, [], Option, Some, None, refl, sym, ap, ◌∙◌, subst, codes, length, map, arith, append-nil}
+use Rattle.std.proofs.Common.{◌≡◌, ℕ, ◌+◌, ◌&&◌, Bool, true, false, cond, List, [], Option, Some, None, refl, sym, ap, ◌∙◌, subst, codes, length, map, arith, append-nil}
 use Rattle.std.proofs.lemmas.Bool.{and_parts}
 use Rattle.wasmprinter_spec.specs.Choices.{tested}
 use Rattle.wasmprinter_spec.specs.Grammar.{◌>>=◌}
@@ -13,6 +13,9 @@ use Rattle.wasmprinter_spec.specs.Placed.{PlacedModule}
 use Rattle.wasmprinter_spec.specs.Names.{Names, AreNamed}
 use Rattle.wasmprinter_spec.specs.ModuleNames.{module_names}
 use Rattle.wasmprinter_spec.specs.Module.{without_places, imported, func_import}
+use Rattle.wasmprinter_spec.specs.Folding.Arities.{signatures_within}
+use Rattle.wasmprinter_spec.specs.Folding.Refusals.{IsFoldable, misplaced_from, misplaced_hints}
+use Rattle.wasmprinter_spec.specs.Layout.Declarations.{folding_of}
 use Rattle.wasmprinter_spec.specs.Layout.Imports.{no_numbers}
 use Rattle.wasmprinter_spec.specs.Layout.{module_pieces_with, module_pieces, layout}
 use Rattle.wasmprinter_spec.specs.Laws.{HintsStay}
@@ -25,62 +28,73 @@ use Rattle.wasmprinter_reading.proofs.Ranges.{ranged}
 use Rattle.wasmprinter_reading.proofs.GivenNames.{module_names_named}
 use Rattle.wasmprinter_reading.proofs.Identifiers.{id_items}
 use Rattle.wasmprinter_reading.proofs.Fields.Functions.{functions_hinted}
-use Rattle.wasmprinter_reading.proofs.Back.{early, before, own_memory, own_tag, own_table, own_global, own_export, own_element, own_data}
+use Rattle.wasmprinter_reading.proofs.Back.{early, before, signatures_ranged, own_memory, own_tag, own_table, own_global, own_export, own_element, own_data}
+use Rattle.wasmprinter_reading.proofs.Foldable.{can_fold}
 use Rattle.wasmprinter_reading.proofs.Sorted.{field_rows}
 use Rattle.wasmprinter_reading.proofs.Written.{noting, noted, module_noted, module_writes}
 use Rattle.wasmprinter_reading.proofs.Hints.Bodies.{all_taken}
+use Rattle.wasmprinter_reading.proofs.Hints.FoldedBodies.{is_folding}
 use Rattle.wasmprinter_reading.proofs.Hints.Fields.{HasHints, no_hints, notes_before, id_before, rows_before, start_before, types_before, imports_before, functions_before}
 use Rattle.wasmprinter_reading.proofs.Hints.Taken.{functions_take}
 
 at_number : {i k : ℕ} {g : Forest} {hs : List OperatorHint} → i ≡ k → HasHints i g hs → HasHints k g hs
 at_number {g = g} {hs = hs} e h = subst (λ i. HasHints i g hs) e h
 
-module _ (o : Options) (whole : o.skeleton ≡ false) (names : Names) (named : AreNamed names) (m : PlacedModule) (h : IsRanged m) (answers : Answers) where
+module _ (o : Options) (whole : o.skeleton ≡ false) (names : Names) (named : AreNamed names) (m : PlacedModule) (h : IsRanged m) (plain : o.paints ≡ false) (foldable : IsFoldable o m) (answers : Answers) where
   abbrev own_taken : List OperatorHint
-  own_taken = all_taken (hints_of m.customs) (before names m FuncKind) m.functions
+  own_taken = all_taken (hints_of m.customs) (before o names m FuncKind) m.functions
 
   -- the annotations of custom sections have no hints
-  place_before : (place : Option Kind) {i : ℕ} {g : Forest} {hs : List OperatorHint} → HasHints i g hs → HasHints i (onto (noted o names named m h answers place) g) hs
-  place_before place x = notes_before (noted o names named m h answers place) (noting o names named m h answers place).are x
+  place_before : (place : Option Kind) {i : ℕ} {g : Forest} {hs : List OperatorHint} → HasHints i g hs → HasHints i (onto (noted o names named m h plain answers place) g) hs
+  place_before place x = notes_before (noted o names named m h plain answers place) (noting o names named m h plain answers place).are x
+
+  -- where operators are folded, no hint is on an operator that can't have one
+  hints_fit : is_folding (folding_of o m) ≡ true → misplaced_from (hints_of m.customs) (before o names m FuncKind) m.functions ≡ []
+  hints_fit e = by o.folds e foldable.hints
+    where
+      by : (t : Bool) → is_folding (cond t (Some (record { paints = o.paints; signatures = signatures_within m })) None) ≡ true → (t ≡ true → misplaced_hints o m ≡ []) →
+          misplaced_from (hints_of m.customs) (before o names m FuncKind) m.functions ≡ []
+      by true k f = ap (λ s. cond s [] (misplaced_from (hints_of m.customs) (before o names m FuncKind) m.functions)) (sym whole) ∙ f refl
+      by false k f = absurd cc
 
   -- what stands behind the functions
   behind_functions : Forest
-  behind_functions = onto (noted o names named m h answers (Some CodeSection))
-      (onto (field_rows (codes "data") (own_data names m o.skeleton) 0 m.datas) (noted o names named m h answers (Some DataSection)))
+  behind_functions = onto (noted o names named m h plain answers (Some CodeSection))
+      (onto (field_rows (codes "data") (own_data o names m o.skeleton) 0 m.datas) (noted o names named m h plain answers (Some DataSection)))
 
-  functions_have : HasHints (before names m FuncKind)
-      (onto (functions_hinted o.skeleton (early names m) (hints_of m.customs) (before names m FuncKind) m.functions) behind_functions) own_taken
+  functions_have : HasHints (before o names m FuncKind)
+      (onto (functions_hinted o.skeleton (early o names m) (hints_of m.customs) (before o names m FuncKind) m.functions) behind_functions) own_taken
   unfolding behind_functions
   functions_have =
-      let i : ℕ = before names m FuncKind in
+      let i : ℕ = before o names m FuncKind in
       let n : ℕ = i + length m.functions in
-      let last : HasHints n (noted o names named m h answers (Some DataSection)) [] =
-      subst (λ g. HasHints n g []) (onto-End (noted o names named m h answers (Some DataSection))) (place_before (Some DataSection) (no_hints n)) in
+      let last : HasHints n (noted o names named m h plain answers (Some DataSection)) [] =
+      subst (λ g. HasHints n g []) (onto-End (noted o names named m h plain answers (Some DataSection))) (place_before (Some DataSection) (no_hints n)) in
       let behind : HasHints n behind_functions [] =
-      place_before (Some CodeSection) (rows_before (codes "data") (refl, refl) (own_data names m o.skeleton) 0 m.datas last) in
-      subst (λ t. HasHints i (onto (functions_hinted t (early names m) (hints_of m.customs) i m.functions) behind_functions) own_taken) (sym whole)
-      (subst (HasHints i (onto (functions_hinted false (early names m) (hints_of m.customs) i m.functions) behind_functions)) (append-nil own_taken)
-      (functions_before (early names m) (hints_of m.customs) i m.functions h.each_function behind))
+      place_before (Some CodeSection) (rows_before (codes "data") (refl, refl) (own_data o names m o.skeleton) 0 m.datas last) in
+      subst (λ t. HasHints i (onto (functions_hinted t (early o names m) (hints_of m.customs) i m.functions) behind_functions) own_taken) (sym whole)
+      (subst (HasHints i (onto (functions_hinted false (early o names m) (hints_of m.customs) i m.functions) behind_functions)) (append-nil own_taken)
+      (functions_before (early o names m) named (signatures_ranged o names m h) (hints_of m.customs) i m.functions h.each_function (can_fold o m whole foldable).functions hints_fit behind))
 
-  fields_have : HasHints 0 (onto (id_items names.module_name) (module_noted o names named m h answers)) own_taken
+  fields_have : HasHints 0 (onto (id_items names.module_name) (module_noted o names named m h plain answers)) own_taken
   unfolding module_noted behind_functions
   fields_have =
       let behind =
       place_before (Some ImportSection) (place_before (Some FunctionSection)
-      (rows_before (codes "table") (refl, refl) (own_table names m) (before names m TableKind) m.tables
-      (place_before (Some TableSection) (rows_before (codes "memory") (refl, refl) (own_memory names m) (before names m MemoryKind) m.memories
-      (place_before (Some MemorySection) (rows_before (codes "tag") (refl, refl) (own_tag names m) (before names m TagKind) m.tags
-      (place_before (Some TagSection) (rows_before (codes "global") (refl, refl) (own_global names m) (before names m GlobalKind) m.globals
-      (place_before (Some GlobalSection) (rows_before (codes "export") (refl, refl) (own_export names m) 0 m.exports
-      (place_before (Some ExportSection) (start_before (early names m) m.start
-      (place_before (Some StartSection) (rows_before (codes "elem") (refl, refl) (own_element names m o.skeleton) 0 m.elements
+      (rows_before (codes "table") (refl, refl) (own_table o names m) (before o names m TableKind) m.tables
+      (place_before (Some TableSection) (rows_before (codes "memory") (refl, refl) (own_memory o names m) (before o names m MemoryKind) m.memories
+      (place_before (Some MemorySection) (rows_before (codes "tag") (refl, refl) (own_tag o names m) (before o names m TagKind) m.tags
+      (place_before (Some TagSection) (rows_before (codes "global") (refl, refl) (own_global o names m) (before o names m GlobalKind) m.globals
+      (place_before (Some GlobalSection) (rows_before (codes "export") (refl, refl) (own_export o names m) 0 m.exports
+      (place_before (Some ExportSection) (start_before (early o names m) m.start
+      (place_before (Some StartSection) (rows_before (codes "elem") (refl, refl) (own_element o names m o.skeleton) 0 m.elements
       (place_before (Some ElementSection) functions_have))))))))))))))) in
       id_before names.module_name
       (place_before None (types_before names 0 m.types
-      (place_before (Some TypeSection) (imports_before (early names m) no_numbers m.imports (at_number (omega arith) behind)))))
+      (place_before (Some TypeSection) (imports_before (early o names m) no_numbers m.imports (at_number (omega arith) behind)))))
 
   -- the text of the module's pieces has the hints that its functions take
-  forest_has : (z : Forest) → Noted z (Group (Word (codes "module") (onto (id_items names.module_name) (module_noted o names named m h answers))) End) →
+  forest_has : (z : Forest) → Noted z (Group (Word (codes "module") (onto (id_items names.module_name) (module_noted o names named m h plain answers))) End) →
       forest_hints z ≡ Some own_taken
   forest_has _ (a_group (a_word {f = y} n) no_items) = fields_have.law y n
 
@@ -99,14 +113,14 @@ well_formed m hs e =
 
 pub hints_stay : HintsStay
 unfolding layout module_pieces
-hints_stay bytes m o answers hs spelled whole blank none e =
+hints_stay bytes m o answers hs spelled whole plain blank foldable none e =
     let h : IsRanged m = ranged bytes m spelled in
     let names : Names = module_names o.invents m in
     let named : AreNamed names = module_names_named o.invents m h in
-    let w = module_writes o names named m h answers none in
+    let w = module_writes o names named m h plain answers none in
     let is : AreWellFormed m hs = well_formed m hs e in
-    let taken : all_taken (hints_of m.customs) (before names m FuncKind) m.functions ≡ hs =
-    functions_take (before names m FuncKind) m.functions h.each_function (hints_of m.customs) is.functions_up is.offsets_up hs is.all in
+    let taken : all_taken (hints_of m.customs) (before o names m FuncKind) m.functions ≡ hs =
+    functions_take (before o names m FuncKind) m.functions h.each_function (hints_of m.customs) is.functions_up is.offsets_up hs is.all in
     ap (λ f. f >>= forest_hints) (writes_forest o blank (module_pieces_with o answers names m) w)
-    ∙ forest_has o whole names named m h answers w.whole w.noted
+    ∙ forest_has o whole names named m h plain foldable answers w.whole w.noted
     ∙ ap (λ t. Some t) taken

@@ -165,11 +165,3 @@ signatures_within m own = record {
   fields = λ t. option_map length (fields_at (types_of m) t);
   own = own;
 }
-
--- in the function with this index
-abbrev pub signatures : PlacedModule → ℕ → Signatures
-signatures m i = signatures_within m (option_map (λ t. length t.results) (function_type m i))
-
--- in a constant expression
-abbrev pub constant_signatures : PlacedModule → Signatures
-constant_signatures m = signatures_within m (Some 0)

@@ -10,52 +10,59 @@ pub data Head : Type 0 where
   Then : Item → Head
   Else : Item → Head
 
--- Nodes in a row. The last one stands behind the others, with its head, how many results it counts for, and the nodes that it holds.
-pub data Nodes : Type 0 where
-  Nil : Nodes
-  Snoc : Nodes → Head → ℕ → Nodes → Nodes
+-- Nodes in a row, with heads of some kind. The last one stands behind the others, with its head, how many results it counts for, and the nodes
+-- that it holds.
+pub data NodesOf (H : Type 0) : Type 0 where
+  Nil : NodesOf H
+  Snoc : NodesOf H → H → ℕ → NodesOf H → NodesOf H
+
+abbrev pub Nodes : Type 0
+Nodes = NodesOf Head
 
 -- whether there is no node
-abbrev pub is_nil : Nodes → Bool
+abbrev pub is_nil : {H : Type 0} → NodesOf H → Bool
 is_nil Nil = true
 is_nil (Snoc before head results held) = false
 
 -- one row, and then another
-abbrev pub joined : Nodes → Nodes → Nodes
+abbrev pub joined : {H : Type 0} → NodesOf H → NodesOf H → NodesOf H
 joined a Nil = a
 joined a (Snoc before head results held) = Snoc (joined a before) head results held
 
 -- all nodes but the last
-abbrev pub front : Nodes → Nodes
+abbrev pub front : {H : Type 0} → NodesOf H → NodesOf H
 front Nil = Nil
 front (Snoc before head results held) = before
 
 -- the last node, alone
-abbrev pub last : Nodes → Nodes
+abbrev pub last : {H : Type 0} → NodesOf H → NodesOf H
 last Nil = Nil
 last (Snoc before head results held) = Snoc Nil head results held
 
 -- how many nodes there are, at every depth
-abbrev pub count : Nodes → ℕ
+abbrev pub count : {H : Type 0} → NodesOf H → ℕ
 count Nil = 0
 count (Snoc before head results held) = suc (count before + count held)
 
 -- ---- operands
 
 -- how the search for operands ends
-pub data Operands : Type 0 where
-  Fit : Nodes → Nodes → Operands  -- the nodes in front of them, and the operands
-  Passed : Operands  -- a sum passed what is wanted first
-  Short : Operands  -- no run has what is wanted
+pub data OperandsOf (H : Type 0) : Type 0 where
+  Fit : NodesOf H → NodesOf H → OperandsOf H  -- the nodes in front of them, and the operands
+  Passed : OperandsOf H  -- a sum passed what is wanted first
+  Short : OperandsOf H  -- no run has what is wanted
+
+abbrev pub Operands : Type 0
+Operands = OperandsOf Head
 
 -- one more operand at the end
-abbrev pub with_last : Head → ℕ → Nodes → Operands → Operands
+abbrev pub with_last : {H : Type 0} → H → ℕ → NodesOf H → OperandsOf H → OperandsOf H
 with_last head results held (Fit before run) = Fit before (Snoc run head results held)
 with_last head results held Passed = Passed
 with_last head results held Short = Short
 
 -- the shortest run of last nodes that gives, with `sum` results more, so many as are wanted
-abbrev pub operands_from : ℕ → ℕ → Nodes → Operands
+abbrev pub operands_from : {H : Type 0} → ℕ → ℕ → NodesOf H → OperandsOf H
 operands_from wanted sum Nil = Short
 operands_from wanted sum (Snoc before head results held) =
     let next : ℕ = saturated sum results in
@@ -63,41 +70,41 @@ operands_from wanted sum (Snoc before head results held) =
     (if nat_lt wanted next then Passed else with_last head results held (operands_from wanted next before))
 
 -- what takes nothing has no operands, not even nodes without results
-abbrev pub operands : ℕ → Nodes → Operands
+abbrev pub operands : {H : Type 0} → ℕ → NodesOf H → OperandsOf H
 operands zero f = Short
 operands (suc n) f = operands_from (suc n) 0 f
 
 -- An operator behind a row of nodes, with those that it takes. Where a sum passed, results that were given together would have to be parted: the
 -- operator takes no node, and counts for so many results that hardly any other takes it.
-abbrev pub with_operands : Nodes → Item → Operands → Nodes
-with_operands f x (Fit before run) = Snoc before (Of x) x.gives run
-with_operands f x Passed = Snoc f (Of x) greatest Nil
-with_operands f x Short = Snoc f (Of x) x.gives Nil
+abbrev pub with_operands : {H : Type 0} → NodesOf H → H → ℕ → OperandsOf H → NodesOf H
+with_operands f head gives (Fit before run) = Snoc before head gives run
+with_operands f head gives Passed = Snoc f head greatest Nil
+with_operands f head gives Short = Snoc f head gives Nil
 
 -- an operator behind a row of nodes
 abbrev pub folded : Nodes → Item → Nodes
-folded f x = with_operands f x (operands x.takes f)
+folded f x = with_operands f (Of x) x.gives (operands x.takes f)
 
 -- ---- the rule for operands, without the search
 
 -- the results of nodes in a row
-abbrev pub results_of : Nodes → ℕ
+abbrev pub results_of : {H : Type 0} → NodesOf H → ℕ
 results_of Nil = 0
 results_of (Snoc before head results held) = results_of before + results
 
 -- `sum` and the results of each shorter run of last nodes stay below what is wanted
-abbrev pub IsFirst : ℕ → ℕ → Nodes → Type 0
-IsFirst wanted sum run = (before last : Nodes) → run ≡ joined before last → before ≢ Nil → saturated sum (results_of last) < wanted
+abbrev pub IsFirst : {H : Type 0} → ℕ → ℕ → NodesOf H → Type 0
+IsFirst {H} wanted sum run = (before last : NodesOf H) → run ≡ joined before last → before ≢ Nil → saturated sum (results_of last) < wanted
 
 -- where `sum` results are there already
-abbrev pub IsAnswer : ℕ → ℕ → Nodes → Operands → Type 0
+abbrev pub IsAnswer : {H : Type 0} → ℕ → ℕ → NodesOf H → OperandsOf H → Type 0
 -- the shortest run of last nodes whose results are what is wanted
 IsAnswer wanted sum f (Fit before run) = (f ≡ joined before run) × (saturated sum (results_of run) ≡ wanted) × IsFirst wanted sum run
 -- a run passes what is wanted, and no shorter one reaches it
-IsAnswer wanted sum f Passed =
-    (before : Nodes) × (run : Nodes) × (f ≡ joined before run) × (wanted < saturated sum (results_of run)) × IsFirst wanted sum run
+IsAnswer {H} wanted sum f Passed =
+    (before : NodesOf H) × (run : NodesOf H) × (f ≡ joined before run) × (wanted < saturated sum (results_of run)) × IsFirst wanted sum run
 -- no run reaches what is wanted
-IsAnswer wanted sum f Short = (before run : Nodes) → f ≡ joined before run → saturated sum (results_of run) < wanted
+IsAnswer {H} wanted sum f Short = (before run : NodesOf H) → f ≡ joined before run → saturated sum (results_of run) < wanted
 
 -- the search ends as the rule says
 abbrev pub OperandRule : Type 0

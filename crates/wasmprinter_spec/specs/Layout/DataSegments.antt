@@ -5,7 +5,7 @@ use Rattle.wasmprinter_spec.specs.Row as row
 use Rattle.wasmprinter_spec.specs.Operator.{Operator}
 use Rattle.wasmprinter_spec.specs.Placed.{DataMode, PassiveData, ActiveData, Data}
 use Rattle.wasmprinter_spec.specs.Piece.{Piece, Break, Gap, Word, QuotedBytes}
-use Rattle.wasmprinter_spec.specs.Layout.Groups.{line_group_gap}
+use Rattle.wasmprinter_spec.specs.Layout.Groups.{line_group_gap, group_gap}
 use Rattle.wasmprinter_spec.specs.Layout.Declarations.{Scope, item_declaration, item_index}
 use Rattle.wasmprinter_spec.specs.Layout.Expressions.{constant_group}
 
@@ -15,7 +15,7 @@ named_memory s n = cond (n == 0) [] (line_group_gap (codes "memory") (item_index
 
 unfoldable pub data_mode_pieces : Scope → DataMode (Placed Operator) → List Piece
 data_mode_pieces s PassiveData = []
-data_mode_pieces s (ActiveData memory offset) = named_memory s memory ++ (constant_group s (codes "offset") offset ++ (Gap ∷ []))
+data_mode_pieces s (ActiveData memory offset) = named_memory s memory ++ (constant_group s 2 (codes "offset") offset ++ (Gap ∷ []))
 
 abbrev pub shown_bytes : Bool → List ℕ → List Piece
 shown_bytes true bs = Word (codes "...") ∷ []
@@ -24,4 +24,4 @@ shown_bytes false bs = QuotedBytes bs ∷ []
 unfoldable pub data_pieces : Bool → Scope → ℕ → Placed (Data (Placed Operator)) → List Piece
 data_pieces skeleton s i d =
     Break (Some d.place) 1
-    ∷ line_group_gap (codes "data") (item_declaration s row.Data i ++ (Gap ∷ (data_mode_pieces s d.value.mode ++ shown_bytes skeleton d.value.bytes)))
+    ∷ group_gap 1 (codes "data") (item_declaration s row.Data i ++ (Gap ∷ (data_mode_pieces s d.value.mode ++ shown_bytes skeleton d.value.bytes)))

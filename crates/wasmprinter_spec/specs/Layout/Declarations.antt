@@ -1,20 +1,34 @@
 -- What the fields of a module are laid out by.
-use Rattle.std.specs.Prelude.{ℕ, List, Option}
+use Rattle.std.specs.Prelude.{ℕ, List, Bool, Option, Some, None, cond}
 use Rattle.wasmprinter_spec.specs.Types.{SubType, signature_at}
 use Rattle.wasmprinter_spec.specs.Row.{Space}
 use Rattle.wasmprinter_spec.specs.Names.{Names}
+use Rattle.wasmprinter_spec.specs.Placed.{PlacedModule}
+use Rattle.wasmprinter_spec.specs.Options.{Options}
+use Rattle.wasmprinter_spec.specs.Folding.Arities.{Signatures, signatures_within}
 use Rattle.wasmprinter_spec.specs.Piece.{Piece}
 use Rattle.wasmprinter_spec.specs.Layout.Identifiers.{declaration_pieces, index_pieces}
 use Rattle.wasmprinter_spec.specs.Layout.Types.{type_use_pieces}
 
--- the module's types and identifiers, and the function whose locals and labels an expression means
+-- what operators are folded by: whether their text carries the sequences of colours, and what they name in the module, in a function that has so
+-- many results
+pub record Folding : Type 0 where
+  pub paints : Bool
+  pub signatures : Option ℕ → Signatures
+
+-- where it is asked for
+abbrev pub folding_of : Options → PlacedModule → Option Folding
+folding_of o m = cond o.folds (Some (record { paints = o.paints; signatures = signatures_within m })) None
+
+-- the module's types and identifiers, the function whose locals and labels an expression means, and what operators are folded by, where they are
 pub record Scope : Type 0 where
   pub types : List SubType
   pub names : Names
   pub function : ℕ
+  pub folding : Option Folding
 
-abbrev pub scope_of : List SubType → Names → ℕ → Scope
-scope_of ts names f = record { types = ts; names = names; function = f }
+abbrev pub scope_of : List SubType → Names → ℕ → Option Folding → Scope
+scope_of ts names f folding = record { types = ts; names = names; function = f; folding = folding }
 
 -- an item where it is declared
 abbrev pub item_declaration : Scope → Space → ℕ → List Piece

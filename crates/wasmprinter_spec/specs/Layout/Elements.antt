@@ -5,7 +5,7 @@ use Rattle.wasmprinter_spec.specs.Row as row
 use Rattle.wasmprinter_spec.specs.Operator.{Operator}
 use Rattle.wasmprinter_spec.specs.Placed.{Mode, Passive, Declared, Active, Items, Functions, Expressions, ElementEntry}
 use Rattle.wasmprinter_spec.specs.Piece.{Piece, Break, Gap, Word}
-use Rattle.wasmprinter_spec.specs.Layout.Groups.{line_group_gap}
+use Rattle.wasmprinter_spec.specs.Layout.Groups.{line_group_gap, group_gap}
 use Rattle.wasmprinter_spec.specs.Layout.ValTypes.{ref_pieces}
 use Rattle.wasmprinter_spec.specs.Layout.Declarations.{Scope, item_declaration, item_index}
 use Rattle.wasmprinter_spec.specs.Layout.Expressions.{constant_group}
@@ -18,7 +18,7 @@ named_table s false t = []
 unfoldable pub mode_pieces : Scope → Bool → Mode (Placed Operator) → List Piece
 mode_pieces s names Passive = []
 mode_pieces s names Declared = Gap ∷ (Word (codes "declare") ∷ [])
-mode_pieces s names (Active t offset) = named_table s names t ++ (Gap ∷ constant_group s (codes "offset") offset)
+mode_pieces s names (Active t offset) = named_table s names t ++ (Gap ∷ constant_group s 2 (codes "offset") offset)
 
 unfoldable pub function_items : Scope → List ℕ → List Piece
 function_items s [] = []
@@ -26,7 +26,7 @@ function_items s (i ∷ is) = Gap ∷ (item_index s row.Func i ++ function_items
 
 unfoldable pub expression_items : Scope → List (List (Placed Operator)) → List Piece
 expression_items s [] = []
-expression_items s (e ∷ es) = Gap ∷ (constant_group s (codes "item") e ++ expression_items s es)
+expression_items s (e ∷ es) = Gap ∷ (constant_group s 2 (codes "item") e ++ expression_items s es)
 
 unfoldable pub items_pieces : Scope → Items (Placed Operator) → List Piece
 items_pieces s (Functions is) = Word (codes "func") ∷ function_items s is
@@ -39,4 +39,4 @@ shown_items false s items = items_pieces s items
 unfoldable pub element_pieces : Bool → Scope → ℕ → Placed ElementEntry → List Piece
 element_pieces skeleton s i e =
     Break (Some e.place) 1
-    ∷ line_group_gap (codes "elem") (item_declaration s row.Elem i ++ (mode_pieces s e.value.names_table e.value.element.mode ++ (Gap ∷ shown_items skeleton s e.value.element.items)))
+    ∷ group_gap 1 (codes "elem") (item_declaration s row.Elem i ++ (mode_pieces s e.value.names_table e.value.element.mode ++ (Gap ∷ shown_items skeleton s e.value.element.items)))

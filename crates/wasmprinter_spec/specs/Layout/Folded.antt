@@ -1,5 +1,6 @@
 -- Operators, as they are printed when they are folded: each with its operands in parentheses, over lines or in one line.
 use Rattle.std.specs.Prelude.{◌≡◌, ℕ, ◌+◌, ◌-◌, ◌==◌, ◌&&◌, ◌||◌, List, [], ◌∷◌, ◌++◌, Bool, true, false, cond, codes, length, Option, Some, None, option_map}
+use Rattle.std.specs.Option.{is_none}
 use Rattle.wasmprinter_spec.specs.Grammar.{Placed}
 use Rattle.wasmprinter_spec.specs.Operator.{Operator}
 use Rattle.wasmprinter_spec.specs.Row.{Role}
@@ -9,9 +10,11 @@ use Rattle.wasmprinter_spec.specs.Instructions.{roles}
 use Rattle.wasmprinter_spec.specs.Labels as labels
 use Rattle.wasmprinter_spec.specs.Labels.{labels_after, count_after, outside, inside}
 use Rattle.wasmprinter_spec.specs.Customs.Hints.{Hint, next_hint, hint_behind}
-use Rattle.wasmprinter_spec.specs.Call.{text_of}
-use Rattle.wasmprinter_spec.specs.Options.{Options}
+use Rattle.wasmprinter_spec.specs.Call.{Call, Text, text_of}
+use Rattle.wasmprinter_spec.specs.Coloured.{coloured_text}
+use Rattle.wasmprinter_spec.specs.Options.{Options, defaults}
 use Rattle.wasmprinter_spec.specs.Piece.{Piece, Break, Word, OpenPlain, Shut, HintNote, text, all_calls}
+use Rattle.wasmprinter_spec.specs.Layout.Declarations.{Folding}
 use Rattle.wasmprinter_spec.specs.Layout.Operators.{Form, Setting, pieces_by, before_word}
 use Rattle.wasmprinter_spec.specs.Folding.Arities.{Signatures, Counts, counts_of, label_of_block, label_counts_after}
 use Rattle.wasmprinter_spec.specs.Folding.Code.{Item, code_of, AreWithoutTry}
@@ -50,11 +53,20 @@ head_place (Of x) = x.operator.place
 head_place (Then x) = x.operator.place
 head_place (Else x) = x.operator.place
 
+-- the calls for what stands behind the parenthesis of a node
+abbrev pub head_calls : Options → Head → List Call
+head_calls o (Of x) = all_calls o x.pieces
+head_calls o (Then x) = Text (codes "then") ∷ []
+head_calls o (Else x) = Text (codes "else") ∷ []
+
+-- their text, with the sequences of their styles or without styles
+abbrev pub painted : Bool → List Call → List ℕ
+painted true cs = coloured_text cs
+painted false cs = text_of cs
+
 -- what stands behind the parenthesis of a node, without styles
 abbrev pub head_text : Options → Head → List ℕ
-head_text o (Of x) = text_of (all_calls o x.pieces)
-head_text o (Then x) = codes "then"
-head_text o (Else x) = codes "else"
+head_text o h = text_of (head_calls o h)
 
 -- the hint of a node is that of its own operator
 abbrev pub head_hint : Head → Option (Placed Hint)
@@ -78,37 +90,43 @@ abbrev pub node_hint : Options → Form → Bool → ℕ → ℕ → Option (Pla
 node_hint o form first place nesting None = []
 node_hint o form first place nesting (Some h) = before_word form first place nesting ++ Word (text o (HintNote h.value.taken)) ∷ []
 
--- whether there is no hint
-abbrev pub is_none : Option (Placed Hint) → Bool
-is_none None = true
-is_none (Some h) = false
-
 -- Nodes in a row, nested so deep, as the first of their line or behind something. What a node holds is nested one level deeper.
-unfoldable pub node_pieces : Options → Form → Bool → ℕ → Nodes → List Piece
-node_pieces o form first nesting Nil = []
-node_pieces o form first nesting (Snoc before head results held) =
+unfoldable pub node_pieces : Options → Bool → Form → Bool → ℕ → Nodes → List Piece
+node_pieces o paints form first nesting Nil = []
+node_pieces o paints form first nesting (Snoc before head results held) =
     let place : ℕ = head_place head in
-    let s : List ℕ = head_text o head in
     let leads : Bool = first && is_nil before in
-    node_pieces o form first nesting before
+    node_pieces o paints form first nesting before
     ++ node_hint o form leads place nesting (head_hint head)
     ++ before_word form (leads && is_none (head_hint head)) place nesting
-    ++ OpenPlain s ∷ (comment_end (is_nil held) s place nesting ++ node_pieces o form false (nesting + 1) held ++ (Shut ∷ []))
+    ++ OpenPlain (painted paints (head_calls o head))
+    ∷ (comment_end (is_nil held) (head_text o head) place nesting ++ node_pieces o paints form false (nesting + 1) held ++ (Shut ∷ []))
 
 -- a list of operators, with no label open: none where it holds operators of the older `try`, which aren't folded
-unfoldable pub folded_pieces : Options → Setting → Signatures → List (Placed Hint) → List (Placed Operator) → Option (List Piece)
-folded_pieces o s signatures hs os = option_map (λ code. node_pieces o s.form true s.nesting (tree code)) (code_of (items s signatures hs 0 [] [] os))
+unfoldable pub folded_pieces : Options → Bool → Setting → Signatures → List (Placed Hint) → List (Placed Operator) → Option (List Piece)
+folded_pieces o paints s signatures hs os =
+    option_map (λ code. node_pieces o paints s.form true s.nesting (tree code)) (code_of (items s signatures hs 0 [] [] os))
+
+-- nothing where there is no tree: the module is refused then
+abbrev pub if_folded : Option (List Piece) → List Piece
+if_folded None = []
+if_folded (Some ps) = ps
+
+-- A list of operators within a module, where so many results are those of the function around. (The words and immediates of an operator stand in one
+-- line, which is the same by all options.)
+abbrev pub folded_list : Folding → Option ℕ → Setting → List (Placed Hint) → List (Placed Operator) → List Piece
+folded_list f own s hs os = if_folded (folded_pieces defaults f.paints s (f.signatures own) hs os)
 
 -- ---- laws
 
 -- A list is folded where it is well nested and holds no operator of the older `try`.
 abbrev pub FoldedRule : Setting → Signatures → Type 0
 FoldedRule s signatures =
-    (o : Options) (hs : List (Placed Hint)) (os : List (Placed Operator))
-    → Nests Sequence (roles os) → AreWithoutTry (roles os) → (ps : List Piece) × (folded_pieces o s signatures hs os ≡ Some ps)
+    (o : Options) (paints : Bool) (hs : List (Placed Hint)) (os : List (Placed Operator))
+    → Nests Sequence (roles os) → AreWithoutTry (roles os) → (ps : List Piece) × (folded_pieces o paints s signatures hs os ≡ Some ps)
 
 -- No other list is.
 abbrev pub FoldingRule : Setting → Signatures → Type 0
 FoldingRule s signatures =
-    (o : Options) (hs : List (Placed Hint)) (os : List (Placed Operator)) (ps : List Piece)
-    → folded_pieces o s signatures hs os ≡ Some ps → Nests Sequence (roles os) × AreWithoutTry (roles os)
+    (o : Options) (paints : Bool) (hs : List (Placed Hint)) (os : List (Placed Operator)) (ps : List Piece)
+    → folded_pieces o paints s signatures hs os ≡ Some ps → Nests Sequence (roles os) × AreWithoutTry (roles os)

@@ -1,7 +1,8 @@
 -- The layout of functions (section 6.6 of the standard, "Functions" and "Type Uses").
-use Rattle.std.specs.Prelude.{ℕ, ◌+◌, List, [], ◌∷◌, ◌++◌, codes, Option, Some, None, Bool, true, false, ◌==◌, cond}
+use Rattle.std.specs.Prelude.{ℕ, ◌+◌, List, [], ◌∷◌, ◌++◌, codes, length, Option, Some, None, option_map, Bool, true, false, ◌==◌, cond}
 use Rattle.wasmprinter_spec.specs.Grammar.{Placed}
 use Rattle.wasmprinter_spec.specs.Types.{signature_at}
+use Rattle.wasmprinter_spec.specs.Operator.{Operator}
 use Rattle.wasmprinter_spec.specs.Row.{Space, Func}
 use Rattle.wasmprinter_spec.specs.Names.{Names}
 use Rattle.wasmprinter_spec.specs.Indexed.{parameter_count}
@@ -12,8 +13,9 @@ use Rattle.wasmprinter_spec.specs.Options.{Options}
 use Rattle.wasmprinter_spec.specs.Piece.{Piece, Break, Gap, Word}
 use Rattle.wasmprinter_spec.specs.Layout.Groups.{line_group_gap, group_gap_at}
 use Rattle.wasmprinter_spec.specs.Layout.Variables.{Variables, grouped, variables_pieces, groups_pieces}
-use Rattle.wasmprinter_spec.specs.Layout.Declarations.{Scope, item_declaration, type_use}
-use Rattle.wasmprinter_spec.specs.Layout.Operators.{OverLines, operators_pieces}
+use Rattle.wasmprinter_spec.specs.Layout.Declarations.{Scope, Folding, item_declaration, type_use}
+use Rattle.wasmprinter_spec.specs.Layout.Operators.{OverLines, Setting, operators_pieces}
+use Rattle.wasmprinter_spec.specs.Layout.Folded.{folded_list}
 
 -- the place of the first entry that declares a local, if one does
 abbrev pub locals_place : List (Placed LocalEntry) → Option ℕ
@@ -33,16 +35,27 @@ local_pieces names f count es = local_line names (locals_place es) (grouped (nam
 unfoldable pub header_pieces : Scope → Space → Option ℕ → ℕ → ℕ → List Piece
 header_pieces s space f i type_index = item_declaration s space i ++ (Gap ∷ type_use s f type_index)
 
--- the operators of the function, each on a line, with these hints
-unfoldable pub body_pieces : Scope → List (Placed Hint) → Placed Body → List Piece
-body_pieces s hs b =
-    operators_pieces (record { form = OverLines; signature = signature_at s.types; nesting = 2; names = s.names; function = s.function; body = b.place })
-    hs true 0 [] b.value.operators
+-- the setting of a body that begins at this place
+abbrev pub over_lines : Scope → ℕ → Setting
+over_lines s place = record { form = OverLines; signature = signature_at s.types; nesting = 2; names = s.names; function = s.function; body = place }
+
+-- how many results a function of the type has, if it is a function type
+abbrev pub result_count : Scope → ℕ → Option ℕ
+result_count s type_index = option_map (λ t. length t.results) (signature_at s.types type_index)
+
+-- flat, each operator on a line; or folded, each node on a line, where the function around has so many results
+unfoldable pub body_by : Option Folding → Option ℕ → Setting → List (Placed Hint) → List (Placed Operator) → List Piece
+body_by None own s hs os = operators_pieces s hs true 0 [] os
+body_by (Some f) own s hs os = folded_list f own s hs os
+
+-- the operators of a function of the type, with these hints
+unfoldable pub body_pieces : Scope → ℕ → List (Placed Hint) → Placed Body → List Piece
+body_pieces s type_index hs b = body_by s.folding (result_count s type_index) (over_lines s b.place) hs b.value.operators
 
 -- what a function holds behind its type
 unfoldable pub inner_pieces : Scope → List (Placed Hint) → PlacedFunction → List Piece
 inner_pieces s hs f =
-    local_pieces s.names s.function (parameter_count (signature_at s.types f.type_index)) f.body.value.locals ++ body_pieces s hs f.body
+    local_pieces s.names s.function (parameter_count (signature_at s.types f.type_index)) f.body.value.locals ++ body_pieces s f.type_index hs f.body
 
 -- a function, whole or without its locals and operators
 unfoldable pub function_group : Bool → Bool → Scope → List (Placed Hint) → PlacedFunction → List Piece

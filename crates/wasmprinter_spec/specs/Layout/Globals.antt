@@ -7,7 +7,7 @@ use Rattle.wasmprinter_spec.specs.Names.{Names}
 use Rattle.wasmprinter_spec.specs.Operator.{Operator}
 use Rattle.wasmprinter_spec.specs.Placed.{Global}
 use Rattle.wasmprinter_spec.specs.Piece.{Piece, Break, Gap, OpenTypeGap, Shut}
-use Rattle.wasmprinter_spec.specs.Layout.Groups.{line_group_gap}
+use Rattle.wasmprinter_spec.specs.Layout.Groups.{group_gap}
 use Rattle.wasmprinter_spec.specs.Layout.ValTypes.{val_pieces}
 use Rattle.wasmprinter_spec.specs.Layout.Declarations.{Scope, item_declaration}
 use Rattle.wasmprinter_spec.specs.Layout.Expressions.{constant_pieces}
@@ -22,5 +22,5 @@ global_type_pieces names t = mutable_pieces names t.mutable t.type
 unfoldable pub global_pieces : Scope → ℕ → Placed (Global (Placed Operator)) → List Piece
 global_pieces s i g =
     Break (Some g.place) 1
-    ∷ line_group_gap (codes "global")
-    (item_declaration s row.Global i ++ (Gap ∷ (global_type_pieces s.names g.value.type ++ (Gap ∷ constant_pieces s g.value.init))))
+    ∷ group_gap 1 (codes "global")
+    (item_declaration s row.Global i ++ (Gap ∷ (global_type_pieces s.names g.value.type ++ (Gap ∷ constant_pieces s 2 g.value.init))))

@@ -19,6 +19,10 @@ close place nesting false = Shut ∷ []
 unfoldable pub group : ℕ → List ℕ → List Piece → List Piece
 group nesting w ps = Open w ∷ (ps ++ close None nesting (has_break ps))
 
+-- the same with a blank behind the keyword
+unfoldable pub group_gap : ℕ → List ℕ → List Piece → List Piece
+group_gap nesting w ps = OpenGap w ∷ (ps ++ close None nesting (has_break ps))
+
 -- groups that close at a place: on a line of their own where the line has changed or lines begin with their places
 unfoldable pub group_at : Bool → ℕ → ℕ → List ℕ → List Piece → List Piece
 group_at offsets place nesting w ps = Open w ∷ (ps ++ close (Some place) nesting (offsets || has_break ps))

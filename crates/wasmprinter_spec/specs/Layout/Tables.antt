@@ -7,7 +7,7 @@ use Rattle.wasmprinter_spec.specs.Names.{Names}
 use Rattle.wasmprinter_spec.specs.Operator.{Operator}
 use Rattle.wasmprinter_spec.specs.Placed.{Table}
 use Rattle.wasmprinter_spec.specs.Piece.{Piece, Break, Gap}
-use Rattle.wasmprinter_spec.specs.Layout.Groups.{line_group_gap}
+use Rattle.wasmprinter_spec.specs.Layout.Groups.{group_gap}
 use Rattle.wasmprinter_spec.specs.Layout.Limits.{wide_pieces, limits_pieces}
 use Rattle.wasmprinter_spec.specs.Layout.ValTypes.{ref_pieces}
 use Rattle.wasmprinter_spec.specs.Layout.Declarations.{Scope, item_declaration}
@@ -18,9 +18,9 @@ table_type_pieces names t = wide_pieces t.wide ++ (limits_pieces t.limits ++ (Ga
 
 unfoldable pub init_pieces : Scope → Option (List (Placed Operator)) → List Piece
 init_pieces s None = []
-init_pieces s (Some os) = Gap ∷ constant_pieces s os
+init_pieces s (Some os) = Gap ∷ constant_pieces s 2 os
 
 unfoldable pub table_pieces : Scope → ℕ → Placed (Table (Placed Operator)) → List Piece
 table_pieces s i t =
     Break (Some t.place) 1
-    ∷ line_group_gap (codes "table") (item_declaration s row.Table i ++ (Gap ∷ (table_type_pieces s.names t.value.type ++ init_pieces s t.value.init)))
+    ∷ group_gap 1 (codes "table") (item_declaration s row.Table i ++ (Gap ∷ (table_type_pieces s.names t.value.type ++ init_pieces s t.value.init)))

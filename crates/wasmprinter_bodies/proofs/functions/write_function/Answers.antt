@@ -1,6 +1,7 @@
 use Rattle.std.proofs.Common.{◌≡◌, refl, ap, ◌∙◌}
 use Rattle.wasmprinter_spec.specs.Layout.Functions.{function_pieces}
-use Rattle.wasmprinter_print.specs.PrintsLaws.{both_pieces, pieces_end}
+use Rattle.wasmprinter_print.specs.PrintsLaws.{both_pieces, pieces_halt}
+use Rattle.wasmprinter_scope.specs.Scopes.{folds_in, scope_view}
 use Rattle.wasmprinter_bodies.proofs.functions.write_function.Goals as goal
 
 pub returns-in_err-break_line : goal.returns-in_err-break_line
@@ -8,7 +9,7 @@ unfolding function_pieces
 returns-in_err-break_line g c =
     let place : c.place.result ≡ c.args.function.now.body.place = c.place.ensures ∙ ap (λ b. b.place) c.body.ensures in
     record {
-      pieces = pieces_end g.P.Print.meaning c.from_residual.result _ c.from_residual.ensures.1 (rw place at c.in_err-break_line.ensures);
+      pieces = pieces_halt g.P.Print.meaning (folds_in (scope_view c.args.scope.now)) c.from_residual.result _ _ c.from_residual.ensures.1 (rw place at c.in_err-break_line.ensures);
       scope = refl;
     }
 

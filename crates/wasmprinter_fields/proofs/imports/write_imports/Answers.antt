@@ -1,9 +1,10 @@
 use Rattle.std.specs.Prelude.{◌≡◌, refl, []}
 use Rattle.std.proofs.Common.{arith, ap, ◌∙◌}
 use Rattle.wasmprinter_spec.specs.Layout.Imports.{number_of, numbers_behind}
-use Rattle.wasmprinter_print.specs.PrintsLaws.{no_piece, lacks_none, next_written, next_fails}
+use Rattle.wasmprinter_print.specs.PrintsLaws.{no_piece, lacks_none, next_written, next_halts}
 use Rattle.wasmprinter_entries.specs.Externs.{extern_view}
-use Rattle.wasmprinter_scope.specs.Scopes.{scope_view}
+use Rattle.wasmprinter_scope.specs.Scopes.{scope_view, folds_in}
+use Rattle.wasmprinter_fields.proofs.Closing.{as_kept}
 use Rattle.wasmprinter_fields.proofs.ImportLines.{imports-none, imports-next, total, total-behind, number-total}
 use Rattle.wasmprinter_fields.proofs.imports.write_imports.Goals as goal
 
@@ -22,7 +23,8 @@ returns-in_err-write_field g c =
     let number : c.of.result ≡ number_of item.value.type c.loop-import.numbers = rw c.ty.ensures.is at c.of.ensures in
     let made = rw (number, c.loop-import.invariant.scope) at c.in_err-write_field.ensures.pieces in
     record {
-      pieces = next_fails g.P.Print.meaning _ _ c.from_residual.result (rw step at c.loop-import.invariant.lacks) made c.from_residual.ensures.1;
+      pieces = as_kept g.P.Print.meaning c.from_residual.result (folds_in (scope_view c.loop-import.scope)) (folds_in (scope_view c.args.scope.now)) (ap folds_in c.loop-import.invariant.scope)
+          (next_halts g.P.Print.meaning _ _ (folds_in (scope_view c.loop-import.scope)) c.from_residual.result _ (rw step at c.loop-import.invariant.lacks) made c.from_residual.ensures.1);
       scope = c.in_err-write_field.ensures.scope ∙ c.loop-import.invariant.scope;
     }
 

@@ -12,24 +12,13 @@ returns-in_err-write_before g c =
     let l = c.args.labels.now in
     let s = setting_view g.S.Signatures.signature_at c.args.setting.now (names_of l) in
     let o : Operator = record { opcode = c.operator.inside.opcode; immediates = immediates_view c.operator.inside.immediates } in
-    rw (← c.operator.view_is, operator-out s c.args.first (own_label l) l.labels c.args.place o (role_view c.role-role.result) c.level.result c.role-role.ensures (rw c.depth.ensures at c.level.ensures))
+    rw (← c.operator.view_is, operator-out s c.args.first (own_label l) l.labels c.args.place o (role_view c.role.result) c.level-level.result c.role.ensures (rw c.depth.ensures at c.level-level.ensures))
     (pieces_end g.P.Print.meaning c.from_residual.result _ c.from_residual.ensures.1 c.in_err-write_before.ensures)
-
-pub returns-in_err-word : goal.returns-in_err-word
-returns-in_err-word g c =
-    let l = c.args.labels.now in
-    let s = setting_view g.S.Signatures.signature_at c.args.setting.now (names_of l) in
-    let o : Operator = record { opcode = c.operator.inside.opcode; immediates = immediates_view c.operator.inside.immediates } in
-    rw (← c.operator.view_is, operator-out s c.args.first (own_label l) l.labels c.args.place o (role_view c.role-role.result) c.level.result c.role-role.ensures (rw c.depth.ensures at c.level.ensures))
-    (both_pieces g.P.Print.meaning c.in_ok-write_before.ensures
-    (pieces_end g.P.Print.meaning c.from_residual-in_err-word.result _ c.from_residual-in_err-word.ensures.1 (rw c.word.ensures at (c.in_err-word.ensures c.args.options.now))))
 
 pub returns : goal.returns
 returns g c =
     let l = c.args.labels.now in
     let s = setting_view g.S.Signatures.signature_at c.args.setting.now (names_of l) in
     let o : Operator = record { opcode = c.operator.inside.opcode; immediates = immediates_view c.operator.inside.immediates } in
-    rw (← c.operator.view_is, operator-out s c.args.first (own_label l) l.labels c.args.place o (role_view c.role-role.result) c.level.result c.role-role.ensures (rw c.depth.ensures at c.level.ensures))
-    (both_pieces g.P.Print.meaning c.in_ok-write_before.ensures
-    (both_pieces g.P.Print.meaning (rw c.word.ensures at (c.in_ok-word.ensures c.args.options.now))
-    (rw (← c.operator.view_is) at (c.write_behind.ensures c.args.options.now))))
+    rw (← c.operator.view_is, operator-out s c.args.first (own_label l) l.labels c.args.place o (role_view c.role.result) c.level-level.result c.role.ensures (rw c.depth.ensures at c.level-level.ensures))
+    (both_pieces g.P.Print.meaning c.in_ok-write_before.ensures (rw (← c.operator.view_is) at (c.write_word.ensures c.args.options.now)))

@@ -14,8 +14,8 @@ returns-in_err-text-2 g c =
 
 pub returns-in_ok-text : goal.returns-in_ok-text
 returns-in_ok-text g c =
-    rw (lt-ltb c.args.up c.args.down c.if-up-down.true) (then_text g.P.Print.meaning c.in_ok-text.ensures c.write_digits.ensures)
+    rw (lt-ltb c.args.up c.args.down c.if-up-down.true) (then_text g.P.Print.meaning c.in_ok-text.ensures c.write_decimal.ensures)
 
 pub returns-in_ok-text-2 : goal.returns-in_ok-text-2
 returns-in_ok-text-2 g c =
-    rw (le-ltb c.args.up c.args.down c.if-up-down.false) (then_text g.P.Print.meaning c.in_ok-text-2.ensures c.write_digits-else-up-down.ensures)
+    rw (le-ltb c.args.up c.args.down c.if-up-down.false) (then_text g.P.Print.meaning c.in_ok-text-2.ensures c.write_decimal-else-up-down.ensures)

@@ -12,4 +12,4 @@ returns-in_err-text g c =
 pub returns-in_ok-text : goal.returns-in_ok-text
 returns-in_ok-text g c =
     rw (ne_eqb c.args.fraction 0 (λ e. omega arith), ne_eqb c.args.fraction (canonical_payload (width_of c.args.format)) (λ e. omega (arith, c.canonical_payload.ensures)))
-    (then_text g.P.Print.meaning c.in_ok-text.ensures c.write_digits.ensures)
+    (then_text g.P.Print.meaning c.in_ok-text.ensures c.write_hexadecimal.ensures)

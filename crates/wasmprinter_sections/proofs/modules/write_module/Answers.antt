@@ -1,68 +1,20 @@
-use Rattle.std.proofs.Common.{[], ◌∷◌, codes, false, refl, Err, Result}
-use Rattle.std.specs.declared.io.Error.{Error as IoError}
-use Rattle.wasmprinter_spec.specs.Piece.{Feed, Open}
+use Rattle.std.proofs.Common.{false}
 use Rattle.wasmprinter_labels.specs.Scan.{names_of}
-use Rattle.wasmprinter_print.specs.PrintsLaws.{both_pieces, pieces_end}
-use Rattle.wasmprinter_sections.proofs.WholeModule.{opening_fails, inner_ends, closing_fails, module_written, failed}
+use Rattle.wasmprinter_sections.specs.Sections.{module_laid, painting}
+use Rattle.wasmprinter_sections.proofs.SectionParts.{stops_first}
+use Rattle.wasmprinter_sections.proofs.WholeModule.{by_folder}
 use Rattle.wasmprinter_sections.proofs.modules.write_module.Goals as goal
 
-pub returns-in_err-begin : goal.returns-in_err-begin
-returns-in_err-begin g c =
-    let m = g.P.Print.meaning in
+pub returns-in_err-folder : goal.returns-in_err-folder
+returns-in_err-folder g c =
     let o = c.args.options.now in
-    let begun = pieces_end m (failed c.in_err-begin.field-0.0) (Open (codes "module") ∷ []) refl (c.in_err-begin.ensures o) in (
+    let refused = c.in_err-folder.ensures.memory in (
       (λ n. false),
-      opening_fails m o (λ n. false) (names_of c.args.labels) c.args.module.now c.from_residual.result c.from_residual.ensures.1 begun,
-    )
-
-pub returns-in_err-open : goal.returns-in_err-open
-returns-in_err-open g c =
-    let m = g.P.Print.meaning in
-    let o = c.args.options.now in
-    let opened = both_pieces m (c.in_ok-begin.ensures o) (c.in_err-open.ensures o) in (
-      (λ n. false),
-      opening_fails m o (λ n. false) (names_of c.args.labels) c.args.module.now c.from_residual-in_err-open.result c.from_residual-in_err-open.ensures.1 opened,
-    )
-
-pub returns-in_err-lines : goal.returns-in_err-lines
-returns-in_err-lines g c =
-    let m = g.P.Print.meaning in
-    let o = c.args.options.now in
-    let opened = both_pieces m (c.in_ok-begin.ensures o) (c.in_ok-open.ensures o) in
-    let parts = c.in_err-lines.ensures in (
-      parts.0,
-      inner_ends m o parts.0 (names_of c.args.labels) c.args.module.now c.from_residual-in_err-lines.result c.from_residual-in_err-lines.ensures.1 opened parts.1,
-    )
-
-pub returns-in_err-close_at : goal.returns-in_err-close_at
-returns-in_err-close_at g c =
-    let m = g.P.Print.meaning in
-    let o = c.args.options.now in
-    let opened = both_pieces m (c.in_ok-begin.ensures o) (c.in_ok-open.ensures o) in
-    let parts = c.in_ok-lines.ensures in
-    let closed = pieces_end m (failed c.in_err-close_at.field-0.0) (Feed ∷ []) refl (rw c.size.ensures at c.in_err-close_at.ensures) in (
-      parts.0,
-      closing_fails m o parts.0 (names_of c.args.labels) c.args.module.now c.from_residual-in_err-close_at.result c.from_residual-in_err-close_at.ensures.1 opened parts.1 closed,
-    )
-
-pub returns-in_err-end : goal.returns-in_err-end
-returns-in_err-end g c =
-    let m = g.P.Print.meaning in
-    let o = c.args.options.now in
-    let opened = both_pieces m (c.in_ok-begin.ensures o) (c.in_ok-open.ensures o) in
-    let parts = c.in_ok-lines.ensures in
-    let closed = both_pieces m (rw c.size.ensures at c.in_ok-close_at.ensures) (c.in_err-end.ensures o) in (
-      parts.0,
-      closing_fails m o parts.0 (names_of c.args.labels) c.args.module.now c.from_residual-in_err-end.result c.from_residual-in_err-end.ensures.1 opened parts.1 closed,
+      stops_first g.P.Print.meaning o c.from_residual.result (module_laid (painting o (g.P.Print.colors c.args.p.now)) (λ n. false) (names_of c.args.labels) c.args.module.now) refused.1 refused.0 c.from_residual.ensures.1,
     )
 
 pub returns : goal.returns
 returns g c =
-    let m = g.P.Print.meaning in
-    let o = c.args.options.now in
-    let opened = both_pieces m (c.in_ok-begin.ensures o) (c.in_ok-open.ensures o) in
-    let parts = c.in_ok-lines.ensures in
-    let closed = both_pieces m (rw c.size.ensures at c.in_ok-close_at.ensures) (c.in_ok-end.ensures o) in (
-      parts.0,
-      module_written m o parts.0 (names_of c.args.labels) c.args.module.now opened parts.1 closed,
-    )
+    let paints = g.P.Print.colors c.args.p.now in
+    by_folder g.P.Print.meaning c.args.options.now paints (names_of c.args.labels) c.args.module.now _ c.write_whole.result
+    c.in_ok-folder.ensures.folds (c.write_whole.ensures paints c.in_ok-folder.ensures.folds)

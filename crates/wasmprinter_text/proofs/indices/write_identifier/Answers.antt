@@ -5,4 +5,4 @@ use Rattle.wasmprinter_text.proofs.indices.write_identifier.Goals as goal
 
 pub returns-in-Invented : goal.returns-in-Invented
 returns-in-Invented g c o =
-    rw c.in-Invented.is (rw c.word.ensures at (c.made_up.ensures.pieces (ap all_run c.word.ensures ∙ word-runs c.in-Invented.space) o))
+    rw c.in-Invented.is (rw c.word.ensures at (c.made_up_identifier.ensures.pieces (ap all_run c.word.ensures ∙ word-runs c.in-Invented.space) o))

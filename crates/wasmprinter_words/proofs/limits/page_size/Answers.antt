@@ -7,4 +7,4 @@ use Rattle.wasmprinter_words.proofs.limits.page_size.Goals as goal
 pub returns : goal.returns
 returns g c o =
     one_piece g.P.Print.meaning o _
-    (rw (append-nil (digits 16 false (2 ^ c.args.exponent))) at (rw c.power.ensures at c.write_digits_between.ensures))
+    (rw (append-nil (digits 16 false (2 ^ c.args.exponent))) at (rw c.power.ensures at c.write_hexadecimal_between.ensures))

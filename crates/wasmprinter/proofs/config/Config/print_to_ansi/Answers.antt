@@ -13,8 +13,8 @@ returns-in-Ok-clause-printed c =
 
 pub returns-in-Err-clause-caused : goal.returns-in-Err-clause-caused
 returns-in-Err-clause-caused c =
-    subst (HasTextCause c.args.wasm.now) (sym c.without_printer.ensures) (growth_cause _ c.args.wasm.now _ c.print.new.printer c.in-Err.error c.in-Err.ensures.caused)
+    subst (HasTextCause c.args.self.now c.args.wasm.now) (sym c.without_printer.ensures) (growth_cause _ c.args.self.now c.args.wasm.now _ c.print.new.printer c.in-Err.error c.in-Err.ensures.caused)
 
 pub returns-in-Err-clause-refused : goal.returns-in-Err-clause-refused
 returns-in-Err-clause-refused c =
-    subst (IsTrueOfText c.args.wasm.now) (sym c.without_printer.ensures) (growth_true c.args.wasm.now c.in-Err.error c.in-Err.ensures.refused)
+    subst (IsTrueOfText c.args.self.now c.args.wasm.now) (sym c.without_printer.ensures) (growth_true c.args.self.now c.args.wasm.now c.in-Err.error c.in-Err.ensures.refused)

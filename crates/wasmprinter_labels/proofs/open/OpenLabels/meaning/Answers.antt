@@ -2,7 +2,7 @@ use Rattle.std.proofs.Common.{◌-◌, ◌<◌, [], false, true, refl, sym, ap, 
 use Rattle.std.specs.Prelude.{option_map}
 use Rattle.wasmprinter_spec.specs.Labels.{Label, Named}
 use Rattle.wasmprinter_names.specs.Shown.{identifier_view}
-use Rattle.wasmprinter_labels.specs.Found.{ByName, found}
+use Rattle.wasmprinter_labels.specs.Found.{ByName, found_among}
 use Rattle.wasmprinter_labels.specs.Scan.{Scan}
 use Rattle.wasmprinter_labels.specs.Stack.{labels_from}
 use Rattle.wasmprinter_labels.proofs.Targets.{labels_length, found_own, found_nothing, unnamed_found}
@@ -14,14 +14,14 @@ returns-then-label-self c =
     let x = c.self.inside in
     let size = labels_length x.identifiers.invents x.named.blocks x.depth in
     sym (found_nothing c.args.label (labels_from x.identifiers.invents x.named.blocks x.depth) (omega (arith, size, c.if-label-self.true)))
-    ∙ ap (λ (s : Scan). found [] s.labels c.args.label) c.self.view_is
+    ∙ ap (λ (s : Scan). found_among [] s.labels c.args.label) c.self.view_is
 
 pub returns-then-label-self-2 : goal.returns-then-label-self-2
 returns-then-label-self-2 c =
     let x = c.self.inside in
     let size = labels_length x.identifiers.invents x.named.blocks x.depth in
     sym (found_own c.args.label (labels_from x.identifiers.invents x.named.blocks x.depth) (size ∙ sym c.if-label-self-2.true))
-    ∙ ap (λ (s : Scan). found [] s.labels c.args.label) c.self.view_is
+    ∙ ap (λ (s : Scan). found_among [] s.labels c.args.label) c.self.view_is
 
 pub returns-in-Shown : goal.returns-in-Shown
 returns-in-Shown c =
@@ -30,7 +30,7 @@ returns-in-Shown c =
     let at = c.in-Shown.ensures.name in
     ap (λ (n : Named). ByName n) (sym at.2)
     ∙ (sym (found_name _ _ _ _ _ x.depth x.named c.self.invariant x.identifiers.invents c.args.label (x.depth - 1 - c.args.label) at.0 false at.1 c.find.ensures.descend lt refl)
-    ∙ ap (λ (s : Scan). found [] s.labels c.args.label) c.self.view_is)
+    ∙ ap (λ (s : Scan). found_among [] s.labels c.args.label) c.self.view_is)
 
 pub returns-in-Hidden : goal.returns-in-Hidden
 returns-in-Hidden c =
@@ -38,7 +38,7 @@ returns-in-Hidden c =
     let lt : c.args.label < x.depth = omega (arith, c.if-label-self.false, c.if-label-self-2.false) in
     let at = c.in-Hidden.ensures.name in
     sym (found_name _ _ _ _ _ x.depth x.named c.self.invariant x.identifiers.invents c.args.label (x.depth - 1 - c.args.label) at.0 true at.1 c.find.ensures.descend lt refl)
-    ∙ ap (λ (s : Scan). found [] s.labels c.args.label) c.self.view_is
+    ∙ ap (λ (s : Scan). found_among [] s.labels c.args.label) c.self.view_is
 
 pub returns-in-Some : goal.returns-in-Some
 returns-in-Some c =
@@ -46,7 +46,7 @@ returns-in-Some c =
     let lt : c.args.label < x.depth = omega (arith, c.if-label-self.false, c.if-label-self-2.false) in
     ap (λ (y : Label). unnamed_found y (x.depth - c.args.label)) (sym (ap (option_map identifier_view) c.in-Some.is) ∙ c.unnamed.ensures)
     ∙ (sym (found_other x.identifiers.invents x.depth c.args.label (x.depth - 1 - c.args.label) x.named.blocks c.in-Unnamed.ensures.name lt refl)
-    ∙ ap (λ (s : Scan). found [] s.labels c.args.label) c.self.view_is)
+    ∙ ap (λ (s : Scan). found_among [] s.labels c.args.label) c.self.view_is)
 
 pub returns-in-None : goal.returns-in-None
 returns-in-None c =
@@ -54,4 +54,4 @@ returns-in-None c =
     let lt : c.args.label < x.depth = omega (arith, c.if-label-self.false, c.if-label-self-2.false) in
     ap (λ (y : Label). unnamed_found y (x.depth - c.args.label)) (sym (ap (option_map identifier_view) c.in-None.is) ∙ c.unnamed.ensures)
     ∙ (sym (found_other x.identifiers.invents x.depth c.args.label (x.depth - 1 - c.args.label) x.named.blocks c.in-Unnamed.ensures.name lt refl)
-    ∙ ap (λ (s : Scan). found [] s.labels c.args.label) c.self.view_is)
+    ∙ ap (λ (s : Scan). found_among [] s.labels c.args.label) c.self.view_is)

@@ -1,5 +1,5 @@
 use Rattle.std.proofs.Common.{sym, ap, ◌∙◌, arith, add-one, length, ◌<◌}
-use Rattle.wasmprinter_labels.specs.Scan.{opened}
+use Rattle.wasmprinter_labels.specs.Scan.{behind_opening}
 use Rattle.wasmprinter_labels.proofs.Steps.{kept_unnamed, scan_unnamed, has_room, has_number, not_last, kept_named, scan_named}
 use Rattle.wasmprinter_labels.proofs.open.OpenLabels.open.Goals as goal
 
@@ -15,7 +15,7 @@ returns-in_default c =
     let x = c.self.inside in
     simp add-one
     (scan_unnamed x.identifiers.names.now x.labels.items c.deref.result.now x.identifiers.invents x.next x.function x.opened x.depth x.named c.self.invariant c.deref.ensures.value
-    (sym c.label_of-label.ensures ∙ c.in_default.is) ∙ ap opened c.self.view_is)
+    (sym c.label_of-label.ensures ∙ c.in_default.is) ∙ ap behind_opening c.self.view_is)
 
 pub push-requires-clause-room : goal.push-requires-clause-room
 push-requires-clause-room c =
@@ -49,4 +49,4 @@ returns c =
     let x = c.self.inside in
     rw c.push.ensures (simp add-one
     (scan_named x.identifiers.names.now x.labels.items c.deref.result.now x.identifiers.invents x.next x.function x.opened x.depth x.named c.self.invariant c.deref.ensures.value
-    c.in-Some.label (sym c.label_of-label.ensures ∙ c.in-Some.is) ∙ ap opened c.self.view_is))
+    c.in-Some.label (sym c.label_of-label.ensures ∙ c.in-Some.is) ∙ ap behind_opening c.self.view_is))

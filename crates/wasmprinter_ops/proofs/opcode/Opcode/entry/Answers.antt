@@ -3,6 +3,7 @@ use Rattle.std.specs.Borrow.{Bor}
 use Rattle.std.proofs.lemmas.List.{get_or-map}
 use Rattle.wasmprinter_spec.specs.Operator.{opcode}
 use Rattle.wasmprinter_ops.specs.declared.opcode.Shape.{Shape}
+use Rattle.wasmprinter_ops.specs.declared.opcode.Arity.{Arity}
 use Rattle.wasmprinter_ops.specs.Shapes.{entry_view}
 use Rattle.wasmprinter_ops.specs.ByNumber.{entry_of}
 use Rattle.wasmprinter_ops.proofs.Dense.{entry_within, same_length_lt, same_length_le, entry_past}
@@ -10,7 +11,7 @@ use Rattle.wasmprinter_ops.proofs.opcode.Opcode.entry.Goals as goal
 
 pub returns-in-Some : goal.returns-in-Some
 returns-in-Some c =
-    let table : List (Option (Bor (List ℕ) × Shape)) = c.entries_of.result.now in
+    let table : List (Option (Bor (List ℕ) × Shape × Arity)) = c.entries_of.result.now in
     let n : ℕ = c.self.inside.number in
     let lt : n < length table = c.in-Some.ensures.lookup.3.0 in
     let found : entry_view c.in-Some.entry.now ≡ entry_of (opcode c.self.inside.prefix n) =
@@ -20,7 +21,7 @@ returns-in-Some c =
 
 pub returns-in-None : goal.returns-in-None
 returns-in-None c =
-    let table : List (Option (Bor (List ℕ) × Shape)) = c.entries_of.result.now in
+    let table : List (Option (Bor (List ℕ) × Shape × Arity)) = c.entries_of.result.now in
     let n : ℕ = c.self.inside.number in
     let le : length table ≤ n = c.in-None.ensures.lookup.3 in
     entry_past (opcode c.self.inside.prefix n) (map entry_view table) c.entries_of.ensures (same_length_le entry_view table n le) ∙ ap entry_of c.self.view_is

@@ -1,0 +1,3 @@
+mod LabelsFound
+mod Gathered
+mod BlockLabels

@@ -1,0 +1,22 @@
+-- The program's counts, and those of the definitions.
+use Rattle.std.specs.Prelude.{Option, Some, None}
+use Rattle.wasmprinter_spec.specs.Row.{Role, Opens, OpensIf, OpensTry}
+use Rattle.wasmprinter_spec.specs.Folding.Arities.{taking}
+use Rattle.wasmprinter_spec.specs.Folding.Arities.{Counts as DefinedCounts}
+use Rattle.wasmprinter_arities.specs.declared.counts.Counts.{Counts}
+
+-- the counts of the definitions
+abbrev pub counts_view : Counts → DefinedCounts
+counts_view c = taking c.takes c.gives
+
+-- an operator of which nothing is known takes nothing and gives nothing
+abbrev pub known_view : Option Counts → DefinedCounts
+known_view None = taking 0 0
+known_view (Some c) = counts_view c
+
+-- an operator of the role opens a block
+abbrev pub Pushes : Role → Type 0
+Pushes Opens = Unit {0}
+Pushes OpensIf = Unit {0}
+Pushes OpensTry = Unit {0}
+Pushes _ = ⊥

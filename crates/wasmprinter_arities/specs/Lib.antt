@@ -1,0 +1,3 @@
+pub mod Gathering
+pub mod Counted
+pub mod Named

@@ -1,0 +1,123 @@
+//! What operators name by an index: functions, tags and types, by the types that they have (section 2.5 of the WebAssembly Core
+//! Specification, "Indices").
+ghost use Rattle.std.specs.Prelude.{◌≡◌, ◌<◌, length, IfOk, OnErr, slice_get, option_map};
+ghost use Rattle.wasmprinter_spec.specs.Types.{signature_at, fields_at};
+ghost use Rattle.wasmprinter_arities.specs.Gathering.{ImportsSome};
+ghost use Rattle.wasmprinter_spec.specs.Folding.Arities.{types_of, functions_of, tags_of, function_type, tag_type};
+
+use std::alloc::{AllocError, Global};
+use std::marker::Model;
+use wasmprinter_ops::types::composite::FuncType;
+use wasmprinter_wasm::{ExternType, Module};
+
+/// The types of what operators of a module name.
+#[derive(Drop)]
+pub struct Callees<'m, 'a> {
+    module: &'m Module<'a>,
+    /// The indices of the types of imported functions.
+    functions: Vec<u32>,
+    /// The indices of the types of imported tags.
+    tags: Vec<u32>,
+}
+
+impl<'m, 'a> Model for Callees<'m, 'a> {
+    ghost use Rattle.std.specs.Prelude.{◌≡◌};
+    ghost use Rattle.wasmprinter_spec.specs.Placed.{PlacedModule};
+    ghost use Rattle.wasmprinter_spec.specs.Module.{without_places, imported, func_import, tag_import};
+
+    ghost Value = { PlacedModule };
+
+    ghost view = { λ c. c.module.now };
+
+    ghost invariant = { λ c.
+        (c.functions.items ≡ imported func_import (without_places c.module.now.imports))
+        × (c.tags.items ≡ imported tag_import (without_places c.module.now.imports)) };
+}
+
+impl<'m, 'a> Callees<'m, 'a> {
+    /// Gathers what is imported, in time in proportion to the number of imports. A look-up then takes the same time for each index.
+    ///
+    /// # Errors
+    ///
+    /// Where a growth is refused, which is wanted only where a function or a tag is imported.
+    pub fn new(alloc: Global, module: &'m Module<'a>) -> Result<Self, AllocError>
+        ensures ok { IfOk result (λ c. c ≡ «module».now) }
+        ensures memory { OnErr result (ImportsSome «module».now) }
+    {
+        let mut functions = Vec::new(alloc);
+        let mut tags = Vec::new(alloc);
+        for import in module.imports() {
+            match import.ty() {
+                ExternType::Func(type_index) => functions.push(type_index)?,
+                ExternType::Tag(type_index) => tags.push(type_index)?,
+                ExternType::Table(_) | ExternType::Memory(_) | ExternType::Global(_) => {}
+            }
+        }
+        Ok(Callees {
+            module,
+            functions,
+            tags,
+        })
+    }
+
+    /// The index of the type of a function.
+    fn type_of_function(&self, index: u32) -> Option<u32>
+        ensures { result ≡ slice_get (functions_of self.now) index }
+    {
+        match self.functions.get(index as usize) {
+            Some(type_index) => Some(*type_index),
+            None => {
+                let number = index - self.functions.len() as u32;
+                if number < self.module.function_count() {
+                    Some(self.module.function(number).type_index())
+                } else {
+                    None
+                }
+            }
+        }
+    }
+
+    /// The index of the type of a tag.
+    fn type_of_tag(&self, index: u32) -> Option<u32>
+        ensures { result ≡ slice_get (tags_of self.now) index }
+    {
+        match self.tags.get(index as usize) {
+            Some(type_index) => Some(*type_index),
+            None => {
+                let number = index as usize - self.tags.len();
+                match self.module.tags().get(number) {
+                    Some(tag) => Some(tag.type_index()),
+                    None => None,
+                }
+            }
+        }
+    }
+
+    /// The function type with the index, `None` where there is no such type or it is of another kind.
+    pub(crate) fn signature(&self, index: u32) -> Option<FuncType<'a>>
+        ensures { result ≡ signature_at (types_of self.now) index }
+    {
+        self.module.signature(index)
+    }
+
+    /// The type of the function with the index, `None` where nothing is known of it.
+    pub(crate) fn function_type(&self, index: u32) -> Option<FuncType<'a>>
+        ensures { result ≡ function_type self.now index }
+    {
+        self.signature(self.type_of_function(index)?)
+    }
+
+    /// The type of the tag with the index, `None` where nothing is known of it.
+    pub(crate) fn tag_type(&self, index: u32) -> Option<FuncType<'a>>
+        ensures { result ≡ tag_type self.now index }
+    {
+        self.signature(self.type_of_tag(index)?)
+    }
+
+    /// How many fields the structure type with the index has, `None` where there is no such type or it is of another kind.
+    pub(crate) fn field_count(&self, index: u32) -> Option<u32>
+        ensures { result ≡ option_map length (fields_at (types_of self.now) index) }
+    {
+        self.module.field_count(index)
+    }
+}

@@ -1,0 +1,51 @@
+-- The calls of pieces with colours in the texts of some nodes: without their sequences they are those of the pieces without colours.
+use Rattle.std.proofs.Common.{◌≡◌, ℕ, List, [], ◌∷◌, ◌++◌, map, codes, refl, ap, ap₂, subst, ◌∙◌}
+use Rattle.wasmprinter_spec.specs.Call.{Call, Text, Newline, Line, Start, Claim, text_of}
+use Rattle.wasmprinter_spec.specs.Coloured.{bare_call}
+use Rattle.wasmprinter_spec.specs.Colour.{uncolour}
+use Rattle.wasmprinter_spec.specs.Plain.{IsPlainText}
+use Rattle.wasmprinter_spec.specs.Options.{Options}
+use Rattle.wasmprinter_spec.specs.Piece.{Piece, calls, all_calls}
+use Rattle.wasmprinter_lexical.proofs.Pieces.{text_of-append}
+use Rattle.wasmprinter_lexical.proofs.Plain.{uncolour-plain}
+use Rattle.wasmprinter_writers.proofs.Uncoloured.{colours_keep_text}
+use Rattle.wasmprinter_colours.proofs.Painted.{Painted, none, same, node}
+
+-- ---- plain text in two parts
+
+front_plain : (a b : List ℕ) → IsPlainText (a ++ b) → IsPlainText a
+front_plain [] b h = tt
+front_plain (x ∷ a) b h = (h.0, front_plain a b h.1)
+
+behind_plain : (a b : List ℕ) → IsPlainText (a ++ b) → IsPlainText b
+behind_plain [] b h = h
+behind_plain (x ∷ a) b h = behind_plain a b h.1
+
+-- ---- calls
+
+bare-append : (cs ds : List Call) → map bare_call (cs ++ ds) ≡ map bare_call cs ++ map bare_call ds
+bare-append [] ds = refl
+bare-append (c ∷ cs) ds = ap (λ (es : List Call). bare_call c ∷ es) (bare-append cs ds)
+
+-- those with plain text have no sequence
+plain_bare : (cs : List Call) → IsPlainText (text_of cs) → map bare_call cs ≡ cs
+plain_bare [] h = refl
+plain_bare (Text s ∷ cs) h =
+    ap₂ (λ (t : List ℕ) (ds : List Call). Text t ∷ ds) (uncolour-plain s (front_plain s (text_of cs) h)) (plain_bare cs (behind_plain s (text_of cs) h))
+plain_bare (Newline ∷ cs) h = ap (λ (ds : List Call). Newline ∷ ds) (plain_bare cs h.1)
+plain_bare (Line place ∷ cs) h = ap (λ (ds : List Call). Line place ∷ ds) (plain_bare cs h)
+plain_bare (Start style ∷ cs) h = ap (λ (ds : List Call). Start style ∷ ds) (plain_bare cs h)
+plain_bare (Claim name place bytes answer ∷ cs) h = ap (λ (ds : List Call). Claim name place bytes answer ∷ ds) (plain_bare cs h)
+
+-- ---- pieces
+
+pub bare_painted : (o : Options) {ps qs : List Piece} → Painted ps qs → IsPlainText (text_of (all_calls o qs)) → map bare_call (all_calls o ps) ≡ all_calls o qs
+bare_painted o none h = refl
+bare_painted o (same {p = p} {ps = ps} {qs = qs} k) h =
+    let split : IsPlainText (text_of (calls o p) ++ text_of (all_calls o qs)) = subst IsPlainText (text_of-append (calls o p) (all_calls o qs)) h in
+    bare-append (calls o p) (all_calls o ps)
+    ∙ ap₂ (λ (cs ds : List Call). cs ++ ds) (plain_bare (calls o p) (front_plain (text_of (calls o p)) (text_of (all_calls o qs)) split))
+    (bare_painted o k (behind_plain (text_of (calls o p)) (text_of (all_calls o qs)) split))
+bare_painted o (node cs {ps = ps} {qs = qs} k) h =
+    ap₂ (λ (t : List ℕ) (ds : List Call). Text t ∷ ds) (colours_keep_text (Text (codes "(") ∷ cs) (front_plain (codes "(" ++ text_of cs) (text_of (all_calls o qs)) h))
+    (bare_painted o k (behind_plain (codes "(" ++ text_of cs) (text_of (all_calls o qs)) h))

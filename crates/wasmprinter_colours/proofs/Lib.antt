@@ -1,0 +1,6 @@
+pub mod Painted
+pub mod Nodes
+pub mod Fields
+pub mod Modules
+pub mod Calls
+pub mod Texts

@@ -1,0 +1,134 @@
+-- Pieces of which the texts of some nodes carry sequences of colours, and the same pieces without them.
+use Rattle.std.proofs.Common.{◌≡◌, ℕ, ◌+◌, List, [], ◌∷◌, ◌++◌, Bool, true, false, Option, None, cond, codes, refl, sym, ap, ap₂, subst, ◌∙◌, append_assoc, append-nil}
+use Rattle.wasmprinter_spec.specs.Call.{Call, Text, text_of}
+use Rattle.wasmprinter_spec.specs.Coloured.{coloured_bytes, coloured_text}
+use Rattle.wasmprinter_spec.specs.Colour.{uncolour}
+use Rattle.wasmprinter_spec.specs.Plain.{IsPlainText}
+use Rattle.wasmprinter_spec.specs.Options.{Options}
+use Rattle.wasmprinter_spec.specs.Piece.{Piece, OpenPlain, calls, all_calls}
+use Rattle.wasmprinter_spec.specs.Layout.Groups.{breaks, has_break, close, group_gap, line_group_gap, numbered}
+use Rattle.wasmprinter_spec.specs.Layout.Folded.{painted}
+use Rattle.wasmprinter_lexical.proofs.Pieces.{text_of-append}
+use Rattle.wasmprinter_writers.proofs.Uncoloured.{colours_keep_text}
+
+-- The second list is the first, but for what stands behind the parenthesis of some nodes: there it has the text of some calls, where the first has their
+-- text with the sequences of their styles.
+pub data Painted : List Piece → List Piece → Type 0 where
+  none : Painted [] []
+  same : {p : Piece} {ps qs : List Piece} → Painted ps qs → Painted (p ∷ ps) (p ∷ qs)
+  node : (cs : List Call) {ps qs : List Piece} → Painted ps qs → Painted (OpenPlain (coloured_text cs) ∷ ps) (OpenPlain (text_of cs) ∷ qs)
+
+-- ---- what keeps it
+
+pub same_all : (ps : List Piece) → Painted ps ps
+same_all [] = none
+same_all (p ∷ ps) = same (same_all ps)
+
+pub both : {ps qs rs ts : List Piece} → Painted ps qs → Painted rs ts → Painted (ps ++ rs) (qs ++ ts)
+both none k = k
+both (same h) k = same (both h k)
+both (node cs h) k = node cs (both h k)
+
+-- the same pieces in front
+pub behind : (front : List Piece) {ps qs : List Piece} → Painted ps qs → Painted (front ++ ps) (front ++ qs)
+behind front h = both (same_all front) h
+
+-- lines change where they did
+pub same_breaks : {ps qs : List Piece} → Painted ps qs → has_break ps ≡ has_break qs
+same_breaks none = refl
+same_breaks (same {p = p} h) = ap (λ (b : Bool). cond (breaks p) true b) (same_breaks h)
+same_breaks (node cs h) = same_breaks h
+
+-- so groups close where they did
+pub closed : {ps qs : List Piece} (place : Option ℕ) (nesting : ℕ) (f : Bool → Bool) → Painted ps qs →
+    Painted (ps ++ close place nesting (f (has_break ps))) (qs ++ close place nesting (f (has_break qs)))
+closed {ps} {qs} place nesting f h =
+    both h (subst (λ (b : Bool). Painted (close place nesting (f (has_break ps))) (close place nesting (f b))) (same_breaks h) (same_all (close place nesting (f (has_break ps)))))
+
+pub in_group_gap : {ps qs : List Piece} (nesting : ℕ) (w : List ℕ) → Painted ps qs → Painted (group_gap nesting w ps) (group_gap nesting w qs)
+unfolding group_gap
+in_group_gap nesting w h = same (closed None nesting (λ b. b) h)
+
+-- groups within one line
+pub in_line_group_gap : {ps qs : List Piece} (w : List ℕ) → Painted ps qs → Painted (line_group_gap w ps) (line_group_gap w qs)
+unfolding line_group_gap
+in_line_group_gap w h = same (both h (same none))
+
+pub numbered_so : {A : Type 0} (f g : ℕ → A → List Piece) → ((i : ℕ) (x : A) → Painted (f i x) (g i x)) → (i : ℕ) (xs : List A) → Painted (numbered f i xs) (numbered g i xs)
+unfolding numbered
+numbered_so f g each i [] = none
+numbered_so f g each i (x ∷ xs) = both (each i x) (numbered_so f g each (i + 1) xs)
+
+-- ---- the text of both
+
+coloured_text-append : (cs ds : List Call) → coloured_text (cs ++ ds) ≡ coloured_text cs ++ coloured_text ds
+coloured_text-append [] ds = refl
+coloured_text-append (c ∷ cs) ds =
+    ap (λ (t : List ℕ). coloured_bytes c ++ t) (coloured_text-append cs ds) ∙ sym (append_assoc (coloured_bytes c) (coloured_text cs) (coloured_text ds))
+
+painted-append : (b : Bool) (cs ds : List Call) → painted b (cs ++ ds) ≡ painted b cs ++ painted b ds
+painted-append true cs ds = coloured_text-append cs ds
+painted-append false cs ds = text_of-append cs ds
+
+painted-text : (b : Bool) (s : List ℕ) (cs : List Call) → painted b (Text s ∷ cs) ≡ s ++ painted b cs
+painted-text true s cs = refl
+painted-text false s cs = refl
+
+-- the calls with their styles, or their text alone
+abbrev own_calls : Bool → List Call → List Call
+own_calls true cs = cs
+own_calls false cs = Text (text_of cs) ∷ []
+
+coloured-own : (b : Bool) (cs : List Call) → coloured_text (own_calls b cs) ≡ painted b cs
+coloured-own true cs = refl
+coloured-own false cs = append-nil (text_of cs)
+
+plain-own : (b : Bool) (cs : List Call) → text_of (own_calls b cs) ≡ text_of cs
+plain-own true cs = refl
+plain-own false cs = append-nil (text_of cs)
+
+-- One list of calls has both texts: with the sequences of its styles that of the first pieces, which a printer writes with its own colours or without,
+-- and without them that of the second.
+record Colours (b : Bool) (o : Options) (ps qs : List Piece) : Type 0 where
+  calls : List Call
+  coloured : coloured_text calls ≡ painted b (all_calls o ps)
+  plain : text_of calls ≡ text_of (all_calls o qs)
+
+colours_then : (b : Bool) (o : Options) (p : Piece) {ps qs : List Piece} → Colours b o ps qs → Colours b o (p ∷ ps) (p ∷ qs)
+colours_then b o p {ps} {qs} h = record {
+  calls = own_calls b (calls o p) ++ h.calls;
+  coloured =
+      coloured_text-append (own_calls b (calls o p)) h.calls
+      ∙ ap₂ (λ (s t : List ℕ). s ++ t) (coloured-own b (calls o p)) h.coloured
+      ∙ sym (painted-append b (calls o p) (all_calls o ps));
+  plain =
+      text_of-append (own_calls b (calls o p)) h.calls
+      ∙ ap₂ (λ (s t : List ℕ). s ++ t) (plain-own b (calls o p)) h.plain
+      ∙ sym (text_of-append (calls o p) (all_calls o qs));
+}
+
+colours_node : (b : Bool) (o : Options) (cs : List Call) {ps qs : List Piece} → Colours b o ps qs →
+    Colours b o (OpenPlain (coloured_text cs) ∷ ps) (OpenPlain (text_of cs) ∷ qs)
+colours_node b o cs {ps} {qs} h = record {
+  calls = Text (codes "(") ∷ (cs ++ h.calls);
+  coloured =
+      ap (λ (t : List ℕ). codes "(" ++ t) (coloured_text-append cs h.calls ∙ ap (λ (t : List ℕ). coloured_text cs ++ t) h.coloured)
+      ∙ sym (painted-text b (codes "(" ++ coloured_text cs) (all_calls o ps));
+  plain = ap (λ (t : List ℕ). codes "(" ++ t) (text_of-append cs h.calls ∙ ap (λ (t : List ℕ). text_of cs ++ t) h.plain);
+}
+
+colours_of : (b : Bool) (o : Options) {ps qs : List Piece} → Painted ps qs → Colours b o ps qs
+colours_of b o none = record { calls = []; coloured = empty b; plain = refl }
+  where
+    empty : (b : Bool) → [] ≡ painted b []
+    empty true = refl
+    empty false = refl
+colours_of b o (same {p = p} h) = colours_then b o p (colours_of b o h)
+colours_of b o (node cs h) = colours_node b o cs (colours_of b o h)
+
+-- Where the second text is plain, it is what stays of the first when the sequences are deleted.
+pub uncoloured : (b : Bool) (o : Options) (ps qs : List Piece) → Painted ps qs → IsPlainText (text_of (all_calls o qs)) →
+    uncolour (painted b (all_calls o ps)) ≡ text_of (all_calls o qs)
+uncoloured b o ps qs h plain =
+    let c : Colours b o ps qs = colours_of b o h in
+    ap uncolour (sym c.coloured) ∙ colours_keep_text c.calls (subst IsPlainText (sym c.plain) plain) ∙ c.plain

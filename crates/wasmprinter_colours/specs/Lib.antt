@@ -1,0 +1,2 @@
+-- What the laws of colours cite.
+pub mod PlainLaws

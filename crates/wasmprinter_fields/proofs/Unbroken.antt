@@ -1,0 +1,95 @@
+-- What stands in the groups of fields on one line, and whether a line begins in the others.
+use Rattle.std.specs.Prelude.{◌≡◌, ℕ, List, [], ◌∷◌, ◌++◌, Bool, false, ◌||◌, Some, None, Result, Ok, Err, IfOk, IsErrAnd, refl}
+use Rattle.std.proofs.Common.{sym, ap, ◌∙◌}
+use Rattle.wasmprinter_spec.specs.Grammar.{Placed}
+use Rattle.wasmprinter_spec.specs.Types.{MemoryType, TableType, GlobalType, RefType}
+use Rattle.wasmprinter_spec.specs.Row as row
+use Rattle.wasmprinter_spec.specs.Operator.{Operator}
+use Rattle.wasmprinter_spec.specs.Placed.{Import, Export, Table, Global, Mode, Items, ElementEntry, DataMode, Data}
+use Rattle.wasmprinter_spec.specs.Piece.{Piece, Gap}
+use Rattle.wasmprinter_spec.specs.Layout.Groups.{has_break}
+use Rattle.wasmprinter_spec.specs.Layout.Declarations.{Scope, item_declaration, item_index}
+use Rattle.wasmprinter_spec.specs.Layout.Functions.{header_pieces}
+use Rattle.wasmprinter_spec.specs.Layout.Tables.{init_pieces}
+use Rattle.wasmprinter_spec.specs.Layout.Expressions.{constant_pieces, constant_group}
+use Rattle.wasmprinter_spec.specs.Layout.Elements.{named_table, function_items, expression_items, mode_pieces, shown_items}
+use Rattle.wasmprinter_spec.specs.Layout.DataSegments.{named_memory, data_mode_pieces, shown_bytes}
+use Rattle.wasmprinter_spec.specs.Layout.ValTypes.{ref_pieces}
+use Rattle.wasmprinter_spec.proofs.OneLine.{stays_unbroken, both_stay, then_stay, alone_stays, line_group_gap_stays, ref_stays}
+use Rattle.wasmprinter_places.proofs.FieldLines.{header_stays, item_stays, declared_stays, table_type_stays, memory_type_stays, global_type_stays, extern_stays, extern_index_stays, named_table_stays, function_items_stay, named_memory_stays, bytes_stay}
+use Rattle.wasmprinter_scope.proofs.Groups.{behind-line, before-line, or-false}
+use Rattle.wasmprinter_lines.proofs.Groups.{has_break-append, or-assoc}
+use Rattle.wasmprinter_fields.specs.Parts.{declared_table, declared_memory, declared_global, import_parts, table_parts, global_parts, element_parts, data_parts, export_parts}
+use Rattle.wasmprinter_fields.proofs.Declared.{table-parts, global-parts}
+use Rattle.wasmprinter_spec.specs.Layout.Exports.{kind_word}
+
+-- ---- fields on one line
+
+pub import-unbroken : (s : Scope) (n : ℕ) (i : Import) → has_break (import_parts s n i) ≡ false
+import-unbroken s n i = stays_unbroken {ps = import_parts s n i} (then_stay refl (then_stay refl (then_stay refl (then_stay refl (extern_stays s n i.type)))))
+
+pub memory-unbroken : (s : Scope) (i : ℕ) (m : MemoryType) → has_break (declared_memory s i m) ≡ false
+memory-unbroken s i m = stays_unbroken {ps = declared_memory s i m} (both_stay (declared_stays s row.Memory i) (then_stay refl (memory_type_stays m)))
+
+pub tag-unbroken : (s : Scope) (i : ℕ) (t : ℕ) → has_break (header_pieces s row.Tag None i t) ≡ false
+tag-unbroken s i t = stays_unbroken (header_stays s row.Tag None i t)
+
+pub export-unbroken : (s : Scope) (e : Export) → has_break (export_parts s e) ≡ false
+export-unbroken s e = stays_unbroken {ps = export_parts s e} (then_stay refl (then_stay refl (line_group_gap_stays (kind_word e.kind) (extern_index_stays s e.kind e.index))))
+
+pub start-unbroken : (s : Scope) (f : ℕ) → has_break (item_index s row.Func f) ≡ false
+start-unbroken s f = stays_unbroken (item_stays s row.Func f)
+
+-- ---- fields with expressions
+
+-- an error has no answer
+pub no_answer : {T E : Type 0} (Q : E → Type 0) (P : T → Type 0) (r : Result T E) → IsErrAnd r Q → IfOk r P
+no_answer Q P (Ok x) f = absurd f
+no_answer Q P (Err e) f = tt
+
+-- whether lines began in some items, and begin in the others
+pub more_lines : (lines : Bool) {new : Bool} {xs : List Piece} (ps rest whole : List Piece) → xs ≡ ps ++ rest → (lines || has_break xs) ≡ has_break whole → new ≡ has_break ps →
+    ((lines || new) || has_break rest) ≡ has_break whole
+more_lines lines {new} {xs} ps rest whole e h n =
+    or-assoc lines new (has_break rest)
+    ∙ ap (λ b. lines || (b || has_break rest)) n ∙ ap (λ b. lines || b) (sym (ap has_break e ∙ has_break-append ps rest)) ∙ h
+
+-- none is left
+pub last_lines : {lines : Bool} {xs : List Piece} (whole : List Piece) → xs ≡ [] → (lines || has_break xs) ≡ has_break whole → lines ≡ has_break whole
+last_lines {lines} whole e h = sym (or-false lines) ∙ ap (λ b. lines || b) (sym (ap has_break e)) ∙ h
+
+-- a line begins in a table where one begins in its initialiser
+pub table-breaks : (s : Scope) (i : ℕ) (t : Table (Placed Operator)) → has_break (table_parts s i t) ≡ has_break (init_pieces s t.init)
+table-breaks s i t =
+    ap has_break (table-parts s i t)
+    ∙ behind-line (declared_table s i t.type) (init_pieces s t.init) (stays_unbroken (both_stay (declared_stays s row.Table i) (then_stay refl (table_type_stays s.names t.type))))
+
+pub global-breaks : (s : Scope) (i : ℕ) (g : Global (Placed Operator)) → has_break (global_parts s i g) ≡ has_break (constant_pieces s 2 g.init)
+global-breaks s i g =
+    ap has_break (global-parts s i g)
+    ∙ behind-line (declared_global s i g.type) (Gap ∷ constant_pieces s 2 g.init) (stays_unbroken (both_stay (declared_stays s row.Global i) (then_stay refl (global_type_stays s.names g.type))))
+
+-- in the mode of an element segment, where one begins in its offset
+pub offset-breaks : (s : Scope) (names : Bool) (t : ℕ) (ps : List Piece) → has_break (named_table s names t ++ (Gap ∷ ps)) ≡ has_break ps
+offset-breaks s names t ps = behind-line (named_table s names t) (Gap ∷ ps) (stays_unbroken (named_table_stays s names t))
+
+pub functions-unbroken : (s : Scope) (is : List ℕ) → has_break (function_items s is) ≡ false
+functions-unbroken s is = stays_unbroken (function_items_stay s is)
+
+pub items-break : (s : Scope) (t : RefType) (ps : List Piece) → has_break (ref_pieces s.names t ++ ps) ≡ has_break ps
+items-break s t ps = behind-line (ref_pieces s.names t) ps (stays_unbroken (ref_stays s.names t))
+
+-- in a segment, where one begins in its offset or in its items
+pub element-breaks : (skeleton : Bool) (s : Scope) (i : ℕ) (e : ElementEntry) →
+    has_break (element_parts skeleton s i e) ≡ (has_break (mode_pieces s e.names_table e.element.mode) || has_break (shown_items skeleton s e.element.items))
+element-breaks skeleton s i e =
+    behind-line (item_declaration s row.Elem i) _ (stays_unbroken (declared_stays s row.Elem i))
+    ∙ has_break-append (mode_pieces s e.names_table e.element.mode) (Gap ∷ shown_items skeleton s e.element.items)
+
+pub data_mode-breaks : (s : Scope) (memory : ℕ) (ps : List Piece) → has_break (named_memory s memory ++ (ps ++ (Gap ∷ []))) ≡ has_break ps
+data_mode-breaks s memory ps = behind-line (named_memory s memory) (ps ++ (Gap ∷ [])) (stays_unbroken (named_memory_stays s memory)) ∙ before-line ps (Gap ∷ []) refl
+
+pub data-breaks : (skeleton : Bool) (s : Scope) (i : ℕ) (d : Data (Placed Operator)) → has_break (data_parts skeleton s i d) ≡ has_break (data_mode_pieces s d.mode)
+data-breaks skeleton s i d =
+    behind-line (item_declaration s row.Data i) _ (stays_unbroken (declared_stays s row.Data i))
+    ∙ before-line (data_mode_pieces s d.mode) (shown_bytes skeleton d.bytes) (stays_unbroken (bytes_stay skeleton d.bytes))

@@ -1,0 +1,12 @@
+use Rattle.std.specs.Prelude.{◌∷◌, codes, Some}
+use Rattle.wasmprinter_spec.specs.Row as row
+use Rattle.wasmprinter_spec.specs.Layout.Declarations.{item_index}
+use Rattle.wasmprinter_scope.specs.Scopes.{scope_view}
+use Rattle.wasmprinter_fields.proofs.LineGroups.{one_line}
+use Rattle.wasmprinter_fields.proofs.Unbroken.{start-unbroken}
+use Rattle.wasmprinter_fields.proofs.FieldsOnOneLine.{start-line}
+use Rattle.wasmprinter_fields.proofs.start.write_start.Goals as goal
+
+pub returns-in-Some-clause-pieces : goal.returns-in-Some-clause-pieces
+returns-in-Some-clause-pieces g c =
+    rw (c.in-Some.is, start-line (scope_view c.args.scope.now) c.in-Some.start) c.write_field.ensures.pieces

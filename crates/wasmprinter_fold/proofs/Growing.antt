@@ -1,0 +1,100 @@
+-- A tree grows by the steps of its operators.
+use Rattle.std.proofs.Common.{◌≡◌, ℕ, List, refl, sym, ◌∙◌, ap, subst, Option, Result, OnOk, ◌⊎◌, ⊎_elim}
+use Rattle.wasmprinter_spec.specs.Row as row
+use Rattle.wasmprinter_spec.specs.Row.{Role}
+use Rattle.wasmprinter_spec.specs.Folding.Arities.{Counts, label_counts_after}
+use Rattle.wasmprinter_spec.specs.Folding.Tree.{NodesOf}
+use Rattle.wasmprinter_ops.specs.declared.opcode.Role.{Role as OpsRole}
+use Rattle.wasmprinter_ops.specs.declared.opcode.Role.TheVariants as ops
+use Rattle.wasmprinter_ops.specs.Shapes.{role_view}
+use Rattle.wasmprinter_nodes.specs.declared.Label.{Label}
+use Rattle.wasmprinter_nodes.specs.declared.Node.{Node}
+use Rattle.wasmprinter_nodes.specs.declared.builder.Builder.{Builder}
+use Rattle.wasmprinter_nodes.specs.Building.{Open, Top, InBlock, InThen, InElse, StateOf, Step, Ends, start, state_at, step}
+use Rattle.wasmprinter_nodes.specs.Heads.{AllStep}
+use Rattle.wasmprinter_nodes.specs.Mapping.{map_nodes, map_open, map_step}
+use Rattle.wasmprinter_nodes.specs.Frames.{State, Stands}
+use Rattle.wasmprinter_nodes.specs.Postorder.{IsPostorder, forest_of}
+use Rattle.wasmprinter_nodes.proofs.Maps.{step-map}
+use Rattle.wasmprinter_nodes.proofs.AllHeads.{all_step, AllState-weaker, map_state-same}
+use Rattle.wasmprinter_node_text.specs.Shown.{Shown, shown_in, IsIn, AreIn}
+use Rattle.wasmprinter_node_text.specs.Buffers.{Grows}
+use Rattle.wasmprinter_fold.specs.declared.tree.GrowingTree.{GrowingTree}
+use Rattle.wasmprinter_fold.specs.Growing.{ShowsIn, Steps, shown_step}
+use Rattle.wasmprinter_node_text.proofs.LabelLaws.{in_grown, shown_grown}
+
+-- what is printed stays the same where the buffer grows
+pub shows-more : (old new : List ℕ) (b : Builder) (s : StateOf Shown) → Grows old new → ShowsIn old b s → ShowsIn new b s
+shows-more old new b s g h = record {
+  state = h.state;
+  stands = h.stands;
+  inside = AllState-weaker (IsIn old) (IsIn new) (λ l. in_grown old new l g) h.state h.inside;
+  shows =
+      map_state-same (shown_in new) (shown_in old) h.state
+      (AllState-weaker (IsIn old) (λ l. shown_in new l ≡ shown_in old l) (λ l. shown_grown old new l g) h.state h.inside)
+      ∙ h.shows;
+}
+
+-- one step more
+pub shows-step : (buffer : List ℕ) (b c : Builder) (x : Step Label) (y : Step Shown) (s : StateOf Shown) →
+    AllStep (IsIn buffer) x → map_step (shown_in buffer) x ≡ y → ((t : State) → Stands b t → Stands c (step t x)) → ShowsIn buffer b s → ShowsIn buffer c (step s y)
+shows-step buffer b c x y s i e f h = record {
+  state = step h.state x;
+  stands = f h.state h.stands;
+  inside = all_step (IsIn buffer) h.state x h.inside i;
+  shows = step-map (shown_in buffer) h.state x ∙ rw (h.shows, e) refl;
+}
+
+-- no nodes
+pub shows-none : (buffer : List ℕ) (b : Builder) → Stands b start → ShowsIn buffer b start
+shows-none buffer b h = record { state = start; stands = h; inside = (tt, tt); shows = refl }
+
+-- ---- at the end
+
+only_top : {H K : Type 0} (v : H → K) (o : Open H) → map_open v o ≡ Top → o ≡ Top
+only_top v Top e = refl
+only_top v (InBlock o b x q) e = absurd cc
+only_top v (InThen o b d x y q) e = absurd cc
+only_top v (InElse o b d x y q) e = absurd cc
+
+-- what is printed of nodes around which no block is open
+pub record Whole (buffer : List ℕ) (nodes : List Node) (f : NodesOf Shown) : Type 0 where
+  pub row : IsPostorder nodes
+  pub inside : AreIn buffer (forest_of nodes)
+  pub shows : map_nodes (shown_in buffer) (forest_of nodes) ≡ f
+
+pub whole : (buffer : List ℕ) (b : Builder) (nodes : List Node) (f : NodesOf Shown) →
+    ((s : State) → Stands b s → IsPostorder nodes) → ((s : State) → Stands b s → s.outer ≡ Top → forest_of nodes ≡ s.groups) →
+    ShowsIn buffer b (state_at Top f) → Whole buffer nodes f
+whole buffer b nodes f p q h =
+    let e = q h.state h.stands (only_top (shown_in buffer) h.state.outer (ap (λ (s : StateOf Shown). s.outer) h.shows)) in
+    record {
+      row = p h.state h.stands;
+      inside = rw e h.inside.1;
+      shows = rw e (ap (λ (s : StateOf Shown). s.groups) h.shows);
+    }
+
+-- ---- by role
+
+-- the same step
+pub same_step : {T E : Type 0} (r : Result T E) (old new : GrowingTree) (a b : Step Shown) → a ≡ b → OnOk r (Steps old new a) → OnOk r (Steps old new b)
+same_step r old new a b e h = subst (λ (x : Step Shown). OnOk r (Steps old new x)) e h
+
+-- the step by the operator's role
+pub by_role : (r s : Role) (x then otherwise : Shown) (counts : Counts) → r ≡ s → shown_step r x then otherwise counts ≡ shown_step s x then otherwise counts
+by_role r s x then otherwise counts e = ap (λ (q : Role). shown_step q x then otherwise counts) e
+
+-- what is of no other role ends a block
+pub ends_role : (r : OpsRole) (s : Role) (x then otherwise : Shown) (counts : Counts) →
+    (r ≡ ops.OpensTry) ⊎ ((r ≡ ops.Catches) ⊎ ((r ≡ ops.CatchesAll) ⊎ ((r ≡ ops.Delegates) ⊎ (r ≡ ops.Ends)))) → role_view r ≡ s →
+    Ends ≡ shown_step s x then otherwise counts
+ends_role r s x then otherwise counts h e =
+    ⊎_elim (λ q. by_role row.OpensTry s x then otherwise counts (ap role_view (sym q) ∙ e)) (λ h.
+    ⊎_elim (λ q. by_role row.Catches s x then otherwise counts (ap role_view (sym q) ∙ e)) (λ h.
+    ⊎_elim (λ q. by_role row.CatchesAll s x then otherwise counts (ap role_view (sym q) ∙ e)) (λ h.
+    ⊎_elim (λ q. by_role row.Delegates s x then otherwise counts (ap role_view (sym q) ∙ e))
+    (λ q. by_role row.Ends s x then otherwise counts (ap role_view (sym q) ∙ e)) h) h) h) h
+
+-- the same counts of labels
+pub same_counts : (a b : Role) (x y : Option ℕ) (k l : List (Option ℕ)) → a ≡ b → x ≡ y → k ≡ l → label_counts_after a x k ≡ label_counts_after b y l
+same_counts a b x y k l p q r = rw (p, q, r) refl

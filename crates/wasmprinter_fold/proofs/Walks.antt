@@ -1,0 +1,217 @@
+-- The operators of a list, one by one.
+use Rattle.std.specs.Prelude.{◌≡◌, ℕ, ◌+◌, ◌-◌, ◌<◌, ◌^◌, List, [], ◌∷◌, length, map, codes, Bool, true, false, Option, Some, None, option_map}
+use Rattle.std.proofs.Common.{refl, sym, ap, ◌∙◌, subst, arith}
+use Rattle.wasmprinter_spec.specs.Grammar.{Placed}
+use Rattle.wasmprinter_spec.specs.Row as row
+use Rattle.wasmprinter_spec.specs.Row.{Role}
+use Rattle.wasmprinter_spec.specs.Operator.{Operator}
+use Rattle.wasmprinter_spec.specs.Table.{role_of}
+use Rattle.wasmprinter_spec.specs.Names.{Names}
+use Rattle.wasmprinter_spec.specs.Nesting.{Nests, Sequence}
+use Rattle.wasmprinter_spec.specs.Instructions.{role_at, roles}
+use Rattle.wasmprinter_spec.specs.Labels.{Label, labels_after, count_after}
+use Rattle.wasmprinter_spec.specs.Options.{defaults}
+use Rattle.wasmprinter_spec.specs.Customs.Hints.{Hint, next_hint, hint_behind}
+use Rattle.wasmprinter_spec.specs.Layout.Operators.{Setting}
+use Rattle.wasmprinter_spec.specs.Layout.Folded.{item, items, folded_pieces, if_folded}
+use Rattle.wasmprinter_spec.specs.Folding.Arities.{Signatures, Counts, counts_of, label_of_block, label_counts_after}
+use Rattle.wasmprinter_spec.specs.Folding.Code.{Item, Code, code_of, role as item_role, is_try, AreWithoutTry, flat, IsFit}
+use Rattle.wasmprinter_spec.specs.Folding.Tree.{tree}
+use Rattle.wasmprinter_spec.proofs.FoldingCode.{code_of-tree, code_of-nested, code_of-nests}
+use Rattle.wasmprinter_spec.proofs.FoldingItems.{roles-items}
+use Rattle.wasmprinter_ops.specs.Operators.{placed_view, pairs}
+use Rattle.wasmprinter_ops.proofs.Pairs.{first-pair, no-pair}
+use Rattle.wasmprinter_labels.specs.Scan.{Scan, names_of, own_label, at_start_again, behind_operator}
+use Rattle.wasmprinter_flat.proofs.Depths.{after-length, after-count}
+use Rattle.wasmprinter_nodes.specs.Building.{Top, StateOf, Step, start, state_at, step, step_of, steps, run_all}
+use Rattle.wasmprinter_nodes.specs.Mapping.{map_nodes}
+use Rattle.wasmprinter_nodes.proofs.Runs.{run-tree}
+use Rattle.wasmprinter_node_text.specs.Shown.{Shown, shown_head, row_pieces}
+use Rattle.wasmprinter_fold.specs.declared.tree.GrowingTree.{GrowingTree}
+use Rattle.wasmprinter_fold.specs.Growing.{Shows, Steps, shown_step, shown_operator, shown_keyword, operator_step, IsGrown}
+use Rattle.wasmprinter_node_text.proofs.RowLaws.{rows_shown}
+
+-- ---- places and operators
+
+-- ---- the step of an operator
+
+-- what is printed of an operator, by its role
+step-shown : (paints : Bool) (s : Setting) (t : Signatures) (hint : Option (Placed Hint)) (l : Scan) (ls : List (Option ℕ)) (o : Placed Operator) (r : Role) →
+    let counts : Counts = counts_of t ls o.value in
+    step_of (shown_head paints) r (item s t hint (own_label l) l.labels ls o)
+    ≡ shown_step r (shown_operator paints s l o.place (option_map (λ h. h.value.taken) hint) o.value)
+    (shown_keyword paints o.place (codes "then")) (shown_keyword paints o.place (codes "else")) counts
+step-shown paints s t hint l ls o row.Plain = refl
+step-shown paints s t hint l ls o row.Opens = refl
+step-shown paints s t hint l ls o row.OpensIf = refl
+step-shown paints s t hint l ls o row.OpensTry = refl
+step-shown paints s t hint l ls o row.Turns = refl
+step-shown paints s t hint l ls o row.Catches = refl
+step-shown paints s t hint l ls o row.CatchesAll = refl
+step-shown paints s t hint l ls o row.Delegates = refl
+step-shown paints s t hint l ls o row.Ends = refl
+
+-- the same of what equals these
+step-next : (paints other : Bool) (s : Setting) (t : Signatures) (next : Option (Placed Hint)) (hint : Option Bool) (names : Names) (l : Scan) (ls : List (Option ℕ)) (o : Placed Operator) (r : Role) →
+    other ≡ paints → names ≡ s.names → hint ≡ option_map (λ h. h.value.taken) next →
+    step_of (shown_head paints) r (item s t next (own_label l) l.labels ls o)
+    ≡ shown_step r (shown_operator other (record s { names = names }) l o.place hint o.value)
+    (shown_keyword other o.place (codes "then")) (shown_keyword other o.place (codes "else")) (counts_of t ls o.value)
+step-next paints other s t next hint names l ls o r e n q =
+    let counts : Counts = counts_of t ls o.value in
+    step-shown paints s t next l ls o r
+    ∙ (ap (λ (ns : Names). shown_step r (shown_operator paints (record s { names = ns }) l o.place (option_map (λ h. h.value.taken) next) o.value)
+    (shown_keyword paints o.place (codes "then")) (shown_keyword paints o.place (codes "else")) counts) (sym n)
+    ∙ rw (e, q) refl)
+
+-- ---- a list of operators
+
+-- the operators of a list are taken one by one
+items-of : (s : Setting) (t : Signatures) (hs : List (Placed Hint)) (n : ℕ) (xs : List Label) (ls : List (Option ℕ)) (os rest : List (Placed Operator)) (o : Placed Operator) → os ≡ o ∷ rest →
+    items s t hs n xs ls os
+    ≡ item s t (next_hint (o.place - s.body) hs) (s.names.labels s.function n (length xs)) xs ls o
+    ∷ items s t (hint_behind (o.place - s.body) hs) (count_after (role_at o) n) (labels_after (role_at o) (s.names.labels s.function n (length xs)) xs)
+    (label_counts_after (role_at o) (label_of_block t o.value) ls) rest
+unfolding items
+items-of s t hs n xs ls os rest o e = ap (λ os. items s t hs n xs ls os) e
+
+items-nil : (s : Setting) (t : Signatures) (hs : List (Placed Hint)) (n : ℕ) (xs : List Label) (ls : List (Option ℕ)) (os : List (Placed Operator)) → os ≡ [] →
+    items s t hs n xs ls os ≡ []
+unfolding items
+items-nil s t hs n xs ls os e = ap (λ os. items s t hs n xs ls os) e
+
+-- the identifiers of the module are those that are printed, and the function is that of the setting
+pub record Fits (s : Setting) (l : Scan) : Type 0 where
+  pub names : names_of l ≡ s.names
+  pub function : l.function ≡ s.function
+
+-- the label that the next operator may open
+own-fits : (s : Setting) (l : Scan) → Fits s l → own_label l ≡ s.names.labels s.function l.count (length l.labels)
+own-fits s l f =
+    ap (λ (names : Names). names.labels l.function l.count (length l.labels)) f.names ∙ ap (λ function. s.names.labels function l.count (length l.labels)) f.function
+
+-- the operators of the list, folded one after another
+abbrev pub run_items : Bool → Setting → Signatures → List (Placed Hint) → Scan → List (Option ℕ) → StateOf Shown → List (Placed Operator) → StateOf Shown
+run_items paints s t hs l ls u os = run_all u (steps (shown_head paints) (items s t hs l.count l.labels ls os))
+
+-- So far all operators have been folded but for the rest, for which the hints `left` wait: the rest leads from here where all lead from the beginning.
+-- None of them is of the older `try`. There is room for as many labels as there may be.
+pub record Progress (paints : Bool) (s : Setting) (t : Signatures) (from : Scan) (hints : List (Placed Hint)) (all rest : List (Placed Operator)) (left : List (Placed Hint)) (l : Scan) (g : GrowingTree) : Type 0 where
+  pub state : StateOf Shown
+  pub shows : Shows g state
+  pub leads : run_items paints s t left l g.labels state rest ≡ run_all start (steps (shown_head paints) (items s t hints 0 [] [] all))
+  pub none_before : AreWithoutTry (roles rest) → AreWithoutTry (roles all)
+  pub none_behind : AreWithoutTry (roles all) → AreWithoutTry (roles rest)
+  pub paints_same : g.texts.paints ≡ paints
+  pub named : l.named ≡ from.named
+  pub invents : l.invents ≡ from.invents
+  pub fits : Fits s l
+  pub counted : l.count + length rest < 2 ^ 64
+  pub nested : length l.labels + length rest < 2 ^ 64
+
+-- nothing is folded yet
+pub starts : (paints : Bool) (s : Setting) (t : Signatures) (from l : Scan) (hints : List (Placed Hint)) (all os : List (Placed Operator)) (g : GrowingTree) →
+    l ≡ at_start_again s.function from → names_of from ≡ s.names → os ≡ all → length all < 2 ^ 64 → Shows g start → g.texts.paints ≡ paints → g.labels ≡ [] →
+    Progress paints s t from hints all os hints l g
+starts paints s t from l hints all os g b n e h w p c = rw (b) (record {
+  state = start;
+  shows = w;
+  leads = rw (c, e) refl;
+  none_before = λ a. rw (← e) a;
+  none_behind = λ a. rw (e) a;
+  paints_same = p;
+  named = refl;
+  invents = refl;
+  fits = record { names = n; function = refl };
+  counted = omega (arith, h, ap length e);
+  nested = omega (arith, h, ap length e);
+})
+
+module _ {paints : Bool} {s : Setting} {t : Signatures} {from : Scan} {hints : List (Placed Hint)} {all os : List (Placed Operator)} {left : List (Placed Hint)} {l : Scan} {g : GrowingTree} (p : Progress paints s t from hints all os left l g) where
+  -- an operator is left, so there is room for one more block
+  pub has_room : (rest : List (Placed Operator)) (x : ℕ × Operator) → pairs os ≡ x ∷ pairs rest → length l.labels + 1 < 2 ^ 64
+  has_room rest x e = omega (arith, p.nested, ap length (first-pair os rest x e))
+
+  pub has_count : (rest : List (Placed Operator)) (x : ℕ × Operator) → pairs os ≡ x ∷ pairs rest → l.count + 1 < 2 ^ 64
+  has_count rest x e = omega (arith, p.counted, ap length (first-pair os rest x e))
+
+  -- an operator of the older `try`: the list has no tree
+  pub refuses : (rest : List (Placed Operator)) (x : ℕ × Operator) → pairs os ≡ x ∷ pairs rest → is_try (role_of x.1.opcode) ≡ true →
+      code_of (items s t hints 0 [] [] all) ≡ None
+  refuses rest x e h = by_code (code_of (items s t hints 0 [] [] all)) refl
+    where
+      -- where it had one, no operator would be of the older `try`
+      by_code : (c : Option Code) → code_of (items s t hints 0 [] [] all) ≡ c → c ≡ None
+      by_code None q = refl
+      by_code (Some code) q =
+          let w : AreWithoutTry (roles all) =
+          subst AreWithoutTry (roles-items s t all hints 0 [] []) (code_of-nests (items s t hints 0 [] [] all) code q).1 in
+          let v : AreWithoutTry (roles (placed_view x ∷ rest)) =
+          subst (λ (y : List (Placed Operator)). AreWithoutTry (roles y)) (first-pair os rest x e) (p.none_behind w) in
+          absurd (cc (sym h ∙ v.0))
+
+  -- the next operator was folded
+  pub goes_on : (rest : List (Placed Operator)) (x : ℕ × Operator) (role : Role) (k : Scan) (behind : List (Placed Hint)) (n : GrowingTree) (hint : Option Bool) →
+      pairs os ≡ x ∷ pairs rest → role ≡ role_of x.1.opcode → is_try role ≡ false → k ≡ behind_operator role l → behind ≡ hint_behind (x.0 - s.body) left →
+      hint ≡ option_map (λ h. h.value.taken) (next_hint (x.0 - s.body) left) → n.texts.paints ≡ g.texts.paints →
+      n.labels ≡ label_counts_after (role_of x.1.opcode) (label_of_block t x.1) g.labels →
+      Steps g n (operator_step g.texts.paints (record s { names = names_of l }) l x.0 hint x.1 (counts_of t g.labels x.1)) →
+      Progress paints s t from hints all rest behind k n
+  goes_on rest x role k behind n hint e r y b h q w c f =
+      let o : Placed Operator = placed_view x in
+      let v = shown_head paints in
+      let next : Option (Placed Hint) = next_hint (x.0 - s.body) left in
+      let after : List (Placed Hint) = hint_behind (x.0 - s.body) left in
+      let r' : Role = role_of x.1.opcode in
+      let counted : List (Option ℕ) = label_counts_after r' (label_of_block t x.1) g.labels in
+      let u : StateOf Shown = step p.state (step_of v r' (item s t next (own_label l) l.labels g.labels o)) in
+      rw (b, r, h) (record {
+        state = u;
+        shows =
+            subst (λ (y : Step Shown). Shows n (step p.state y))
+            (sym (step-next paints g.texts.paints s t next hint (names_of l) l g.labels o r' p.paints_same p.fits.names q)) (f p.state p.shows);
+        leads =
+            ap (λ (ls : List (Option ℕ)). run_items paints s t after (behind_operator r' l) ls u rest) c
+            ∙ (ap (λ (own : Label). run_all (step p.state (step_of v r' (item s t next own l.labels g.labels o)))
+            (steps v (items s t after (count_after r' l.count) (labels_after r' own l.labels) counted rest))) (own-fits s l p.fits)
+            ∙ (ap (λ (is : List Item). run_all p.state (steps v is)) (sym (items-of s t left l.count l.labels g.labels os rest o (first-pair os rest x e)))
+            ∙ p.leads));
+        none_before = λ a. p.none_before (subst (λ (y : List (Placed Operator)). AreWithoutTry (roles y)) (sym (first-pair os rest x e)) (ap is_try (sym r) ∙ y, a));
+        none_behind = λ a. (subst (λ (y : List (Placed Operator)). AreWithoutTry (roles y)) (first-pair os rest x e) (p.none_behind a)).1;
+        paints_same = w ∙ p.paints_same;
+        named = p.named;
+        invents = p.invents;
+        fits = record { names = p.fits.names; function = p.fits.function };
+        counted = omega (arith, p.counted, ap length (first-pair os rest x e), after-count (role_of x.1.opcode) l.count);
+        nested = omega (arith, p.nested, ap length (first-pair os rest x e), after-length (role_of x.1.opcode) (own_label l) l.labels);
+      })
+
+  -- no operator is left
+  pub all_folded : Nests Sequence (roles all) → pairs os ≡ [] → IsGrown paints g true (code_of (items s t hints 0 [] [] all))
+  all_folded n e =
+      let xs : List Item = items s t hints 0 [] [] all in
+      let v = shown_head paints in
+      let w : AreWithoutTry (roles all) = p.none_before (subst (λ (y : List (Placed Operator)). AreWithoutTry (roles y)) (sym (no-pair os e)) tt) in
+      let same : map item_role xs ≡ roles all = roles-items s t all hints 0 [] [] in
+      let c : (code : Code) × (code_of xs ≡ Some code) =
+      code_of-nested xs (subst (λ (rs : List Role). Nests Sequence rs) (sym same) n) (subst AreWithoutTry (sym same) w) in
+      let d : (flat c.0 ≡ xs) × IsFit c.0 = code_of-tree xs c.0 c.1 in
+      let state : p.state ≡ state_at Top (map_nodes v (tree c.0)) =
+      ap (λ (is : List Item). run_all p.state (steps v is)) (sym (items-nil s t left l.count l.labels g.labels os (no-pair os e)))
+      ∙ (p.leads ∙ (ap (λ (is : List Item). run_all start (steps v is)) (sym d.0) ∙ run-tree v c.0 d.1)) in
+      (c.0, c.1, subst (λ (u : StateOf Shown). Shows g u) state p.shows)
+
+-- ---- what is printed
+
+-- the layout of a list that is folded
+pub folded-pieces : (paints : Bool) (s : Setting) (t : Signatures) (hints : List (Placed Hint)) (os : List (Placed Operator)) (code : Code) →
+    code_of (items s t hints 0 [] [] os) ≡ Some code →
+    if_folded (folded_pieces defaults paints s t hints os) ≡ row_pieces s.form true s.nesting (map_nodes (shown_head paints) (tree code))
+unfolding folded_pieces
+folded-pieces paints s t hints os code e = rw (e) (rows_shown paints s.form true s.nesting (tree code))
+
+-- that of another
+pub no-pieces : (paints : Bool) (s : Setting) (t : Signatures) (hints : List (Placed Hint)) (os : List (Placed Operator)) →
+    code_of (items s t hints 0 [] [] os) ≡ None → if_folded (folded_pieces defaults paints s t hints os) ≡ []
+unfolding folded_pieces
+no-pieces paints s t hints os e = rw (e) refl

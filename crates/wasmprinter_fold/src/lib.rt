@@ -1,0 +1,7 @@
+//! Operators folded (section 6.5.13 of the WebAssembly Core Specification, "Folded Instructions"): each in parentheses, with its operands.
+#![tactic(auto)]
+
+mod folder;
+mod tree;
+
+pub use folder::Folder;

@@ -1,0 +1,256 @@
+//! The tree of a list of operators, which grows with each of them.
+ghost use Rattle.std.specs.Prelude.{◌≡◌, ◌+◌, ◌-◌, ◌<◌, ◌^◌, [], length, option_map, codes, IfOk, OnOk};
+ghost use Rattle.wasmprinter_spec.specs.Table.{role_of};
+ghost use Rattle.wasmprinter_spec.specs.Customs.Hints.{next_hint, hint_behind};
+ghost use Rattle.wasmprinter_spec.specs.Folding.Arities.{signatures_within, counts_of, label_of_block, label_counts_after};
+ghost use Rattle.wasmprinter_spec.specs.Folding.Code.{code_of};
+ghost use Rattle.wasmprinter_spec.specs.Layout.Folded.{items};
+ghost use Rattle.wasmprinter_nodes.specs.Building.{StateOf, Plain, Opens, OpensIf, Turns, Ends, start};
+ghost use Rattle.wasmprinter_ops.specs.Shapes.{role_view};
+ghost use Rattle.wasmprinter_labels.specs.Scan.{names_of};
+ghost use Rattle.wasmprinter_flat.specs.Settings.{setting_view};
+ghost use Rattle.wasmprinter_arities.specs.Counted.{counts_view};
+ghost use Rattle.wasmprinter_node_text.specs.Shown.{Shown};
+ghost use Rattle.wasmprinter_fold.specs.Growing.{Shows, Steps, operator_step, shown_operator, shown_keyword, IsGrown};
+
+use std::alloc::{AllocError, Global};
+use wasmprinter_arities::blocks::label_of_block;
+use wasmprinter_arities::callees::Callees;
+use wasmprinter_arities::counts::Counts;
+use wasmprinter_arities::labels::LabelCounts;
+use wasmprinter_arities::operators::counts;
+use wasmprinter_customs::FunctionHints;
+use wasmprinter_flat::operators::Setting;
+use wasmprinter_labels::OpenLabels;
+use wasmprinter_node_text::texts::Texts;
+use wasmprinter_nodes::Builder;
+use wasmprinter_ops::expression::Expression;
+use wasmprinter_ops::opcode::Role;
+use wasmprinter_ops::operator::Operator;
+use wasmprinter_text::signature::Signatures;
+
+/// The nodes of the operators so far, their texts, and what the labels of the open blocks take.
+#[derive(Drop)]
+pub struct GrowingTree {
+    pub texts: Texts,
+    pub builder: Builder,
+    pub labels: LabelCounts,
+}
+
+/// Takes the hint of the operator that stands so far behind the body's first byte, if it is the next: whether its branch is taken.
+fn take_hint(hints: &mut FunctionHints<'_>, offset: u64) -> Option<bool>
+    ensures gives { result ≡ option_map (λ h. h.value.taken) (next_hint offset hints.old) }
+    ensures behind { hints.new ≡ hint_behind offset hints.old }
+{
+    match hints.next_at(offset) {
+        Some(hint) => Some(hint.is_taken()),
+        None => None,
+    }
+}
+
+impl GrowingTree {
+    /// No nodes. This takes no memory.
+    pub fn new(alloc: Global, paints: bool) -> GrowingTree
+        ensures { result.texts.paints ≡ paints }
+    {
+        GrowingTree {
+            texts: Texts::new(alloc, paints),
+            builder: Builder::new(alloc),
+            labels: LabelCounts::new(alloc),
+        }
+    }
+
+    /// Removes all nodes, and keeps the room for others.
+    fn clear(&mut self)
+        ensures shows { Shows self.new start }
+        ensures texts { self.new.texts.bytes ≡ [] }
+        ensures paints { self.new.texts.paints ≡ self.old.texts.paints }
+        ensures labels { self.new.labels ≡ [] }
+    {
+        self.texts.clear();
+        self.builder.clear();
+        self.labels.clear();
+    }
+
+    /// A plain operator more.
+    fn plain<S: Signatures>(
+        &mut self,
+        setting: &Setting<'_, S>,
+        labels: &OpenLabels<'_, '_>,
+        operator: &Operator<'_>,
+        place: u64,
+        hint: Option<bool>,
+        counts: Counts,
+    ) -> Result<(), AllocError>
+        requires room { length labels.now.labels + 1 < 2 ^ 64 }
+        requires shows { (s : StateOf Shown) × Shows self.old s }
+        ensures paints { self.new.texts.paints ≡ self.old.texts.paints }
+        ensures labels { self.new.labels ≡ self.old.labels }
+        ensures steps { OnOk result (Steps self.old self.new (Plain
+            (shown_operator self.old.texts.paints (setting_view S.signature_at setting.now (names_of labels.now)) labels.now place hint operator.now)
+            counts.takes counts.gives)) }
+    {
+        let label = self
+            .texts
+            .write_operator(setting, labels, operator, place, hint)?;
+        self.builder.plain(label, counts.takes, counts.gives)
+    }
+
+    /// A block more, which is open.
+    fn open<S: Signatures>(
+        &mut self,
+        setting: &Setting<'_, S>,
+        labels: &OpenLabels<'_, '_>,
+        operator: &Operator<'_>,
+        place: u64,
+        hint: Option<bool>,
+        counts: Counts,
+    ) -> Result<(), AllocError>
+        requires room { length labels.now.labels + 1 < 2 ^ 64 }
+        requires shows { (s : StateOf Shown) × Shows self.old s }
+        ensures paints { self.new.texts.paints ≡ self.old.texts.paints }
+        ensures labels { self.new.labels ≡ self.old.labels }
+        ensures steps { OnOk result (Steps self.old self.new (Opens
+            (shown_operator self.old.texts.paints (setting_view S.signature_at setting.now (names_of labels.now)) labels.now place hint operator.now)
+            counts.gives)) }
+    {
+        let label = self
+            .texts
+            .write_operator(setting, labels, operator, place, hint)?;
+        self.builder.open(label, counts.gives)
+    }
+
+    /// An `if` more, whose first case is open.
+    fn open_if<S: Signatures>(
+        &mut self,
+        setting: &Setting<'_, S>,
+        labels: &OpenLabels<'_, '_>,
+        operator: &Operator<'_>,
+        place: u64,
+        hint: Option<bool>,
+        counts: Counts,
+    ) -> Result<(), AllocError>
+        requires room { length labels.now.labels + 1 < 2 ^ 64 }
+        requires shows { (s : StateOf Shown) × Shows self.old s }
+        ensures paints { self.new.texts.paints ≡ self.old.texts.paints }
+        ensures labels { self.new.labels ≡ self.old.labels }
+        ensures steps { OnOk result (Steps self.old self.new (OpensIf
+            (shown_operator self.old.texts.paints (setting_view S.signature_at setting.now (names_of labels.now)) labels.now place hint operator.now)
+            (shown_keyword self.old.texts.paints place (codes "then")) counts.gives)) }
+    {
+        let label = self
+            .texts
+            .write_operator(setting, labels, operator, place, hint)?;
+        let then = self.texts.write_keyword("then", place)?;
+        self.builder.open_if(label, then, counts.gives)
+    }
+
+    /// An `else`: the second case of the innermost `if` is open.
+    fn turn(&mut self, place: u64) -> Result<(), AllocError>
+        requires { (s : StateOf Shown) × Shows self.old s }
+        ensures paints { self.new.texts.paints ≡ self.old.texts.paints }
+        ensures labels { self.new.labels ≡ self.old.labels }
+        ensures steps { OnOk result (Steps self.old self.new (Turns
+            (shown_keyword self.old.texts.paints place (codes "else")))) }
+    {
+        let label = self.texts.write_keyword("else", place)?;
+        self.builder.turn(label)
+    }
+
+    /// An `end`: the innermost block is closed.
+    fn end(&mut self) -> Result<(), AllocError>
+        requires { (s : StateOf Shown) × Shows self.old s }
+        ensures paints { self.new.texts.paints ≡ self.old.texts.paints }
+        ensures labels { self.new.labels ≡ self.old.labels }
+        ensures steps { OnOk result (Steps self.old self.new Ends) }
+    {
+        self.builder.end()
+    }
+
+    /// An operator more, which takes and gives so many values. Those of the older `try` are taken as ends: no list with one of them is folded.
+    /// A hint in front of an `else` or an `end` goes nowhere: a module with one is refused before anything is printed of it.
+    fn add<S: Signatures>(
+        &mut self,
+        setting: &Setting<'_, S>,
+        labels: &OpenLabels<'_, '_>,
+        operator: &Operator<'_>,
+        place: u64,
+        hint: Option<bool>,
+        counts: Counts,
+    ) -> Result<(), AllocError>
+        requires room { length labels.now.labels + 1 < 2 ^ 64 }
+        requires shows { (s : StateOf Shown) × Shows self.old s }
+        ensures paints { self.new.texts.paints ≡ self.old.texts.paints }
+        ensures labels { self.new.labels ≡ self.old.labels }
+        ensures steps { OnOk result (Steps self.old self.new (operator_step self.old.texts.paints
+            (setting_view S.signature_at setting.now (names_of labels.now)) labels.now place hint operator.now (counts_view counts))) }
+    {
+        match operator.opcode.role() {
+            Role::Plain => self.plain(setting, labels, operator, place, hint, counts),
+            Role::Opens => self.open(setting, labels, operator, place, hint, counts),
+            Role::OpensIf => self.open_if(setting, labels, operator, place, hint, counts),
+            Role::Turns => self.turn(place),
+            Role::OpensTry | Role::Catches | Role::CatchesAll | Role::Delegates | Role::Ends => {
+                self.end()
+            }
+        }
+    }
+
+    /// The next operator, in front of which these labels are open.
+    fn fold_next<S: Signatures>(
+        &mut self,
+        callees: &Callees<'_, '_>,
+        setting: &Setting<'_, S>,
+        labels: &OpenLabels<'_, '_>,
+        own: Option<u32>,
+        operator: &Operator<'_>,
+        place: u64,
+        hint: Option<bool>,
+    ) -> Result<(), AllocError>
+        requires room { length labels.now.labels + 1 < 2 ^ 64 }
+        requires shows { (s : StateOf Shown) × Shows self.old s }
+        ensures paints { self.new.texts.paints ≡ self.old.texts.paints }
+        ensures labels { OnOk result (self.new.labels ≡ label_counts_after (role_of operator.now.opcode)
+            (label_of_block (signatures_within callees.now own) operator.now) self.old.labels) }
+        ensures steps { OnOk result (Steps self.old self.new (operator_step self.old.texts.paints
+            (setting_view S.signature_at setting.now (names_of labels.now)) labels.now place hint operator.now
+            (counts_of (signatures_within callees.now own) self.old.labels operator.now))) }
+    {
+        let counts = counts(callees, own, &self.labels, operator);
+        self.add(setting, labels, operator, place, hint, counts)?;
+        self.labels
+            .advance(operator.opcode.role(), label_of_block(callees, operator))
+    }
+
+    /// Folds the operators of an expression, where the function around has `own` results: 0 in a constant expression, `None` where nothing is
+    /// known of its type. Answers whether they are folded: they aren't where one of them is of the older `try`.
+    pub fn fold<S: Signatures>(
+        &mut self,
+        callees: &Callees<'_, '_>,
+        setting: &Setting<'_, S>,
+        labels: &mut OpenLabels<'_, '_>,
+        own: Option<u32>,
+        hints: FunctionHints<'_>,
+        expression: &Expression<'_>,
+    ) -> Result<bool, AllocError>
+        ensures paints { self.new.texts.paints ≡ self.old.texts.paints }
+        ensures named { labels.new.named ≡ labels.old.named }
+        ensures invents { labels.new.invents ≡ labels.old.invents }
+        ensures grown { IfOk result (λ folded. IsGrown self.old.texts.paints self.new folded (code_of (items
+            (setting_view S.signature_at setting.now (names_of labels.old)) (signatures_within callees.now own) hints.entry 0 [] [] expression.now.items))) }
+    {
+        self.clear();
+        labels.begin(setting.function);
+        let mut hints = hints;
+        for (place, operator) in expression.operators() {
+            let role = operator.opcode.role();
+            if role.is_of_try() {
+                return Ok(false);
+            }
+            let hint = take_hint(&mut hints, place.saturating_sub(setting.body));
+            self.fold_next(callees, setting, labels, own, &operator, place, hint)?;
+            labels.advance(role);
+        }
+        Ok(true)
+    }
+}

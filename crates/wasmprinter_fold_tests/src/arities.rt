@@ -1,0 +1,173 @@
+//! How many operands each operator takes and how many results it gives, shown by the nodes that are printed: each stands behind six constants
+//! and in front of an operator that takes one operand.
+
+use crate::arity_rows::{AGGREGATES, CONTROL, NUMBERS};
+use crate::modules::{FUNCTION, IMPORT, TAG, TYPE, add_code, add_section, folded};
+use crate::vector_rows::{ATOMICS, VECTORS};
+use std::alloc::{AllocError, Global};
+use std::test::Fail;
+use wasmprinter_samples::PREAMBLE;
+
+/// An operator with the numbers of its operands and results.
+#[derive(Drop)]
+struct Row {
+    takes: u32,
+    gives: u32,
+    bytes: Vec<u8>,
+    text: &'static str,
+}
+
+/// An operator as a table has it on a line.
+fn row_of(alloc: Global, line: &'static str) -> Result<Row, Fail> {
+    let (arity, operator) = line.split_once(": ").ok_or("a line without bytes")?;
+    let (digits, text) = operator.split_once(": ").ok_or("a line without a text")?;
+    let (takes, gives) = arity.split_once('>').ok_or("a line without results")?;
+    let mut bytes = Vec::new(alloc);
+    for byte in digits.split_ascii_whitespace() {
+        bytes.push(u8::from_str_radix(byte, 16)?)?;
+    }
+    Ok(Row {
+        takes: u32::from_str_radix(takes, 10)?,
+        gives: u32::from_str_radix(gives, 10)?,
+        bytes,
+        text,
+    })
+}
+
+/// The types that the tables tell of: of functions that give two i32, that make one of two, structures with three fields, arrays, and
+/// functions that take one.
+const TYPES: [u8; 27] = [
+    0x05, // five types
+    0x60, 0x00, 0x02, 0x7f, 0x7f, // of function 1
+    0x60, 0x02, 0x7f, 0x7f, 0x01, 0x7f, // of function 0, which is imported
+    0x5f, 0x03, 0x7f, 0x00, 0x7f, 0x00, 0x7f, 0x00, // structures
+    0x5e, 0x7f, 0x00, // arrays
+    0x60, 0x01, 0x7f, 0x00, // of the tag
+];
+
+/// The text up to the body.
+const HEADER: &str = r#"(module
+  (type (;0;) (func (result i32 i32)))
+  (type (;1;) (func (param i32 i32) (result i32)))
+  (type (;2;) (struct (field i32) (field i32) (field i32)))
+  (type (;3;) (array i32))
+  (type (;4;) (func (param i32)))
+  (import "" "" (func (;0;) (type 1) (param i32 i32) (result i32)))
+  (tag (;0;) (type 4) (param i32))
+  (func (;1;) (type 0) (result i32 i32)
+"#;
+
+/// How many constants stand in front of the operator.
+const CONSTANTS: u32 = 6;
+
+/// A module with those types, and a body with an operator behind six constants and in front of `i32.eqz`.
+fn module_of(alloc: Global, operator: &[u8]) -> Result<Vec<u8>, AllocError> {
+    let mut wasm = Vec::from_slice(alloc, &PREAMBLE)?;
+    add_section(&mut wasm, TYPE, &TYPES)?;
+    add_section(&mut wasm, IMPORT, &[0x01, 0x00, 0x00, 0x00, 0x01])?;
+    add_section(&mut wasm, FUNCTION, &[0x01, 0x00])?;
+    add_section(&mut wasm, TAG, &[0x01, 0x00, 0x04])?;
+    let mut operators = Vec::new(alloc);
+    for _ in 0..CONSTANTS {
+        operators.extend_from_slice(&[0x41, 0x00])?;
+    }
+    operators.extend_from_slice(operator)?;
+    operators.push(0x45)?;
+    add_code(&mut wasm, &operators)?;
+    Ok(wasm)
+}
+
+/// Adds so many constants, each on a line of its own.
+fn add_constants(text: &mut String, count: u32) -> Result<(), AllocError> {
+    for _ in 0..count {
+        text.push_str("    (i32.const 0)\n")?;
+    }
+    Ok(())
+}
+
+/// Adds an operator with its operands, indented so.
+fn add_node(text: &mut String, indent: &str, row: &Row) -> Result<(), AllocError> {
+    text.push_str(indent)?;
+    text.push('(')?;
+    text.push_str(row.text)?;
+    for _ in 0..row.takes {
+        text.push('\n')?;
+        text.push_str(indent)?;
+        text.push_str("  (i32.const 0)")?;
+    }
+    text.push(')')
+}
+
+/// The text of the module with an operator.
+fn expected_of(alloc: Global, row: &Row) -> Result<String, AllocError> {
+    let mut text = String::from_str(alloc, HEADER)?;
+    let left = CONSTANTS.saturating_sub(row.takes);
+    match row.gives {
+        // `i32.eqz` takes the last constant that is left, and the operator along with it
+        0 => {
+            add_constants(&mut text, left.saturating_sub(1))?;
+            text.push_str("    (i32.eqz\n      (i32.const 0)\n")?;
+            add_node(&mut text, "      ", row)?;
+            text.push_str(")\n")?;
+        }
+        // it takes the result
+        1 => {
+            add_constants(&mut text, left)?;
+            text.push_str("    (i32.eqz\n")?;
+            add_node(&mut text, "      ", row)?;
+            text.push_str(")\n")?;
+        }
+        // one of several results can't be taken
+        _ => {
+            add_constants(&mut text, left)?;
+            add_node(&mut text, "    ", row)?;
+            text.push_str("\n    (i32.eqz)\n")?;
+        }
+    }
+    text.push_str("  )\n)\n")?;
+    Ok(text)
+}
+
+/// How many operators of a table are printed as expected, up to the first that isn't, by its text.
+fn judge(alloc: Global, table: &'static str) -> Result<(u32, Option<String>), Fail> {
+    let mut count: u32 = 0;
+    for line in table.lines() {
+        let row = row_of(alloc, line)?;
+        let text = folded(alloc, &module_of(alloc, &row.bytes)?)?;
+        if text != expected_of(alloc, &row)? {
+            return Ok((count, Some(text)));
+        }
+        count = count.saturating_add(1);
+    }
+    Ok((count, None))
+}
+
+#[test]
+fn knows_arities_of_control_and_references(rt: HostRuntime) -> Result<(), Fail> {
+    assert_eq!(rt; judge(rt.alloc(), CONTROL)?, (45, None));
+    Ok(())
+}
+
+#[test]
+fn knows_arities_of_numbers(rt: HostRuntime) -> Result<(), Fail> {
+    assert_eq!(rt; judge(rt.alloc(), NUMBERS)?, (157, None));
+    Ok(())
+}
+
+#[test]
+fn knows_arities_of_structures_arrays_and_tables(rt: HostRuntime) -> Result<(), Fail> {
+    assert_eq!(rt; judge(rt.alloc(), AGGREGATES)?, (56, None));
+    Ok(())
+}
+
+#[test]
+fn knows_arities_of_vectors(rt: HostRuntime) -> Result<(), Fail> {
+    assert_eq!(rt; judge(rt.alloc(), VECTORS)?, (256, None));
+    Ok(())
+}
+
+#[test]
+fn knows_arities_of_atomic_operators(rt: HostRuntime) -> Result<(), Fail> {
+    assert_eq!(rt; judge(rt.alloc(), ATOMICS)?, (67, None));
+    Ok(())
+}

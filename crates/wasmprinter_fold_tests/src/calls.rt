@@ -1,0 +1,159 @@
+//! The calls on a printer that folded operators make, in their order, and which error comes where one of them fails. For a printer that
+//! takes no colours within a text, an operator and what is added by folding are text without styles.
+
+use crate::modules::{NO_PARAMS, add_custom, with_body};
+use std::io::ErrorKind;
+use std::test::Fail;
+use wasmprinter::{Config, Error};
+use wasmprinter_recorder::{REFUSED, Recorder};
+use wasmprinter_samples::{EMPTY_CALLS, FIELDS, IDENTITY, PREAMBLE};
+
+/// The calls for `IDENTITY`.
+const IDENTITY_FOLDED: &str = r#"[0x0]({K}module{R}
+[0xb]  ({K}type {R}{N}(;0;){R} ({K}func{R} ({K}param{R} {T}i32{R}) ({K}result{R} {T}i32{R})))
+[0x17]  ({K}export {R}{L}"f"{R} ({K}func {R}{N}0{R}))
+[0x1f]  ({K}func {R}{N}(;0;){R} ({K}type {R}{N}0{R}) ({K}param{R} {T}i32{R}) ({K}result{R} {T}i32{R})
+[0x20]    (local.get 0)
+[0x22]  )
+[0x23])
+"#;
+
+/// The calls for `FIELDS`: initialisers are folded, and what stands in a short form isn't.
+const FIELDS_FOLDED: &str = r#"[0x0]({K}module{R}
+[0xb]  ({K}type {R}{N}(;0;){R} ({K}func{R}))
+[0x11]  ({K}import {R}{L}"a"{R} {L}"f"{R} ({K}func {R}{N}(;0;){R} ({K}type {R}{N}0{R})))
+[0x17]  ({K}import {R}{L}"a"{R} {L}"g"{R} ({K}global {R}{N}(;0;){R} ({T}mut {R}{T}i32{R})))
+[0x21]  ({K}table {R}{N}(;0;){R} {L}1{R} {T}funcref{R})
+[0x24]  ({K}table {R}{N}(;1;){R} {L}1{R} {T}funcref{R} (ref.func 0))
+[0x2f]  ({K}memory {R}{N}(;0;){R} {L}1{R})
+[0x34]  ({K}tag {R}{N}(;0;){R} ({K}type {R}{N}0{R}))
+[0x39]  ({K}global {R}{N}(;1;){R} {T}i32{R} (block (result i32)  (; label = @1 ;) (i32.const 7)))
+[0x44]  ({K}export {R}{L}"m"{R} ({K}memory {R}{N}0{R}))
+[0x4a]  ({K}start {R}{N}0{R})
+[0x4e]  ({K}elem {R}{N}(;0;){R} ({K}{R}i32.const{L} 0{R}) func {N}0{R})
+[0x54]  ({K}elem {R}{N}(;1;){R} {T}funcref{R} ({K}{R}ref.func {N}0{R}) ({K}{R}ref.null {T}func{R}))
+[0x60]  ({K}data {R}{N}(;0;){R} ({K}{R}i32.const{L} 0{R}) {L}"hi"{R})
+[0x67]  ({K}data {R}{N}(;1;){R} {L}""{R})
+[0x69])
+"#;
+
+#[test]
+fn makes_each_call_in_order(rt: HostRuntime) -> Result<(), Fail> {
+    let alloc = rt.alloc();
+    let modules: [(&[u8], &str); 3] = [
+        (&PREAMBLE, EMPTY_CALLS),
+        (&IDENTITY, IDENTITY_FOLDED),
+        (&FIELDS, FIELDS_FOLDED),
+    ];
+    let mut config = Config::new();
+    config.fold_instructions(true);
+    for (wasm, calls) in modules {
+        let mut recorder = Recorder::new(alloc);
+        config.print(alloc, wasm, &mut recorder)?;
+        assert_eq!(rt; recorder.calls(), calls);
+        assert!(rt; recorder.is_complete());
+    }
+    Ok(())
+}
+
+/// An empty block, and an `if` with both arms, with places: the comments of places have a style, and those of labels none.
+const PLACED: &str = r#"[0x0]({K}module{R}
+[0xb]{C}(;@b     ;){R}  ({K}type {R}{N}(;0;){R} ({K}func{R}))
+[0x16]{C}(;@16    ;){R}  ({K}func {R}{N}(;0;){R} ({K}type {R}{N}0{R})
+[0x17]{C}(;@17    ;){R}    (block ;; label = @1
+[0x17]{C}(;@17    ;){R}    )
+[0x1d]{C}(;@1d    ;){R}    (if ;; label = @1
+[0x1a]{C}(;@1a    ;){R}      (local.get 0)
+[0x1d]{C}(;@1d    ;){R}      (then
+[0x1f]{C}(;@1f    ;){R}        (br 0 (;@1;)))
+[0x21]{C}(;@21    ;){R}      (else))
+[0x23]{C}(;@23    ;){R}  )
+[0x24]{C}(;@24    ;){R})
+"#;
+
+#[test]
+fn makes_calls_for_places(rt: HostRuntime) -> Result<(), Fail> {
+    let alloc = rt.alloc();
+    // the index takes a byte more than it needs
+    let wasm = with_body(
+        alloc,
+        &NO_PARAMS,
+        &[
+            0x02, 0x40, 0x0b, 0x20, 0x80, 0x00, 0x04, 0x40, 0x0c, 0x00, 0x05, 0x0b,
+        ],
+    )?;
+    let mut recorder = Recorder::new(alloc);
+    let mut config = Config::new();
+    config.fold_instructions(true).print_offsets(true);
+    config.print(alloc, &wasm, &mut recorder)?;
+    assert_eq!(rt; recorder.calls(), PLACED);
+    assert!(rt; recorder.is_complete());
+    Ok(())
+}
+
+/// Calls that are refused in turn, each with those before it: the first, one in the middle, the line of a node, and the last.
+const BEGINNINGS: [&str; 4] = [
+    "[0x0](",
+    r#"[0x0]({K}module{R}
+[0xb]  ({K}type {R}{N}(;0;){R} ({K}func{R} ({K}param{R} {T}i32{R}) ({K}result{R} {T}i32{R})))
+[0x17]  ({K}export {R}{L}"f"{R} ({K}func {R}{N}"#,
+    r#"[0x0]({K}module{R}
+[0xb]  ({K}type {R}{N}(;0;){R} ({K}func{R} ({K}param{R} {T}i32{R}) ({K}result{R} {T}i32{R})))
+[0x17]  ({K}export {R}{L}"f"{R} ({K}func {R}{N}0{R}))
+[0x1f]  ({K}func {R}{N}(;0;){R} ({K}type {R}{N}0{R}) ({K}param{R} {T}i32{R}) ({K}result{R} {T}i32{R})
+"#,
+    IDENTITY_FOLDED,
+];
+
+#[test]
+fn stops_at_the_call_that_fails_and_answers_its_error(rt: HostRuntime) -> Result<(), Fail> {
+    let alloc = rt.alloc();
+    let mut config = Config::new();
+    config.fold_instructions(true);
+    let mut whole = Recorder::new(alloc);
+    config.print(alloc, &IDENTITY, &mut whole)?;
+    let mut seen: usize = 0;
+    for call in 1..=whole.made() {
+        let mut recorder = Recorder::refusing(alloc, call, ErrorKind::BrokenPipe);
+        let refused = config.print(alloc, &IDENTITY, &mut recorder);
+        assert!(rt;
+            matches!(refused, Err(Error::Printer(e)) if e.kind() == ErrorKind::BrokenPipe),
+            "at call {call}"
+        );
+        assert!(rt; recorder.is_complete());
+        let beginning = recorder
+            .calls()
+            .strip_suffix(REFUSED)
+            .ok_or("calls behind the one that failed")?;
+        assert!(rt; IDENTITY_FOLDED.starts_with(beginning), "at call {call}");
+        if BEGINNINGS.iter().any(|wanted| *wanted == beginning) {
+            seen = seen.saturating_add(1);
+        }
+    }
+    assert_eq!(rt; seen, BEGINNINGS.len());
+    Ok(())
+}
+
+/// The calls for a body, and a custom section behind it that the printer takes itself.
+const TAKEN: &str = r#"[0x0]({K}module{R}
+[0xb]  ({K}type {R}{N}(;0;){R} ({K}func{R}))
+[0x16]  ({K}func {R}{N}(;0;){R} ({K}type {R}{N}0{R})
+[0x19]    (drop
+[0x17]      (i32.const 0))
+[0x1a]  ){? "a" 0x1f [1]}
+[0x20])
+"#;
+
+#[test]
+fn folds_beside_a_section_that_is_taken(rt: HostRuntime) -> Result<(), Fail> {
+    let alloc = rt.alloc();
+    let mut wasm = with_body(alloc, &NO_PARAMS, &[0x41, 0x00, 0x1a])?;
+    add_custom(alloc, &mut wasm, "a", &[0x01])?;
+    let mut recorder = Recorder::taking(alloc, "a");
+    let mut config = Config::new();
+    config.fold_instructions(true);
+    config.print(alloc, &wasm, &mut recorder)?;
+    assert_eq!(rt; recorder.calls(), TAKEN);
+    assert!(rt; recorder.is_complete());
+    Ok(())
+}

@@ -1,0 +1,159 @@
+//! Folded operators with the sequences that colour them on a terminal. The sequences are typed by hand: those of an operator's immediates
+//! stand in its node, and what folding adds has none.
+
+use crate::modules::{
+    DATA, FUNCTION, GLOBAL, NO_PARAMS, TYPE, add_code, add_custom, add_section, with_body,
+};
+use std::alloc::Global;
+use std::test::Fail;
+use wasmprinter::{Config, Error};
+use wasmprinter_samples::PREAMBLE;
+
+/// The text of a module, folded and in colours.
+fn colored(alloc: Global, wasm: &[u8]) -> Result<Vec<u8>, Error> {
+    let mut config = Config::new();
+    config.fold_instructions(true);
+    config.print_to_ansi(alloc, wasm)
+}
+
+/// The lines in front of the body of a function without parameters and results.
+const HEADER: &str = "(\x1b[0m\x1b[1m\x1b[38;5;11mmodule\x1b[0m
+  (\x1b[0m\x1b[1m\x1b[38;5;11mtype \x1b[0m\x1b[0m\x1b[35m(;0;)\x1b[0m (\x1b[0m\x1b[1m\x1b[38;5;11mfunc\x1b[0m))
+  (\x1b[0m\x1b[1m\x1b[38;5;11mfunc \x1b[0m\x1b[0m\x1b[35m(;0;)\x1b[0m \
+(\x1b[0m\x1b[1m\x1b[38;5;11mtype \x1b[0m\x1b[0m\x1b[35m0\x1b[0m)
+";
+
+/// Operators, and their lines.
+const BODIES: [(&[u8], &str); 8] = [
+    // a number
+    (
+        &[0x41, 0x01, 0x1a],
+        "    (drop\n      (i32.const\x1b[0m\x1b[31m 1\x1b[0m))\n",
+    ),
+    // the comments of labels, and no style for the words of the arms
+    (
+        &[0x02, 0x40, 0x0b],
+        "    (block \x1b[0m\x1b[36m;; label = @1\x1b[0m\n    )\n",
+    ),
+    (
+        &[0x04, 0x40, 0x05, 0x0b],
+        "    (if \x1b[0m\x1b[36m;; label = @1\x1b[0m\n      (then)\n      (else))\n",
+    ),
+    // indices
+    (
+        &[0x20, 0x00, 0x24, 0x07],
+        "    (global.set \x1b[0m\x1b[35m7\x1b[0m\n      (local.get \x1b[0m\x1b[35m0\x1b[0m))\n",
+    ),
+    // a result, a label and its comment
+    (
+        &[0x02, 0x7f, 0x41, 0x00, 0x0c, 0x00, 0x0b, 0x1a],
+        "    (drop
+      (block (\x1b[0m\x1b[1m\x1b[38;5;11mresult \x1b[0m\x1b[0m\x1b[1m\x1b[38;5;10mi32\x1b[0m) \
+\x1b[0m\x1b[36m;; label = @1\x1b[0m
+        (br \x1b[0m\x1b[35m0\x1b[0m\x1b[0m\x1b[36m (;@1;)\x1b[0m
+          (i32.const\x1b[0m\x1b[31m 0\x1b[0m))))
+",
+    ),
+    // a type
+    (
+        &[0xd0, 0x70, 0xd1],
+        "    (ref.is_null\n      (ref.null \x1b[0m\x1b[1m\x1b[38;5;10mfunc\x1b[0m))\n",
+    ),
+    // a number with a comment
+    (
+        &[0x43, 0x00, 0x00, 0x80, 0xff, 0x8c],
+        "    (f32.neg\n      (f32.const -\x1b[0m\x1b[31minf \x1b[0m\x1b[36m(;=-inf;)\x1b[0m))\n",
+    ),
+    // a branch that isn't there has no style
+    (&[0x0c, 0x01], "    (br 1 (; INVALID ;))\n"),
+];
+
+#[test]
+fn colors_nodes_as_operators(rt: HostRuntime) -> Result<(), Fail> {
+    let alloc = rt.alloc();
+    for (operators, lines) in BODIES {
+        let text = colored(alloc, &with_body(alloc, &NO_PARAMS, operators)?)?;
+        let mut expected = String::from_str(alloc, HEADER)?;
+        expected.push_str(lines)?;
+        expected.push_str("  )\n)\n")?;
+        assert_eq!(rt; text.as_slice(), expected.as_bytes());
+    }
+    Ok(())
+}
+
+#[test]
+fn colors_no_hint(rt: HostRuntime) -> Result<(), Fail> {
+    let alloc = rt.alloc();
+    let mut wasm = Vec::from_slice(alloc, &PREAMBLE)?;
+    add_section(&mut wasm, TYPE, &NO_PARAMS)?;
+    add_section(&mut wasm, FUNCTION, &[0x01, 0x00])?;
+    add_custom(
+        alloc,
+        &mut wasm,
+        "metadata.code.branch_hint",
+        &[0x01, 0x00, 0x01, 0x01, 0x01, 0x01],
+    )?;
+    add_code(&mut wasm, &[0x04, 0x40, 0x0b])?;
+    let text = colored(alloc, &wasm)?;
+    assert!(rt; text.starts_with(HEADER.as_bytes()));
+    assert!(rt;
+        text.ends_with(
+            b"\n    (@metadata.code.branch_hint \"\\01\")\n    \
+            (if \x1b[0m\x1b[36m;; label = @1\x1b[0m\n      (then))\n  )\n)\n"
+        )
+    );
+    Ok(())
+}
+
+/// A block, and offsets of one operator and of two.
+#[test]
+fn colors_expressions(rt: HostRuntime) -> Result<(), Fail> {
+    let alloc = rt.alloc();
+    let mut wasm = Vec::from_slice(alloc, &PREAMBLE)?;
+    add_section(
+        &mut wasm,
+        GLOBAL,
+        &[0x01, 0x7f, 0x00, 0x02, 0x7f, 0x41, 0x01, 0x0b, 0x0b],
+    )?;
+    // an offset of one operator, and one of two
+    add_section(
+        &mut wasm,
+        DATA,
+        &[
+            0x02, 0x00, 0x41, 0x02, 0x0b, 0x00, 0x00, 0x41, 0x03, 0x45, 0x0b, 0x00,
+        ],
+    )?;
+    let text = colored(alloc, &wasm)?;
+    let expected = "(\x1b[0m\x1b[1m\x1b[38;5;11mmodule\x1b[0m
+  (\x1b[0m\x1b[1m\x1b[38;5;11mglobal \x1b[0m\x1b[0m\x1b[35m(;0;)\x1b[0m \x1b[0m\x1b[1m\x1b[38;5;10mi32\x1b[0m \
+(block (\x1b[0m\x1b[1m\x1b[38;5;11mresult \x1b[0m\x1b[0m\x1b[1m\x1b[38;5;10mi32\x1b[0m) \
+\x1b[0m\x1b[36m (; label = @1 ;)\x1b[0m (i32.const\x1b[0m\x1b[31m 1\x1b[0m)))
+  (\x1b[0m\x1b[1m\x1b[38;5;11mdata \x1b[0m\x1b[0m\x1b[35m(;0;)\x1b[0m \
+(\x1b[0m\x1b[1m\x1b[38;5;11m\x1b[0mi32.const\x1b[0m\x1b[31m 2\x1b[0m) \x1b[0m\x1b[31m\"\"\x1b[0m)
+  (\x1b[0m\x1b[1m\x1b[38;5;11mdata \x1b[0m\x1b[0m\x1b[35m(;1;)\x1b[0m \
+(\x1b[0m\x1b[1m\x1b[38;5;11m\x1b[0moffset (i32.eqz (i32.const\x1b[0m\x1b[31m 3\x1b[0m))) \x1b[0m\x1b[31m\"\"\x1b[0m)
+)
+";
+    assert_eq!(rt; text.as_slice(), expected.as_bytes());
+    Ok(())
+}
+
+#[test]
+fn colors_places(rt: HostRuntime) -> Result<(), Fail> {
+    let alloc = rt.alloc();
+    let wasm = with_body(alloc, &NO_PARAMS, &[0x41, 0x01, 0x1a])?;
+    let mut config = Config::new();
+    config.fold_instructions(true).print_offsets(true);
+    let text = config.print_to_ansi(alloc, &wasm)?;
+    assert!(rt;
+        text.ends_with(
+            b"
+\x1b[0m\x1b[36m(;@19    ;)\x1b[0m    (drop
+\x1b[0m\x1b[36m(;@17    ;)\x1b[0m      (i32.const\x1b[0m\x1b[31m 1\x1b[0m))
+\x1b[0m\x1b[36m(;@1a    ;)\x1b[0m  )
+\x1b[0m\x1b[36m(;@1b    ;)\x1b[0m)
+"
+        )
+    );
+    Ok(())
+}

@@ -1,0 +1,203 @@
+//! Folded constant expressions: nodes stand on the line of their field, parted by blanks, and a label's comment is a block comment.
+
+use crate::modules::{
+    DATA, ELEMENT, FUNCTION, GLOBAL, NO_PARAMS, TABLE, TAG, TYPE, add_code, add_section,
+    around_field, folded, with_section,
+};
+use std::test::Fail;
+use wasmprinter_samples::PREAMBLE;
+
+/// Global sections of one global each, and its text.
+const GLOBALS: [(&[u8], &str); 11] = [
+    // no operators, one, and two that aren't operands of another
+    (&[0x01, 0x7f, 0x00, 0x0b], "(global (;0;) i32 )"),
+    (
+        &[0x01, 0x7f, 0x01, 0x41, 0x01, 0x0b],
+        "(global (;0;) (mut i32) (i32.const 1))",
+    ),
+    (
+        &[0x01, 0x7f, 0x00, 0x41, 0x01, 0x01, 0x0b],
+        "(global (;0;) i32 (i32.const 1) (nop))",
+    ),
+    (
+        &[0x01, 0x7f, 0x00, 0x41, 0x01, 0x41, 0x02, 0x6a, 0x45, 0x0b],
+        "(global (;0;) i32 (i32.eqz (i32.add (i32.const 1) (i32.const 2))))",
+    ),
+    // blocks
+    (
+        &[0x01, 0x7f, 0x00, 0x02, 0x7f, 0x41, 0x01, 0x0b, 0x0b],
+        "(global (;0;) i32 (block (result i32)  (; label = @1 ;) (i32.const 1)))",
+    ),
+    (
+        &[
+            0x01, 0x7f, 0x00, 0x02, 0x40, 0x03, 0x40, 0x0b, 0x0b, 0x41, 0x00, 0x0b,
+        ],
+        "(global (;0;) i32 (block  (; label = @1 ;) (loop  (; label = @2 ;))) (i32.const 0))",
+    ),
+    (
+        &[
+            0x01, 0x7f, 0x00, 0x41, 0x01, 0x04, 0x7f, 0x41, 0x02, 0x05, 0x41, 0x03, 0x0b, 0x45,
+            0x0b,
+        ],
+        "(global (;0;) i32 (i32.eqz (if (result i32)  (; label = @1 ;) (i32.const 1) \
+        (then (i32.const 2)) (else (i32.const 3)))))",
+    ),
+    // the expression's own label has no values
+    (
+        &[0x01, 0x7f, 0x00, 0x41, 0x01, 0x41, 0x02, 0x0d, 0x00, 0x0b],
+        "(global (;0;) i32 (i32.const 1) (br_if 0 (i32.const 2)))",
+    ),
+    (
+        &[0x01, 0x7f, 0x00, 0x41, 0x01, 0x0c, 0x00, 0x0b],
+        "(global (;0;) i32 (i32.const 1) (br 0))",
+    ),
+    (
+        &[0x01, 0x7f, 0x00, 0x41, 0x01, 0xd6, 0x00, 0x0b],
+        "(global (;0;) i32 (i32.const 1) (br_on_non_null 0))",
+    ),
+    // a return takes nothing there
+    (
+        &[0x01, 0x7f, 0x00, 0x41, 0x01, 0x0f, 0x0b],
+        "(global (;0;) i32 (i32.const 1) (return))",
+    ),
+];
+
+#[test]
+fn prints_initialisers_on_one_line(rt: HostRuntime) -> Result<(), Fail> {
+    let alloc = rt.alloc();
+    for (globals, field) in GLOBALS {
+        let text = folded(alloc, &with_section(alloc, GLOBAL, globals)?)?;
+        assert_eq!(rt; text.as_str(), around_field(alloc, field)?.as_str());
+    }
+    Ok(())
+}
+
+/// Sections of one field with short forms of expressions, and its text.
+const SHORT_FORMS: [(u8, &[u8], &str); 9] = [
+    // of one operator alone, which isn't folded
+    (
+        ELEMENT,
+        &[0x01, 0x00, 0x41, 0x00, 0x0b, 0x01, 0x00],
+        "(elem (;0;) (i32.const 0) func 0)",
+    ),
+    (
+        ELEMENT,
+        &[0x01, 0x05, 0x70, 0x01, 0xd2, 0x00, 0x0b],
+        "(elem (;0;) funcref (ref.func 0))",
+    ),
+    (
+        DATA,
+        &[0x01, 0x00, 0x41, 0x00, 0x0b, 0x01, 0x61],
+        "(data (;0;) (i32.const 0) \"a\")",
+    ),
+    // of none
+    (
+        DATA,
+        &[0x01, 0x00, 0x0b, 0x00],
+        "(data (;0;) (offset ) \"\")",
+    ),
+    // of one that takes operands which aren't there
+    (
+        DATA,
+        &[0x01, 0x00, 0x6a, 0x0b, 0x00],
+        "(data (;0;) (i32.add) \"\")",
+    ),
+    // of several
+    (
+        ELEMENT,
+        &[
+            0x01, 0x02, 0x01, 0x41, 0x03, 0x41, 0x04, 0x6b, 0x0b, 0x00, 0x00,
+        ],
+        "(elem (;0;) (table 1) (offset (i32.sub (i32.const 3) (i32.const 4))) func)",
+    ),
+    (
+        ELEMENT,
+        &[
+            0x01, 0x05, 0x70, 0x02, 0xd0, 0x70, 0x0b, 0x41, 0x00, 0x25, 0x00, 0x0b,
+        ],
+        "(elem (;0;) funcref (ref.null func) (item (table.get 0 (i32.const 0))))",
+    ),
+    (
+        DATA,
+        &[0x01, 0x00, 0x41, 0x03, 0x41, 0x04, 0x0b, 0x01, 0x61],
+        "(data (;0;) (offset (i32.const 3) (i32.const 4)) \"a\")",
+    ),
+    // a block alone is two operators
+    (
+        DATA,
+        &[0x01, 0x00, 0x02, 0x40, 0x0b, 0x0b, 0x01, 0x61],
+        "(data (;0;) (offset (block  (; label = @1 ;))) \"a\")",
+    ),
+];
+
+#[test]
+fn folds_expressions_but_of_one_operator(rt: HostRuntime) -> Result<(), Fail> {
+    let alloc = rt.alloc();
+    for (id, content, field) in SHORT_FORMS {
+        let text = folded(alloc, &with_section(alloc, id, content)?)?;
+        assert_eq!(rt; text.as_str(), around_field(alloc, field)?.as_str());
+    }
+    Ok(())
+}
+
+/// An initialiser stands in front of the tags, and of the bodies, whose types it needs.
+#[test]
+fn knows_types_of_what_stands_behind(rt: HostRuntime) -> Result<(), Fail> {
+    let alloc = rt.alloc();
+    let mut wasm = Vec::from_slice(alloc, &PREAMBLE)?;
+    add_section(
+        &mut wasm,
+        TYPE,
+        &[0x02, 0x60, 0x01, 0x7f, 0x00, 0x60, 0x01, 0x7f, 0x01, 0x70],
+    )?;
+    add_section(&mut wasm, FUNCTION, &[0x01, 0x01])?;
+    add_section(
+        &mut wasm,
+        TABLE,
+        &[
+            0x02, // two tables
+            0x40, 0x00, 0x70, 0x00, 0x01, 0x41, 0x05, 0x08, 0x00, 0x0b, // with a throw
+            0x40, 0x00, 0x70, 0x00, 0x01, 0x41, 0x05, 0x10, 0x00, 0xd1, 0x0b, // with a call
+        ],
+    )?;
+    add_section(&mut wasm, TAG, &[0x01, 0x00, 0x00])?;
+    add_code(&mut wasm, &[])?;
+    let text = folded(alloc, &wasm)?;
+    assert_eq!(rt;
+        text.as_str(),
+        r#"(module
+  (type (;0;) (func (param i32)))
+  (type (;1;) (func (param i32) (result funcref)))
+  (table (;0;) 1 funcref (throw 0 (i32.const 5)))
+  (table (;1;) 1 funcref (ref.is_null (call 0 (i32.const 5))))
+  (tag (;0;) (type 0) (param i32))
+  (func (;0;) (type 1) (param i32) (result funcref))
+)
+"#
+    );
+    Ok(())
+}
+
+#[test]
+fn keeps_to_the_line_behind_an_expression(rt: HostRuntime) -> Result<(), Fail> {
+    let alloc = rt.alloc();
+    let mut wasm = Vec::from_slice(alloc, &PREAMBLE)?;
+    add_section(&mut wasm, TYPE, &NO_PARAMS)?;
+    add_section(&mut wasm, FUNCTION, &[0x01, 0x00])?;
+    add_section(&mut wasm, GLOBAL, &[0x01, 0x7f, 0x00, 0x41, 0x01, 0x0b])?;
+    add_code(&mut wasm, &[0x23, 0x00, 0x24, 0x00])?;
+    let text = folded(alloc, &wasm)?;
+    assert_eq!(rt;
+        text.as_str(),
+        r#"(module
+  (type (;0;) (func))
+  (global (;0;) i32 (i32.const 1))
+  (func (;0;) (type 0)
+    (global.set 0
+      (global.get 0))
+  )
+)
+"#
+    );
+    Ok(())
+}

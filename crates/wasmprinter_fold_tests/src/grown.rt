@@ -1,0 +1,205 @@
+//! What is kept grows where it has to: several imports, blocks in blocks, long texts, lists of many operators, hints of later functions.
+
+use crate::modules::{
+    DATA, ELEMENT, FUNCTION, IMPORT, NO_PARAMS, TYPE, add_code, add_custom, add_section, around,
+    around_field, folded, with_body, with_section,
+};
+use std::test::Fail;
+use wasmprinter_samples::PREAMBLE;
+
+/// The number of the section of bodies.
+const CODE: u8 = 10;
+
+/// Operators in blocks, and their lines.
+const NESTED: [(&[u8], &str); 2] = [
+    // an `if` in each arm of an `if`
+    (
+        &[
+            0x41, 0x00, 0x04, 0x40, // i32.const and if
+            0x41, 0x01, 0x04, 0x40, 0x05, 0x0b, 0x05, // i32.const and if with an else, and the else
+            0x02, 0x40, 0x41, 0x02, 0x04, 0x40, 0x0b, 0x0b, 0x0b, // block, i32.const and if
+        ],
+        r#"    (if ;; label = @1
+      (i32.const 0)
+      (then
+        (if ;; label = @2
+          (i32.const 1)
+          (then)
+          (else)))
+      (else
+        (block ;; label = @2
+          (if ;; label = @3
+            (i32.const 2)
+            (then)))))
+"#,
+    ),
+    // operands in the third block
+    (
+        &[
+            0x02, 0x40, 0x02, 0x40, 0x02, 0x40, // block, three times
+            0x41, 0x01, 0x41, 0x02, 0x6a, 0x1a, 0x0b, 0x0b, 0x0b, // i32.const twice, i32.add and drop
+        ],
+        r#"    (block ;; label = @1
+      (block ;; label = @2
+        (block ;; label = @3
+          (drop
+            (i32.add
+              (i32.const 1)
+              (i32.const 2))))))
+"#,
+    ),
+];
+
+#[test]
+fn folds_blocks_in_blocks(rt: HostRuntime) -> Result<(), Fail> {
+    let alloc = rt.alloc();
+    for (operators, lines) in NESTED {
+        let text = folded(alloc, &with_body(alloc, &NO_PARAMS, operators)?)?;
+        assert_eq!(rt; text.as_str(), around(alloc, lines)?.as_str());
+    }
+    Ok(())
+}
+
+#[test]
+fn folds_beside_several_imports(rt: HostRuntime) -> Result<(), Fail> {
+    let alloc = rt.alloc();
+    let mut wasm = Vec::from_slice(alloc, &PREAMBLE)?;
+    add_section(
+        &mut wasm,
+        TYPE,
+        &[
+            0x04, 0x60, 0x00, 0x01, 0x7f, 0x60, 0x01, 0x7f, 0x00, 0x60, 0x02, 0x7f, 0x7f, 0x00,
+            0x60, 0x00, 0x00,
+        ],
+    )?;
+    // two functions, and two tags
+    add_section(
+        &mut wasm,
+        IMPORT,
+        &[
+            0x04, 0x00, 0x00, 0x00, 0x00, 0x00, 0x00, 0x00, 0x01, 0x00, 0x00, 0x04, 0x00, 0x01,
+            0x00, 0x00, 0x04, 0x00, 0x02,
+        ],
+    )?;
+    add_section(&mut wasm, FUNCTION, &[0x01, 0x03])?;
+    add_code(
+        &mut wasm,
+        &[
+            0x10, 0x00, 0x10, 0x01, // call, twice
+            0x41, 0x01, 0x08, 0x00, // i32.const and throw
+            0x41, 0x02, 0x41, 0x03, 0x08, 0x01, // i32.const twice, and throw
+        ],
+    )?;
+    let text = folded(alloc, &wasm)?;
+    assert_eq!(rt;
+        text.as_str(),
+        r#"(module
+  (type (;0;) (func (result i32)))
+  (type (;1;) (func (param i32)))
+  (type (;2;) (func (param i32 i32)))
+  (type (;3;) (func))
+  (import "" "" (func (;0;) (type 0) (result i32)))
+  (import "" "" (func (;1;) (type 1) (param i32)))
+  (import "" "" (tag (;0;) (type 1) (param i32)))
+  (import "" "" (tag (;1;) (type 2) (param i32 i32)))
+  (func (;2;) (type 3)
+    (call 1
+      (call 0))
+    (throw 0
+      (i32.const 1))
+    (throw 1
+      (i32.const 2)
+      (i32.const 3))
+  )
+)
+"#
+    );
+    Ok(())
+}
+
+#[test]
+fn folds_a_long_table_of_branches(rt: HostRuntime) -> Result<(), Fail> {
+    let alloc = rt.alloc();
+    // a body of 107 bytes without locals: an operand, and a table of 100 labels beside the last
+    let mut code = Vec::from_slice(alloc, &[0x01, 0x6b, 0x00, 0x41, 0x00, 0x0e, 0x64])?;
+    let mut lines = String::from_str(alloc, "    (br_table")?;
+    for _ in 0..101 {
+        code.push(0x00)?;
+        lines.push_str(" 0")?;
+    }
+    code.push(0x0b)?;
+    lines.push_str("\n      (i32.const 0))\n")?;
+    let mut wasm = with_section(alloc, TYPE, &NO_PARAMS)?;
+    add_section(&mut wasm, FUNCTION, &[0x01, 0x00])?;
+    add_section(&mut wasm, CODE, &code)?;
+    let text = folded(alloc, &wasm)?;
+    assert_eq!(rt; text.as_str(), around(alloc, lines.as_str())?.as_str());
+    Ok(())
+}
+
+#[test]
+fn folds_a_hint_of_a_later_function(rt: HostRuntime) -> Result<(), Fail> {
+    let alloc = rt.alloc();
+    let mut wasm = with_section(alloc, TYPE, &NO_PARAMS)?;
+    add_section(&mut wasm, IMPORT, &[0x01, 0x00, 0x00, 0x00, 0x00])?;
+    add_section(&mut wasm, FUNCTION, &[0x02, 0x00, 0x00])?;
+    // function 2, at its fourth byte
+    let hints = [0x01, 0x02, 0x01, 0x03, 0x01, 0x01];
+    add_custom(alloc, &mut wasm, "metadata.code.branch_hint", &hints)?;
+    add_section(
+        &mut wasm,
+        CODE,
+        &[
+            0x02, 0x02, 0x00, 0x0b, // an empty body
+            0x07, 0x00, 0x41, 0x00, 0x04, 0x40, 0x0b, 0x0b, // i32.const and if
+        ],
+    )?;
+    let text = folded(alloc, &wasm)?;
+    assert_eq!(rt;
+        text.as_str(),
+        r#"(module
+  (type (;0;) (func))
+  (import "" "" (func (;0;) (type 0)))
+  (func (;1;) (type 0))
+  (func (;2;) (type 0)
+    (@metadata.code.branch_hint "\01")
+    (if ;; label = @1
+      (i32.const 0)
+      (then))
+  )
+)
+"#
+    );
+    Ok(())
+}
+
+/// The content of a section of one entry, and its field: an item and an offset of many operators.
+const LONG: [(u8, &[u8], &str); 2] = [
+    (
+        ELEMENT,
+        &[
+            0x01, 0x05, 0x70, 0x01, // a passive segment of one item
+            0x41, 0x01, 0x41, 0x02, 0x6a, 0x41, 0x03, 0x6a, 0x25, 0x00, 0x0b,
+        ],
+        "(elem (;0;) funcref (item (table.get 0 (i32.add (i32.add (i32.const 1) (i32.const 2)) (i32.const 3)))))",
+    ),
+    (
+        DATA,
+        &[
+            0x01, 0x00, // an active segment
+            0x41, 0x01, 0x41, 0x02, 0x6a, 0x41, 0x03, 0x6a, 0x41, 0x04, 0x6a, 0x41, 0x05, 0x6a,
+            0x0b, 0x00,
+        ],
+        "(data (;0;) (offset (i32.add (i32.add (i32.add (i32.add (i32.const 1) (i32.const 2)) (i32.const 3)) (i32.const 4)) (i32.const 5))) \"\")",
+    ),
+];
+
+#[test]
+fn folds_long_expressions(rt: HostRuntime) -> Result<(), Fail> {
+    let alloc = rt.alloc();
+    for (id, content, field) in LONG {
+        let text = folded(alloc, &with_section(alloc, id, content)?)?;
+        assert_eq!(rt; text.as_str(), around_field(alloc, field)?.as_str());
+    }
+    Ok(())
+}

@@ -1,0 +1,148 @@
+-- The first place of a list in parts.
+use Rattle.std.specs.Prelude.{◌≡◌, ℕ, suc, ◌+◌, ◌-◌, List, [], ◌∷◌, ◌++◌, map, drop, cond, Bool, true, false, if◌then◌else◌, get_or, length, ◌<◌, codes, bytes_eq, is_some, Option, Result, Ok, Err, None, Some, slice_get}
+use Rattle.std.specs.List.{flat_map}
+use Rattle.std.specs.Result.{IsErrAnd}
+use Rattle.std.proofs.Common.{refl, sym, ap, ◌∙◌, add-one, drop-cons, arith, true≢false}
+use Rattle.std.proofs.lemmas.List.Concat.{flat_map_single}
+use Rattle.std.proofs.lemmas.List.{append_assoc}
+use Rattle.std.proofs.lemmas.Grind.{flat_map-append}
+use Rattle.std.proofs.lemmas.Option.{slice_get_within, get_or_from_slice_get}
+use Rattle.wasmprinter_error.specs.declared.error.Error.{Error}
+use Rattle.wasmprinter_spec.specs.Grammar.{Placed}
+use Rattle.wasmprinter_spec.specs.Operator.{Operator}
+use Rattle.wasmprinter_spec.specs.Instructions.{Closed}
+use Rattle.wasmprinter_spec.specs.Table.{role_of}
+use Rattle.wasmprinter_spec.specs.Customs.Hints.{Hint, FunctionHints, next_hint, hint_behind, next_hints, hints_behind, last_named, hints_by, hints_of}
+use Rattle.wasmprinter_spec.specs.Placed.{Custom, CustomEntry, Global, PlacedFunction, PlacedModule}
+use Rattle.wasmprinter_spec.specs.Options.{Options}
+use Rattle.wasmprinter_spec.specs.Folding.Code.{is_try}
+use Rattle.wasmprinter_spec.specs.Folding.Refusals.{Operators, init_list, element_lists, data_lists, constant_lists, legacy_places_in, misplaced, misplaced_in, misplaced_from}
+use Rattle.wasmprinter_segments.specs.Segments.{constants_of}
+use Rattle.wasmprinter_ops.specs.Operators.{pairs}
+use Rattle.wasmprinter_ops.proofs.Pairs.{first-pair, no-pair}
+use Rattle.wasmprinter_foldable.specs.Refused.{refused_at}
+
+-- ---- lists of places
+
+-- a list whose front has a place: the error is that of the front
+pub front_refused : (f : ℕ → Error) (all front rest : List ℕ) (e : Error) → all ≡ front ++ rest → refused_at f front ≡ Err e → refused_at f all ≡ Err e
+front_refused f all [] rest e is r = cc
+front_refused f all (x ∷ xs) rest e is r = rw is r
+
+-- a list whose front has none: what is behind it counts
+pub front_passed : (f : ℕ → Error) (all front rest : List ℕ) → all ≡ front ++ rest → refused_at f front ≡ Ok tt → refused_at f rest ≡ refused_at f all
+front_passed f all [] rest is r = ap (refused_at f) (sym is)
+front_passed f all (x ∷ xs) rest is r = cc
+
+-- the error that is handed on
+pub handed_on : (r : Result (Unit {0}) Error) (e : Error) → IsErrAnd r (λ y. y ≡ e) → r ≡ Err e
+handed_on (Ok x) e h = absurd h
+handed_on (Err y) e h = ap Err h
+
+-- ---- operators one by one
+
+-- the next operator, and the others
+pub legacy_next : (os rest : Operators) (place : ℕ) (o : Operator) → pairs os ≡ (place, o) ∷ pairs rest →
+    legacy_places_in os ≡ cond (is_try (role_of o.opcode)) (place ∷ legacy_places_in rest) (legacy_places_in rest)
+legacy_next os rest place o e = ap legacy_places_in (first-pair os rest (place, o) e)
+
+-- no operator is left
+pub legacy_none : (os : Operators) → pairs os ≡ [] → legacy_places_in os ≡ []
+legacy_none os e = ap legacy_places_in (no-pair os e)
+
+-- the next operator with its hint, and the others
+pub misplaced_next : (body : ℕ) (hs : List (Placed Hint)) (os rest : Operators) (place : ℕ) (o : Operator) → pairs os ≡ (place, o) ∷ pairs rest →
+    misplaced_in body hs os ≡ misplaced (role_of o.opcode) (next_hint (place - body) hs) ++ misplaced_in body (hint_behind (place - body) hs) rest
+misplaced_next body hs os rest place o e = ap (misplaced_in body hs) (first-pair os rest (place, o) e)
+
+-- no operator is left
+pub misplaced_none : (body : ℕ) (hs : List (Placed Hint)) (os : Operators) → pairs os ≡ [] → misplaced_in body hs os ≡ []
+misplaced_none body hs os e = ap (misplaced_in body hs) (no-pair os e)
+
+-- ---- functions one by one
+
+-- behind i the next, and the others
+function_next : (i : ℕ) (fs : List PlacedFunction) (f : PlacedFunction) → slice_get fs i ≡ Some f → drop i fs ≡ f ∷ drop (i + 1) fs
+function_next i fs f e = rw (add-one, drop-cons fs i f (slice_get_within fs i f e)) (ap (λ y. y ∷ drop (suc i) fs) (get_or_from_slice_get fs i f f e))
+
+-- the same of operators of the older `try`
+pub bodies_next : (i : ℕ) (fs : List PlacedFunction) (f : PlacedFunction) → slice_get fs i ≡ Some f →
+    flat_map legacy_places_in (map (λ f. f.body.value.operators) (drop i fs))
+    ≡ legacy_places_in f.body.value.operators ++ flat_map legacy_places_in (map (λ f. f.body.value.operators) (drop (i + 1) fs))
+bodies_next i fs f e = ap (λ (gs : List PlacedFunction). flat_map legacy_places_in (map (λ f. f.body.value.operators) gs)) (function_next i fs f e)
+
+-- the same of hints, where the functions are numbered from k on
+pub hints_next : (es : List FunctionHints) (k i : ℕ) (fs : List PlacedFunction) (f : PlacedFunction) → slice_get fs i ≡ Some f →
+    misplaced_from es (k + i) (drop i fs)
+    ≡ misplaced_in f.body.place (next_hints (k + i) es) f.body.value.operators
+    ++ misplaced_from (hints_behind (k + i) es) (k + (i + 1)) (drop (i + 1) fs)
+hints_next es k i fs f e =
+    let number : (k + i) + 1 ≡ k + (i + 1) = omega (arith) in
+    ap (misplaced_from es (k + i)) (function_next i fs f e)
+    ∙ ap (λ n. misplaced_in f.body.place (next_hints (k + i) es) f.body.value.operators ++ misplaced_from (hints_behind (k + i) es) n (drop (i + 1) fs)) number
+
+-- ---- sections that give hints
+
+-- a section of the name, or the one before it
+either_named : (b : Bool) (x : Custom) (last : Option Custom) → is_some last ≡ true → is_some (if b then Some x else last) ≡ true
+either_named true x last h = refl
+either_named false x last h = h
+
+-- what was found stays found
+still_named : (n : List ℕ) (last : Option Custom) (customs : List CustomEntry) → is_some last ≡ true → is_some (last_named n last customs) ≡ true
+still_named n last [] h = h
+still_named n last (c ∷ customs) h = still_named n (if bytes_eq c.section.value.name n then Some c.section.value else last) customs (either_named (bytes_eq c.section.value.name n) c.section.value last h)
+
+-- a section of the name is found
+pub one_named : (n : List ℕ) (customs : List CustomEntry) (i : ℕ) (c : CustomEntry) → i < length customs → c ≡ get_or customs i c → bytes_eq c.section.value.name n ≡ true →
+    is_some (last_named n None (drop i customs)) ≡ true
+one_named n customs i c lt is named =
+    let next : drop i customs ≡ c ∷ drop (suc i) customs = drop-cons customs i c lt ∙ ap (λ y. y ∷ drop (suc i) customs) (sym is) in
+    ap (λ l. is_some (last_named n None l)) next
+    ∙ still_named n (if bytes_eq c.section.value.name n then Some c.section.value else None) (drop (suc i) customs) (ap (λ b. is_some (if b then Some c.section.value else None)) named)
+
+-- ---- no hints
+
+-- where no section gives hints, there are none
+none_given : (section : Option Custom) → is_some section ≡ false → hints_by section ≡ []
+none_given None e = refl
+none_given (Some x) e = absurd (true≢false e)
+
+pub unhinted : (customs : List CustomEntry) → is_some (last_named (codes "metadata.code.branch_hint") None customs) ≡ false → hints_of customs ≡ []
+unhinted customs none = none_given (last_named (codes "metadata.code.branch_hint") None customs) none
+
+-- a body that is given none has none out of place
+body_hintless : (body : ℕ) (os : Operators) → misplaced_in body [] os ≡ []
+body_hintless body [] = refl
+body_hintless body (o ∷ os) = body_hintless body os
+
+-- nor do functions
+pub hintless : (k : ℕ) (fs : List PlacedFunction) → misplaced_from [] k fs ≡ []
+hintless k [] = refl
+hintless k (f ∷ fs) = rw (body_hintless f.body.place f.body.value.operators) (hintless (k + 1) fs)
+
+-- ---- constant expressions
+
+-- a list of each
+pub items_single : (es : List (Closed (Placed Operator))) → flat_map (λ (e : Closed (Placed Operator)). e.items ∷ []) es ≡ constants_of es
+items_single es = flat_map_single (λ (e : Closed (Placed Operator)). e.items) es
+
+-- those of tables, globals, element segments and data segments
+pub constants_parts : (o : Options) (m : PlacedModule) →
+    flat_map legacy_places_in (constant_lists o m)
+    ≡ flat_map legacy_places_in (flat_map init_list m.tables)
+    ++ (flat_map legacy_places_in (flat_map (λ (g : Placed (Global (Placed Operator))). g.value.init ∷ []) m.globals)
+    ++ (flat_map legacy_places_in (flat_map (element_lists o.skeleton) m.elements)
+    ++ flat_map legacy_places_in (flat_map data_lists m.datas)))
+constants_parts o m =
+    let globals = flat_map_single (λ (g : Placed (Global (Placed Operator))). g.value.init) m.globals in
+    let front = flat_map init_list m.tables in
+    let second = map (λ (g : Placed (Global (Placed Operator))). g.value.init) m.globals in
+    let third = flat_map (element_lists o.skeleton) m.elements in
+    let fourth = flat_map data_lists m.datas in
+    let a = flat_map legacy_places_in front in
+    let b = flat_map legacy_places_in second in
+    let c = flat_map legacy_places_in third in
+    let d = flat_map legacy_places_in fourth in
+    rw (globals, flat_map-append legacy_places_in ((front ++ second) ++ third) fourth, flat_map-append legacy_places_in (front ++ second) third, flat_map-append legacy_places_in front second)
+    (append_assoc (a ++ b) c d ∙ append_assoc a b (c ++ d))

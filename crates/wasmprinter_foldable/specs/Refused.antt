@@ -1,0 +1,27 @@
+-- Why a module can't be folded: what each error says of it.
+use Rattle.std.specs.Prelude.{ℕ, List, [], ◌∷◌, Result, Ok, Err}
+use Rattle.std.specs.List.{Contains}
+use Rattle.wasmprinter_error.specs.declared.error.Error.{Error}
+use Rattle.wasmprinter_error.specs.declared.error.Error.TheVariants.{Malformed, Component, TooManyLocals, TooManyFunctions, EmptyTableInit, FoldLegacy, FoldHint, DylinkSubsection, Unreadable, Printer, Memory}
+use Rattle.wasmprinter_spec.specs.Placed.{PlacedModule}
+use Rattle.wasmprinter_spec.specs.Options.{Options}
+use Rattle.wasmprinter_spec.specs.Folding.Refusals.{legacy_places, misplaced_hints}
+
+-- the error of the first place, if there is one
+abbrev pub refused_at : (ℕ → Error) → List ℕ → Result (Unit {0}) Error
+refused_at error [] = Ok tt
+refused_at error (place ∷ places) = Err (error place)
+
+-- The error has its reason: at its place stands what can't be folded. Errors that have none aren't answered.
+abbrev pub HasFoldReason : Options → PlacedModule → Error → Type 0
+HasFoldReason o m (Malformed place) = ⊥
+HasFoldReason o m Component = ⊥
+HasFoldReason o m (TooManyLocals place) = ⊥
+HasFoldReason o m (TooManyFunctions count) = ⊥
+HasFoldReason o m (EmptyTableInit place) = ⊥
+HasFoldReason o m (FoldLegacy place) = Contains (legacy_places o m) place
+HasFoldReason o m (FoldHint place) = Contains (misplaced_hints o m) place
+HasFoldReason o m (DylinkSubsection id) = ⊥
+HasFoldReason o m Unreadable = ⊥
+HasFoldReason o m (Printer e) = ⊥
+HasFoldReason o m Memory = ⊥

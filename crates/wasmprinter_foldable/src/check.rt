@@ -1,0 +1,61 @@
+//! Whether what is printed of a module can be folded.
+ghost use Rattle.std.specs.Prelude.{◌≡◌, [], IfOk};
+ghost use Rattle.std.specs.List.{flat_map};
+ghost use Rattle.std.specs.Result.{IfErr};
+ghost use Rattle.wasmprinter_error.specs.declared.error.Error.TheVariants.{FoldLegacy, FoldHint};
+ghost use Rattle.wasmprinter_spec.specs.Folding.Refusals.{legacy_places_in, legacy_places, constant_lists, misplaced_hints};
+ghost use Rattle.wasmprinter_foldable.specs.Refused.{refused_at, HasFoldReason};
+
+use crate::hints::check_hints;
+use crate::lists::{check_bodies, check_each};
+use wasmprinter_error::Error;
+use wasmprinter_lines::options::PrintOptions;
+use wasmprinter_wasm::Module;
+
+/// Refuses the first operator of the older `try` in constant expressions.
+#[tactic(auto, using(crate::proofs::Steps::constants_parts, crate::proofs::Steps::front_refused, crate::proofs::Steps::front_passed))]
+fn check_constants(options: &PrintOptions, module: &Module<'_>) -> Result<(), Error>
+    ensures { result ≡ refused_at FoldLegacy (flat_map legacy_places_in (constant_lists options.now module.now)) }
+{
+    let skeleton = options.skeleton;
+    check_each(module.tables(), skeleton)?;
+    check_each(module.globals(), skeleton)?;
+    check_each(module.elements(), skeleton)?;
+    check_each(module.datas(), skeleton)
+}
+
+/// Refuses the first operator of the older `try`.
+fn check_legacy(options: &PrintOptions, module: &Module<'_>) -> Result<(), Error>
+    ensures { result ≡ refused_at FoldLegacy (legacy_places options.now module.now) }
+{
+    check_constants(options, module)?;
+    if options.skeleton {
+        return Ok(());
+    }
+    check_bodies(module)
+}
+
+/// Refuses the first hint on an operator that can't have one.
+fn check_printed_hints(options: &PrintOptions, module: &Module<'_>) -> Result<(), Error>
+    ensures { result ≡ refused_at FoldHint (misplaced_hints options.now module.now) }
+{
+    if options.skeleton {
+        return Ok(());
+    }
+    check_hints(module)
+}
+
+/// Refuses what can't be folded of what the options let print of a module, before anything of it is printed.
+///
+/// # Errors
+///
+/// `FoldLegacy` with the place of a `try`, `catch`, `catch_all` or `delegate` in a list of operators that is printed; `FoldHint` with the
+/// place of a branch hint on a `block`, `loop`, `try_table`, `else` or `end` of a body that is printed. No other. Takes no memory.
+pub fn check_folding(options: &PrintOptions, module: &Module<'_>) -> Result<(), Error>
+    ensures legacy { IfOk result (λ _. legacy_places options.now module.now ≡ []) }
+    ensures hints { IfOk result (λ _. misplaced_hints options.now module.now ≡ []) }
+    ensures refused { IfErr result (HasFoldReason options.now module.now) }
+{
+    check_legacy(options, module)?;
+    check_printed_hints(options, module)
+}

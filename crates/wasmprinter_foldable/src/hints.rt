@@ -1,0 +1,100 @@
+//! Branch hints on operators whose node has no place for one (Code Metadata, a document beside the standard).
+ghost use Rattle.std.specs.Prelude.{◌≡◌, None, is_some, codes};
+ghost use Rattle.wasmprinter_error.specs.declared.error.Error.TheVariants.{FoldHint};
+ghost use Rattle.wasmprinter_spec.specs.Types.{FuncKind};
+ghost use Rattle.wasmprinter_spec.specs.Customs.Hints.{last_named, hints_of};
+ghost use Rattle.wasmprinter_spec.specs.Folding.Refusals.{is_hintless, misplaced, misplaced_in, misplaced_from};
+ghost use Rattle.wasmprinter_entries.specs.Externs.{imported_count};
+ghost use Rattle.wasmprinter_ops.specs.Shapes.{role_view};
+ghost use Rattle.wasmprinter_foldable.specs.Refused.{refused_at};
+
+use wasmprinter_customs::{FunctionHints, Hint, Hints, is_hint_section};
+use wasmprinter_error::Error;
+use wasmprinter_ops::opcode::Role;
+use wasmprinter_wasm::{Body, CustomEntry, ExternKind, Module};
+
+/// The branch hints that custom sections give: those of the last section that has some.
+pub fn hints_of<'a>(customs: &[CustomEntry<'a>]) -> Hints<'a>
+    ensures { result ≡ hints_of customs.now }
+{
+    let mut last = None;
+    for entry in customs {
+        if is_hint_section(entry.section.name()) {
+            last = Some(&entry.section);
+        }
+    }
+    match last {
+        Some(section) => {
+            let content = section.cursor();
+            prove!(content.end() <= u64::MAX);
+            Hints::given(content.place(), content.rest())
+        }
+        None => Hints::none(),
+    }
+}
+
+/// Whether a custom section gives branch hints.
+fn has_hints(customs: &[CustomEntry<'_>]) -> bool
+    ensures { result ≡ is_some (last_named (codes "metadata.code.branch_hint") None customs.now) }
+{
+    for entry in customs {
+        if is_hint_section(entry.section.name()) {
+            return true;
+        }
+    }
+    false
+}
+
+/// Whether the operator's node has no place for a hint: it would stand before a node that holds what is before the operator, or before none.
+fn is_hintless(role: Role) -> bool
+    ensures { result ≡ is_hintless (role_view role) }
+{
+    match role {
+        Role::Opens | Role::Turns | Role::Ends => true,
+        Role::Plain | Role::OpensIf | Role::OpensTry => false,
+        Role::Catches | Role::CatchesAll | Role::Delegates => false,
+    }
+}
+
+/// Refuses the hint of an operator that can't have one.
+fn check_hint(role: Role, hint: Option<Hint>) -> Result<(), Error>
+    ensures { result ≡ refused_at FoldHint (misplaced (role_view role) hint) }
+{
+    match hint {
+        Some(hint) if is_hintless(role) => Err(Error::FoldHint {
+            place: hint.place(),
+        }),
+        _ => Ok(()),
+    }
+}
+
+/// Refuses the first hint of a body on an operator that can't have one.
+#[tactic(auto, using(crate::proofs::Steps::misplaced_none))]
+fn check_body(hints: FunctionHints<'_>, body: &Body<'_>) -> Result<(), Error>
+    ensures { result ≡ refused_at FoldHint (misplaced_in body.now.place hints.entry body.now.value.operators) }
+{
+    let mut hints = hints;
+    for (place, operator) in body.operators() {
+        let offset = place.saturating_sub(body.place());
+        check_hint(operator.opcode.role(), hints.next_at(offset))?;
+    }
+    Ok(())
+}
+
+/// Refuses the first hint of a module on an operator that can't have one. Functions are numbered behind the imported ones.
+pub(crate) fn check_hints(module: &Module<'_>) -> Result<(), Error>
+    ensures { result ≡ refused_at FoldHint
+        (misplaced_from (hints_of module.now.customs) (imported_count FuncKind module.now.imports) module.now.functions) }
+{
+    if !has_hints(module.customs()) {
+        return Ok(());
+    }
+    let first = module.imported_count(ExternKind::Func);
+    let mut hints = hints_of(module.customs());
+    for index in 0..module.function_count() {
+        let function = module.function(index);
+        let number = first + u64::from(index);
+        check_body(hints.next_function(number), function.body())?;
+    }
+    Ok(())
+}

@@ -1,0 +1,116 @@
+//! The lists of operators that what a module defines holds (section 2.5 of the WebAssembly Core Specification, "Modules").
+ghost use Rattle.std.specs.Prelude.{◌≡◌, ◌∷◌, [], map};
+ghost use Rattle.std.specs.List.{flat_map};
+ghost use Rattle.wasmprinter_error.specs.declared.error.Error.TheVariants.{FoldLegacy};
+ghost use Rattle.wasmprinter_spec.specs.Folding.Refusals.{legacy_places_in, init_list, element_lists, offset_list, item_lists, data_lists};
+ghost use Rattle.wasmprinter_segments.specs.Segments.{element_mode_view, element_items_view};
+ghost use Rattle.wasmprinter_foldable.specs.Refused.{refused_at};
+
+use crate::legacy::check_expression;
+use wasmprinter_error::Error;
+use wasmprinter_ops::expression::Expression;
+use wasmprinter_wasm::{Data, DataMode, Element, ElementItems, ElementMode, Global, Module, Table};
+
+/// What holds lists of operators.
+pub(crate) trait Holder {
+    ghost use Rattle.std.specs.Prelude.{List, Bool};
+    ghost use Rattle.wasmprinter_spec.specs.Folding.Refusals.{Operators};
+
+    /// Those that are printed, in a skeleton or in the whole text.
+    ghost lists: { Bool → Self → List Operators };
+
+    /// Refuses the first operator of the older `try` in them.
+    fn check_legacy(&self, skeleton: bool) -> Result<(), Error>
+        ensures { result ≡ refused_at FoldLegacy (flat_map legacy_places_in (lists skeleton self.now)) };
+}
+
+impl<'a> Holder for Expression<'a> {
+    ghost lists = { λ skeleton e. e.items ∷ [] };
+
+    fn check_legacy(&self, _skeleton: bool) -> Result<(), Error> {
+        check_expression(self)
+    }
+}
+
+impl<'a> Holder for Table<'a> {
+    ghost lists = { λ skeleton t. init_list t };
+
+    fn check_legacy(&self, _skeleton: bool) -> Result<(), Error> {
+        match self.init() {
+            Some(init) => check_expression(init),
+            None => Ok(()),
+        }
+    }
+}
+
+impl<'a> Holder for Global<'a> {
+    ghost lists = { λ skeleton g. g.value.init ∷ [] };
+
+    fn check_legacy(&self, _skeleton: bool) -> Result<(), Error> {
+        check_expression(self.init())
+    }
+}
+
+impl<'a> Holder for Data<'a> {
+    ghost lists = { λ skeleton d. data_lists d };
+
+    fn check_legacy(&self, _skeleton: bool) -> Result<(), Error> {
+        match self.mode() {
+            DataMode::Passive => Ok(()),
+            DataMode::Active { memory: _, offset } => check_expression(offset),
+        }
+    }
+}
+
+/// Refuses the first operator of the older `try` in an offset.
+fn check_offset(mode: &ElementMode<'_>) -> Result<(), Error>
+    ensures { result ≡ refused_at FoldLegacy (flat_map legacy_places_in (offset_list (element_mode_view mode.now))) }
+{
+    match mode {
+        ElementMode::Passive | ElementMode::Declared => Ok(()),
+        ElementMode::Active { table: _, offset } => check_expression(offset),
+    }
+}
+
+/// Refuses the first operator of the older `try` in items that are expressions.
+#[tactic(auto, using(crate::proofs::Steps::items_single))]
+fn check_items(items: &ElementItems<'_>) -> Result<(), Error>
+    ensures { result ≡ refused_at FoldLegacy (flat_map legacy_places_in (item_lists (element_items_view items.now))) }
+{
+    match items {
+        ElementItems::Functions(_) => Ok(()),
+        ElementItems::Expressions(_, expressions) => check_each(expressions, false),
+    }
+}
+
+impl<'a> Holder for Element<'a> {
+    ghost lists = { λ skeleton e. element_lists skeleton e };
+
+    fn check_legacy(&self, skeleton: bool) -> Result<(), Error> {
+        check_offset(self.mode())?;
+        if skeleton {
+            return Ok(());
+        }
+        check_items(self.items())
+    }
+}
+
+/// Refuses the first operator of the older `try` in lists that are printed of what a slice holds.
+pub(crate) fn check_each<T: Holder>(items: &[T], skeleton: bool) -> Result<(), Error>
+    ensures { result ≡ refused_at FoldLegacy (flat_map legacy_places_in (flat_map (T.lists skeleton) items.now)) }
+{
+    for item in items {
+        item.check_legacy(skeleton)?;
+    }
+    Ok(())
+}
+
+/// Refuses the first operator of the older `try` in the bodies of functions.
+pub(crate) fn check_bodies(module: &Module<'_>) -> Result<(), Error>
+    ensures { result ≡ refused_at FoldLegacy (flat_map legacy_places_in (map (λ f. f.body.value.operators) module.now.functions)) }
+{
+    for index in 0..module.function_count() {
+        check_expression(module.function(index).body().expression())?;
+    }
+    Ok(())
+}

@@ -1,0 +1,169 @@
+-- Labels: their texts in a buffer, also in one that grew, and whether these hold a comment up to the end of the line.
+use Rattle.std.proofs.Common.{◌≡◌, ℕ, ◌-◌, ◌==◌, ◌&&◌, ◌||◌, Bool, true, false, List, [], ◌∷◌, ◌++◌, length, take, drop, refl, sym, ◌∙◌, ap, ap₂, subst, append_assoc, arith, length-append}
+use Rattle.std.proofs.lemmas.List.{take_at, drop_at, append-nil}
+use Rattle.std.proofs.lemmas.Str.{IsCharBoundary-at_seam, IsUtf8-append, IsUtf8-nil}
+use Rattle.std.proofs.lemmas.Bool.{eqb-true}
+use Rattle.std.specs.Prelude.{IsUtf8, Option}
+use Rattle.std.specs.Str.{IsCharBoundary}
+use Rattle.wasmprinter_spec.specs.Call.{Call, text_of}
+use Rattle.wasmprinter_spec.specs.Layout.Folded.{painted, has_line_comment}
+use Rattle.wasmprinter_spec.specs.Folding.Tree.{NodesOf, Nil, Snoc}
+use Rattle.wasmprinter_nodes.specs.declared.Label.{Label}
+use Rattle.wasmprinter_nodes.specs.Mapping.{map_nodes}
+use Rattle.wasmprinter_node_text.specs.declared.semicolons.Semicolons.{Semicolons}
+use Rattle.wasmprinter_node_text.specs.Shown.{Shown, shown, shown_in, IsIn, AreIn}
+use Rattle.wasmprinter_node_text.specs.Buffers.{View, unseen, see, see_all, begun, Grows}
+use Rattle.wasmprinter_node_text.proofs.TextLaws.{Adds}
+
+-- ---- where a text lies
+
+module _ (buffer : List ℕ) (l : Label) (h : IsIn buffer l) where
+  pub start_boundary : IsCharBoundary buffer l.start
+  start_boundary =
+      subst (IsCharBoundary buffer) h.starts
+      (IsCharBoundary-at_seam buffer h.before (h.text ++ h.after) h.parts (IsUtf8-append h.text h.after h.is_text h.is_rest))
+
+  pub stop_boundary : IsCharBoundary buffer l.stop
+  stop_boundary =
+      let at : length (h.before ++ h.text) ≡ l.stop = omega (arith, length-append h.before h.text, h.starts, h.stops) in
+      subst (IsCharBoundary buffer) at
+      (IsCharBoundary-at_seam buffer (h.before ++ h.text) h.after (h.parts ∙ sym (append_assoc h.before h.text h.after)) h.is_rest)
+
+  -- what lies there is the text
+  pub text_there : take (l.stop - l.start) (drop l.start buffer) ≡ h.text
+  text_there =
+      let size : length h.text ≡ l.stop - l.start = omega (arith, h.stops) in
+      ap (λ (b : List ℕ). take (l.stop - l.start) (drop l.start b)) h.parts
+      ∙ (ap (take (l.stop - l.start)) (drop_at h.before (h.text ++ h.after) l.start h.starts)
+      ∙ take_at h.text h.after (l.stop - l.start) size)
+
+  longer_parts : (more new : List ℕ) → new ≡ buffer ++ more → new ≡ h.before ++ (h.text ++ (h.after ++ more))
+  longer_parts more new e =
+      e
+      ∙ (ap (λ (b : List ℕ). b ++ more) h.parts
+      ∙ (append_assoc h.before (h.text ++ h.after) more
+      ∙ ap (λ (b : List ℕ). h.before ++ b) (append_assoc h.text h.after more)))
+
+  -- text behind the buffer changes nothing
+  pub in_longer : (more new : List ℕ) → IsUtf8 more → new ≡ buffer ++ more → IsIn new l
+  in_longer more new u e =
+      record {
+        before = h.before;
+        text = h.text;
+        after = h.after ++ more;
+        parts = longer_parts more new e;
+        starts = h.starts;
+        stops = h.stops;
+        is_text = h.is_text;
+        is_rest = IsUtf8-append h.after more h.is_rest u;
+      }
+
+  -- and the text is there in the longer one
+  pub text_there_longer : (more new : List ℕ) → new ≡ buffer ++ more → take (l.stop - l.start) (drop l.start new) ≡ h.text
+  text_there_longer more new e =
+      let size : length h.text ≡ l.stop - l.start = omega (arith, h.stops) in
+      ap (λ (b : List ℕ). take (l.stop - l.start) (drop l.start b)) (longer_parts more new e)
+      ∙ (ap (take (l.stop - l.start)) (drop_at h.before (h.text ++ (h.after ++ more)) l.start h.starts)
+      ∙ take_at h.text (h.after ++ more) (l.stop - l.start) size)
+
+abbrev shown_by : Label → List ℕ → Shown
+shown_by l text = record { place = l.place; hint = l.hint; text = text; comment = l.comment }
+
+-- A text stays where it lies when the buffer grows,
+pub in_grown : (old new : List ℕ) (l : Label) → Grows old new → IsIn old l → IsIn new l
+in_grown old new l g h = in_longer old l h g.more new g.is_text g.parts
+
+-- and what is printed of its node stays the same.
+pub shown_grown : (old new : List ℕ) (l : Label) → Grows old new → IsIn old l → shown_in new l ≡ shown_in old l
+shown_grown old new l g h =
+    ap (shown_by l) (text_there_longer old l h g.more new g.parts ∙ sym (text_there old l h))
+
+-- The same of all labels of nodes.
+pub are_grown : (old new : List ℕ) (f : NodesOf Label) → Grows old new → AreIn old f → AreIn new f
+are_grown old new Nil g h = tt
+are_grown old new (Snoc before l results held) g h =
+    (are_grown old new before g h.0, in_grown old new l g h.1, are_grown old new held g h.2)
+
+pub all_shown_grown : (old new : List ℕ) (f : NodesOf Label) → Grows old new → AreIn old f → map_nodes (shown_in new) f ≡ map_nodes (shown_in old) f
+all_shown_grown old new Nil g h = refl
+all_shown_grown old new (Snoc before l results held) g h =
+    rw (all_shown_grown old new before g h.0, all_shown_grown old new held g h.2, shown_grown old new l g h.1) refl
+
+-- ---- semicolons
+
+abbrev comment_behind : Bool → List ℕ → Bool
+comment_behind true bs = has_line_comment (59 ∷ bs)
+comment_behind false bs = has_line_comment bs
+
+or_none : (d : Bool) → d ≡ (d || false)
+or_none true = refl
+or_none false = refl
+
+behind_none : (l : Bool) → comment_behind l [] ≡ false
+behind_none true = refl
+behind_none false = refl
+
+no_semicolon : (b : ℕ) (bs : List ℕ) → (b == 59) ≡ false → has_line_comment (b ∷ bs) ≡ has_line_comment bs
+no_semicolon b [] e = refl
+no_semicolon b (c ∷ bs) e = rw e refl
+
+by_first : (b : ℕ) (bs : List ℕ) (l : Bool) → (b == 59) ≡ l → has_line_comment (b ∷ bs) ≡ comment_behind l bs
+by_first b bs true e = ap (λ c. has_line_comment (c ∷ bs)) (eqb-true b 59 e)
+by_first b bs false e = no_semicolon b bs e
+
+-- one byte more
+behind_first : (d l s : Bool) (b : ℕ) (bs : List ℕ) → (b == 59) ≡ s → ((d || (l && s)) || comment_behind s bs) ≡ (d || comment_behind l (b ∷ bs))
+behind_first true l s b bs e = refl
+behind_first false false s b bs e = sym (by_first b bs s e)
+behind_first false true s b bs e = rw e (ap (λ x. s || x) (sym (by_first b bs s e)))
+
+seen_behind : (s : Semicolons) (bs : List ℕ) → (see_all s bs).double ≡ (s.double || comment_behind s.last bs)
+seen_behind s [] = or_none s.double ∙ ap (λ x. s.double || x) (sym (behind_none s.last))
+seen_behind s (b ∷ bs) = seen_behind (see s b) bs ∙ behind_first s.double s.last (b == 59) b bs refl
+
+-- What was seen of a text from its first byte on tells whether it holds a comment up to the end of the line.
+pub seen_comment : (bs : List ℕ) → (see_all unseen bs).double ≡ has_line_comment bs
+seen_comment bs = seen_behind unseen bs
+
+-- ---- a new text
+
+-- the label of the last text
+abbrev pub label_of : View → ℕ → ℕ → Option Bool → Label
+label_of new place start hint = record { place = place; hint = hint; start = start; stop = length new.bytes; comment = new.seen.double }
+
+module _ (old middle new : View) (place start : ℕ) (hint : Option Bool) (layout : List Call) (b : middle ≡ begun old) (s : start ≡ length old.bytes) (added : Adds middle layout new) where
+  abbrev a : Adds (begun old) layout new
+  a = subst (λ (u : View). Adds u layout new) b added
+
+  last_in : IsIn new.bytes (label_of new place start hint)
+  last_in =
+      record {
+        before = old.bytes;
+        text = painted old.paints layout;
+        after = [];
+        parts = a.bytes ∙ ap (λ (l : List ℕ). old.bytes ++ l) (sym (append-nil (painted old.paints layout)));
+        starts = sym s;
+        stops = omega (arith, s, ap length a.bytes, length-append old.bytes (painted old.paints layout));
+        is_text = a.is_text;
+        is_rest = IsUtf8-nil;
+      }
+
+  -- its label says where it lies,
+  pub entered_in : (l : Label) → l ≡ label_of new place start hint → IsIn new.bytes l
+  entered_in l e = subst (IsIn new.bytes) (sym e) last_in
+
+  last_there : take (length new.bytes - start) (drop start new.bytes) ≡ painted old.paints layout
+  last_there =
+      let size : length (painted old.paints layout) ≡ length new.bytes - start = omega (arith, s, ap length a.bytes, length-append old.bytes (painted old.paints layout)) in
+      ap (λ (b : List ℕ). take (length new.bytes - start) (drop start b)) a.bytes
+      ∙ (ap (take (length new.bytes - start)) (drop_at old.bytes (painted old.paints layout) start (sym s))
+      ∙ (ap (take (length new.bytes - start)) (sym (append-nil (painted old.paints layout)))
+      ∙ take_at (painted old.paints layout) [] (length new.bytes - start) size))
+
+  -- and shows what was written
+  pub entered_shown : (l : Label) → l ≡ label_of new place start hint → shown_in new.bytes l ≡ shown place hint old.paints layout
+  entered_shown l e =
+      ap (shown_in new.bytes) e
+      ∙ ap₂ (λ (text : List ℕ) (comment : Bool). record { place = place; hint = hint; text = text; comment = comment })
+      last_there
+      (ap (λ (x : Semicolons). x.double) a.seen ∙ seen_comment (text_of layout))

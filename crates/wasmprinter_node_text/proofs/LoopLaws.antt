@@ -1,0 +1,37 @@
+-- Nodes written up to those that they hold, one task after another.
+use Rattle.std.proofs.Common.{◌≡◌, ℕ, ◌||◌, Bool, true, false, List, ◌++◌, refl, sym, ◌∙◌, ap, subst}
+use Rattle.wasmprinter_spec.specs.Meaning.{Meaning}
+use Rattle.wasmprinter_spec.specs.Options.{Options}
+use Rattle.wasmprinter_spec.specs.Piece.{Piece}
+use Rattle.wasmprinter_spec.specs.Layout.Groups.{has_break}
+use Rattle.wasmprinter_spec.specs.Layout.Operators.{Form}
+use Rattle.wasmprinter_print.specs.Emits.{Ending}
+use Rattle.wasmprinter_print.specs.Prints.{Written, Lacks}
+use Rattle.wasmprinter_nodes.specs.declared.Label.{Label}
+use Rattle.wasmprinter_node_text.specs.Shown.{shown_in, node_front}
+use Rattle.wasmprinter_lines.proofs.Groups.{has_break-append}
+
+-- a node whose place is that of its label
+pub front_at : {P : Type 0} (m : Meaning P) (o : Options) {a t : P} {r : Ending} (form : Form) (leads leaf : Bool) (nesting : ℕ) (buffer : List ℕ) (l : Label) (place : ℕ) → place ≡ l.place →
+    Written m o a t r (node_front form leads leaf nesting (record { place = place; hint = l.hint; text = (shown_in buffer l).text; comment = l.comment }))
+    → Written m o a t r (node_front form leads leaf nesting (shown_in buffer l))
+front_at m o {a} {t} {r} form leads leaf nesting buffer l place e v =
+    subst (λ (x : ℕ). Written m o a t r (node_front form leads leaf nesting (record { place = x; hint = l.hint; text = (shown_in buffer l).text; comment = l.comment }))) e v
+
+-- what is lacking, in other words
+pub lacks_as : {P : Type 0} (m : Meaning P) (o : Options) (a s : P) (whole xs ys : List Piece) → xs ≡ ys → Lacks m o a s whole xs → Lacks m o a s whole ys
+lacks_as m o a s whole xs ys e l = subst (λ (zs : List Piece). Lacks m o a s whole zs) e l
+
+or_assoc : (a b c : Bool) → ((a || b) || c) ≡ (a || (b || c))
+or_assoc true b c = refl
+or_assoc false b c = refl
+
+-- whether lines began so far, once a front was written
+pub began_more : (lines now new w : Bool) (front rest all left : List Piece) → new ≡ (lines || now) → now ≡ has_break front → all ≡ front ++ rest → left ≡ rest →
+    (lines || has_break all) ≡ w → (new || has_break left) ≡ w
+began_more lines now new w front rest all left n f e l inv =
+    rw (n, f, l)
+    (or_assoc lines (has_break front) (has_break rest)
+    ∙ ap (λ x. lines || x) (sym (has_break-append front rest))
+    ∙ ap (λ (ps : List Piece). lines || has_break ps) (sym e)
+    ∙ inv)

@@ -1,0 +1,167 @@
+-- Tasks that are put on top of others, and taken from there.
+use Rattle.std.proofs.Common.{◌≡◌, ℕ, ◌+◌, ◌*◌, ◌≤◌, ◌<◌, ◌&&◌, Bool, true, false, true≢false, List, [], ◌∷◌, ◌++◌, length, refl, sym, ◌∙◌, ap, subst, arith, append_assoc, eqb, Result, Ok, Err, OnOk}
+use Rattle.std.proofs.lemmas.List.{append-nil}
+use Rattle.std.proofs.lemmas.Bool.{ne_eqb}
+use Rattle.std.specs.Borrow.{Bor}
+use Rattle.wasmprinter_spec.specs.Piece.{Piece, Shut}
+use Rattle.wasmprinter_spec.specs.Layout.Operators.{Form}
+use Rattle.wasmprinter_spec.specs.Folding.Tree.{NodesOf, Nil, Snoc, is_nil, count}
+use Rattle.wasmprinter_nodes.specs.declared.Label.{Label}
+use Rattle.wasmprinter_nodes.specs.declared.Node.{Node}
+use Rattle.wasmprinter_nodes.specs.Mapping.{map_nodes}
+use Rattle.wasmprinter_nodes.specs.Postorder.{forest_of, IsPostorder}
+use Rattle.wasmprinter_nodes.specs.Rows.{IsLast}
+use Rattle.wasmprinter_nodes.proofs.Postorders.{length-row}
+use Rattle.wasmprinter_node_text.specs.Shown.{shown_in, IsIn, AreIn, node_front, row_pieces}
+use Rattle.wasmprinter_node_text.specs.Tasks.{pieces_of_row, task_front, task_rest, task_pieces, pieces_left, IsSoundRow, IsSound, AllSound, steps_of, steps_left}
+use Rattle.wasmprinter_node_text.specs.declared.tasks.Task.{Task}
+use Rattle.wasmprinter_node_text.specs.declared.tasks.Task.TheVariants as task
+use Rattle.wasmprinter_node_text.proofs.RowLaws.{nil_mapped, row_last, row_none}
+
+-- ---- one list of tasks behind another
+
+pub pieces_left-append : (form : Form) (nesting : ℕ) (buffer : List ℕ) (a b : List Task) →
+    pieces_left form nesting buffer (a ++ b) ≡ pieces_left form nesting buffer b ++ pieces_left form nesting buffer a
+pieces_left-append form nesting buffer [] b = sym (append-nil (pieces_left form nesting buffer b))
+pieces_left-append form nesting buffer (t ∷ a) b =
+    ap (λ (l : List Piece). l ++ task_pieces form nesting buffer t) (pieces_left-append form nesting buffer a b)
+    ∙ append_assoc (pieces_left form nesting buffer b) (pieces_left form nesting buffer a) (task_pieces form nesting buffer t)
+
+pub steps_left-append : (a b : List Task) → steps_left (a ++ b) ≡ steps_left a + steps_left b
+steps_left-append [] b = omega arith
+steps_left-append (t ∷ a) b = omega (arith, steps_left-append a b)
+
+pub AllSound-append : (buffer : List ℕ) (bound : ℕ) (a b : List Task) → AllSound buffer bound a → AllSound buffer bound b → AllSound buffer bound (a ++ b)
+AllSound-append buffer bound [] b x y = y
+AllSound-append buffer bound (t ∷ a) b x y = (x.0, AllSound-append buffer bound a b x.1 y)
+
+AllSound-front : (buffer : List ℕ) (bound : ℕ) (a b : List Task) → AllSound buffer bound (a ++ b) → AllSound buffer bound a
+AllSound-front buffer bound [] b x = tt
+AllSound-front buffer bound (t ∷ a) b x = (x.0, AllSound-front buffer bound a b x.1)
+
+IsSound-last : (buffer : List ℕ) (bound : ℕ) (a : List Task) (t : Task) → AllSound buffer bound (a ++ t ∷ []) → IsSound buffer bound t
+IsSound-last buffer bound [] t x = x.0
+IsSound-last buffer bound (s ∷ a) t x = IsSound-last buffer bound a t x.1
+
+-- ---- rows
+
+none_by_count : (f : NodesOf Label) → eqb (count f) 0 ≡ is_nil f
+none_by_count Nil = refl
+none_by_count (Snoc before h r held) = ne_eqb _ _ (λ e. omega (arith, e))
+
+-- a row is empty where it has no node
+pub none_in_row : (row : List Node) → IsPostorder row → eqb (length row) 0 ≡ is_nil (forest_of row)
+none_in_row row h = ap (λ n. eqb n 0) (length-row row h) ∙ none_by_count (forest_of row)
+
+-- a row of no length has no node
+pub nothing_there : (row : List Node) → eqb (length row) 0 ≡ true → row ≡ []
+nothing_there [] e = refl
+nothing_there (n ∷ row) e = absurd (true≢false (sym e ∙ ne_eqb _ _ (λ h. omega (arith, h))))
+
+pub pieces_none : (form : Form) (nesting : ℕ) (buffer : List ℕ) (nodes : List Node) (first : Bool) (depth : ℕ) → nodes ≡ [] → pieces_of_row form nesting buffer nodes first depth ≡ []
+pieces_none form nesting buffer nodes first depth e =
+    ap (λ l. pieces_of_row form nesting buffer l first depth) e ∙ row_none form first (nesting + depth)
+
+module _ (nodes before : List Node) (node : Node) (parts : List Node) (is : IsLast nodes before node parts) where
+  pieces_last : (form : Form) (nesting : ℕ) (buffer : List ℕ) (first : Bool) (depth : ℕ) →
+      pieces_of_row form nesting buffer nodes first depth
+      ≡ pieces_of_row form nesting buffer before first depth
+      ++ (node_front form (first && is_nil (forest_of before)) (is_nil (forest_of parts)) (nesting + depth) (shown_in buffer node.label)
+      ++ (pieces_of_row form nesting buffer parts false (depth + 1) ++ (Shut ∷ [])))
+  pieces_last form nesting buffer first depth =
+      let deeper : (nesting + depth) + 1 ≡ nesting + (depth + 1) = omega arith in
+      ap (λ (f : NodesOf Label). row_pieces form first (nesting + depth) (map_nodes (shown_in buffer) f)) is.whole
+      ∙ row_last form first (nesting + depth) (map_nodes (shown_in buffer) (forest_of before)) (shown_in buffer node.label) node.results (map_nodes (shown_in buffer) (forest_of parts))
+      ∙ rw (nil_mapped (shown_in buffer) (forest_of before), nil_mapped (shown_in buffer) (forest_of parts), deeper) refl
+
+  texts_last : (buffer : List ℕ) → AreIn buffer (forest_of nodes) → AreIn buffer (forest_of before) × IsIn buffer node.label × AreIn buffer (forest_of parts)
+  texts_last buffer h = subst (AreIn buffer) is.whole h
+
+-- what holds on success
+pub on_ok : {T E P Q : Type 0} (r : Result T E) → (P → Q) → OnOk r P → OnOk r Q
+on_ok (Ok x) f h = f h
+on_ok (Err e) f h = tt
+
+-- the task of a row
+module _ (new old : List Task) (nodes : Bor (List Node)) (first : Bool) (depth : ℕ) (e : new ≡ old ++ task.Row nodes first depth ∷ []) where
+  pub pieces_pushed : (form : Form) (nesting : ℕ) (buffer : List ℕ) →
+      pieces_left form nesting buffer new ≡ pieces_of_row form nesting buffer nodes.now first depth ++ pieces_left form nesting buffer old
+  pieces_pushed form nesting buffer = ap (pieces_left form nesting buffer) e ∙ pieces_left-append form nesting buffer old (task.Row nodes first depth ∷ [])
+
+  pub steps_pushed : steps_left new ≤ 4 * length nodes.now + 1 + steps_left old
+  steps_pushed = omega (arith, ap steps_left e, steps_left-append old (task.Row nodes first depth ∷ []))
+
+  pub sound_pushed : (buffer : List ℕ) (bound : ℕ) → IsSoundRow buffer bound nodes.now depth → AllSound buffer bound old → AllSound buffer bound new
+  sound_pushed buffer bound row h =
+      subst (AllSound buffer bound) (sym e) (AllSound-append buffer bound old (task.Row nodes first depth ∷ []) h (row, tt))
+
+-- the tasks of a row, by its last node: that of the row before it is put on top of the node's own
+module _ (new mid old : List Task) (nodes : List Node) (before : Bor (List Node)) (node : Node) (parts : Bor (List Node)) (first : Bool) (depth : ℕ) (leads : Bool)
+    (is : IsLast nodes before.now node parts.now) (e : mid ≡ old ++ task.One node.label parts leads depth ∷ []) where
+  pub pieces_put : leads ≡ (first && eqb (length before.now) 0) →
+      ((form : Form) (nesting : ℕ) (buffer : List ℕ) →
+      pieces_left form nesting buffer new ≡ pieces_of_row form nesting buffer before.now first depth ++ pieces_left form nesting buffer mid) →
+      (form : Form) (nesting : ℕ) (buffer : List ℕ) →
+      pieces_left form nesting buffer new ≡ pieces_of_row form nesting buffer nodes first depth ++ pieces_left form nesting buffer old
+  pieces_put le row form nesting buffer =
+      let front = pieces_of_row form nesting buffer before.now first depth in
+      let own = task_pieces form nesting buffer (task.One node.label parts leads depth) in
+      row form nesting buffer
+      ∙ (ap (λ (l : List Piece). front ++ l) (ap (pieces_left form nesting buffer) e ∙ pieces_left-append form nesting buffer old (task.One node.label parts leads depth ∷ []))
+      ∙ (sym (append_assoc front own (pieces_left form nesting buffer old))
+      ∙ ap (λ (l : List Piece). l ++ pieces_left form nesting buffer old) (sym (pieces_last nodes before.now node parts.now is form nesting buffer first depth ∙ rw (← le2) refl))))
+    where
+      le2 : leads ≡ (first && is_nil (forest_of before.now))
+      le2 = le ∙ ap (λ b. first && b) (none_in_row before.now is.before_row)
+
+  pub steps_put : steps_left new ≤ 4 * length before.now + 1 + steps_left mid → steps_left new ≤ 4 * length nodes + steps_left old
+  steps_put row = omega (arith, is.lengths, row, ap steps_left e, steps_left-append old (task.One node.label parts leads depth ∷ []))
+
+  pub sound_put : ((buffer : List ℕ) (bound : ℕ) → IsSoundRow buffer bound before.now depth → AllSound buffer bound mid → AllSound buffer bound new) →
+      (buffer : List ℕ) (bound : ℕ) → IsSoundRow buffer bound nodes depth → AllSound buffer bound old → AllSound buffer bound new
+  sound_put put buffer bound row h =
+      let texts = texts_last nodes before.now node parts.now is buffer row.texts in
+      let room = row.room in
+      let lower : IsSoundRow buffer bound before.now depth = record { row = is.before_row; texts = texts.0; room = omega (arith, is.lengths, room) } in
+      let inner : IsSoundRow buffer bound parts.now (depth + 1) = record { row = is.parts_row; texts = texts.2; room = omega (arith, is.lengths, room) } in
+      put buffer bound lower
+      (subst (AllSound buffer bound) (sym e) (AllSound-append buffer bound old (task.One node.label parts leads depth ∷ []) h ((texts.1, inner), tt)))
+
+-- the tasks of what a node holds: that of the row is put on top of the closing one
+module _ (new mid old : List Task) (label : Label) (held : Bor (List Node)) (leads : Bool) (depth : ℕ) (e : mid ≡ old ++ task.Close ∷ []) where
+  pub pieces_one : ((form : Form) (nesting : ℕ) (buffer : List ℕ) →
+      pieces_left form nesting buffer new ≡ pieces_of_row form nesting buffer held.now false (depth + 1) ++ pieces_left form nesting buffer mid) →
+      (form : Form) (nesting : ℕ) (buffer : List ℕ) →
+      pieces_left form nesting buffer new ≡ task_rest form nesting buffer (task.One label held leads depth) ++ pieces_left form nesting buffer old
+  pieces_one row form nesting buffer =
+      let inner = pieces_of_row form nesting buffer held.now false (depth + 1) in
+      row form nesting buffer
+      ∙ (ap (λ (l : List Piece). inner ++ l) (ap (pieces_left form nesting buffer) e ∙ pieces_left-append form nesting buffer old (task.Close ∷ []))
+      ∙ sym (append_assoc inner (Shut ∷ []) (pieces_left form nesting buffer old)))
+
+  pub steps_one : steps_left new ≤ 4 * length held.now + 1 + steps_left mid → steps_left new < steps_of (task.One label held leads depth) + steps_left old
+  steps_one row = omega (arith, row, ap steps_left e, steps_left-append old (task.Close ∷ []))
+
+  pub sound_one : ((buffer : List ℕ) (bound : ℕ) → IsSoundRow buffer bound held.now (depth + 1) → AllSound buffer bound mid → AllSound buffer bound new) →
+      (buffer : List ℕ) (bound : ℕ) → IsSound buffer bound (task.One label held leads depth) → AllSound buffer bound old → AllSound buffer bound new
+  sound_one put buffer bound is h =
+      put buffer bound is.1 (subst (AllSound buffer bound) (sym e) (AllSound-append buffer bound old (task.Close ∷ []) h (tt, tt)))
+
+-- ---- the top of a stack
+
+module _ (all rest : List Task) (t : Task) (e : all ≡ rest ++ t ∷ []) where
+  pub pieces_top : (form : Form) (nesting : ℕ) (buffer : List ℕ) →
+      pieces_left form nesting buffer all ≡ task_front form nesting buffer t ++ (task_rest form nesting buffer t ++ pieces_left form nesting buffer rest)
+  pieces_top form nesting buffer =
+      ap (pieces_left form nesting buffer) e
+      ∙ (pieces_left-append form nesting buffer rest (t ∷ [])
+      ∙ append_assoc (task_front form nesting buffer t) (task_rest form nesting buffer t) (pieces_left form nesting buffer rest))
+
+  pub steps_top : steps_left all ≡ steps_left rest + steps_of t
+  steps_top = omega (arith, ap steps_left e, steps_left-append rest (t ∷ []))
+
+  pub sound_top : (buffer : List ℕ) (bound : ℕ) → AllSound buffer bound all → IsSound buffer bound t
+  sound_top buffer bound h = IsSound-last buffer bound rest t (subst (AllSound buffer bound) e h)
+
+  pub sound_rest : (buffer : List ℕ) (bound : ℕ) → AllSound buffer bound all → AllSound buffer bound rest
+  sound_rest buffer bound h = AllSound-front buffer bound rest (t ∷ []) (subst (AllSound buffer bound) e h)

@@ -1,0 +1,238 @@
+-- What calls make of a buffer of texts: it grows by their text, with the sequences of their styles where they are wanted.
+use Rattle.std.proofs.Common.{◌≡◌, ℕ, Bool, true, false, List, [], ◌∷◌, ◌++◌, refl, sym, ◌∙◌, ap, ap₂, subst, append_assoc, map, ltb, ◌<◌, true≢false, if◌then◌else◌}
+use Rattle.std.proofs.lemmas.List.{append-nil}
+use Rattle.std.proofs.lemmas.Str.{IsUtf8-append, IsUtf8-nil, IsUtf8-from_ascii}
+use Rattle.std.proofs.lemmas.Str.Ascii.{IsAscii-nil, IsAscii-cons}
+use Rattle.std.proofs.lemmas.Bool.{ltb-true}
+use Rattle.std.specs.Str.{IsAscii}
+use Rattle.std.specs.Prelude.{IsUtf8, Result, Ok, Err, Option}
+use Rattle.std.specs.Fmt.{digits}
+use Rattle.std.specs.declared.io.Error.{Error as IoError}
+use Rattle.wasmprinter_spec.specs.Call.{Call, Text, Newline, Line, Start, Claim, Style, Literal, Name, Keyword, TypeName, Comment, Reset, call_text, text_of, cut_call, atoms}
+use Rattle.wasmprinter_spec.specs.Coloured.{coloured_bytes, coloured_text}
+use Rattle.wasmprinter_spec.specs.Meaning.{Run}
+use Rattle.wasmprinter_spec.specs.Layout.Folded.{painted}
+use Rattle.wasmprinter_print.specs.Emits.{Made, Through, ending}
+use Rattle.wasmprinter_node_text.specs.declared.semicolons.Semicolons.{Semicolons}
+use Rattle.wasmprinter_node_text.specs.Buffers.{View, see, see_all, with_text, with_sequences, after, IsTextual, texts_meaning, Grows}
+
+-- ---- text of lists of calls
+
+text_of-append : (k l : List Call) → text_of (k ++ l) ≡ text_of k ++ text_of l
+text_of-append [] l = refl
+text_of-append (c ∷ k) l = ap (λ t. call_text c ++ t) (text_of-append k l) ∙ sym (append_assoc (call_text c) (text_of k) (text_of l))
+
+coloured-append : (k l : List Call) → coloured_text (k ++ l) ≡ coloured_text k ++ coloured_text l
+coloured-append [] l = refl
+coloured-append (c ∷ k) l = ap (λ t. coloured_bytes c ++ t) (coloured-append k l) ∙ sym (append_assoc (coloured_bytes c) (coloured_text k) (coloured_text l))
+
+bytes_text : (s : List ℕ) → text_of (map (λ b. Text (b ∷ [])) s) ≡ s
+bytes_text [] = refl
+bytes_text (b ∷ bs) = ap (λ t. b ∷ t) (bytes_text bs)
+
+bytes_coloured : (s : List ℕ) → coloured_text (map (λ b. Text (b ∷ [])) s) ≡ s
+bytes_coloured [] = refl
+bytes_coloured (b ∷ bs) = ap (λ t. b ∷ t) (bytes_coloured bs)
+
+cut_text : (c : Call) → text_of (cut_call c) ≡ call_text c
+cut_text (Text s) = bytes_text s
+cut_text Newline = refl
+cut_text (Line place) = refl
+cut_text (Start style) = refl
+cut_text (Claim name place bytes answer) = refl
+
+cut_coloured : (c : Call) → coloured_text (cut_call c) ≡ coloured_bytes c
+cut_coloured (Text s) = bytes_coloured s
+cut_coloured Newline = refl
+cut_coloured (Line place) = refl
+cut_coloured (Start style) = append-nil (coloured_bytes (Start style))
+cut_coloured (Claim name place bytes answer) = refl
+
+text_of-atoms : (cs : List Call) → text_of (atoms cs) ≡ text_of cs
+text_of-atoms [] = refl
+text_of-atoms (c ∷ cs) = text_of-append (cut_call c) (atoms cs) ∙ ap₂ (λ x y. x ++ y) (cut_text c) (text_of-atoms cs)
+
+coloured-atoms : (cs : List Call) → coloured_text (atoms cs) ≡ coloured_text cs
+coloured-atoms [] = refl
+coloured-atoms (c ∷ cs) = coloured-append (cut_call c) (atoms cs) ∙ ap₂ (λ x y. x ++ y) (cut_coloured c) (coloured-atoms cs)
+
+-- Calls that differ only in how text is cut have one text,
+pub text_alike : (k l : List Call) → atoms k ≡ atoms l → text_of k ≡ text_of l
+text_alike k l e = sym (text_of-atoms k) ∙ ap text_of e ∙ text_of-atoms l
+
+-- also with the sequences of their styles.
+pub painted_alike : (paints : Bool) (k l : List Call) → atoms k ≡ atoms l → painted paints k ≡ painted paints l
+painted_alike true k l e = sym (coloured-atoms k) ∙ ap coloured_text e ∙ coloured-atoms l
+painted_alike false k l e = text_alike k l e
+
+-- ---- one call
+
+-- what one call adds
+abbrev written : Bool → Call → List ℕ
+written true c = coloured_bytes c
+written false c = call_text c
+
+painted_first : (paints : Bool) (c : Call) (cs : List Call) → painted paints (c ∷ cs) ≡ written paints c ++ painted paints cs
+painted_first true c cs = refl
+painted_first false c cs = refl
+
+painted_none : (paints : Bool) → painted paints [] ≡ []
+painted_none true = refl
+painted_none false = refl
+
+text_written : (paints : Bool) (s : List ℕ) → written paints (Text s) ≡ s
+text_written true s = refl
+text_written false s = refl
+
+feed_written : (paints : Bool) → written paints Newline ≡ 10 ∷ []
+feed_written true = refl
+feed_written false = refl
+
+line_written : (paints : Bool) (place : Option ℕ) → written paints (Line place) ≡ []
+line_written true place = refl
+line_written false place = refl
+
+claim_written : (paints : Bool) (name : List ℕ) (place : ℕ) (bytes : List ℕ) (answer : Bool) → written paints (Claim name place bytes answer) ≡ []
+claim_written true name place bytes answer = refl
+claim_written false name place bytes answer = refl
+
+start_bytes : (paints : Bool) (v : View) (style : Style) → (with_sequences paints v (coloured_bytes (Start style))).bytes ≡ v.bytes ++ written paints (Start style)
+start_bytes true v style = refl
+start_bytes false v style = sym (append-nil v.bytes)
+
+start_paints : (paints : Bool) (v : View) (s : List ℕ) → (with_sequences paints v s).paints ≡ v.paints
+start_paints true v s = refl
+start_paints false v s = refl
+
+start_seen : (paints : Bool) (v : View) (s : List ℕ) → (with_sequences paints v s).seen ≡ v.seen
+start_seen true v s = refl
+start_seen false v s = refl
+
+after_bytes : (v : View) (c : Call) → (after v c).bytes ≡ v.bytes ++ written v.paints c
+after_bytes v (Text s) = ap (λ l. v.bytes ++ l) (sym (text_written v.paints s))
+after_bytes v Newline = ap (λ l. v.bytes ++ l) (sym (feed_written v.paints))
+after_bytes v (Line place) = sym (append-nil v.bytes) ∙ ap (λ l. v.bytes ++ l) (sym (line_written v.paints place))
+after_bytes v (Start style) = start_bytes v.paints v style
+after_bytes v (Claim name place bytes answer) = sym (append-nil v.bytes) ∙ ap (λ l. v.bytes ++ l) (sym (claim_written v.paints name place bytes answer))
+
+after_paints : (v : View) (c : Call) → (after v c).paints ≡ v.paints
+after_paints v (Text s) = refl
+after_paints v Newline = refl
+after_paints v (Line place) = refl
+after_paints v (Start style) = start_paints v.paints v (coloured_bytes (Start style))
+after_paints v (Claim name place bytes answer) = refl
+
+after_seen : (v : View) (c : Call) → (after v c).seen ≡ see_all v.seen (call_text c)
+after_seen v (Text s) = refl
+after_seen v Newline = refl
+after_seen v (Line place) = refl
+after_seen v (Start style) = start_seen v.paints v (coloured_bytes (Start style))
+after_seen v (Claim name place bytes answer) = refl
+
+see_all-append : (x y : List ℕ) (s : Semicolons) → see_all s (x ++ y) ≡ see_all (see_all s x) y
+see_all-append [] y s = refl
+see_all-append (b ∷ x) y s = see_all-append x y (see s b)
+
+-- whether each byte is ASCII
+abbrev all_low : List ℕ → Bool
+all_low [] = true
+all_low (b ∷ bs) = if ltb b 128 then all_low bs else false
+
+low_first : (b : ℕ) (bs : List ℕ) (x : Bool) → ltb b 128 ≡ x → (if x then all_low bs else false) ≡ true → (b < 128) × (all_low bs ≡ true)
+low_first b bs true e h = (ltb-true b 128 e, h)
+low_first b bs false e h = absurd (true≢false (sym h))
+
+low_ascii : (bs : List ℕ) → all_low bs ≡ true → IsAscii bs
+low_ascii [] h = IsAscii-nil
+low_ascii (b ∷ bs) h = let both = low_first b bs (ltb b 128) refl h in IsAscii-cons b bs both.0 (low_ascii bs both.1)
+
+low_text : (bs : List ℕ) → all_low bs ≡ true → IsUtf8 bs
+low_text bs h = IsUtf8-from_ascii bs (low_ascii bs h)
+
+style_text : (style : Style) → IsUtf8 (coloured_bytes (Start style))
+unfolding digits
+style_text Literal = low_text (coloured_bytes (Start Literal)) refl
+style_text Name = low_text (coloured_bytes (Start Name)) refl
+style_text Keyword = low_text (coloured_bytes (Start Keyword)) refl
+style_text TypeName = low_text (coloured_bytes (Start TypeName)) refl
+style_text Comment = low_text (coloured_bytes (Start Comment)) refl
+style_text Reset = low_text (coloured_bytes (Start Reset)) refl
+
+feed_text : IsUtf8 (10 ∷ [])
+feed_text = low_text (10 ∷ []) refl
+
+written_text : (paints : Bool) (c : Call) → IsTextual c → IsUtf8 (written paints c)
+written_text true (Text s) h = h
+written_text true Newline h = feed_text
+written_text true (Line place) h = IsUtf8-nil
+written_text true (Start style) h = style_text style
+written_text true (Claim name place bytes answer) h = IsUtf8-nil
+written_text false (Text s) h = h
+written_text false Newline h = feed_text
+written_text false (Line place) h = IsUtf8-nil
+written_text false (Start style) h = IsUtf8-nil
+written_text false (Claim name place bytes answer) h = IsUtf8-nil
+
+-- ---- calls one after the other
+
+-- what calls add to a buffer
+pub record Adds (old : View) (calls : List Call) (new : View) : Type 0 where
+  pub bytes : new.bytes ≡ old.bytes ++ painted old.paints calls
+  pub paints : new.paints ≡ old.paints
+  pub seen : new.seen ≡ see_all old.seen (text_of calls)
+  pub is_text : IsUtf8 (painted old.paints calls)
+
+adds_none : (s : View) → Adds s [] s
+adds_none s =
+    let none = painted_none s.paints in
+    record { bytes = sym (append-nil s.bytes) ∙ ap (λ l. s.bytes ++ l) (sym none); paints = refl; seen = refl; is_text = subst IsUtf8 (sym none) IsUtf8-nil }
+
+adds_first : (s t : View) (c : Call) (cs : List Call) → IsTextual c → Adds (after s c) cs t → Adds s (c ∷ cs) t
+adds_first s t c cs is h =
+    let same : (after s c).paints ≡ s.paints = after_paints s c in
+    let rest : painted (after s c).paints cs ≡ painted s.paints cs = ap (λ b. painted b cs) same in
+    record {
+      bytes =
+          h.bytes ∙ ap₂ (λ x y. x ++ y) (after_bytes s c) rest ∙ append_assoc s.bytes (written s.paints c) (painted s.paints cs)
+          ∙ ap (λ l. s.bytes ++ l) (sym (painted_first s.paints c cs));
+      paints = h.paints ∙ same;
+      seen = h.seen ∙ ap (λ x. see_all x (text_of cs)) (after_seen s c) ∙ sym (see_all-append (call_text c) (text_of cs) s.seen);
+      is_text =
+          subst IsUtf8 (sym (painted_first s.paints c cs))
+          (IsUtf8-append (written s.paints c) (painted s.paints cs) (written_text s.paints c is) (subst IsUtf8 rest h.is_text));
+    }
+
+run_adds : (s : View) (calls : List Call) (t : View) → Run texts_meaning s calls t → Adds s calls t
+run_adds s [] t r = subst (λ (u : View). Adds s [] u) r (adds_none s)
+run_adds s (c ∷ cs) t r = adds_first s t c cs r.1.step.1 (run_adds (after s c) cs t (subst (λ (u : View). Run texts_meaning u cs t) r.1.step.0 r.2))
+
+-- a layout whose calls were made
+pub made_adds : (s t : View) (layout : List Call) → Made texts_meaning s t Through layout → Adds s layout t
+made_adds s t layout m =
+    let a = run_adds s m.made.calls t m.made.run in
+    let same = painted_alike s.paints m.made.calls layout m.made.alike in
+    record {
+      bytes = a.bytes ∙ ap (λ l. s.bytes ++ l) same;
+      paints = a.paints;
+      seen = a.seen ∙ ap (see_all s.seen) (text_alike m.made.calls layout m.made.alike);
+      is_text = subst IsUtf8 same a.is_text;
+    }
+
+-- a text
+pub text_adds : (s t : View) (text : List ℕ) → IsUtf8 text → t ≡ with_text s text → Adds s (Text text ∷ []) t
+text_adds s t text u e = run_adds s (Text text ∷ []) t (t, record { step = (e, u); kept = refl }, refl)
+
+-- ---- what stays, whether the calls succeeded or not
+
+-- bytes are added alone, and with or without sequences as before
+pub record Keeps (old new : View) : Type 0 where
+  pub paints : new.paints ≡ old.paints
+  pub grows : Grows old.bytes new.bytes
+
+adds_keeps : (s t : View) (calls : List Call) → Adds s calls t → Keeps s t
+adds_keeps s t calls a = record { paints = a.paints; grows = record { more = painted s.paints calls; parts = a.bytes; is_text = a.is_text } }
+
+pub made_keeps : {T : Type 0} (s t : View) (layout : List Call) (r : Result T IoError) → Made texts_meaning s t (ending r) layout → Keeps s t
+made_keeps s t layout (Ok x) m = adds_keeps s t m.made.calls (run_adds s m.made.calls t m.made.run)
+made_keeps s t layout (Err e) m =
+    subst (λ (u : View). Keeps s u) (sym m.made.failed.left.1) (adds_keeps s m.made.before m.made.calls (run_adds s m.made.calls m.made.before m.made.run))

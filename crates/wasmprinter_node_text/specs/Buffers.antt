@@ -1,0 +1,76 @@
+-- The texts of nodes in one buffer, as a printer: what calls make of it.
+use Rattle.std.specs.Prelude.{◌≡◌, ℕ, ◌==◌, ◌&&◌, ◌||◌, List, [], ◌∷◌, ◌++◌, Bool, true, false, None, IsUtf8}
+use Rattle.std.specs.IoError.{error_kind}
+use Rattle.std.specs.declared.io.ErrorKind.TheVariants.{OutOfMemory}
+use Rattle.wasmprinter_spec.specs.Call.{Call, Text, Newline, Line, Start, Claim}
+use Rattle.wasmprinter_spec.specs.Coloured.{coloured_bytes}
+use Rattle.wasmprinter_spec.specs.Meaning.{Meaning}
+use Rattle.wasmprinter_node_text.specs.declared.semicolons.Semicolons.{Semicolons}
+
+-- the texts, whether the sequences of styles are among them, and what was seen of semicolons since the last text began, sequences left out
+pub record View : Type 0 where
+  pub bytes : List ℕ
+  pub paints : Bool
+  pub seen : Semicolons
+
+-- nothing was read
+abbrev pub unseen : Semicolons
+unseen = record { last = false; double = false }
+
+-- one byte more
+abbrev pub see : Semicolons → ℕ → Semicolons
+see s b = record { last = b == 59; double = s.double || (s.last && (b == 59)) }
+
+-- bytes, one after the other
+abbrev pub see_all : Semicolons → List ℕ → Semicolons
+see_all s [] = s
+see_all s (b ∷ bs) = see_all (see s b) bs
+
+-- a buffer in which the next text begins
+abbrev pub begun : View → View
+begun v = record { bytes = v.bytes; paints = v.paints; seen = unseen }
+
+-- a piece of text is added
+abbrev pub with_text : View → List ℕ → View
+with_text v s = record { bytes = v.bytes ++ s; paints = v.paints; seen = see_all v.seen s }
+
+-- sequences are added, where they are wanted
+abbrev pub with_sequences : Bool → View → List ℕ → View
+with_sequences true v s = record { bytes = v.bytes ++ s; paints = v.paints; seen = v.seen }
+with_sequences false v s = v
+
+-- what a call makes of a buffer
+abbrev pub after : View → Call → View
+after v (Text s) = with_text v s
+after v Newline = with_text v (10 ∷ [])
+after v (Line place) = v
+after v (Start style) = with_sequences v.paints v (coloured_bytes (Start style))
+after v (Claim name place bytes answer) = v
+
+-- what a call hands over is text, and no custom section is taken
+abbrev pub IsTextual : Call → Type 0
+IsTextual (Text s) = IsUtf8 s
+IsTextual (Claim name place bytes answer) = answer ≡ false
+IsTextual _ = Unit {0}
+
+-- only what may write text can fail
+abbrev pub WantsMemory : Call → Type 0
+WantsMemory (Text s) = Unit {0}
+WantsMemory Newline = Unit {0}
+WantsMemory (Start style) = Unit {0}
+WantsMemory _ = ⊥
+
+-- the meaning of a buffer: a call that fails wants memory, and leaves it as it was
+abbrev pub texts_meaning : Meaning View
+texts_meaning = record {
+  after = λ old call new. (new ≡ after old call) × IsTextual call;
+  may_fail = λ old call. WantsMemory call;
+  partly = λ old call error new. (error_kind error ≡ OutOfMemory) × (new ≡ old);
+  faults = λ v. None;
+}
+
+-- new bytes are old ones and text behind them
+pub record Grows (old new : List ℕ) : Type 0 where
+  pub more : List ℕ
+  pub parts : new ≡ old ++ more
+  pub is_text : IsUtf8 more

@@ -1,0 +1,77 @@
+-- What is printed of a node in front of the nodes that it holds, and the layout of nodes by it.
+use Rattle.std.specs.Prelude.{◌≡◌, ℕ, ◌+◌, ◌-◌, ◌&&◌, List, [], ◌∷◌, ◌++◌, length, take, drop, Bool, true, false, Option, Some, None, option_map, IsUtf8}
+use Rattle.std.specs.Option.{is_none}
+use Rattle.wasmprinter_spec.specs.Call.{Call, text_of}
+use Rattle.wasmprinter_spec.specs.Options.{defaults}
+use Rattle.wasmprinter_spec.specs.Piece.{Piece, Break, Word, OpenPlain, Shut, HintNote, text}
+use Rattle.wasmprinter_spec.specs.Layout.Operators.{Form, OverLines, InLine, before_word}
+use Rattle.wasmprinter_spec.specs.Layout.Folded.{head_place, head_hint, head_calls, painted, has_line_comment}
+use Rattle.wasmprinter_spec.specs.Folding.Tree.{Head, NodesOf, Nil, Snoc, is_nil}
+use Rattle.wasmprinter_nodes.specs.declared.Label.{Label}
+use Rattle.wasmprinter_nodes.specs.Heads.{AllNodes}
+
+-- its place, whether its branch is hinted as taken, its text, and whether that holds a comment up to the end of the line
+pub record Shown : Type 0 where
+  pub place : ℕ
+  pub hint : Option Bool
+  pub text : List ℕ
+  pub comment : Bool
+
+-- by its place, its hint, whether styles are in the text, and the calls of its text
+abbrev pub shown : ℕ → Option Bool → Bool → List Call → Shown
+shown place hint paints cs = record { place = place; hint = hint; text = painted paints cs; comment = has_line_comment (text_of cs) }
+
+-- what is printed of a node with this head
+abbrev pub shown_head : Bool → Head → Shown
+shown_head paints h = shown (head_place h) (option_map (λ x. x.value.taken) (head_hint h)) paints (head_calls defaults h)
+
+-- what is printed of a node with this label, its text taken from the buffer of texts
+abbrev pub shown_in : List ℕ → Label → Shown
+shown_in buffer l = record { place = l.place; hint = l.hint; text = take (l.stop - l.start) (drop l.start buffer); comment = l.comment }
+
+-- ---- where the texts lie
+
+-- the text of a label lies in the buffer, between whole characters
+pub record IsIn (buffer : List ℕ) (l : Label) : Type 0 where
+  pub before : List ℕ
+  pub text : List ℕ
+  pub after : List ℕ
+  pub parts : buffer ≡ before ++ (text ++ after)
+  pub starts : length before ≡ l.start
+  pub stops : l.start + length text ≡ l.stop
+  pub is_text : IsUtf8 text
+  pub is_rest : IsUtf8 after
+
+-- the same of the label of each node
+abbrev pub AreIn : List ℕ → NodesOf Label → Type 0
+AreIn buffer f = AllNodes (IsIn buffer) f
+
+-- ---- the layout
+
+-- a hint stands in front of its node as a node would, and in its place
+abbrev pub shown_hint : Form → Bool → ℕ → ℕ → Option Bool → List Piece
+shown_hint form first place nesting None = []
+shown_hint form first place nesting (Some taken) = before_word form first place nesting ++ Word (text defaults (HintNote taken)) ∷ []
+
+-- The parenthesis that closes a node must not stand in a comment that goes up to the end of the line.
+abbrev pub comment_break : Bool → Bool → ℕ → ℕ → List Piece
+comment_break true true place nesting = Break (Some place) nesting ∷ []
+comment_break _ _ place nesting = []
+
+-- what is printed of a node before the nodes that it holds
+abbrev pub node_front : Form → Bool → Bool → ℕ → Shown → List Piece
+node_front form leads leaf nesting s =
+    shown_hint form leads s.place nesting s.hint
+    ++ (before_word form (leads && is_none s.hint) s.place nesting ++ (OpenPlain s.text ∷ comment_break leaf s.comment s.place nesting))
+
+-- whether a line begins there
+abbrev pub begins_line : Form → Bool → Bool → Bool
+begins_line OverLines leaf comment = true
+begins_line InLine leaf comment = leaf && comment
+
+-- nodes in a row, nested so deep, as the first of their line or behind something
+unfoldable pub row_pieces : Form → Bool → ℕ → NodesOf Shown → List Piece
+row_pieces form first nesting Nil = []
+row_pieces form first nesting (Snoc before s results held) =
+    row_pieces form first nesting before
+    ++ (node_front form (first && is_nil before) (is_nil held) nesting s ++ (row_pieces form false (nesting + 1) held ++ (Shut ∷ [])))

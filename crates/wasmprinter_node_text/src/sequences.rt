@@ -1,0 +1,52 @@
+//! The sequences of styles on a terminal (Select Graphic Rendition of ECMA-48).
+ghost use Rattle.std.specs.Prelude.{◌≡◌};
+ghost use Rattle.wasmprinter_spec.specs.Call.{Start, Literal as LiteralStyle, Name as NameStyle, Keyword as KeywordStyle, TypeName as TypeStyle, Comment as CommentStyle, Reset as NoStyle};
+ghost use Rattle.wasmprinter_spec.specs.Coloured.{coloured_bytes};
+
+/// Red.
+#[tactic(auto, using(crate::proofs::Constants::literal))]
+pub fn literal_sequences() -> &'static str
+    ensures { result.now ≡ coloured_bytes (Start LiteralStyle) }
+{
+    "\x1b[0m\x1b[31m"
+}
+
+/// Magenta.
+#[tactic(auto, using(crate::proofs::Constants::name))]
+pub fn name_sequences() -> &'static str
+    ensures { result.now ≡ coloured_bytes (Start NameStyle) }
+{
+    "\x1b[0m\x1b[35m"
+}
+
+/// Bold, and yellow in its intense shade.
+#[tactic(auto, using(crate::proofs::Constants::keyword))]
+pub fn keyword_sequences() -> &'static str
+    ensures { result.now ≡ coloured_bytes (Start KeywordStyle) }
+{
+    "\x1b[0m\x1b[1m\x1b[38;5;11m"
+}
+
+/// Bold, and green in its intense shade.
+#[tactic(auto, using(crate::proofs::Constants::type_name))]
+pub fn type_sequences() -> &'static str
+    ensures { result.now ≡ coloured_bytes (Start TypeStyle) }
+{
+    "\x1b[0m\x1b[1m\x1b[38;5;10m"
+}
+
+/// Cyan.
+#[tactic(auto, using(crate::proofs::Constants::comment))]
+pub fn comment_sequences() -> &'static str
+    ensures { result.now ≡ coloured_bytes (Start CommentStyle) }
+{
+    "\x1b[0m\x1b[36m"
+}
+
+/// Without colours.
+#[tactic(auto, using(crate::proofs::Constants::reset))]
+pub fn reset_sequences() -> &'static str
+    ensures { result.now ≡ coloured_bytes (Start NoStyle) }
+{
+    "\x1b[0m"
+}

@@ -1,0 +1,85 @@
+//! What is still to be written of nodes.
+ghost use Rattle.std.specs.Prelude.{◌≡◌, ℕ, ◌+◌, ◌*◌, ◌≤◌, ◌<◌, ◌^◌, ◌++◌, ◌&&◌, ◌==◌, List, length, OnOk};
+ghost use Rattle.wasmprinter_spec.specs.Layout.Operators.{Form};
+ghost use Rattle.wasmprinter_nodes.specs.Postorder.{IsPostorder};
+ghost use Rattle.wasmprinter_node_text.specs.Tasks.{pieces_of_row, pieces_left, task_rest, IsSound, IsSoundRow, AllSound, steps_left, steps_of};
+
+use std::alloc::AllocError;
+use wasmprinter_nodes::{Label, Node, last_group};
+
+/// A task.
+#[derive(Clone, Copy, Debug, Drop)]
+pub enum Task<'a> {
+    /// A row of nodes, nested so much deeper: the first of their line or behind something.
+    Row(&'a [Node], bool, u64),
+    /// One node, with the nodes that it holds: the first of its line or behind something.
+    One(Label, &'a [Node], bool, u64),
+    /// The parenthesis that closes a node.
+    Close,
+}
+
+/// Whether a node behind these is the first of its line.
+fn leads(first: bool, before: &[Node]) -> bool
+    ensures { result ≡ (first && (length before.now == 0)) }
+{
+    first && before.is_empty()
+}
+
+/// Puts the task of a row of nodes on top of the others, if the row has a node.
+fn push_row<'a>(
+    tasks: &mut Vec<Task<'a>>,
+    nodes: &'a [Node],
+    first: bool,
+    depth: u64,
+) -> Result<(), AllocError>
+    ensures pieces { OnOk result ((form : Form) (nesting : ℕ) (buffer : List ℕ) →
+        pieces_left form nesting buffer tasks.new.items ≡ pieces_of_row form nesting buffer nodes.now first depth ++ pieces_left form nesting buffer tasks.old.items) }
+    ensures steps { OnOk result (steps_left tasks.new.items ≤ 4 * length nodes.now + 1 + steps_left tasks.old.items) }
+    ensures sound { OnOk result ((buffer : List ℕ) (bound : ℕ) → IsSoundRow buffer bound nodes.now depth → AllSound buffer bound tasks.old.items → AllSound buffer bound tasks.new.items) }
+{
+    if !nodes.is_empty() {
+        tasks.push(Task::Row(nodes, first, depth))?;
+    }
+    Ok(())
+}
+
+/// Puts the tasks of a row of nodes on top of the others.
+fn put_row<'a>(
+    tasks: &mut Vec<Task<'a>>,
+    nodes: &'a [Node],
+    first: bool,
+    depth: u64,
+) -> Result<(), AllocError>
+    requires row { IsPostorder nodes.now }
+    ensures pieces { OnOk result ((form : Form) (nesting : ℕ) (buffer : List ℕ) →
+        pieces_left form nesting buffer tasks.new.items ≡ pieces_of_row form nesting buffer nodes.now first depth ++ pieces_left form nesting buffer tasks.old.items) }
+    ensures steps { OnOk result (steps_left tasks.new.items ≤ 4 * length nodes.now + steps_left tasks.old.items) }
+    ensures sound { OnOk result ((buffer : List ℕ) (bound : ℕ) → IsSoundRow buffer bound nodes.now depth → AllSound buffer bound tasks.old.items → AllSound buffer bound tasks.new.items) }
+{
+    match last_group(nodes) {
+        Some(last) => {
+            let leads = leads(first, last.before);
+            tasks.push(Task::One(last.node.label, last.parts, leads, depth))?;
+            push_row(tasks, last.before, first, depth)
+        }
+        None => Ok(()),
+    }
+}
+
+/// Puts what is left of a task, once its front is written, on top of the others.
+pub fn put_rest<'a>(tasks: &mut Vec<Task<'a>>, task: &Task<'a>) -> Result<(), AllocError>
+    requires sound { (buffer : List ℕ) × (bound : ℕ) × IsSound buffer bound task.now × (bound < 2 ^ 64) }
+    ensures pieces { OnOk result ((form : Form) (nesting : ℕ) (buffer : List ℕ) →
+        pieces_left form nesting buffer tasks.new.items ≡ task_rest form nesting buffer task.now ++ pieces_left form nesting buffer tasks.old.items) }
+    ensures steps { OnOk result (steps_left tasks.new.items < steps_of task.now + steps_left tasks.old.items) }
+    ensures sound { OnOk result ((buffer : List ℕ) (bound : ℕ) → IsSound buffer bound task.now → AllSound buffer bound tasks.old.items → AllSound buffer bound tasks.new.items) }
+{
+    match *task {
+        Task::Row(nodes, first, depth) => put_row(tasks, nodes, first, depth),
+        Task::One(_, held, _, depth) => {
+            tasks.push(Task::Close)?;
+            push_row(tasks, held, false, depth + 1)
+        }
+        Task::Close => Ok(()),
+    }
+}

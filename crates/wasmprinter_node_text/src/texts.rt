@@ -1,0 +1,240 @@
+//! The texts of nodes, one behind the other in one buffer.
+ghost use Rattle.std.specs.Prelude.{◌≡◌, false};
+ghost use Rattle.wasmprinter_node_text.specs.Buffers.{texts_meaning};
+
+use crate::semicolons::{Semicolons, UNSEEN, see_text};
+use crate::sequences::{
+    comment_sequences, keyword_sequences, literal_sequences, name_sequences, reset_sequences,
+    type_sequences,
+};
+use std::alloc::{AllocError, Global};
+use std::io;
+use std::marker::Model;
+use wasmprinter_flat::operators::{Setting, write_word};
+use wasmprinter_labels::OpenLabels;
+use wasmprinter_nodes::Label;
+use wasmprinter_ops::operator::Operator;
+use wasmprinter_print::Print;
+use wasmprinter_text::signature::Signatures;
+
+/// The texts of nodes, one behind the other in one buffer, with the sequences of their styles or without styles.
+///
+/// As a printer it appends to the last text. It takes no custom section itself. A call that wants memory and gets none fails, and leaves
+/// the buffer as it was.
+#[derive(Drop)]
+pub struct Texts {
+    text: String,
+    paints: bool,
+    seen: Semicolons,
+}
+
+impl Model for Texts {
+    ghost use Rattle.std.specs.String.{string_bytes};
+    ghost use Rattle.wasmprinter_node_text.specs.Buffers.{View};
+
+    ghost Value = { View };
+
+    ghost view = { λ t. record { bytes = string_bytes t.text; paints = t.paints; seen = t.seen } };
+}
+
+impl Texts {
+    ghost use Rattle.std.specs.Prelude.{◌≡◌, ◌+◌, ◌<◌, ◌^◌, [], ◌∷◌, length, None, OnOk, OnErr, IfOk};
+    ghost use Rattle.wasmprinter_spec.specs.Call.{Text};
+    ghost use Rattle.wasmprinter_spec.specs.Options.{defaults};
+    ghost use Rattle.wasmprinter_spec.specs.Piece.{all_calls};
+    ghost use Rattle.wasmprinter_print.specs.Emits.{Made, Through};
+    ghost use Rattle.wasmprinter_labels.specs.Scan.{names_of, own_label};
+    ghost use Rattle.wasmprinter_flat.specs.Settings.{setting_view, word_pieces};
+    ghost use Rattle.wasmprinter_node_text.specs.Shown.{shown, shown_in, IsIn};
+    ghost use Rattle.wasmprinter_node_text.specs.Buffers.{Grows, begun, with_text, with_sequences, unseen, texts_meaning};
+
+    /// No text; with the sequences of styles, or without. Takes no memory.
+    pub fn new(alloc: Global, paints: bool) -> Texts
+        ensures { result ≡ record { bytes = []; paints = paints; seen = unseen } }
+    {
+        Texts {
+            text: String::new(alloc),
+            paints,
+            seen: UNSEEN,
+        }
+    }
+
+    /// Leaves all texts out. Their room stays.
+    pub fn clear(&mut self)
+        ensures { self.new ≡ record { bytes = []; paints = self.old.paints; seen = unseen } }
+    {
+        self.text.clear();
+        self.seen = UNSEEN;
+    }
+
+    /// All texts.
+    pub fn as_str(&self) -> &str
+        ensures { result.now ≡ self.now.bytes }
+    {
+        self.text.as_str()
+    }
+
+    /// Begins the next text, and tells where.
+    fn begin(&mut self) -> usize
+        ensures buffer { self.new ≡ begun self.old }
+        ensures start { result ≡ length self.old.bytes }
+    {
+        self.seen = UNSEEN;
+        self.text.len()
+    }
+
+    /// Appends a piece of text.
+    fn push_text(&mut self, piece: &str) -> Result<(), AllocError>
+        ensures ok { OnOk result (self.new ≡ with_text self.old piece.now) }
+        ensures err { OnErr result (self.new ≡ self.old) }
+    {
+        self.text.push_str(piece)?;
+        self.seen = see_text(self.seen, piece);
+        Ok(())
+    }
+
+    /// The label of the last text.
+    fn label(&self, start: usize, place: u64, hint: Option<bool>) -> Label
+        ensures { result ≡ record { place = place; hint = hint; start = start; stop = length self.now.bytes; comment = self.now.seen.double } }
+    {
+        Label {
+            place,
+            hint,
+            start,
+            stop: self.text.len(),
+            comment: self.seen.double,
+        }
+    }
+
+    /// Appends the word of an operator and its immediates.
+    fn push_operator<S: Signatures>(
+        &mut self,
+        setting: &Setting<'_, S>,
+        labels: &OpenLabels<'_, '_>,
+        operator: &Operator<'_>,
+    ) -> Result<(), AllocError>
+        requires { length labels.now.labels + 1 < 2 ^ 64 }
+        ensures paints { self.new.paints ≡ self.old.paints }
+        ensures grows { Grows self.old.bytes self.new.bytes }
+        ensures made { OnOk result (Made texts_meaning self.old self.new Through
+            (all_calls defaults (word_pieces (setting_view S.signature_at setting.now (names_of labels.now)) (own_label labels.now) labels.now.labels operator.now))) }
+    {
+        match write_word(self, setting, labels, operator) {
+            Ok(()) => Ok(()),
+            Err(_) => Err(AllocError),
+        }
+    }
+
+    /// Writes the text of an operator's node, its word and immediates, where these labels are open in front of it, and gives its label.
+    ///
+    /// # Errors
+    ///
+    /// Where memory is refused. A beginning of the text then stands behind the others.
+    pub fn write_operator<S: Signatures>(
+        &mut self,
+        setting: &Setting<'_, S>,
+        labels: &OpenLabels<'_, '_>,
+        operator: &Operator<'_>,
+        place: u64,
+        hint: Option<bool>,
+    ) -> Result<Label, AllocError>
+        requires { length labels.now.labels + 1 < 2 ^ 64 }
+        ensures paints { self.new.paints ≡ self.old.paints }
+        ensures grows { Grows self.old.bytes self.new.bytes }
+        ensures inside { IfOk result (λ label. IsIn self.new.bytes label) }
+        ensures shows { IfOk result (λ label. shown_in self.new.bytes label ≡ shown place hint self.old.paints
+            (all_calls defaults (word_pieces (setting_view S.signature_at setting.now (names_of labels.now)) (own_label labels.now) labels.now.labels operator.now))) }
+    {
+        let start = self.begin();
+        self.push_operator(setting, labels, operator)?;
+        Ok(self.label(start, place, hint))
+    }
+
+    /// Writes the text of a case of an `if`, its keyword, and gives its label.
+    ///
+    /// # Errors
+    ///
+    /// Where memory is refused. The texts are then as they were.
+    pub fn write_keyword(&mut self, keyword: &str, place: u64) -> Result<Label, AllocError>
+        ensures paints { self.new.paints ≡ self.old.paints }
+        ensures grows { Grows self.old.bytes self.new.bytes }
+        ensures inside { IfOk result (λ label. IsIn self.new.bytes label) }
+        ensures shows { IfOk result (λ label. shown_in self.new.bytes label ≡ shown place None self.old.paints (Text keyword.now ∷ [])) }
+    {
+        let start = self.begin();
+        self.push_text(keyword)?;
+        Ok(self.label(start, place, None))
+    }
+
+    /// Appends the sequences of a style, where they are wanted.
+    fn push_sequences(&mut self, sequences: &str) -> Result<(), AllocError>
+        ensures ok { OnOk result (self.new ≡ with_sequences self.old.paints self.old sequences.now) }
+        ensures err { OnErr result (self.new ≡ self.old) }
+    {
+        if self.paints {
+            self.text.push_str(sequences)?;
+        }
+        Ok(())
+    }
+}
+
+impl Print for Texts {
+    ghost meaning = { texts_meaning };
+
+    ghost colors = { λ _. false };
+
+    fn write_str(&mut self, s: &str) -> io::Result<()> {
+        self.push_text(s)?;
+        Ok(())
+    }
+
+    fn newline(&mut self) -> io::Result<()> {
+        self.push_text("\n")?;
+        Ok(())
+    }
+
+    fn start_line(&mut self, _binary_offset: Option<u64>) {}
+
+    fn print_custom_section(
+        &mut self,
+        _name: &str,
+        _binary_offset: u64,
+        _bytes: &[u8],
+    ) -> io::Result<bool> {
+        Ok(false)
+    }
+
+    fn start_literal(&mut self) -> io::Result<()> {
+        self.push_sequences(literal_sequences())?;
+        Ok(())
+    }
+
+    fn start_name(&mut self) -> io::Result<()> {
+        self.push_sequences(name_sequences())?;
+        Ok(())
+    }
+
+    fn start_keyword(&mut self) -> io::Result<()> {
+        self.push_sequences(keyword_sequences())?;
+        Ok(())
+    }
+
+    fn start_type(&mut self) -> io::Result<()> {
+        self.push_sequences(type_sequences())?;
+        Ok(())
+    }
+
+    fn start_comment(&mut self) -> io::Result<()> {
+        self.push_sequences(comment_sequences())?;
+        Ok(())
+    }
+
+    fn reset_color(&mut self) -> io::Result<()> {
+        self.push_sequences(reset_sequences())?;
+        Ok(())
+    }
+
+    fn supports_async_color(&self) -> bool {
+        false
+    }
+}

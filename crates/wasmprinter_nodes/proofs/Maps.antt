@@ -1,0 +1,80 @@
+-- The steps of the builder take no notice of what stands first in a node.
+use Rattle.std.proofs.Common.{◌≡◌, ℕ, zero, suc, List, [], ◌∷◌, map, refl, sym, ◌∙◌, ap, Bool, true, false, cond, ltb, eqb}
+use Rattle.wasmprinter_spec.specs.Folding.Arities.{saturated}
+use Rattle.wasmprinter_spec.specs.Folding.Tree.{NodesOf, Nil, Snoc, front, last, OperandsOf, Fit, Passed, Short, with_last, operands_from, operands, with_operands}
+use Rattle.wasmprinter_nodes.specs.Building.{Open, Top, InBlock, InThen, InElse, StateOf, Step, Plain, Opens, OpensIf, Turns, Ends, state_at, turned, closed, step, run_all}
+use Rattle.wasmprinter_nodes.specs.Mapping.{map_nodes, map_operands, map_open, map_state, map_step}
+
+module _ {H K : Type 0} (v : H → K) where
+  pub front-map : (f : NodesOf H) → front (map_nodes v f) ≡ map_nodes v (front f)
+  front-map Nil = refl
+  front-map (Snoc b h r held) = refl
+
+  pub last-map : (f : NodesOf H) → last (map_nodes v f) ≡ map_nodes v (last f)
+  last-map Nil = refl
+  last-map (Snoc b h r held) = refl
+
+  with_last-map : (h : H) (r : ℕ) (held : NodesOf H) (o : OperandsOf H)
+      → with_last (v h) r (map_nodes v held) (map_operands v o) ≡ map_operands v (with_last h r held o)
+  with_last-map h r held (Fit before run) = refl
+  with_last-map h r held Passed = refl
+  with_last-map h r held Short = refl
+
+  cond-map : (t : Bool) (o p : OperandsOf H) → cond t (map_operands v o) (map_operands v p) ≡ map_operands v (cond t o p)
+  cond-map true o p = refl
+  cond-map false o p = refl
+
+  operands_from-map : (wanted sum : ℕ) (f : NodesOf H)
+      → operands_from wanted sum (map_nodes v f) ≡ map_operands v (operands_from wanted sum f)
+  operands_from-map wanted sum Nil = refl
+  operands_from-map wanted sum (Snoc b h r held) =
+      let next : ℕ = saturated sum r in
+      let found : OperandsOf H = Fit b (Snoc Nil h r held) in
+      let deeper : OperandsOf H = with_last h r held (operands_from wanted next b) in
+      ap (λ (o : OperandsOf K). cond (eqb next wanted) (map_operands v found) (cond (ltb wanted next) Passed o))
+      (ap (with_last (v h) r (map_nodes v held)) (operands_from-map wanted next b) ∙ with_last-map h r held (operands_from wanted next b))
+      ∙ (ap (λ (o : OperandsOf K). cond (eqb next wanted) (map_operands v found) o) (cond-map (ltb wanted next) Passed deeper)
+      ∙ cond-map (eqb next wanted) found (cond (ltb wanted next) Passed deeper))
+
+  pub operands-map : (wanted : ℕ) (f : NodesOf H) → operands wanted (map_nodes v f) ≡ map_operands v (operands wanted f)
+  operands-map zero f = refl
+  operands-map (suc n) f = operands_from-map (suc n) 0 f
+
+  with_operands-map : (f : NodesOf H) (h : H) (gives : ℕ) (o : OperandsOf H)
+      → with_operands (map_nodes v f) (v h) gives (map_operands v o) ≡ map_nodes v (with_operands f h gives o)
+  with_operands-map f h gives (Fit before run) = refl
+  with_operands-map f h gives Passed = refl
+  with_operands-map f h gives Short = refl
+
+  -- an operator with its operands
+  pub folded-map : (f : NodesOf H) (h : H) (takes gives : ℕ)
+      → with_operands (map_nodes v f) (v h) gives (operands takes (map_nodes v f)) ≡ map_nodes v (with_operands f h gives (operands takes f))
+  folded-map f h takes gives =
+      ap (with_operands (map_nodes v f) (v h) gives) (operands-map takes f) ∙ with_operands-map f h gives (operands takes f)
+
+  turned-map : (otherwise : H) (o : Open H) (f : NodesOf H)
+      → map_state v (turned otherwise o f) ≡ turned (v otherwise) (map_open v o) (map_nodes v f)
+  turned-map otherwise Top f = refl
+  turned-map otherwise (InBlock o b x q) f = refl
+  turned-map otherwise (InThen o b d x y q) f = refl
+  turned-map otherwise (InElse o b d x y q) f = refl
+
+  closed-map : (o : Open H) (f : NodesOf H) → map_state v (closed o f) ≡ closed (map_open v o) (map_nodes v f)
+  closed-map Top f = refl
+  closed-map (InBlock o b x q) f = refl
+  closed-map (InThen o b d x y q) f = refl
+  closed-map (InElse o b d x y q) f = refl
+
+  pub step-map : (s : StateOf H) (t : Step H) → map_state v (step s t) ≡ step (map_state v s) (map_step v t)
+  step-map s (Plain h takes gives) = ap (state_at (map_open v s.outer)) (sym (folded-map s.groups h takes gives))
+  step-map s (Opens h gives) = refl
+  step-map s (OpensIf h case gives) =
+      ap (λ (f : NodesOf K). state_at (InThen (map_open v s.outer) f (map_nodes v (last s.groups)) (v h) (v case) gives) Nil) (sym (front-map s.groups))
+      ∙ ap (λ (f : NodesOf K). state_at (InThen (map_open v s.outer) (front (map_nodes v s.groups)) f (v h) (v case) gives) Nil) (sym (last-map s.groups))
+  step-map s (Turns otherwise) = turned-map otherwise s.outer s.groups
+  step-map s Ends = closed-map s.outer s.groups
+
+  pub run_all-map : (s : StateOf H) (ts : List (Step H)) → map_state v (run_all s ts) ≡ run_all (map_state v s) (map (map_step v) ts)
+  run_all-map s [] = refl
+  run_all-map s (t ∷ ts) =
+      run_all-map (step s t) ts ∙ ap (λ (u : StateOf K). run_all u (map (map_step v) ts)) (step-map s t)

@@ -1,0 +1,6 @@
+pub mod Postorder
+pub mod Rows
+pub mod Mapping
+pub mod Building
+pub mod Frames
+pub mod Heads

@@ -1,0 +1,63 @@
+//! Rows of nodes: their last node, and the search for operands.
+ghost use Rattle.std.specs.Prelude.{◌≡◌, [], MatchOption};
+ghost use Rattle.wasmprinter_spec.specs.Folding.Tree.{operands};
+ghost use Rattle.wasmprinter_nodes.specs.Postorder.{IsPostorder, forest_of};
+ghost use Rattle.wasmprinter_nodes.specs.Rows.{IsLast, outcome};
+
+use crate::Node;
+
+/// The last node of a row, the nodes before it, and those that it holds.
+#[derive(Clone, Copy, Debug)]
+pub struct Last<'a> {
+    pub before: &'a [Node],
+    pub node: Node,
+    pub parts: &'a [Node],
+}
+
+/// How a search for operands ended.
+#[derive(Clone, Copy, Debug)]
+pub enum Taken {
+    /// So many nodes, at every depth, stand before the operands.
+    From(usize),
+    /// A sum of results passed what is wanted first.
+    Passed,
+    /// There are too few results.
+    Short,
+}
+
+/// The last node of a row, if there is one.
+pub fn last_group(row: &[Node]) -> Option<Last<'_>>
+    requires { IsPostorder row.now }
+    ensures { MatchOption result (row.now ≡ []) (λ l. IsLast row.now l.before.now l.node l.parts.now) }
+{
+    let (node, rest) = row.split_last()?;
+    let (before, parts) = rest.split_at(rest.len() - (node.size - 1));
+    Some(Last {
+        before,
+        node: *node,
+        parts,
+    })
+}
+
+/// The operands of an operator that takes so many, behind a row of nodes.
+pub fn find_operands(row: &[Node], takes: u32) -> Taken
+    requires { IsPostorder row.now }
+    ensures { result ≡ outcome (operands takes (forest_of row.now)) }
+{
+    if takes == 0 {
+        return Taken::Short;
+    }
+    let mut before = row;
+    let mut sum: u32 = 0;
+    while let Some(last) = last_group(before) {
+        before = last.before;
+        sum = sum.saturating_add(last.node.results);
+        if sum == takes {
+            return Taken::From(before.len());
+        }
+        if takes < sum {
+            return Taken::Passed;
+        }
+    }
+    Taken::Short
+}

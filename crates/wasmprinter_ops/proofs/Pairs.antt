@@ -1,0 +1,16 @@
+-- Pairs of places and operators are operators with their places.
+use Rattle.std.proofs.Common.{◌≡◌, ℕ, List, [], ◌∷◌, map, refl, sym, ap, ◌∙◌}
+use Rattle.wasmprinter_spec.specs.Grammar.{Placed}
+use Rattle.wasmprinter_spec.specs.Operator.{Operator}
+use Rattle.wasmprinter_ops.specs.Operators.{placed_view, pairs}
+
+seen-pairs : (os : List (Placed Operator)) → map placed_view (pairs os) ≡ os
+seen-pairs [] = refl
+seen-pairs (o ∷ os) = ap (λ xs. o ∷ xs) (seen-pairs os)
+
+-- the first operator, and the others
+pub first-pair : (os rest : List (Placed Operator)) (x : ℕ × Operator) → pairs os ≡ x ∷ pairs rest → os ≡ placed_view x ∷ rest
+first-pair os rest x e = sym (seen-pairs os) ∙ ap (map placed_view) e ∙ ap (λ xs. placed_view x ∷ xs) (seen-pairs rest)
+
+pub no-pair : (os : List (Placed Operator)) → pairs os ≡ [] → os ≡ []
+no-pair os e = sym (seen-pairs os) ∙ ap (map placed_view) e

@@ -1,0 +1,39 @@
+-- How many operands operators take and how many results they give: the program's arities, and those of the table of operators.
+use Rattle.std.specs.Prelude.{Option, Some, None}
+use Rattle.wasmprinter_spec.specs.Operator.{Opcode}
+use Rattle.wasmprinter_spec.specs.Row.{Row, Arity, Fixed, OfCall, OfReturnCall, OfIndirectCall, OfReturnIndirectCall, OfThrow, OfReturn, OfBranch, OfBranchIf, OfBranchTable, OfBranchOnNull, OfBranchOnNonNull, OfBranchOnCast, OfBlock, OfStruct, OfCount}
+use Rattle.wasmprinter_spec.specs.Table.{by_opcode}
+use Rattle.wasmprinter_ops.specs.declared.opcode.Arity.{Arity as ProgramArity}
+use Rattle.wasmprinter_ops.specs.declared.opcode.Arity.TheVariants as arities
+
+-- the arity of the definitions
+abbrev pub arity_view : ProgramArity → Arity
+arity_view (arities.Fixed operands results) = Fixed operands results
+arity_view arities.OfCall = OfCall
+arity_view arities.OfReturnCall = OfReturnCall
+arity_view arities.OfIndirectCall = OfIndirectCall
+arity_view arities.OfReturnIndirectCall = OfReturnIndirectCall
+arity_view arities.OfThrow = OfThrow
+arity_view arities.OfReturn = OfReturn
+arity_view arities.OfBranch = OfBranch
+arity_view arities.OfBranchIf = OfBranchIf
+arity_view arities.OfBranchTable = OfBranchTable
+arity_view arities.OfBranchOnNull = OfBranchOnNull
+arity_view arities.OfBranchOnNonNull = OfBranchOnNonNull
+arity_view arities.OfBranchOnCast = OfBranchOnCast
+arity_view arities.OfBlock = OfBlock
+arity_view arities.OfStruct = OfStruct
+arity_view arities.OfCount = OfCount
+
+-- the same of an arity that may be missing
+abbrev pub optional_arity_view : Option ProgramArity → Option Arity
+optional_arity_view None = None
+optional_arity_view (Some a) = Some (arity_view a)
+
+abbrev pub arity_of_row : Option Row → Option Arity
+arity_of_row None = None
+arity_of_row (Some r) = Some r.arity
+
+-- the arity of an opcode, if it is listed
+abbrev pub arity_of : Opcode → Option Arity
+arity_of o = arity_of_row (by_opcode o)

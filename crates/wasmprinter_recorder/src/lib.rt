@@ -1,0 +1,205 @@
+//! A printer for tests, which writes down each call as it is made, and refuses one if it is told to.
+#![tactic(auto)]
+
+ghost use Rattle.std.specs.Prelude.{None, false};
+
+use std::alloc::{AllocError, Global};
+use std::io;
+use std::io::ErrorKind;
+#[cfg(test)]
+use std::test::Fail;
+use wasmprinter::print::Print;
+
+/// Stands behind a call that was refused.
+pub const REFUSED: &str = "{!}";
+
+/// The calls so far, in their order:
+///
+/// - text as it is, but with a backslash in front of braces, brackets and backslashes, and `\n` for a line feed, so that only calls stand
+///   as what follows;
+/// - a line feed for `newline`;
+/// - `[0x1f]` or `[]` for the beginning of a line;
+/// - `{L}`, `{N}`, `{K}`, `{T}`, `{C}` and `{R}` for styles;
+/// - `{? "name" 0x8 [1, 2]}` for the question whether a custom section is taken;
+/// - `{!}` behind the call that was refused.
+#[derive(Drop)]
+pub struct Recorder {
+    calls: String,
+    /// How many calls that can fail were made.
+    made: u32,
+    /// Which of them is refused, and how.
+    refusal: Option<(u32, ErrorKind)>,
+    /// The name of the custom sections that it takes itself.
+    taken: &'static str,
+    /// A call could not be written down.
+    lost: bool,
+}
+
+impl Recorder {
+    pub fn new(alloc: Global) -> Recorder {
+        Recorder {
+            calls: String::new(alloc),
+            made: 0,
+            refusal: None,
+            taken: "",
+            lost: false,
+        }
+    }
+
+    /// Refuses the call with the number among those that can fail, the first of which is 1.
+    pub fn refusing(alloc: Global, call: u32, kind: ErrorKind) -> Recorder {
+        let mut recorder = Recorder::new(alloc);
+        recorder.refusal = Some((call, kind));
+        recorder
+    }
+
+    /// Takes the custom sections with this name itself.
+    pub fn taking(alloc: Global, name: &'static str) -> Recorder {
+        let mut recorder = Recorder::new(alloc);
+        recorder.taken = name;
+        recorder
+    }
+
+    /// What was written down.
+    pub fn calls(&self) -> &str {
+        self.calls.as_str()
+    }
+
+    /// How many calls that can fail were made.
+    pub fn made(&self) -> u32 {
+        self.made
+    }
+
+    /// Whether each call was written down.
+    pub fn is_complete(&self) -> bool {
+        !self.lost
+    }
+
+    fn write_text(&mut self, s: &str) -> Result<(), AllocError> {
+        for c in s.chars() {
+            match c {
+                '\n' => self.calls.push_str("\\n")?,
+                '{' | '}' | '[' | ']' | '\\' => write!(self.calls, "\\{c}")?,
+                _ => write!(self.calls, "{c}")?,
+            }
+        }
+        Ok(())
+    }
+
+    fn write_line(&mut self, place: Option<u64>) -> Result<(), AllocError> {
+        match place {
+            Some(place) => write!(self.calls, "[{place:#x}]"),
+            None => self.calls.push_str("[]"),
+        }
+    }
+
+    /// The answer to a call that was written down so.
+    fn answer(&mut self, written: Result<(), AllocError>) -> io::Result<()> {
+        self.made = self.made.saturating_add(1);
+        if written.is_err() {
+            self.lost = true;
+        }
+        match self.refusal {
+            Some((call, kind)) if call == self.made => {
+                if self.calls.push_str(REFUSED).is_err() {
+                    self.lost = true;
+                }
+                Err(io::Error::from(kind))
+            }
+            _ => Ok(()),
+        }
+    }
+
+    fn style(&mut self, word: &str) -> io::Result<()> {
+        let written = self.calls.push_str(word);
+        self.answer(written)
+    }
+}
+
+impl Print for Recorder {
+    ghost meaning = { record {
+      after = λ _ _ _. Unit {0};
+      may_fail = λ _ _. Unit {0};
+      partly = λ _ _ _ _. Unit {0};
+      faults = λ _. None;
+    } };
+
+    ghost colors = { λ _. false };
+
+    fn write_str(&mut self, s: &str) -> io::Result<()> {
+        let written = self.write_text(s);
+        self.answer(written)
+    }
+
+    fn newline(&mut self) -> io::Result<()> {
+        let written = self.calls.push_str("\n");
+        self.answer(written)
+    }
+
+    fn start_line(&mut self, binary_offset: Option<u64>) {
+        if self.write_line(binary_offset).is_err() {
+            self.lost = true;
+        }
+    }
+
+    fn print_custom_section(
+        &mut self,
+        name: &str,
+        binary_offset: u64,
+        bytes: &[u8],
+    ) -> io::Result<bool> {
+        let written = write!(self.calls, "{{? {name:?} {binary_offset:#x} {bytes:?}}}");
+        self.answer(written)?;
+        Ok(!name.is_empty() && name == self.taken)
+    }
+
+    fn start_literal(&mut self) -> io::Result<()> {
+        self.style("{L}")
+    }
+
+    fn start_name(&mut self) -> io::Result<()> {
+        self.style("{N}")
+    }
+
+    fn start_keyword(&mut self) -> io::Result<()> {
+        self.style("{K}")
+    }
+
+    fn start_type(&mut self) -> io::Result<()> {
+        self.style("{T}")
+    }
+
+    fn start_comment(&mut self) -> io::Result<()> {
+        self.style("{C}")
+    }
+
+    fn reset_color(&mut self) -> io::Result<()> {
+        self.style("{R}")
+    }
+
+    fn supports_async_color(&self) -> bool {
+        false
+    }
+}
+
+#[test]
+fn writes_down_each_call_at_once(rt: HostRuntime) -> Result<(), Fail> {
+    let mut recorder = Recorder::refusing(rt.alloc(), 5, ErrorKind::BrokenPipe);
+    recorder.start_line(None);
+    recorder.start_line(Some(31));
+    recorder.write_str("[0]\n{K}\\")?;
+    recorder.newline()?;
+    recorder.start_keyword()?;
+    assert_eq!(rt; recorder.print_custom_section("a\"b", 8, &[1, 2])?, false);
+    let refused = recorder.start_type();
+    assert!(rt; matches!(refused, Err(e) if e.kind() == ErrorKind::BrokenPipe));
+    recorder.reset_color()?;
+    recorder.start_line(Some(0));
+    assert_eq!(rt;
+        recorder.calls(),
+        "[][0x1f]\\[0\\]\\n\\{K\\}\\\\\n{K}{? \"a\\\"b\" 0x8 [1, 2]}{T}{!}{R}[0x0]"
+    );
+    assert_eq!(rt; recorder.made(), 6);
+    assert!(rt; recorder.is_complete());
+    Ok(())
+}

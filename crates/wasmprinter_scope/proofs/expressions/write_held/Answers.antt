@@ -1,0 +1,11 @@
+use Rattle.std.proofs.Common.{sym, ap, ◌∙◌}
+use Rattle.wasmprinter_spec.specs.Layout.Groups.{has_break}
+use Rattle.wasmprinter_scope.specs.Scopes.{scope_view}
+use Rattle.wasmprinter_scope.proofs.Constants.{held-one, flat-line}
+use Rattle.wasmprinter_scope.proofs.expressions.write_held.Goals as goal
+
+pub returns-then-is_one-clause-lines : goal.returns-then-is_one-clause-lines
+returns-then-is_one-clause-lines g c =
+    let s = scope_view c.args.scope.now in
+    let os = c.args.expression.now.items in
+    sym (ap has_break (held-one s 3 os (sym c.is_one.ensures ∙ c.if-is_one.true)) ∙ flat-line s 3 os)

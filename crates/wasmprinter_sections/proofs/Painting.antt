@@ -1,0 +1,70 @@
+-- The parts of a module don't depend on the option of colours but by the scope.
+use Rattle.std.specs.Prelude.{◌≡◌, ℕ, ◌+◌, List, [], ◌∷◌, ◌++◌, Bool, true, false, Option, Some, None, option_map, is_some, refl}
+use Rattle.std.proofs.Common.{sym, ap, ap₂, ◌∙◌}
+use Rattle.wasmprinter_spec.specs.Kinds.{Kind, TypeSection, ImportSection, FunctionSection, TableSection, MemorySection, TagSection, GlobalSection, ExportSection, StartSection, ElementSection, CodeSection, DataSection, CustomSection, DataCountSection}
+use Rattle.wasmprinter_spec.specs.Customs.Hints.{FunctionHints, next_hints, hints_behind, hints_of}
+use Rattle.wasmprinter_spec.specs.Placed.{PlacedFunction, PlacedModule}
+use Rattle.wasmprinter_spec.specs.Types.{FuncKind}
+use Rattle.wasmprinter_spec.specs.Options.{Options, Answers}
+use Rattle.wasmprinter_spec.specs.Piece.{Piece}
+use Rattle.wasmprinter_spec.specs.Folding.Arities.{signatures_within}
+use Rattle.wasmprinter_spec.specs.Layout.Declarations.{Scope, Folding, folding_of}
+use Rattle.wasmprinter_spec.specs.Layout.Functions.{function_pieces, functions_pieces}
+use Rattle.wasmprinter_spec.specs.Layout.Groups.{numbered}
+use Rattle.wasmprinter_spec.specs.Layout.Customs.{Part, Shown, parts_at}
+use Rattle.wasmprinter_entries.specs.Externs.{imported_count}
+use Rattle.wasmprinter_fold.specs.Views.{FolderView, folding_view}
+use Rattle.wasmprinter_sections.specs.Sections.{Folds, painting, fields_of, section_parts, sections_parts}
+
+module _ (o : Options) (b : Bool) (s : Scope) where
+  function-paint : (i : ℕ) (es : List FunctionHints) (f : PlacedFunction) → function_pieces o s i (next_hints i es) f ≡ function_pieces (painting o b) s i (next_hints i es) f
+  unfolding function_pieces
+  function-paint i es f = refl
+
+  functions-paint : (es : List FunctionHints) (i : ℕ) (fs : List PlacedFunction) → functions_pieces o s es i fs ≡ functions_pieces (painting o b) s es i fs
+  unfolding functions_pieces
+  functions-paint es i [] = refl
+  functions-paint es i (f ∷ fs) = ap₂ (λ (ps qs : List Piece). ps ++ qs) (function-paint i es f) (functions-paint (hints_behind i es) (i + 1) fs)
+
+  fields-paint : (m : PlacedModule) (k : Kind) → fields_of o s m k ≡ fields_of (painting o b) s m k
+  fields-paint m TypeSection = refl
+  fields-paint m ImportSection = refl
+  fields-paint m FunctionSection = refl
+  fields-paint m TableSection = refl
+  fields-paint m MemorySection = refl
+  fields-paint m TagSection = refl
+  fields-paint m GlobalSection = refl
+  fields-paint m ExportSection = refl
+  fields-paint m StartSection = refl
+  fields-paint m ElementSection = refl
+  fields-paint m CodeSection = functions-paint (hints_of m.customs) (imported_count FuncKind m.imports) m.functions
+  fields-paint m DataSection = refl
+  fields-paint m CustomSection = refl
+  fields-paint m DataCountSection = refl
+
+  pub sections-paint : (m : PlacedModule) (answers : List Answers) (ks : List Kind) → sections_parts o s m answers ks ≡ sections_parts (painting o b) s m answers ks
+  sections-paint m [] ks = refl
+  sections-paint m (a ∷ answers) [] = refl
+  sections-paint m (a ∷ answers) (k ∷ ks) =
+      ap₂ (λ (ps : List Piece) (rest : List Part). (Shown ps ∷ parts_at o.skeleton a (Some k) 0 m.customs) ++ rest) (fields-paint m k) (sections-paint m answers ks)
+
+-- what folds is what the layout folds by
+pub folding-of : (o : Options) (paints : Bool) (folder : Option FolderView) (m : PlacedModule) → Folds o paints folder m →
+    option_map folding_view folder ≡ folding_of (painting o paints) m
+folding-of o paints None m e = rw e refl
+folding-of o paints (Some f) m e = rw (e.0, e.1, e.2) refl
+
+-- fields that are the same one by one
+pub numbered-agree : {A : Type 0} (f g : ℕ → A → List Piece) → ((i : ℕ) (x : A) → f i x ≡ g i x) → (i : ℕ) (xs : List A) → numbered f i xs ≡ numbered g i xs
+unfolding numbered
+numbered-agree f g e i [] = refl
+numbered-agree f g e i (x ∷ xs) = ap₂ (λ (ps qs : List Piece). ps ++ qs) (e i x) (numbered-agree f g e (i + 1) xs)
+
+-- something is kept in memory exactly where operators are folded
+pub keeps-folding : (folder : Option FolderView) → is_some (option_map folding_view folder) ≡ is_some folder
+keeps-folding None = refl
+keeps-folding (Some f) = refl
+
+pub keeps-folds : (o : Options) (paints : Bool) (folder : Option FolderView) (m : PlacedModule) → Folds o paints folder m → is_some folder ≡ o.folds
+keeps-folds o paints None m e = sym e
+keeps-folds o paints (Some f) m e = sym e.0

@@ -1,0 +1,249 @@
+-- Worked rows of whole modules whose operators are folded: the texts that they give, that these texts read as the same modules, and what can't be
+-- folded in a module.
+use Rattle.std.specs.Prelude.{◌≡◌, ℕ, ◌+◌, List, [], ◌∷◌, ◌++◌, length, true, false, codes, Option, Some, option_map, refl}
+use Rattle.std.specs.List.{AllByRecursion}
+use Rattle.wasmprinter_spec.specs.Grammar.{input}
+use Rattle.wasmprinter_spec.specs.Binary.{binary}
+use Rattle.wasmprinter_spec.specs.Placed.{PlacedModule}
+use Rattle.wasmprinter_spec.specs.Module.{module_of}
+use Rattle.wasmprinter_spec.specs.Call.{text_of}
+use Rattle.wasmprinter_spec.specs.Options.{Options, defaults}
+use Rattle.wasmprinter_spec.specs.Layout.{layout}
+use Rattle.wasmprinter_spec.specs.Layout.Folded.{items, node_pieces, folded_pieces}
+use Rattle.wasmprinter_spec.specs.Folding.Refusals.{legacy_places, misplaced_hints}
+use Rattle.wasmprinter_spec.specs.Read.{read}
+use Rattle.wasmprinter_spec.proofs.Samples.{head_bytes, lines}
+use Rattle.wasmprinter_spec.proofs.SectionSamples.{with_item, one_field}
+use Rattle.wasmprinter_spec.proofs.Computing.{composing, reading}
+
+abbrev folded : Options
+folded = record defaults { folds = true }
+
+abbrev decode : List ℕ → Option PlacedModule
+decode bytes = binary.parse (input 0 bytes)
+
+abbrev printed_by : Options → List ℕ → Option (List ℕ)
+printed_by o bytes = option_map (λ m. text_of (layout o (λ n. false) m)) (decode bytes)
+
+-- the bytes of a module, and its text
+record Sample : Type 0 where
+  bytes : List ℕ
+  text : List ℕ
+
+abbrev sample : List ℕ → List ℕ → Sample
+sample bytes text = record { bytes = bytes; text = text }
+
+abbrev Prints : Sample → Type 0
+Prints s = printed_by folded s.bytes ≡ Some s.text
+
+abbrev ReadsBack : Sample → Type 0
+ReadsBack s = read s.text ≡ option_map module_of (decode s.bytes)
+
+-- a section of fewer than 128 bytes
+abbrev section : ℕ → List ℕ → List ℕ
+section id bytes = id ∷ length bytes ∷ bytes
+
+-- a custom section of a name of fewer than 128 bytes
+abbrev custom : List ℕ → List ℕ → List ℕ
+custom name bytes = section 0x00 (length name ∷ name ++ bytes)
+
+-- ---- fields
+
+-- a constant of 1 and one of 2, and their sum
+abbrev sum_bytes : List ℕ
+sum_bytes = 0x41 ∷ 0x01 ∷ 0x41 ∷ 0x02 ∷ 0x6a ∷ 0x0b ∷ []
+
+abbrev fields : List Sample
+fields =
+    sample (with_item 0x06 (0x7f ∷ 0x00 ∷ 0x02 ∷ 0x7f ∷ 0x41 ∷ 0x01 ∷ 0x0b ∷ 0x0b ∷ [])) (one_field (codes "(global (;0;) i32 (block (result i32)  (; label = @1 ;) (i32.const 1)))"))
+    -- a single operator is folded here
+    ∷ sample (with_item 0x06 (0x7f ∷ 0x01 ∷ 0x41 ∷ 0x00 ∷ 0x0b ∷ [])) (one_field (codes "(global (;0;) (mut i32) (i32.const 0))"))
+    ∷ sample (with_item 0x04 (0x40 ∷ 0x00 ∷ 0x70 ∷ 0x00 ∷ 0x01 ∷ 0xd0 ∷ 0x70 ∷ 0x0b ∷ [])) (one_field (codes "(table (;0;) 1 funcref (ref.null func))"))
+    -- but not where it stands alone in a group
+    ∷ sample (with_item 0x09 (0x00 ∷ 0x41 ∷ 0x00 ∷ 0x0b ∷ 0x01 ∷ 0x00 ∷ [])) (one_field (codes "(elem (;0;) (i32.const 0) func 0)"))
+    ∷ sample (with_item 0x09 (0x00 ∷ sum_bytes ++ 0x01 ∷ 0x00 ∷ [])) (one_field (codes "(elem (;0;) (offset (i32.add (i32.const 1) (i32.const 2))) func 0)"))
+    ∷ sample (with_item 0x09 (0x00 ∷ 0x0b ∷ 0x00 ∷ [])) (one_field (codes "(elem (;0;) (offset ) func)"))
+    ∷ sample (with_item 0x09 (0x05 ∷ 0x70 ∷ 0x02 ∷ 0xd0 ∷ 0x70 ∷ 0x0b ∷ sum_bytes)) (one_field (codes "(elem (;0;) funcref (ref.null func) (item (i32.add (i32.const 1) (i32.const 2))))"))
+    ∷ sample (with_item 0x0b (0x00 ∷ sum_bytes ++ 0x01 ∷ 0x61 ∷ [])) (one_field (codes "(data (;0;) (offset (i32.add (i32.const 1) (i32.const 2))) \"a\")"))
+    ∷ []
+
+fields_print : AllByRecursion Prints fields
+unfolding composing reading items node_pieces folded_pieces
+fields_print = (refl, (refl, (refl, (refl, (refl, (refl, (refl, (refl, tt))))))))
+
+fields_read : AllByRecursion ReadsBack fields
+unfolding reading
+fields_read = (refl, (refl, (refl, (refl, (refl, (refl, (refl, (refl, tt))))))))
+
+-- ---- fields over lines
+
+-- two globals, of which the first has a name with two semicolons
+abbrev semicolons : Sample
+semicolons =
+    sample (
+    head_bytes
+    ++ (section 0x06 (0x02 ∷ 0x7f ∷ 0x00 ∷ 0x41 ∷ 0x00 ∷ 0x0b ∷ 0x7f ∷ 0x00 ∷ 0x23 ∷ 0x00 ∷ 0x0b ∷ [])
+    ++ custom (codes "name") (0x07 ∷ 0x07 ∷ 0x01 ∷ 0x00 ∷ 0x04 ∷ codes "a;;b")))
+    (lines (
+    codes "(module"
+    ∷ codes "  (global $\"a;;b\" (;0;) i32 (i32.const 0))"
+    ∷ codes "  (global (;1;) i32 (global.get $\"a;;b\""
+    ∷ codes "    )"
+    ∷ codes "  )"
+    ∷ codes ")"
+    ∷ []))
+
+semicolons_print : Prints semicolons
+unfolding composing reading items node_pieces folded_pieces
+semicolons_print = refl
+
+semicolons_read : ReadsBack semicolons
+unfolding reading
+semicolons_read = refl
+
+-- ---- functions
+
+-- a function of this type with these operators, behind other sections and without locals
+abbrev with_function : List ℕ → List ℕ → List ℕ → List ℕ
+with_function type others operators =
+    head_bytes
+    ++ (section 0x01 (0x01 ∷ 0x60 ∷ type)
+    ++ (section 0x03 (0x01 ∷ 0x00 ∷ [])
+    ++ (others
+    ++ section 0x0a (0x01 ∷ (length operators + 1) ∷ 0x00 ∷ operators))))
+
+-- a function of no parameters and no results
+abbrev plain_bytes : List ℕ → List ℕ
+plain_bytes = with_function (0x00 ∷ 0x00 ∷ []) []
+
+abbrev plain_text : List (List ℕ) → List ℕ
+plain_text ls = lines (codes "(module" ∷ codes "  (type (;0;) (func))" ∷ codes "  (func (;0;) (type 0)" ∷ (ls ++ (codes "  )" ∷ (codes ")" ∷ []))))
+
+-- a function of two numbers that gives one
+abbrev binary_bytes : List ℕ → List ℕ
+binary_bytes = with_function (0x02 ∷ 0x7f ∷ 0x7f ∷ 0x01 ∷ 0x7f ∷ []) []
+
+abbrev binary_text : List (List ℕ) → List ℕ
+binary_text ls = lines (
+    codes "(module"
+    ∷ codes "  (type (;0;) (func (param i32 i32) (result i32)))"
+    ∷ codes "  (func (;0;) (type 0) (param i32 i32) (result i32)"
+    ∷ (ls ++ (
+    codes "  )"
+    ∷ (codes ")"
+    ∷ []))))
+
+abbrev functions : List Sample
+functions =
+    sample (plain_bytes (0x02 ∷ 0x40 ∷ 0x0b ∷ 0x0b ∷ [])) (plain_text (codes "    (block ;; label = @1" ∷ codes "    )" ∷ []))
+    ∷ sample (plain_bytes (0x41 ∷ 0x01 ∷ 0x41 ∷ 0x02 ∷ 0x6a ∷ 0x0b ∷ [])) (plain_text (codes "    (i32.add" ∷ codes "      (i32.const 1)" ∷ codes "      (i32.const 2))" ∷ []))
+    -- a call takes what its function's type takes
+    ∷ sample (binary_bytes (0x20 ∷ 0x00 ∷ 0x20 ∷ 0x01 ∷ 0x10 ∷ 0x00 ∷ 0x0b ∷ [])) (binary_text (codes "    (call 0" ∷ codes "      (local.get 0)" ∷ codes "      (local.get 1))" ∷ []))
+    -- what leaves the function takes its results
+    ∷ sample (binary_bytes (0x41 ∷ 0x05 ∷ 0x0c ∷ 0x00 ∷ 0x0b ∷ [])) (binary_text (codes "    (br 0" ∷ codes "      (i32.const 5))" ∷ []))
+    ∷ sample (plain_bytes (0x41 ∷ 0x05 ∷ 0x0c ∷ 0x00 ∷ 0x0b ∷ [])) (plain_text (codes "    (i32.const 5)" ∷ codes "    (br 0)" ∷ []))
+    ∷ []
+
+functions_print : AllByRecursion Prints functions
+unfolding composing reading items node_pieces folded_pieces
+functions_print = (refl, (refl, (refl, (refl, (refl, tt)))))
+
+functions_read : AllByRecursion ReadsBack functions
+unfolding reading
+functions_read = (refl, (refl, (refl, (refl, (refl, tt)))))
+
+-- a function without operators closes on its line
+empty_body : printed_by folded (plain_bytes (0x0b ∷ [])) ≡ Some (lines (codes "(module" ∷ codes "  (type (;0;) (func))" ∷ codes "  (func (;0;) (type 0))" ∷ codes ")" ∷ []))
+unfolding composing reading items node_pieces folded_pieces
+empty_body = refl
+
+-- each line begins with the place of its operator
+sum_with_places : printed_by (record folded { offsets = true }) (plain_bytes (0x41 ∷ 0x01 ∷ 0x41 ∷ 0x02 ∷ 0x6a ∷ 0x0b ∷ [])) ≡ Some (lines (
+    codes "(module"
+    ∷ codes "(;@b     ;)  (type (;0;) (func))"
+    ∷ codes "(;@16    ;)  (func (;0;) (type 0)"
+    ∷ codes "(;@1b    ;)    (i32.add"
+    ∷ codes "(;@17    ;)      (i32.const 1)"
+    ∷ codes "(;@19    ;)      (i32.const 2))"
+    ∷ codes "(;@1c    ;)  )"
+    ∷ codes "(;@1d    ;))"
+    ∷ []))
+unfolding composing reading items node_pieces folded_pieces
+sum_with_places = refl
+
+-- ---- colours
+
+-- the introducer of a sequence, and the rest of it
+abbrev sequence : List ℕ → List ℕ
+sequence s = 0x1b ∷ 0x5b ∷ s
+
+-- a literal is red; nothing outside of the parentheses of operators carries sequences
+painted_global : printed_by (record folded { paints = true }) (with_item 0x06 (0x7f ∷ 0x00 ∷ 0x41 ∷ 0x01 ∷ 0x0b ∷ []))
+    ≡ Some (one_field (codes "(global (;0;) i32 (i32.const" ++ (sequence (codes "0m") ++ (sequence (codes "31m") ++ (codes " 1" ++ (sequence (codes "0m") ++ codes "))"))))))
+unfolding composing reading items node_pieces folded_pieces
+painted_global = refl
+
+-- ---- hints
+
+abbrev with_hint : ℕ → List ℕ → List ℕ
+with_hint offset operators =
+    with_function (0x01 ∷ 0x7f ∷ 0x00 ∷ []) (custom (codes "metadata.code.branch_hint") (0x01 ∷ 0x00 ∷ 0x01 ∷ offset ∷ 0x01 ∷ 0x01 ∷ [])) operators
+
+-- the hint of an `if` stands before its node
+hinted_if : printed_by folded (with_hint 3 (0x20 ∷ 0x00 ∷ 0x04 ∷ 0x40 ∷ 0x0b ∷ 0x0b ∷ [])) ≡ Some (lines (
+    codes "(module"
+    ∷ codes "  (type (;0;) (func (param i32)))"
+    ∷ codes "  (func (;0;) (type 0) (param i32)"
+    ∷ codes "    (@metadata.code.branch_hint \"\\01\")"
+    ∷ codes "    (if ;; label = @1"
+    ∷ codes "      (local.get 0)"
+    ∷ codes "      (then))"
+    ∷ codes "  )"
+    ∷ codes ")"
+    ∷ []))
+unfolding composing reading items node_pieces folded_pieces
+hinted_if = refl
+
+-- ---- what can't be folded
+
+abbrev skeleton : Options
+skeleton = record folded { skeleton = true }
+
+-- an older `try` and its `catch_all`
+abbrev older_try : List ℕ
+older_try = plain_bytes (0x06 ∷ 0x40 ∷ 0x19 ∷ 0x0b ∷ 0x0b ∷ [])
+
+try_and_catch : option_map (legacy_places folded) (decode older_try) ≡ Some (0x17 ∷ 0x19 ∷ [])
+unfolding composing reading
+try_and_catch = refl
+
+-- in a skeleton bodies aren't printed
+try_in_skeleton : option_map (legacy_places skeleton) (decode older_try) ≡ Some []
+unfolding composing reading
+try_in_skeleton = refl
+
+no_try : option_map (legacy_places folded) (decode (plain_bytes (0x02 ∷ 0x40 ∷ 0x0b ∷ 0x0b ∷ []))) ≡ Some []
+unfolding composing reading
+no_try = refl
+
+-- an older `try` in the initialiser of a global, also in a skeleton
+try_in_global : option_map (legacy_places skeleton) (decode (with_item 0x06 (0x7f ∷ 0x00 ∷ 0x06 ∷ 0x40 ∷ 0x18 ∷ 0x00 ∷ 0x0b ∷ []))) ≡ Some (0xd ∷ 0xf ∷ [])
+unfolding composing reading
+try_in_global = refl
+
+-- The hint of a `block`; that of an `if` is none of these.
+hint_of_block : option_map (misplaced_hints folded) (decode (with_hint 1 (0x02 ∷ 0x40 ∷ 0x0b ∷ 0x0b ∷ []))) ≡ Some (0x32 ∷ [])
+unfolding composing reading
+hint_of_block = refl
+
+hint_of_end : option_map (misplaced_hints folded) (decode (with_hint 3 (0x02 ∷ 0x40 ∷ 0x0b ∷ 0x0b ∷ []))) ≡ Some (0x32 ∷ [])
+unfolding composing reading
+hint_of_end = refl
+
+hint_of_if : option_map (misplaced_hints folded) (decode (with_hint 3 (0x20 ∷ 0x00 ∷ 0x04 ∷ 0x40 ∷ 0x0b ∷ 0x0b ∷ []))) ≡ Some []
+unfolding composing reading
+hint_of_if = refl
+
+hint_in_skeleton : option_map (misplaced_hints skeleton) (decode (with_hint 1 (0x02 ∷ 0x40 ∷ 0x0b ∷ 0x0b ∷ []))) ≡ Some []
+unfolding composing reading
+hint_in_skeleton = refl
