@@ -8,7 +8,7 @@
 # nothing was refused. The runs are dealt out to as many builds as there are processors.
 set -eu
 cd "$(dirname "$0")/../crates/refusals"
-last=${1:-270}
+last=${1:-330}
 hands=$(nproc)
 began=$(date +%s)
 work=$(mktemp -d)

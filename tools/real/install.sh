@@ -1,0 +1,70 @@
+#!/bin/sh
+# install.sh WORK: puts on the machine what tools/real.sh needs, as root, all of it by apt-get. What is there already isn't fetched again.
+#
+# Compilers and libraries for wasm32 come from the release that the machine runs: the newest `clang-N` and `lld-N` that it offers, `wasi-libc`,
+# and the libraries in C++ and Rust. The assemblers are newer in Debian unstable, and so are most packages that hold modules: these are
+# unpacked under WORK, and the programs run there in place, by the loader and the libraries that they came with. Nothing of them is installed.
+set -eu
+work=$1
+newer=$work/newer
+root=$work/peers/root
+export DEBIAN_FRONTEND=noninteractive
+PEERS="wasm-tools wabt binaryen"
+PACKAGES="esbuild-wasm guile-hoot node-csl-validator-wasm pdfjs-jbig2 pdfjs-openjpeg pdfjs-qcms pdfjs-quickjs golang-github-tetratelabs-wazero-dev"
+
+# The newest version of LLVM for which there is a clang, an lld and a library for wasm32, as apt-cache tells.
+newest_llvm() {
+    apt-cache search --names-only '^libclang-rt-[0-9]+-dev-wasm32$' | sed 's/^libclang-rt-\([0-9]*\)-.*/\1/' | sort -rn | while read -r version; do
+        if apt-cache show "clang-$version" "lld-$version" >/dev/null 2>&1; then
+            echo "$version"
+            break
+        fi
+    done
+}
+
+# apt-get for Debian unstable, with lists and packages in folders of its own.
+from_newer() {
+    apt-get -q -o Dir::Etc::sourcelist="$newer/newer.sources" -o Dir::Etc::sourceparts=- -o Dir::State::lists="$newer/lists" \
+        -o Dir::State::status="$newer/status" -o Dir::Cache="$newer/cache" --no-install-recommends "$@"
+}
+
+install_compilers() {
+    apt-get update -q
+    version=$(newest_llvm)
+    apt-get install -yq --no-install-recommends python3 "clang-$version" "lld-$version" "libclang-rt-$version-dev-wasm32" \
+        "libc++-$version-dev-wasm32" wasi-libc libstd-rust-dev-wasm32
+}
+
+fetch_newer() {
+    mkdir -p "$newer/lists/partial" "$newer/cache/archives/partial" "$newer/packages"
+    : >"$newer/status"
+    printf 'Types: deb\nURIs: http://deb.debian.org/debian\nSuites: sid\nComponents: main\nSigned-By: /usr/share/keyrings/debian-archive-keyring.gpg\n' >"$newer/newer.sources"
+    from_newer update
+    # shellcheck disable=SC2086 # a list of words
+    from_newer -y --download-only install $PEERS
+    for package in $PACKAGES; do
+        (cd "$newer/packages" && from_newer download "$package") || echo "real: no package $package" >&2
+    done
+}
+
+unpack() {
+    mkdir -p "$root" "$work/peers/bin" "$work/packages"
+    for file in "$newer"/cache/archives/*.deb; do
+        dpkg -x "$file" "$root"
+    done
+    for tool in wasm-tools wasm2wat wat2wasm wasm-as wasm-opt; do
+        printf '#!/bin/sh\nexec %s --library-path %s %s "$@"\n' "$root/usr/lib64/ld-linux-x86-64.so.2" "$root/usr/lib/x86_64-linux-gnu" \
+            "$root/usr/bin/$tool" >"$work/peers/bin/$tool"
+        chmod 755 "$work/peers/bin/$tool"
+    done
+    for file in "$newer"/packages/*.deb; do
+        name=$(basename "$file")
+        dpkg -x "$file" "$work/packages/${name%%_*}"
+    done
+}
+
+mkdir -p "$work"
+install_compilers
+fetch_newer
+unpack
+date +%F >"$work/installed"

@@ -1,0 +1,144 @@
+"""The modules: compiled from C and C++, assembled from the texts in `wat`, and those in packages of others."""
+
+import glob
+import hashlib
+import os
+import shutil
+
+from running import found, read, run, write
+from wasm import MAGIC, members
+
+HERE = os.path.dirname(os.path.abspath(__file__))
+LINKED = "-nostdlib -Wl,--no-entry -Wl,--export-all -Wl,--allow-undefined".split()
+SHARED = "-matomics -mbulk-memory -Wl,--shared-memory -Wl,--max-memory=1048576 -Wl,--import-memory"
+MANY = "-mbulk-memory -mreference-types -mnontrapping-fptoint -msign-ext -mmultivalue -Xclang -target-abi -Xclang experimental-mv -mwide-arithmetic"
+# The name of each compiled module, its source, and the compiler's words; what is compiled with `-c` stays an object, with relocations.
+COMPILED = (
+    ("plain-O0", "plain.c", "-O0"), ("plain-O0-g", "plain.c", "-O0 -g"), ("plain-O2", "plain.c", "-O2"), ("plain-O2-g", "plain.c", "-O2 -g"),
+    ("plain-Os", "plain.c", "-Os -Wl,--compress-relocations -Wl,--strip-all"), ("plain-object", "plain.c", "-O1 -g -c"),
+    ("plain-wasm64", "plain.c", "-O2 --target=wasm64"), ("plain-shared-library", "plain.c", "-O2 -fPIC -Wl,-shared -Wl,--experimental-pic"),
+    ("vectors", "vectors.c", "-O2 -msimd128"), ("vectors-O0", "vectors.c", "-O0 -msimd128"), ("relaxed", "relaxed.c", "-O2 -mrelaxed-simd"),
+    ("threads", "threads.c", f"-O2 {SHARED}"), ("threads-g", "threads.c", f"-O1 -g {SHARED}"),
+    ("bulk", "bulk.c", f"-O1 {MANY}"), ("tails", "tails.c", "-O2 -mtail-call"),
+    ("throws", "throws.cpp", "-O1 -fwasm-exceptions -mllvm -wasm-use-legacy-eh=false -c"),
+    ("throws-legacy", "throws.cpp", "-O1 -fwasm-exceptions -mllvm -wasm-use-legacy-eh=true -c"),
+)
+ASSEMBLERS = (
+    ("wasm-tools", ("parse",)), ("wasm-as", ("-all", "-g")),
+    ("wat2wasm", ("--debug-names", *(f"--enable-{it}" for it in "threads function-references code-metadata gc custom-page-sizes wide-arithmetic".split()))),
+)
+RUST = "/usr/lib/rustlib/wasm32-unknown-unknown/lib"
+OLDER = "spectest/v1/"  # an older state of the tests of `spectest/v2/`
+SINGLE = 1000  # a folder of a package with more modules than this, or an archive, has one row
+
+
+class Module:
+    """A module to print: its group, the row of the table that it belongs to, its file."""
+
+    def __init__(self, group, row, path):
+        self.group, self.row, self.path, self.size = group, row, path, os.path.getsize(path)
+
+
+def newest(tool):
+    """The program of LLVM with the highest version."""
+    known = [path for path in glob.glob(f"/usr/bin/{tool}-[0-9]*") if path.rsplit("-", 1)[1].isdigit()]
+    return max(known, key=lambda path: int(path.rsplit("-", 1)[1]), default=found(tool))
+
+
+def compiled(folder, told):
+    """Modules of the sources in `c`. Why one can't be made is told."""
+    made = []
+    for name, source, words in COMPILED:
+        compiler, out = newest("clang++" if source.endswith("cpp") else "clang"), os.path.join(folder, f"c-{name}.wasm")
+        words = words.split()
+        linked = [] if "-c" in words else LINKED
+        ran = run([compiler, "--target=wasm32", *linked, *words, os.path.join(HERE, "c", source), "-o", out]) if compiler else None
+        if ran is None or ran.status != 0:
+            told.append(f"`{name}` couldn't be compiled: {ran.fault() if ran else 'no clang'}")
+        else:
+            made.append(Module("compiled from C and C++", name, out))
+    return made
+
+
+def whole_library(folder, told):
+    """Rust's core library of Debian, with all that is in it, linked to one module."""
+    archives = sorted(glob.glob(f"{RUST}/liballoc-*.rlib") + glob.glob(f"{RUST}/libcore-*.rlib"))
+    parts = [content for path in archives for _, content in members(read(path))]
+    objects = [write(os.path.join(folder, "parts", f"{count}.o"), content) for count, content in enumerate(parts)]
+    linker, out = newest("wasm-ld"), os.path.join(folder, "linked-rust-library.wasm")
+    words = "--no-entry --export-all --allow-undefined --allow-multiple-definition --no-gc-sections".split()
+    ran = run([linker, *words, *objects, "-o", out]) if linker and objects else None
+    if ran is None or ran.status != 0:
+        told.append(f"Rust's library couldn't be linked: {ran.fault() if ran else 'no linker or no library'}")
+        return []
+    return [Module("linked from others' archives", "Rust's core and allocating library, whole", out)]
+
+
+def assembled(folder, told):
+    """Modules of the texts in `wat`, by each assembler that reads them; what none reads is told. Equal modules count once."""
+    made, seen = [], set()
+    for text in sorted(glob.glob(os.path.join(HERE, "wat", "*.wat"))):
+        name, read_by = os.path.basename(text)[:-4], []
+        for tool, words in ASSEMBLERS:
+            out = os.path.join(folder, f"wat-{name}-{tool}.wasm")
+            if not found(tool) or run([found(tool), *words, text, "-o", out]).status != 0:
+                continue
+            read_by.append(tool)
+            if read(out) not in seen:
+                seen.add(read(out))
+                made.append(Module("assembled from texts", f"{name}, {tool}", out))
+        if not read_by:
+            told.append(f"`{name}.wat` is read by no assembler")
+    return made
+
+
+def kept_once(paths, seen):
+    """Those files whose bytes weren't seen before."""
+    kept = []
+    for path in paths:
+        digest = hashlib.sha256(read(path)).digest()
+        if digest not in seen and os.path.getsize(path):
+            seen.add(digest)
+            kept.append(path)
+    return kept
+
+
+def packaged(folder):
+    """The modules in packages of others that were unpacked to a folder; those of one big set of tests have one row for each of its parts."""
+    made, seen = [], set()
+    for package in sorted(os.listdir(folder)) if os.path.isdir(folder) else []:
+        paths = sorted(it for it in glob.glob(os.path.join(folder, package, "**", "*.wasm"), recursive=True) if OLDER not in it)
+        few = len(paths) < SINGLE
+        for path in kept_once([p for p in paths if os.path.isfile(p)], seen):
+            part = path.split("spectest/")[1].split("/")[0] if "spectest/" in path else "other"
+            if few or os.path.getsize(path) > 100_000:
+                made.append(Module("packaged by others", f"{package}: {os.path.basename(path)}", path))
+            else:
+                made.append(Module("sets of small ones", f"{package}: {part}", path))
+    return made
+
+
+def archived(folder):
+    """Objects in archives of packages of others, each in a file of its own."""
+    made, seen = [], set()
+    patterns = ("/usr/lib/wasm32-wasi/*.[ao]", "/usr/lib/llvm-*/lib/wasm32-wasi/*.a", "/usr/lib/llvm-*/lib/clang/*/lib/wasi/*.a",
+                *(f"{RUST}/lib{name}-*.rlib" for name in ("compiler_builtins", "alloc", "core")))
+    for path in sorted(it for pattern in patterns for it in glob.glob(pattern)):
+        data, row = read(os.path.realpath(path)), "/".join(path.split("/")[-2:]).replace("lib/", "")
+        row = row.rsplit("-", 1)[0] if path.endswith(".rlib") else row
+        for count, (_, content) in enumerate([("", data)] if data[:8] == MAGIC else members(data)):
+            digest = hashlib.sha256(content).digest()
+            if digest not in seen:
+                seen.add(digest)
+                made.append(Module("objects in archives", row, write(os.path.join(folder, row.replace("/", "-"), f"{count}.o"), content)))
+    return made
+
+
+def all_modules(work, told):
+    """All modules there are, the folder of those that are made emptied first."""
+    for name in ("made", "objects"):
+        shutil.rmtree(os.path.join(work, name), ignore_errors=True)
+        os.makedirs(os.path.join(work, name))
+    made = os.path.join(work, "made")
+    found_ones = packaged(os.path.join(work, "packages")) + archived(os.path.join(work, "objects"))
+    return compiled(made, told) + assembled(made, told) + whole_library(made, told) + found_ones

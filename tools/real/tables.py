@@ -1,0 +1,97 @@
+"""The tables, in markdown."""
+
+import collections
+
+from reasons import INVALID, general, note_reason, reason
+
+WORDS = ("same", "normal", "alike", "differs", "unknown", "refused")
+
+
+def table(heads, lines):
+    """A table whose first column is words."""
+    rows_of_cells = [[str(cell).replace("|", "\\|") for cell in cells] for cells in [heads, ["---"] * len(heads), *lines]]
+    return "\n".join("| " + " | ".join(cells) + " |" for cells in rows_of_cells) + "\n"
+
+
+def counts(results, reader):
+    """How often each verdict came, of the texts that one assembler was given."""
+    total = collections.Counter(v.word for it in results for r, _, v in it.verdicts if r == reader)
+    return ", ".join(f"{total[word]} {word}" for word in WORDS if total[word]) or "-"
+
+
+def size(results):
+    total = sum(it.size for it in results)
+    return f"{total:,}"
+
+
+def rows(results, readers):
+    """For each row: how many modules and bytes, how many sets printed, were refused, failed a check, and the verdicts of the assemblers."""
+    named = collections.OrderedDict()
+    for it in results:
+        named.setdefault(it.row, []).append(it)
+    lines = []
+    for row, its in named.items():
+        refused = sum(len(it.refused) for it in its)
+        lines.append([row, len(its), size(its), sum(it.sets for it in its), refused or "-", sum(len(it.failed) for it in its) or "-", *(counts(its, r) for r in readers)])
+    return table(["module", "modules", "bytes", "sets printed", "refused", "checks failed", *readers], lines)
+
+
+def groups(results, readers):
+    """A table for each group of modules."""
+    named = collections.OrderedDict()
+    for it in results:
+        named.setdefault(it.group, []).append(it)
+    return "".join(f"### {group[0].upper()}{group[1:]}\n\n{rows(its, readers)}\n" for group, its in named.items())
+
+
+def refusals(results):
+    """What printwasm refused, with what `wasm-tools` says of the same bytes."""
+    found = collections.OrderedDict()
+    for it in results:
+        for words, fault in it.refused.items():
+            found.setdefault((general(fault), it.judged), []).append((it, words))
+    lines = []
+    for (fault, judged), its in sorted(found.items(), key=lambda pair: -len(pair[1])):
+        modules = {it.path for it, _ in its}
+        smallest = min((it for it, _ in its), key=lambda it: it.size)
+        lines.append([f"`{fault}`", judged, len(modules), len(its), f"{smallest.row}, {smallest.name}, {smallest.size} bytes"])
+    return table(["printwasm tells", "wasm-tools of these bytes", "modules", "sets", "the smallest"], lines) if lines else "None.\n"
+
+
+def failures(results):
+    """Checks that failed."""
+    lines = [[it.row, it.name, it.size, fault] for it in results for fault in it.failed]
+    return table(["module", "file", "bytes", "what"], lines[:100]) if lines else "None.\n"
+
+
+def told(results, words):
+    """What the assemblers told of texts that they refused, or where their modules differ, by kind of message."""
+    found = collections.OrderedDict()
+    for it in results:
+        for reader, options, verdict in it.verdicts:
+            if verdict.word in words:
+                why = reason(reader, verdict.why, it.judged)
+                message = "" if verdict.word == "differs" or why == INVALID else general(verdict.why)
+                also = verdict.notes[0].split(":")[0] if verdict.word == "refused" and verdict.notes else ""
+                key = (reader, why, message, also)
+                found.setdefault(key, []).append((it, options, verdict))
+    lines = []
+    for (reader, why, message, also), its in sorted(found.items(), key=lambda pair: (pair[0][0], pair[0][1], -len(pair[1]))):
+        smallest, options, verdict = min(its, key=lambda entry: entry[0].size)
+        shown = f"`{message or (verdict.why if verdict.word == 'differs' else general(verdict.why))}`"
+        lines.append([reader, why, shown, also, len({it.path for it, _, _ in its}), len(its), f"{smallest.row} ({smallest.name}) {' '.join(options)}"])
+    return table(["assembler", "why", "told", "and", "modules", "texts", "the smallest"], lines) if lines else "None.\n"
+
+
+def notes(results):
+    """What came back otherwise of names and custom sections."""
+    found = collections.OrderedDict()
+    for it in results:
+        for reader, options, verdict in it.verdicts:
+            for note in verdict.notes if verdict.word != "refused" else ():
+                found.setdefault((reader, note), []).append((it, options))
+    lines = []
+    for (reader, note), its in sorted(found.items(), key=lambda pair: (pair[0][0], -len(pair[1]))):
+        smallest, options = min(its, key=lambda entry: entry[0].size)
+        lines.append([reader, note, note_reason(reader, note), len({it.path for it, _ in its}), len(its), f"{smallest.row} ({smallest.name}) {' '.join(options)}"])
+    return table(["assembler", "what", "why", "modules", "texts", "the smallest"], lines) if lines else "None.\n"

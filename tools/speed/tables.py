@@ -1,0 +1,149 @@
+"""The tables, in markdown, and which wanted limits are missed."""
+
+TIME_LIMIT = 0.9  # of the time of wasm-tools
+MEMORY_LIMIT = 1.5  # of the bytes of module and text together
+GROWTH_LIMIT = 1.25  # of how the size grows, between the two greatest modules that are made
+JUDGED = 100_000  # bytes: smaller files are shown, and not judged
+
+
+class Row:
+    """What was measured of one file in one mode."""
+
+    def __init__(self, name, size, made, results):
+        self.name, self.size, self.made, self.results = name, size, made, results
+
+    def ok(self, tool):
+        return tool in self.results and self.results[tool].fault is None
+
+    def ratio(self, field, peer):
+        """Ours by a peer's, or nothing where one of them failed or took too little to be told."""
+        if not self.ok("printwasm") or not self.ok(peer):
+            return None
+        theirs = getattr(self.results[peer], field)
+        return getattr(self.results["printwasm"], field) / theirs if theirs else None
+
+    def share(self, tool, start=0):
+        """The peak of memory, less what starting takes, by the bytes of module and text together; nothing of small files."""
+        if self.size <= JUDGED or not self.ok(tool):
+            return None
+        return (self.results[tool].memory - start) / (self.size + self.results[tool].text)
+
+
+def digits(value):
+    """A number with some three digits; a dash for none."""
+    if value is None:
+        return "-"
+    return f"{value:.3f}" if value < 10 else f"{value:.1f}"
+
+
+def millions(value):
+    return digits(value / 1e6)
+
+
+def table(heads, lines):
+    """A table whose first column is words, and all others numbers."""
+    marks = ["---"] + ["---:"] * (len(heads) - 1)
+    return "\n".join("| " + " | ".join(cells) + " |" for cells in [heads, marks, *lines]) + "\n"
+
+
+def each(row, tools, show):
+    """What is to show of each tool, and a dash for one that failed."""
+    return [show(row.results[tool]) if row.ok(tool) else "-" for tool in tools]
+
+
+def sizes(rows, tools):
+    """How long each module and its texts are."""
+    heads = ["file", "module MB", *(f"text of {t} MB" for t in tools)]
+    return table(heads, [[row.name, millions(row.size), *each(row, tools, lambda r: millions(r.text))] for row in rows])
+
+
+def times(rows, tools):
+    """Seconds, and ratios of ours to the peers', on the clock and of the processor."""
+    peers = tools[1:]
+    heads = ["file", "module MB", *(f"{t} s" for t in tools), *(f"ours / {p}" for p in peers), *(f"processor / {p}" for p in peers)]
+    lines = []
+    for row in rows:
+        ratios = [digits(row.ratio(field, p)) for field in ("wall", "cpu") for p in peers]
+        lines.append([row.name, millions(row.size), *each(row, tools, lambda r: digits(r.wall)), *ratios])
+    return table(heads, lines)
+
+
+def started(rows, tool):
+    """The memory that the module takes which holds nothing."""
+    return rows[0].results[tool].memory
+
+
+def memories(rows, tools):
+    """Peaks of memory, ratios of ours to the peers', and peaks by the bytes of module and text; of ours also without what starting takes."""
+    peers = tools[1:]
+    heads = ["file", *(f"{t} MB" for t in tools), *(f"ours / {p}" for p in peers), *(f"{t} share" for t in tools), "printwasm net"]
+    lines = []
+    for row in rows:
+        shares = [row.share(t) for t in tools] + [row.share("printwasm", started(rows, "printwasm"))]
+        ratios = [row.ratio("memory", p) for p in peers]
+        lines.append([row.name, *each(row, tools, lambda r: millions(r.memory)), *map(digits, ratios + shares)])
+    return table(heads, lines)
+
+
+def grown(rows, tool, field):
+    """By how much time or memory grows from each made module to the next, for each time that the size does; what failed is left out."""
+    pairs = []
+    for small, big in zip(rows, rows[1:]):
+        if small.ok(tool) and big.ok(tool):
+            value = getattr(big.results[tool], field) / getattr(small.results[tool], field)
+            pairs.append((small, big, value / (big.size / small.size)))
+    return pairs
+
+
+def growth(rows, tools):
+    """Time and memory by MB of the module, and how they grow with it."""
+    made = [row for row in rows if row.made]
+    heads = ["by MB of module", *(r.name for r in made), *(f"{a.name} to {b.name}" for a, b in zip(made, made[1:]))]
+    lines = []
+    for field, unit, scale in (("wall", "s", 1e-6), ("memory", "MB", 1)):
+        for tool in tools:
+            known = {(a.name, b.name): value for a, b, value in grown(made, tool, field)}
+            cells = [digits(getattr(r.results[tool], field) / (r.size * scale)) if r.ok(tool) else "-" for r in made]
+            lines.append([f"{tool} {unit}", *cells, *(digits(known.get((a.name, b.name))) for a, b in zip(made, made[1:]))])
+    return table(heads, lines)
+
+
+def missed_by(row, mode):
+    """The limits that one file misses."""
+    ours = row.results["printwasm"]
+    if ours.fault is not None:
+        return [f"{row.name}, {mode}: printwasm failed: {ours.fault}"]
+    missed, ratio, share = [], row.ratio("wall", "wasm-tools"), row.share("printwasm")
+    if ratio is None:
+        missed.append(f"{row.name}, {mode}: time not judged: wasm-tools gave none")
+    elif ratio > TIME_LIMIT:
+        missed.append(f"{row.name}, {mode}: time {digits(ratio)} of wasm-tools (wanted: at most {TIME_LIMIT})")
+    if share is not None and share >= MEMORY_LIMIT:
+        missed.append(f"{row.name}, {mode}: memory {digits(share)} of module and text (wanted: under {MEMORY_LIMIT})")
+    return missed
+
+
+def missed(rows, mode):
+    """All limits that are missed, of files over 100 KB, and of growth."""
+    lines = [line for row in rows if row.size > JUDGED for line in missed_by(row, mode)]
+    for field, word in (("wall", "time"), ("memory", "memory")):
+        for small, big, value in grown([r for r in rows if r.made], "printwasm", field)[-1:]:
+            if value > GROWTH_LIMIT:
+                lines.append(f"{small.name} to {big.name}, {mode}: {word} grows {digits(value)} times as fast as the module (wanted: at most {GROWTH_LIMIT})")
+    return lines
+
+
+def faults(rows, mode):
+    """What each peer told that failed."""
+    failed = [(row, tool) for row in rows for tool in row.results if tool != "printwasm" and not row.ok(tool)]
+    return [f"{row.name}, {mode}: {tool} failed: {row.results[tool].fault}" for row, tool in failed]
+
+
+def compared(rows, mode, peer):
+    """On how many files printwasm is slower than a peer, and where most so."""
+    judged = [(row.ratio("wall", peer), row.name) for row in rows if row.size > JUDGED and row.ratio("wall", peer) is not None]
+    if not judged:
+        return f"{mode}: no file to compare with {peer}"
+    slower, (least, _), (most, name) = [r for r, _ in judged if r > 1], min(judged), max(judged)
+    ratios = f"its time is {digits(least)} to {digits(most)} of {peer}'s, the most on {name}"
+    return f"{mode}: printwasm is slower than {peer} on {len(slower)} of {len(judged)} files of over 100 KB; {ratios}"
