@@ -4,7 +4,7 @@ use crate::comparing::Comparing;
 use crate::shapes::Shape;
 use std::alloc::Global;
 use wasmprinter::wasm::decode;
-use wasmprinter::{Config, Error, OffsetsAndLines, print_bytes};
+use wasmprinter::{Config, Error, OffsetsAndLines, Print, print_bytes};
 
 /// What stands in the storage that lines are appended to.
 const OLD: &str = "old";
@@ -73,10 +73,20 @@ fn by_print_bytes(alloc: Global, shape: &Shape) -> Ending {
     }
 }
 
+/// Prints to any printer. It promises nothing, so that no caller works out what the promises mean for its own printer.
+fn print_to<P: Print>(
+    config: &Config,
+    alloc: Global,
+    wasm: &[u8],
+    printer: &mut P,
+) -> Result<(), Error> {
+    config.print(alloc, wasm, printer)
+}
+
 /// With these options, by a printer that needs no memory.
 fn by_config(alloc: Global, config: &Config, shape: &Shape) -> Ending {
     let mut printer = Comparing::new(shape.text);
-    match config.print(alloc, shape.wasm, &mut printer) {
+    match print_to(config, alloc, shape.wasm, &mut printer) {
         Ok(()) => Ending::of(printer.is_whole(), "wrong calls"),
         Err(error) => Ending::of(printer.is_beginning(), "wrong calls").or(Ending::of_error(error)),
     }

@@ -144,30 +144,30 @@ fn judge(alloc: Global, table: &'static str) -> Result<(u32, Option<String>), Fa
 
 #[test]
 fn knows_arities_of_control_and_references(rt: HostRuntime) -> Result<(), Fail> {
-    assert_eq!(rt; judge(rt.alloc(), CONTROL)?, (45, None));
+    assert!(rt; judge(rt.alloc(), CONTROL)? == (45, None));
     Ok(())
 }
 
 #[test]
 fn knows_arities_of_numbers(rt: HostRuntime) -> Result<(), Fail> {
-    assert_eq!(rt; judge(rt.alloc(), NUMBERS)?, (157, None));
+    assert!(rt; judge(rt.alloc(), NUMBERS)? == (157, None));
     Ok(())
 }
 
 #[test]
 fn knows_arities_of_structures_arrays_and_tables(rt: HostRuntime) -> Result<(), Fail> {
-    assert_eq!(rt; judge(rt.alloc(), AGGREGATES)?, (56, None));
+    assert!(rt; judge(rt.alloc(), AGGREGATES)? == (56, None));
     Ok(())
 }
 
 #[test]
 fn knows_arities_of_vectors(rt: HostRuntime) -> Result<(), Fail> {
-    assert_eq!(rt; judge(rt.alloc(), VECTORS)?, (256, None));
+    assert!(rt; judge(rt.alloc(), VECTORS)? == (256, None));
     Ok(())
 }
 
 #[test]
 fn knows_arities_of_atomic_operators(rt: HostRuntime) -> Result<(), Fail> {
-    assert_eq!(rt; judge(rt.alloc(), ATOMICS)?, (67, None));
+    assert!(rt; judge(rt.alloc(), ATOMICS)? == (67, None));
     Ok(())
 }

@@ -4,7 +4,7 @@ use crate::modules::{
     FUNCTION, IMPORT, NO_PARAMS, TAG, TYPE, add_code, add_section, around, folded, with_body,
 };
 use std::test::Fail;
-use wasmprinter_samples::PREAMBLE;
+use wasmprinter_samples::{PREAMBLE, expect_text};
 
 /// Operators of a function without parameters and results, and their lines.
 const BODIES: [(&[u8], &str); 15] = [
@@ -138,7 +138,7 @@ fn takes_the_shortest_run_of_operands(rt: HostRuntime) -> Result<(), Fail> {
     let alloc = rt.alloc();
     for (operators, lines) in BODIES {
         let text = folded(alloc, &with_body(alloc, &NO_PARAMS, operators)?)?;
-        assert_eq!(rt; text.as_str(), around(alloc, lines)?.as_str());
+        expect_text(text.as_str(), around(alloc, lines)?.as_str())?;
     }
     Ok(())
 }
@@ -217,7 +217,7 @@ fn counts_results_up_to_the_greatest_number(rt: HostRuntime) -> Result<(), Fail>
         expected.push_str("  (func (;0;) (type 1) (result i32 i32)\n")?;
         expected.push_str(lines)?;
         expected.push_str("  )\n)\n")?;
-        assert_eq!(rt; text.as_str(), expected.as_str());
+        expect_text(text.as_str(), expected.as_str())?;
     }
     Ok(())
 }
@@ -246,7 +246,7 @@ fn knows_operands_of_types(rt: HostRuntime) -> Result<(), Fail> {
         ],
     )?;
     let text = folded(alloc, &wasm)?;
-    assert_eq!(rt;
+    expect_text(
         text.as_str(),
         r#"(module
   (type (;0;) (func))
@@ -265,8 +265,8 @@ fn knows_operands_of_types(rt: HostRuntime) -> Result<(), Fail> {
     (throw 9)
   )
 )
-"#
-    );
+"#,
+    )?;
     Ok(())
 }
 
@@ -282,7 +282,7 @@ fn takes_nothing_where_the_type_is_of_another_kind(rt: HostRuntime) -> Result<()
         ],
     )?;
     let text = folded(alloc, &wasm)?;
-    assert_eq!(rt;
+    expect_text(
         text.as_str(),
         r#"(module
   (type (;0;) (array i32))
@@ -296,8 +296,8 @@ fn takes_nothing_where_the_type_is_of_another_kind(rt: HostRuntime) -> Result<()
     (call 0)
   )
 )
-"#
-    );
+"#,
+    )?;
     Ok(())
 }
 
@@ -336,6 +336,6 @@ fn folds_beside_imports_of_each_kind(rt: HostRuntime) -> Result<(), Fail> {
     add_section(&mut wasm, FUNCTION, &[0x01, 0x00])?;
     add_code(&mut wasm, &[0x10, 0x00, 0x08, 0x00])?;
     let text = folded(alloc, &wasm)?;
-    assert_eq!(rt; text.as_str(), AMONG_IMPORTS);
+    expect_text(text.as_str(), AMONG_IMPORTS)?;
     Ok(())
 }

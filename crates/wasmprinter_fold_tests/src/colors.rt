@@ -76,7 +76,7 @@ fn colors_nodes_as_operators(rt: HostRuntime) -> Result<(), Fail> {
         let mut expected = String::from_str(alloc, HEADER)?;
         expected.push_str(lines)?;
         expected.push_str("  )\n)\n")?;
-        assert_eq!(rt; text.as_slice(), expected.as_bytes());
+        assert!(rt; text.as_slice() == expected.as_bytes());
     }
     Ok(())
 }
@@ -134,7 +134,7 @@ fn colors_expressions(rt: HostRuntime) -> Result<(), Fail> {
 (\x1b[0m\x1b[1m\x1b[38;5;11m\x1b[0moffset (i32.eqz (i32.const\x1b[0m\x1b[31m 3\x1b[0m))) \x1b[0m\x1b[31m\"\"\x1b[0m)
 )
 ";
-    assert_eq!(rt; text.as_slice(), expected.as_bytes());
+    assert!(rt; text.as_slice() == expected.as_bytes());
     Ok(())
 }
 

@@ -5,7 +5,7 @@ use crate::modules::{
     around_field, folded, with_section,
 };
 use std::test::Fail;
-use wasmprinter_samples::PREAMBLE;
+use wasmprinter_samples::{PREAMBLE, expect_text};
 
 /// Global sections of one global each, and its text.
 const GLOBALS: [(&[u8], &str); 11] = [
@@ -67,7 +67,7 @@ fn prints_initialisers_on_one_line(rt: HostRuntime) -> Result<(), Fail> {
     let alloc = rt.alloc();
     for (globals, field) in GLOBALS {
         let text = folded(alloc, &with_section(alloc, GLOBAL, globals)?)?;
-        assert_eq!(rt; text.as_str(), around_field(alloc, field)?.as_str());
+        expect_text(text.as_str(), around_field(alloc, field)?.as_str())?;
     }
     Ok(())
 }
@@ -135,7 +135,7 @@ fn folds_expressions_but_of_one_operator(rt: HostRuntime) -> Result<(), Fail> {
     let alloc = rt.alloc();
     for (id, content, field) in SHORT_FORMS {
         let text = folded(alloc, &with_section(alloc, id, content)?)?;
-        assert_eq!(rt; text.as_str(), around_field(alloc, field)?.as_str());
+        expect_text(text.as_str(), around_field(alloc, field)?.as_str())?;
     }
     Ok(())
 }
@@ -163,7 +163,7 @@ fn knows_types_of_what_stands_behind(rt: HostRuntime) -> Result<(), Fail> {
     add_section(&mut wasm, TAG, &[0x01, 0x00, 0x00])?;
     add_code(&mut wasm, &[])?;
     let text = folded(alloc, &wasm)?;
-    assert_eq!(rt;
+    expect_text(
         text.as_str(),
         r#"(module
   (type (;0;) (func (param i32)))
@@ -173,8 +173,8 @@ fn knows_types_of_what_stands_behind(rt: HostRuntime) -> Result<(), Fail> {
   (tag (;0;) (type 0) (param i32))
   (func (;0;) (type 1) (param i32) (result funcref))
 )
-"#
-    );
+"#,
+    )?;
     Ok(())
 }
 
@@ -187,7 +187,7 @@ fn keeps_to_the_line_behind_an_expression(rt: HostRuntime) -> Result<(), Fail> {
     add_section(&mut wasm, GLOBAL, &[0x01, 0x7f, 0x00, 0x41, 0x01, 0x0b])?;
     add_code(&mut wasm, &[0x23, 0x00, 0x24, 0x00])?;
     let text = folded(alloc, &wasm)?;
-    assert_eq!(rt;
+    expect_text(
         text.as_str(),
         r#"(module
   (type (;0;) (func))
@@ -197,7 +197,7 @@ fn keeps_to_the_line_behind_an_expression(rt: HostRuntime) -> Result<(), Fail> {
       (global.get 0))
   )
 )
-"#
-    );
+"#,
+    )?;
     Ok(())
 }

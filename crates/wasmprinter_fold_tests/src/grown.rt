@@ -5,7 +5,7 @@ use crate::modules::{
     around_field, folded, with_body, with_section,
 };
 use std::test::Fail;
-use wasmprinter_samples::PREAMBLE;
+use wasmprinter_samples::{PREAMBLE, expect_text};
 
 /// The number of the section of bodies.
 const CODE: u8 = 10;
@@ -55,7 +55,7 @@ fn folds_blocks_in_blocks(rt: HostRuntime) -> Result<(), Fail> {
     let alloc = rt.alloc();
     for (operators, lines) in NESTED {
         let text = folded(alloc, &with_body(alloc, &NO_PARAMS, operators)?)?;
-        assert_eq!(rt; text.as_str(), around(alloc, lines)?.as_str());
+        expect_text(text.as_str(), around(alloc, lines)?.as_str())?;
     }
     Ok(())
 }
@@ -91,7 +91,7 @@ fn folds_beside_several_imports(rt: HostRuntime) -> Result<(), Fail> {
         ],
     )?;
     let text = folded(alloc, &wasm)?;
-    assert_eq!(rt;
+    expect_text(
         text.as_str(),
         r#"(module
   (type (;0;) (func (result i32)))
@@ -112,8 +112,8 @@ fn folds_beside_several_imports(rt: HostRuntime) -> Result<(), Fail> {
       (i32.const 3))
   )
 )
-"#
-    );
+"#,
+    )?;
     Ok(())
 }
 
@@ -133,7 +133,7 @@ fn folds_a_long_table_of_branches(rt: HostRuntime) -> Result<(), Fail> {
     add_section(&mut wasm, FUNCTION, &[0x01, 0x00])?;
     add_section(&mut wasm, CODE, &code)?;
     let text = folded(alloc, &wasm)?;
-    assert_eq!(rt; text.as_str(), around(alloc, lines.as_str())?.as_str());
+    expect_text(text.as_str(), around(alloc, lines.as_str())?.as_str())?;
     Ok(())
 }
 
@@ -155,7 +155,7 @@ fn folds_a_hint_of_a_later_function(rt: HostRuntime) -> Result<(), Fail> {
         ],
     )?;
     let text = folded(alloc, &wasm)?;
-    assert_eq!(rt;
+    expect_text(
         text.as_str(),
         r#"(module
   (type (;0;) (func))
@@ -168,8 +168,8 @@ fn folds_a_hint_of_a_later_function(rt: HostRuntime) -> Result<(), Fail> {
       (then))
   )
 )
-"#
-    );
+"#,
+    )?;
     Ok(())
 }
 
@@ -199,7 +199,7 @@ fn folds_long_expressions(rt: HostRuntime) -> Result<(), Fail> {
     let alloc = rt.alloc();
     for (id, content, field) in LONG {
         let text = folded(alloc, &with_section(alloc, id, content)?)?;
-        assert_eq!(rt; text.as_str(), around_field(alloc, field)?.as_str());
+        expect_text(text.as_str(), around_field(alloc, field)?.as_str())?;
     }
     Ok(())
 }

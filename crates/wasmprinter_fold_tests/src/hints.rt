@@ -5,7 +5,7 @@ use crate::modules::{FUNCTION, TYPE, add_code, add_custom, add_section, folded, 
 use std::alloc::{AllocError, Global};
 use std::test::Fail;
 use wasmprinter::{Config, Error};
-use wasmprinter_samples::PREAMBLE;
+use wasmprinter_samples::{PREAMBLE, expect_text};
 
 /// The name of hint sections.
 const HINTS: &str = "metadata.code.branch_hint";
@@ -81,7 +81,7 @@ fn prints_hints_in_front_of_nodes(rt: HostRuntime) -> Result<(), Fail> {
         )?;
         expected.push_str(lines)?;
         expected.push_str("  )\n)\n")?;
-        assert_eq!(rt; text.as_str(), expected.as_str());
+        expect_text(text.as_str(), expected.as_str())?;
     }
     Ok(())
 }
@@ -94,7 +94,7 @@ fn places_hints_as_nodes(rt: HostRuntime) -> Result<(), Fail> {
     let mut config = Config::new();
     config.fold_instructions(true).print_offsets(true);
     let text = config.print_to_string(alloc, &wasm)?;
-    assert_eq!(rt;
+    expect_text(
         text.as_str(),
         r#"(module
 (;@b     ;)  (type (;0;) (func (param i32)))
@@ -105,8 +105,8 @@ fn places_hints_as_nodes(rt: HostRuntime) -> Result<(), Fail> {
 (;@3c    ;)      (then))
 (;@3f    ;)  )
 (;@40    ;))
-"#
-    );
+"#,
+    )?;
     Ok(())
 }
 
@@ -122,7 +122,7 @@ fn prints_hints_of_operands(rt: HostRuntime) -> Result<(), Fail> {
         ],
     )?;
     let text = folded(alloc, &wasm)?;
-    assert_eq!(rt;
+    expect_text(
         text.as_str(),
         r#"(module
   (type (;0;) (func (param i32)))
@@ -137,8 +137,8 @@ fn prints_hints_of_operands(rt: HostRuntime) -> Result<(), Fail> {
             (local.get 0)))))
   )
 )
-"#
-    );
+"#,
+    )?;
     Ok(())
 }
 
@@ -206,13 +206,13 @@ fn tells_where_the_hint_stands(rt: HostRuntime) -> Result<(), Fail> {
     // no body is printed, and none folded
     config.print_skeleton(true);
     let outline = config.print_to_string(alloc, &BLOCK_HINTED)?;
-    assert_eq!(rt;
+    expect_text(
         outline.as_str(),
-        "(module\n  (type (;0;) (func))\n  (func (;0;) (type 0) ...)\n)\n"
-    );
+        "(module\n  (type (;0;) (func))\n  (func (;0;) (type 0) ...)\n)\n",
+    )?;
     config.print_skeleton(false).fold_instructions(false);
     let flat = config.print_to_string(alloc, &BLOCK_HINTED)?;
-    assert_eq!(rt;
+    expect_text(
         flat.as_str(),
         r#"(module
   (type (;0;) (func))
@@ -222,7 +222,7 @@ fn tells_where_the_hint_stands(rt: HostRuntime) -> Result<(), Fail> {
     end
   )
 )
-"#
-    );
+"#,
+    )?;
     Ok(())
 }

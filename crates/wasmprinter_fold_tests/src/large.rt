@@ -40,11 +40,11 @@ fn folds_a_long_chain(rt: HostRuntime) -> Result<(), Fail> {
     let mut config = Config::new();
     config.fold_instructions(true);
     let text = config.print_to_string(alloc, &wasm)?;
-    assert_eq!(rt; text.as_str().matches("(i32.eqz").count(), 100_000);
+    assert!(rt; text.as_str().matches("(i32.eqz").count() == 100_000);
     // three lines in front, one for each node, and two behind
-    assert_eq!(rt; text.as_str().matches("\n").count(), 100_006);
+    assert!(rt; text.as_str().matches("\n").count() == 100_006);
     // seven outside of the nodes
-    assert_eq!(rt; text.as_str().matches(")").count(), 100_008);
+    assert!(rt; text.as_str().matches(")").count() == 100_008);
     let innermost = format!(in alloc; "\n{MOST_BLANKS}(i32.const 0))))")?;
     assert!(rt; text.as_str().contains(innermost.as_str()));
     assert!(rt; text.as_str().ends_with("))))\n  )\n)\n"));
@@ -58,7 +58,7 @@ fn folds_many_siblings(rt: HostRuntime) -> Result<(), Fail> {
     let mut config = Config::new();
     config.fold_instructions(true);
     let text = config.print_to_string(alloc, &wasm)?;
-    assert_eq!(rt; text.as_str().matches("\n      (nop)").count(), 99_999);
+    assert!(rt; text.as_str().matches("\n      (nop)").count() == 99_999);
     assert!(rt;
         text.as_str()
             .contains("\n    (drop\n      (i32.const 0)\n      (nop)\n")
@@ -92,14 +92,11 @@ fn folds_deep_nesting(rt: HostRuntime) -> Result<(), Fail> {
     let mut config = Config::new();
     config.fold_instructions(true);
     let text = config.print_to_string(alloc, &wasm)?;
-    assert_eq!(rt;
-        text.as_str().matches("(block ;; label = @").count(),
-        100_000
-    );
+    assert!(rt; text.as_str().matches("(block ;; label = @").count() == 100_000);
     // three lines in front, one for each block, one within the innermost, and two behind
-    assert_eq!(rt; text.as_str().matches("\n").count(), 100_006);
+    assert!(rt; text.as_str().matches("\n").count() == 100_006);
     // seven outside of the blocks
-    assert_eq!(rt; text.as_str().matches(")").count(), 100_007);
+    assert!(rt; text.as_str().matches(")").count() == 100_007);
     let innermost = format!(in alloc;
         "\n{MOST_BLANKS}(block ;; label = @100000\n{MOST_BLANKS}))))"
     )?;
@@ -171,9 +168,9 @@ fn folds_many_bodies(rt: HostRuntime) -> Result<(), Fail> {
     let mut config = Config::new();
     config.fold_instructions(true);
     let text = config.print_to_string(alloc, &wasm)?;
-    assert_eq!(rt; text.as_str().matches("(if ;; label = @1").count(), 20_000);
+    assert!(rt; text.as_str().matches("(if ;; label = @1").count() == 20_000);
     // eight lines for each, two in front and one behind
-    assert_eq!(rt; text.as_str().matches("\n").count(), 160_003);
+    assert!(rt; text.as_str().matches("\n").count() == 160_003);
     assert!(rt; text.as_str().ends_with(LAST_FOLDED));
     Ok(())
 }
@@ -183,11 +180,8 @@ fn prints_many_bodies_flat(rt: HostRuntime) -> Result<(), Fail> {
     let alloc = rt.alloc();
     let wasm = with_bodies(alloc)?;
     let text = print_bytes(alloc, &wasm)?;
-    assert_eq!(rt;
-        text.as_str().matches("    if ;; label = @1\n").count(),
-        20_000
-    );
-    assert_eq!(rt; text.as_str().matches("\n").count(), 160_003);
+    assert!(rt; text.as_str().matches("    if ;; label = @1\n").count() == 20_000);
+    assert!(rt; text.as_str().matches("\n").count() == 160_003);
     assert!(rt; text.as_str().ends_with(LAST_FLAT));
     Ok(())
 }

@@ -5,7 +5,7 @@ use crate::modules::{
     DATA, ELEMENT, FUNCTION, GLOBAL, TYPE, add_code, add_custom, add_section, folded,
 };
 use std::test::Fail;
-use wasmprinter_samples::PREAMBLE;
+use wasmprinter_samples::{PREAMBLE, expect_text};
 
 /// Names of globals: that of the first is `a;;b`.
 const OF_GLOBALS: [u8; 9] = [0x07, 0x07, 0x01, 0x00, 0x04, 0x61, 0x3b, 0x3b, 0x62];
@@ -29,7 +29,7 @@ fn begins_a_line_behind_a_name_with_semicolons(rt: HostRuntime) -> Result<(), Fa
     add_section(&mut wasm, DATA, &[0x01, 0x00, 0x23, 0x00, 0x0b, 0x00])?;
     add_custom(alloc, &mut wasm, "name", &OF_GLOBALS)?;
     let text = folded(alloc, &wasm)?;
-    assert_eq!(rt;
+    expect_text(
         text.as_str(),
         r#"(module
   (global $"a;;b" (;0;) i32 (i32.const 0))
@@ -42,8 +42,8 @@ fn begins_a_line_behind_a_name_with_semicolons(rt: HostRuntime) -> Result<(), Fa
   )
   (data (;0;) (global.get $"a;;b") "")
 )
-"#
-    );
+"#,
+    )?;
     Ok(())
 }
 
@@ -79,7 +79,7 @@ fn prints_names_of_labels_and_locals(rt: HostRuntime) -> Result<(), Fail> {
     add_code(&mut wasm, &NAMED_OPERATORS)?;
     add_custom(alloc, &mut wasm, "name", &OF_A_BODY)?;
     let text = folded(alloc, &wasm)?;
-    assert_eq!(rt;
+    expect_text(
         text.as_str(),
         r##"(module
   (type (;0;) (func (param i32)))
@@ -106,8 +106,8 @@ fn prints_names_of_labels_and_locals(rt: HostRuntime) -> Result<(), Fail> {
       (else))
   )
 )
-"##
-    );
+"##,
+    )?;
     Ok(())
 }
 
@@ -137,7 +137,7 @@ fn prints_names_of_labels_in_expressions(rt: HostRuntime) -> Result<(), Fail> {
         &[0x03, 0x06, 0x01, 0x00, 0x01, 0x00, 0x01, 0x78],
     )?;
     let text = folded(alloc, &wasm)?;
-    assert_eq!(rt;
+    expect_text(
         text.as_str(),
         r#"(module
   (type (;0;) (func))
@@ -147,8 +147,8 @@ fn prints_names_of_labels_in_expressions(rt: HostRuntime) -> Result<(), Fail> {
   )
   (data (;0;) (offset (block (result i32)  (; label = @1 ;) (i32.const 1))) "")
 )
-"#
-    );
+"#,
+    )?;
     Ok(())
 }
 
@@ -176,7 +176,7 @@ fn prints_names_of_labels_in_a_predicate(rt: HostRuntime) -> Result<(), Fail> {
         ],
     )?;
     let text = folded(alloc, &wasm)?;
-    assert_eq!(rt;
+    expect_text(
         text.as_str(),
         r#"(module
   (type (;0;) (func))
@@ -190,7 +190,7 @@ fn prints_names_of_labels_in_a_predicate(rt: HostRuntime) -> Result<(), Fail> {
           (br 1))))
   )
 )
-"#
-    );
+"#,
+    )?;
     Ok(())
 }

@@ -4,7 +4,7 @@ use crate::modules::{GLOBAL, add_custom, add_section, folded};
 use std::alloc::{AllocError, Global};
 use std::test::Fail;
 use wasmprinter::{Config, OffsetsAndLines};
-use wasmprinter_samples::{EMPTY_TEXT, EVERYTHING, EVERYTHING_TEXT, PREAMBLE};
+use wasmprinter_samples::{EMPTY_TEXT, EVERYTHING, EVERYTHING_TEXT, PREAMBLE, expect_text};
 
 /// A table with an initialiser, a global, element and data segments with offsets and items, and a function with an `if`.
 const SAMPLE: [u8; 111] = [
@@ -77,12 +77,12 @@ fn folds_each_list_and_takes_it_back(rt: HostRuntime) -> Result<(), Fail> {
     let mut config = Config::new();
     config.fold_instructions(true);
     let text = config.print_to_string(alloc, &SAMPLE)?;
-    assert_eq!(rt; text.as_str(), SAMPLE_FOLDED);
+    expect_text(text.as_str(), SAMPLE_FOLDED)?;
     config.fold_instructions(false);
     let text = config.print_to_string(alloc, &SAMPLE)?;
-    assert_eq!(rt; text.as_str(), SAMPLE_FLAT);
+    expect_text(text.as_str(), SAMPLE_FLAT)?;
     let text = Config::new().print_to_string(alloc, &SAMPLE)?;
-    assert_eq!(rt; text.as_str(), SAMPLE_FLAT);
+    expect_text(text.as_str(), SAMPLE_FLAT)?;
     Ok(())
 }
 
@@ -90,7 +90,7 @@ fn folds_each_list_and_takes_it_back(rt: HostRuntime) -> Result<(), Fail> {
 #[test]
 fn folds_an_empty_module(rt: HostRuntime) -> Result<(), Fail> {
     let text = folded(rt.alloc(), &PREAMBLE)?;
-    assert_eq!(rt; text.as_str(), EMPTY_TEXT);
+    expect_text(text.as_str(), EMPTY_TEXT)?;
     Ok(())
 }
 
@@ -122,7 +122,7 @@ fn folds_with_places(rt: HostRuntime) -> Result<(), Fail> {
     let mut config = Config::new();
     config.print_offsets(true).fold_instructions(true);
     let text = config.print_to_string(rt.alloc(), &SAMPLE)?;
-    assert_eq!(rt; text.as_str(), SAMPLE_PLACES);
+    expect_text(text.as_str(), SAMPLE_PLACES)?;
     Ok(())
 }
 
@@ -131,7 +131,7 @@ fn folds_what_an_outline_prints(rt: HostRuntime) -> Result<(), Fail> {
     let mut config = Config::new();
     config.print_skeleton(true).fold_instructions(true);
     let text = config.print_to_string(rt.alloc(), &SAMPLE)?;
-    assert_eq!(rt;
+    expect_text(
         text.as_str(),
         r#"(module
   (type (;0;) (func (param i32) (result i32)))
@@ -144,8 +144,8 @@ fn folds_what_an_outline_prints(rt: HostRuntime) -> Result<(), Fail> {
   (func (;0;) (type 0) (param i32) (result i32) ...)
   (data (;0;) (offset (i32.add (global.get 0) (i32.const 4))) ...)
 )
-"#
-    );
+"#,
+    )?;
     Ok(())
 }
 
@@ -154,7 +154,7 @@ fn folds_with_identifiers_that_are_made_up(rt: HostRuntime) -> Result<(), Fail> 
     let mut config = Config::new();
     config.name_unnamed(true).fold_instructions(true);
     let text = config.print_to_string(rt.alloc(), &SAMPLE)?;
-    assert_eq!(rt;
+    expect_text(
         text.as_str(),
         r#"(module
   (type $#type0 (;0;) (func (param i32) (result i32)))
@@ -176,8 +176,8 @@ fn folds_with_identifiers_that_are_made_up(rt: HostRuntime) -> Result<(), Fail> 
   )
   (data $#data0 (;0;) (offset (i32.add (global.get $#global0) (i32.const 4))) "hi")
 )
-"#
-    );
+"#,
+    )?;
     Ok(())
 }
 
@@ -228,10 +228,10 @@ fn folds_by_all_options_at_once(rt: HostRuntime) -> Result<(), Fail> {
         .name_unnamed(true)
         .indent_text(String::from_str(alloc, "\t")?);
     let text = config.print_to_string(alloc, &SAMPLE)?;
-    assert_eq!(rt; text.as_str(), SAMPLE_BY_TABS);
+    expect_text(text.as_str(), SAMPLE_BY_TABS)?;
     config.print_skeleton(true);
     let text = config.print_to_string(alloc, &SAMPLE)?;
-    assert_eq!(rt; text.as_str(), SAMPLE_BY_ALL);
+    expect_text(text.as_str(), SAMPLE_BY_ALL)?;
     Ok(())
 }
 
@@ -240,7 +240,7 @@ fn folds_by_all_options_at_once(rt: HostRuntime) -> Result<(), Fail> {
 fn folds_behind_locals(rt: HostRuntime) -> Result<(), Fail> {
     let alloc = rt.alloc();
     let text = folded(alloc, &EVERYTHING)?;
-    assert_eq!(rt;
+    expect_text(
         text.as_str(),
         r#"(module
   (type (;0;) (func))
@@ -259,12 +259,12 @@ fn folds_behind_locals(rt: HostRuntime) -> Result<(), Fail> {
     (return)
   )
 )
-"#
-    );
+"#,
+    )?;
     let mut config = Config::new();
     config.fold_instructions(true).fold_instructions(false);
     let text = config.print_to_string(alloc, &EVERYTHING)?;
-    assert_eq!(rt; text.as_str(), EVERYTHING_TEXT);
+    expect_text(text.as_str(), EVERYTHING_TEXT)?;
     Ok(())
 }
 
@@ -331,7 +331,7 @@ fn gives_each_folded_line_with_its_place(rt: HostRuntime) -> Result<(), Fail> {
     let mut storage = String::new(alloc);
     let lines = config.offsets_and_lines(alloc, &SAMPLE, &mut storage)?;
     assert!(rt; are_lines(lines, &SAMPLE_LINES));
-    assert_eq!(rt; storage.as_str(), SAMPLE_FOLDED);
+    expect_text(storage.as_str(), SAMPLE_FOLDED)?;
     Ok(())
 }
 
@@ -375,7 +375,7 @@ fn gives_lines_within_an_initialiser(rt: HostRuntime) -> Result<(), Fail> {
     assert!(rt; are_lines(lines, &SEMICOLON_LINES));
     config.print_offsets(true);
     let text = config.print_to_string(alloc, &wasm)?;
-    assert_eq!(rt;
+    expect_text(
         text.as_str(),
         r#"(module
 (;@b     ;)  (global $"a;;b" (;0;) i32 (i32.const 0))
@@ -383,7 +383,7 @@ fn gives_lines_within_an_initialiser(rt: HostRuntime) -> Result<(), Fail> {
 (;@12    ;)    )
              )
 (;@25    ;))
-"#
-    );
+"#,
+    )?;
     Ok(())
 }

@@ -4,6 +4,7 @@ use crate::modules::{DATA, ELEMENT, GLOBAL, TABLE, folded, refusal_of_lines, wit
 use std::alloc::{AllocError, Global};
 use std::test::Fail;
 use wasmprinter::{Config, Error};
+use wasmprinter_samples::expect_text;
 
 /// A function with a `try` at byte 23, and a `catch_all` in it.
 const CAUGHT: [u8; 28] = [
@@ -28,13 +29,13 @@ fn refuses_legacy_operators_in_bodies(rt: HostRuntime) -> Result<(), Fail> {
     assert!(rt; storage.as_str().starts_with("old"));
     config.print_skeleton(true);
     let outline = config.print_to_string(alloc, &CAUGHT)?;
-    assert_eq!(rt;
+    expect_text(
         outline.as_str(),
-        "(module\n  (type (;0;) (func))\n  (func (;0;) (type 0) ...)\n)\n"
-    );
+        "(module\n  (type (;0;) (func))\n  (func (;0;) (type 0) ...)\n)\n",
+    )?;
     config.print_skeleton(false).fold_instructions(false);
     let flat = config.print_to_string(alloc, &CAUGHT)?;
-    assert_eq!(rt;
+    expect_text(
         flat.as_str(),
         r#"(module
   (type (;0;) (func))
@@ -44,8 +45,8 @@ fn refuses_legacy_operators_in_bodies(rt: HostRuntime) -> Result<(), Fail> {
     end
   )
 )
-"#
-    );
+"#,
+    )?;
     Ok(())
 }
 
@@ -124,6 +125,6 @@ fn refuses_legacy_operators_in_items(rt: HostRuntime) -> Result<(), Fail> {
     let mut config = Config::new();
     config.fold_instructions(true).print_skeleton(true);
     let outline = config.print_to_string(alloc, &wasm)?;
-    assert_eq!(rt; outline.as_str(), "(module\n  (elem (;0;) ...)\n)\n");
+    expect_text(outline.as_str(), "(module\n  (elem (;0;) ...)\n)\n")?;
     Ok(())
 }

@@ -4,6 +4,7 @@ use std::alloc::{AllocError, Global};
 use std::io;
 use std::test::Fail;
 use wasmprinter_error::{Error, Malformed};
+use wasmprinter_samples::expect_text;
 
 /// One error of each kind with its text.
 fn texts() -> [(Error, &'static str); 11] {
@@ -50,7 +51,7 @@ fn texts() -> [(Error, &'static str); 11] {
 fn each_error_has_its_text(rt: HostRuntime) -> Result<(), Fail> {
     for (error, wanted) in texts() {
         let text = format!(in rt.alloc(); "{}", error)?;
-        assert_eq!(rt; text.as_str(), wanted);
+        expect_text(text.as_str(), wanted)?;
     }
     Ok(())
 }

@@ -14,6 +14,7 @@ use wasmprinter_ops::operands::MemArg;
 use wasmprinter_ops::operator::{Immediates, Operator};
 use wasmprinter_ops::types::composite::{CompositeType, FieldType, StorageType, SubType, SubTypes};
 use wasmprinter_ops::types::{HeapType, RefType, ValType, ValTypes, read_type};
+use wasmprinter_samples::expect_text;
 
 /// Immediates that are expected.
 #[derive(Clone, Copy)]
@@ -94,12 +95,12 @@ fn assert_walk(
     let mut cursor = Cursor::new(0x1a, bytes);
     let expression = Expression::read(alloc, &mut cursor)?;
     assert!(rt; cursor.is_empty());
-    assert_eq!(rt; expression.end(), 0x19 + bytes.len() as u64);
+    assert!(rt; expression.end() == 0x19 + bytes.len() as u64);
     let mut reader = expression.operators();
     for (wanted_place, word, immediates) in wanted {
         let (place, operator) = reader.next().ok_or("an operator is missing")?;
-        assert_eq!(rt; place, *wanted_place);
-        assert_eq!(rt; operator.opcode.word(), *word);
+        assert!(rt; place == *wanted_place);
+        expect_text(operator.opcode.word(), *word)?;
         assert!(rt; are_wanted(&operator.immediates, immediates), "at {place}");
     }
     assert!(rt; reader.next().is_none());
@@ -290,7 +291,7 @@ fn other_nesting_is_refused(rt: HostRuntime) {
         (&[0x06, 0x40, 0x07, 0x00, 0x18, 0x00, 0x0b], 4),
     ];
     for (row, (bytes, place)) in rows.iter().enumerate() {
-        assert_eq!(rt; refused_at(rt.alloc(), *bytes), Some(*place), "row {row}");
+        assert!(rt; refused_at(rt.alloc(), *bytes) == Some(*place), "row {row}");
     }
 }
 
@@ -305,7 +306,7 @@ fn blocks_nest_deep(rt: HostRuntime) -> Result<(), Fail> {
         bytes.push(0x0b)?;
     }
     let expression = Expression::read(rt.alloc(), &mut Cursor::new(0, &bytes))?;
-    assert_eq!(rt; expression.end(), 300_000);
+    assert!(rt; expression.end() == 300_000);
     let mut reader = expression.operators();
     for number in 0..200_000 {
         assert!(rt; reader.next().is_some(), "operator {number}");
@@ -323,15 +324,9 @@ fn second(cursor: &mut Cursor) -> Result<Option<ValType>, Malformed> {
 
 #[test]
 fn value_types_are_read(rt: HostRuntime) {
-    assert_eq!(rt;
-        second(&mut Cursor::new(0, &[0x02, 0x7f, 0x7e])),
-        Ok(Some(ValType::I64))
-    );
-    assert_eq!(rt; second(&mut Cursor::new(0, &[0x01, 0x7f])), Ok(None));
-    assert_eq!(rt;
-        second(&mut Cursor::new(0, &[0x02, 0x7f, 0x40])),
-        Err(Malformed { place: 2 })
-    );
+    assert!(rt; second(&mut Cursor::new(0, &[0x02, 0x7f, 0x7e])) == Ok(Some(ValType::I64)));
+    assert!(rt; second(&mut Cursor::new(0, &[0x01, 0x7f])) == Ok(None));
+    assert!(rt; second(&mut Cursor::new(0, &[0x02, 0x7f, 0x40])) == Err(Malformed { place: 2 }));
 }
 
 /// The value type that the bytes spell from their first on.
@@ -366,10 +361,10 @@ fn value_types_have_their_bytes(rt: HostRuntime) {
         (0x74, reference(true, HeapType::NoExn)),
     ];
     for (byte, val_type) in rows {
-        assert_eq!(rt; spelled(&[byte]), Ok(val_type));
+        assert!(rt; spelled(&[byte]) == Ok(val_type));
     }
     for byte in [0x40, 0x60, 0x68, 0x75, 0x77, 0x78, 0x79, 0x7a, 0x80] {
-        assert_eq!(rt; spelled(&[byte]), Err(Malformed { place: 0 }));
+        assert!(rt; spelled(&[byte]) == Err(Malformed { place: 0 }));
     }
 }
 
@@ -392,7 +387,7 @@ fn references_say_whether_they_may_be_null(rt: HostRuntime) {
         (&[0x63], Err(Malformed { place: 1 })),
     ];
     for (row, (bytes, wanted)) in rows.iter().enumerate() {
-        assert_eq!(rt; spelled(*bytes), *wanted, "row {row}");
+        assert!(rt; spelled(*bytes) == *wanted, "row {row}");
     }
 }
 
@@ -415,16 +410,16 @@ fn assert_fields(rt: &impl Abort, composite: &CompositeType, wanted: &[FieldType
     };
     let mut fields = fields.iter();
     for (number, field) in wanted.iter().enumerate() {
-        assert_eq!(rt; fields.next(), Some(*field), "field {number}");
+        assert!(rt; fields.next() == Some(*field), "field {number}");
     }
-    assert_eq!(rt; fields.next(), None);
+    assert!(rt; fields.next() == None);
 }
 
 #[test]
 fn fields_are_read(rt: HostRuntime) -> Result<(), Fail> {
     let sub_type = first_type(&[0x5f, 0x02, 0x78, 0x01, 0x7f, 0x00]).ok_or("no type is read")?;
     assert!(rt; sub_type.is_final());
-    assert_eq!(rt; sub_type.supertypes().len(), 0);
+    assert!(rt; sub_type.supertypes().len() == 0);
     assert!(rt; sub_type.func_type().is_none());
     let first = FieldType {
         storage: StorageType::I8,
@@ -453,6 +448,6 @@ fn other_types_are_refused(rt: HostRuntime) {
         (&[0xff, 0xff, 0xff, 0xff, 0x0f], Err(Malformed { place: 5 })),
     ];
     for (row, (bytes, wanted)) in rows.iter().enumerate() {
-        assert_eq!(rt; count_of(*bytes), *wanted, "row {row}");
+        assert!(rt; count_of(*bytes) == *wanted, "row {row}");
     }
 }

@@ -35,7 +35,7 @@ fn prints_in_colors(rt: HostRuntime) -> Result<(), Fail> {
     ];
     for (wasm, expected) in modules {
         let text = Config::new().print_to_ansi(rt.alloc(), wasm)?;
-        assert_eq!(rt; text.as_slice(), expected.as_bytes());
+        assert!(rt; text.as_slice() == expected.as_bytes());
     }
     Ok(())
 }

@@ -4,7 +4,7 @@ use std::fs;
 use std::path::Path;
 use std::test::Fail;
 use wasmprinter::{Error, print_file};
-use wasmprinter_samples::{IDENTITY, IDENTITY_TEXT, PREAMBLE};
+use wasmprinter_samples::{IDENTITY, IDENTITY_TEXT, PREAMBLE, expect_text};
 
 #[test]
 fn prints_files(rt: HostRuntime) -> Result<(), Fail> {
@@ -16,7 +16,7 @@ fn prints_files(rt: HostRuntime) -> Result<(), Fail> {
         fs::write(&rt, name, wasm)?;
         let text = print_file(&rt, rt.alloc(), Path::new(name))?;
         fs::remove_file(&rt, name)?;
-        assert_eq!(rt; text.as_str(), expected);
+        expect_text(text.as_str(), expected)?;
     }
     Ok(())
 }

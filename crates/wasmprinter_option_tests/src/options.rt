@@ -4,7 +4,7 @@ use std::test::Fail;
 use wasmprinter::Config;
 use wasmprinter_samples::{
     EVERY_SPACE, EVERYTHING, EVERYTHING_TEXT, FIELDS, FIELDS_TEXT, IDENTITY, IDENTITY_TEXT,
-    PREAMBLE,
+    PREAMBLE, expect_text,
 };
 
 /// `IDENTITY` with places.
@@ -125,7 +125,7 @@ fn prints_places(rt: HostRuntime) -> Result<(), Fail> {
     config.print_offsets(true);
     for (wasm, expected) in modules {
         let text = config.print_to_string(rt.alloc(), wasm)?;
-        assert_eq!(rt; text.as_str(), expected);
+        expect_text(text.as_str(), expected)?;
     }
     Ok(())
 }
@@ -135,15 +135,15 @@ fn leaves_bodies_out(rt: HostRuntime) -> Result<(), Fail> {
     let mut config = Config::new();
     config.print_skeleton(true);
     let text = config.print_to_string(rt.alloc(), &IDENTITY)?;
-    assert_eq!(rt;
+    expect_text(
         text.as_str(),
         r#"(module
   (type (;0;) (func (param i32) (result i32)))
   (export "f" (func 0))
   (func (;0;) (type 0) (param i32) (result i32) ...)
 )
-"#
-    );
+"#,
+    )?;
     Ok(())
 }
 
@@ -152,7 +152,7 @@ fn prints_places_of_fields(rt: HostRuntime) -> Result<(), Fail> {
     let mut config = Config::new();
     config.print_offsets(true);
     let text = config.print_to_string(rt.alloc(), &FIELDS)?;
-    assert_eq!(rt;
+    expect_text(
         text.as_str(),
         r#"(module
 (;@b     ;)  (type (;0;) (func))
@@ -170,8 +170,8 @@ fn prints_places_of_fields(rt: HostRuntime) -> Result<(), Fail> {
 (;@60    ;)  (data (;0;) (i32.const 0) "hi")
 (;@67    ;)  (data (;1;) "")
 (;@69    ;))
-"#
-    );
+"#,
+    )?;
     Ok(())
 }
 
@@ -180,7 +180,7 @@ fn prints_fields_of_a_skeleton(rt: HostRuntime) -> Result<(), Fail> {
     let mut config = Config::new();
     config.print_skeleton(true);
     let text = config.print_to_string(rt.alloc(), &FIELDS)?;
-    assert_eq!(rt;
+    expect_text(
         text.as_str(),
         r#"(module
   (type (;0;) (func))
@@ -198,8 +198,8 @@ fn prints_fields_of_a_skeleton(rt: HostRuntime) -> Result<(), Fail> {
   (data (;0;) (i32.const 0) ...)
   (data (;1;) ...)
 )
-"#
-    );
+"#,
+    )?;
     Ok(())
 }
 
@@ -212,15 +212,15 @@ fn leaves_room_where_a_line_has_no_place(rt: HostRuntime) -> Result<(), Fail> {
     let mut config = Config::new();
     config.print_offsets(true);
     let text = config.print_to_string(rt.alloc(), &group)?;
-    assert_eq!(rt;
+    expect_text(
         text.as_str(),
         r#"(module
 (;@b     ;)  (rec
 (;@d     ;)    (type (;0;) (func))
              )
 (;@10    ;))
-"#
-    );
+"#,
+    )?;
     Ok(())
 }
 
@@ -262,7 +262,7 @@ fn indents_by_another_text(rt: HostRuntime) -> Result<(), Fail> {
         let mut config = Config::new();
         config.indent_text(String::from_str(rt.alloc(), indent)?);
         let text = config.print_to_string(rt.alloc(), &IDENTITY)?;
-        assert_eq!(rt; text.as_str(), expected);
+        expect_text(text.as_str(), expected)?;
     }
     Ok(())
 }
@@ -275,7 +275,7 @@ fn indents_behind_places(rt: HostRuntime) -> Result<(), Fail> {
         .indent_text(String::from_str(rt.alloc(), "\t")?)
         .print_offsets(true);
     let text = config.print_to_string(rt.alloc(), &IDENTITY)?;
-    assert_eq!(rt;
+    expect_text(
         text.as_str(),
         "(module\n\
         (;@b     ;)\t(type (;0;) (func (param i32) (result i32)))\n\
@@ -283,8 +283,8 @@ fn indents_behind_places(rt: HostRuntime) -> Result<(), Fail> {
         (;@1f    ;)\t(func (;0;) (type 0) (param i32) (result i32)\n\
         (;@20    ;)\t\tlocal.get 0\n\
         (;@22    ;)\t)\n\
-        (;@23    ;))\n"
-    );
+        (;@23    ;))\n",
+    )?;
     Ok(())
 }
 
@@ -293,13 +293,13 @@ fn chains_setters(rt: HostRuntime) -> Result<(), Fail> {
     let mut config = Config::new();
     config.print_offsets(true).print_skeleton(true);
     let outline = config.print_to_string(rt.alloc(), &EVERY_SPACE)?;
-    assert_eq!(rt; outline.as_str(), EVERY_SPACE_OUTLINE);
+    expect_text(outline.as_str(), EVERY_SPACE_OUTLINE)?;
     let text = Config::new()
         .name_unnamed(true)
         .print_skeleton(true)
         .print_offsets(true)
         .print_to_string(rt.alloc(), &IDENTITY)?;
-    assert_eq!(rt; text.as_str(), IDENTITY_OUTLINE_INVENTED);
+    expect_text(text.as_str(), IDENTITY_OUTLINE_INVENTED)?;
     Ok(())
 }
 
@@ -312,7 +312,7 @@ fn prints_by_all_options_at_once(rt: HostRuntime) -> Result<(), Fail> {
         .name_unnamed(true)
         .indent_text(String::from_str(rt.alloc(), "\t")?);
     let text = config.print_to_string(rt.alloc(), &EVERY_SPACE)?;
-    assert_eq!(rt; text.as_str(), EVERY_OPTION);
+    expect_text(text.as_str(), EVERY_OPTION)?;
     Ok(())
 }
 
@@ -322,13 +322,13 @@ fn takes_options_back(rt: HostRuntime) -> Result<(), Fail> {
     config.print_offsets(true).print_skeleton(true);
     config.name_unnamed(true).name_unnamed(false);
     let outline = config.print_to_string(rt.alloc(), &IDENTITY)?;
-    assert_eq!(rt; outline.as_str(), IDENTITY_OUTLINE);
+    expect_text(outline.as_str(), IDENTITY_OUTLINE)?;
     config.print_skeleton(false);
     let places = config.print_to_string(rt.alloc(), &IDENTITY)?;
-    assert_eq!(rt; places.as_str(), IDENTITY_PLACES);
+    expect_text(places.as_str(), IDENTITY_PLACES)?;
     config.print_offsets(false);
     let text = config.print_to_string(rt.alloc(), &IDENTITY)?;
-    assert_eq!(rt; text.as_str(), IDENTITY_TEXT);
+    expect_text(text.as_str(), IDENTITY_TEXT)?;
     Ok(())
 }
 
@@ -342,7 +342,7 @@ fn prints_as_by_default_where_no_option_is_asked_for(rt: HostRuntime) -> Result<
     let modules: [(&[u8], &str); 2] = [(&EVERYTHING, EVERYTHING_TEXT), (&FIELDS, FIELDS_TEXT)];
     for (wasm, expected) in modules {
         let text = config.print_to_string(rt.alloc(), wasm)?;
-        assert_eq!(rt; text.as_str(), expected);
+        expect_text(text.as_str(), expected)?;
     }
     Ok(())
 }
@@ -351,9 +351,9 @@ fn prints_as_by_default_where_no_option_is_asked_for(rt: HostRuntime) -> Result<
 fn shows_debug(rt: HostRuntime) -> Result<(), Fail> {
     let config = Config::default();
     let shown = format!(in rt.alloc(); "{config:?}")?;
-    assert_eq!(rt;
+    expect_text(
         shown.as_str(),
-        "Config { options: PrintOptions { offsets: false, skeleton: false, invents: false, folds: false, indent: TwoBlanks } }"
-    );
+        "Config { options: PrintOptions { offsets: false, skeleton: false, invents: false, folds: false, indent: TwoBlanks } }",
+    )?;
     Ok(())
 }

@@ -40,7 +40,7 @@ fn walks_over_the_places_of_operators(rt: HostRuntime) -> Result<(), Fail> {
     let mut places = [0x1a, 0x1c, 0x1e].iter();
     if let Some(body) = module.body(0) {
         for (place, _) in body.operators() {
-            assert_eq!(rt; places.next(), Some(&place));
+            assert!(rt; places.next() == Some(&place));
         }
     }
     assert!(rt; places.next().is_none());
@@ -81,10 +81,10 @@ fn finds_no_operator_where_bodies_are_left_out(rt: HostRuntime) -> Result<(), Fa
 #[test]
 fn finds_the_first_of_any_lines(rt: HostRuntime) -> Result<(), Fail> {
     let module = decode(rt.alloc(), &IDENTITY)?;
-    assert_eq!(rt; place_of(&module, &[], 0, 0), None);
+    assert!(rt; place_of(&module, &[], 0, 0) == None);
     let none = [(None, "local.get 0\n"), (Some(0x1f), ""), (Some(0x21), "")];
-    assert_eq!(rt; place_of(&module, &none, 0, 0), None);
+    assert!(rt; place_of(&module, &none, 0, 0) == None);
     let two = [(None, ""), (Some(0x20), "a\n"), (Some(0x20), "b\n")];
-    assert_eq!(rt; place_of(&module, &two, 0, 0), Some((1, 0x20)));
+    assert!(rt; place_of(&module, &two, 0, 0) == Some((1, 0x20)));
     Ok(())
 }

@@ -13,6 +13,7 @@ use wasmprinter_entries::places::{CustomEntry, SectionKind};
 use wasmprinter_error::Error;
 use wasmprinter_lines::options::PrintOptions;
 use wasmprinter_print::Print;
+use wasmprinter_samples::expect_text;
 
 /// Where each section begins.
 const PLACE: u64 = 0x10;
@@ -129,14 +130,14 @@ fn first(alloc: Global, bytes: &[u8]) -> Result<String, Fail> {
 #[test]
 fn raw_sections_stand_as_they_are(rt: HostRuntime) -> Result<(), Fail> {
     let text = first(rt.alloc(), b"\x03a\"b\x00h\\\xff")?;
-    assert_eq!(rt;
+    expect_text(
         text.as_str(),
-        "\n  (@custom \"a\\u{22}b\" (before first) \"\\00h\\5c\\ff\")"
-    );
+        "\n  (@custom \"a\\u{22}b\" (before first) \"\\00h\\5c\\ff\")",
+    )?;
     let mut options = PrintOptions::new();
     options.skeleton = true;
     let text = printed(rt.alloc(), &options, &entry(None, b"\x01abytes")?)?;
-    assert_eq!(rt; text.as_str(), "\n  (@custom \"a\" (before first) ...)");
+    expect_text(text.as_str(), "\n  (@custom \"a\" (before first) ...)")?;
     Ok(())
 }
 
@@ -176,7 +177,7 @@ fn places_have_words(rt: HostRuntime) -> Result<(), Fail> {
     ] {
         let section = entry(Some(kind), b"\x01a")?;
         let text = printed(rt.alloc(), &PrintOptions::new(), &section)?;
-        assert_eq!(rt; text.as_str(), wanted);
+        expect_text(text.as_str(), wanted)?;
     }
     Ok(())
 }
@@ -187,38 +188,38 @@ fn producers_have_lines(rt: HostRuntime) -> Result<(), Fail> {
     let mut options = PrintOptions::new();
     options.offsets = true;
     let text = printed(rt.alloc(), &options, &entry(None, section)?)?;
-    assert_eq!(rt;
+    expect_text(
         text.as_str(),
         "\n(;@10    ;)  (@producers\
          \n(;@25    ;)    (language \"Rust\" \"\")\
          \n(;@2b    ;)    (language \"C\" \"11\")\
          \n(;@35    ;)    (sdk \"e\" \"1\")\
-         \n             )"
-    );
+         \n             )",
+    )?;
     for bytes in [b"\x09producers\x00\x01", b"\x09producers\x01\x01"] {
         let text = first(rt.alloc(), bytes)?;
         assert!(rt; text.as_str().contains(";; failed"));
     }
     let text = first(rt.alloc(), b"\x09producers\x00")?;
-    assert_eq!(rt; text.as_str(), "\n  (@producers)");
+    expect_text(text.as_str(), "\n  (@producers)")?;
     let text = first(rt.alloc(), b"\x09producers\x01\x03sdk\x00")?;
-    assert_eq!(rt; text.as_str(), "\n  (@producers)");
+    expect_text(text.as_str(), "\n  (@producers)")?;
     Ok(())
 }
 
 #[test]
 fn producers_may_stand_raw(rt: HostRuntime) -> Result<(), Fail> {
     let text = first(rt.alloc(), b"\x09producers\x01\x03a b\x00")?;
-    assert_eq!(rt;
+    expect_text(
         text.as_str(),
-        "\n  (@custom \"producers\" (before first) \"\\01\\03a b\\00\")"
-    );
+        "\n  (@custom \"producers\" (before first) \"\\01\\03a b\\00\")",
+    )?;
     let text = first(rt.alloc(), b"\x09producers\x00\x00")?;
-    assert_eq!(rt;
+    expect_text(
         text.as_str(),
         "\n  ;; failed to parse custom section `producers`\
-         \n  (@custom \"producers\" (before first) \"\\00\\00\")"
-    );
+         \n  (@custom \"producers\" (before first) \"\\00\\00\")",
+    )?;
     Ok(())
 }
 
@@ -232,7 +233,7 @@ fn subsections_of_dylink_have_lines(rt: HostRuntime) -> Result<(), Fail> {
         \x04\x0b\x02\x01m\x01g\x20\x01m\x01h\x00\
         \x05\x03\x01\x01/";
     let text = first(rt.alloc(), section)?;
-    assert_eq!(rt;
+    expect_text(
         text.as_str(),
         "\n  (@dylink.0\
          \n    (mem-info (memory 16 2) (table 3 0))\
@@ -245,12 +246,12 @@ fn subsections_of_dylink_have_lines(rt: HostRuntime) -> Result<(), Fail> {
          \n    (import-info \"m\" \"g\" exported)\
          \n    (import-info \"m\" \"h\")\
          \n    (runtime-path \"/\")\
-         \n  )"
-    );
+         \n  )",
+    )?;
     let text = first(rt.alloc(), b"\x08dylink.0")?;
-    assert_eq!(rt; text.as_str(), "\n  (@dylink.0)");
+    expect_text(text.as_str(), "\n  (@dylink.0)")?;
     let text = first(rt.alloc(), b"\x08dylink.0\x03\x01\x00\x04\x01\x00")?;
-    assert_eq!(rt; text.as_str(), "\n  (@dylink.0)");
+    expect_text(text.as_str(), "\n  (@dylink.0)")?;
     Ok(())
 }
 
@@ -260,12 +261,12 @@ fn unknown_subsections_are_refused(rt: HostRuntime) -> Result<(), Fail> {
     let mut printer = Taker::new(rt.alloc(), &[]);
     let refused = write_custom(&mut printer, &PrintOptions::new(), &section);
     assert!(rt; matches!(refused, Err(Error::DylinkSubsection { id: 9 })));
-    assert_eq!(rt; printer.asked.as_str(), "[dylink.0 0x19 5]");
-    assert_eq!(rt; printer.text.as_str(), "");
+    expect_text(printer.asked.as_str(), "[dylink.0 0x19 5]")?;
+    expect_text(printer.text.as_str(), "")?;
     let mut printer = Taker::new(rt.alloc(), &[true]);
     let taken = write_custom(&mut printer, &PrintOptions::new(), &section);
     assert!(rt; matches!(taken, Ok(false)));
-    assert_eq!(rt; printer.text.as_str(), "");
+    expect_text(printer.text.as_str(), "")?;
     Ok(())
 }
 
@@ -275,8 +276,8 @@ fn names_are_offered_and_not_printed(rt: HostRuntime) -> Result<(), Fail> {
     let section = entry(Some(SectionKind::Data), b"\x04name\x00")?;
     let silent = write_custom(&mut printer, &PrintOptions::new(), &section);
     assert!(rt; matches!(silent, Ok(false)));
-    assert_eq!(rt; printer.asked.as_str(), "[name 0x15 1]");
-    assert_eq!(rt; printer.text.as_str(), "");
+    expect_text(printer.asked.as_str(), "[name 0x15 1]")?;
+    expect_text(printer.text.as_str(), "")?;
     Ok(())
 }
 
@@ -300,9 +301,9 @@ fn assert_customs(
 ) -> Result<(), Fail> {
     let customs = five_sections()?;
     let found = write_customs(printer, &PrintOptions::new(), &customs, behind)?;
-    assert_eq!(rt; found, any);
-    assert_eq!(rt; printer.asked.as_str(), asked);
-    assert_eq!(rt; printer.text.as_str(), text);
+    assert!(rt; found == any);
+    expect_text(printer.asked.as_str(), asked)?;
+    expect_text(printer.text.as_str(), text)?;
     Ok(())
 }
 
@@ -326,7 +327,7 @@ fn a_section_among_others_is_refused(rt: HostRuntime) -> Result<(), Fail> {
     let behind = Some(SectionKind::Code);
     let refused = write_customs(&mut printer, &PrintOptions::new(), &customs, behind);
     assert!(rt; matches!(refused, Err(Error::DylinkSubsection { id: 9 })));
-    assert_eq!(rt; printer.asked.as_str(), "[c 0x12 0][dylink.0 0x19 2]");
+    expect_text(printer.asked.as_str(), "[c 0x12 0][dylink.0 0x19 2]")?;
     Ok(())
 }
 
@@ -341,7 +342,7 @@ fn a_question_may_fail(rt: HostRuntime) -> Result<(), Fail> {
     printer.failing = 2;
     let failed = write_customs(&mut printer, &PrintOptions::new(), &customs, None);
     assert!(rt; matches!(failed, Err(Error::Printer(e)) if e.kind() == ErrorKind::BrokenPipe));
-    assert_eq!(rt; printer.asked.as_str(), "[a 0x12 0][b 0x12 0]");
-    assert_eq!(rt; printer.text.as_str(), "");
+    expect_text(printer.asked.as_str(), "[a 0x12 0][b 0x12 0]")?;
+    expect_text(printer.text.as_str(), "")?;
     Ok(())
 }

@@ -52,8 +52,8 @@ fn second_name(bytes: &[u8]) -> Option<&str> {
 fn fields_of_producers_are_read(rt: HostRuntime) {
     // `language` with `Rust` and `C` "11"; `sdk` without values
     let bytes = b"\x02\x08language\x02\x04Rust\x00\x01C\x0211\x03sdk\x00";
-    assert_eq!(rt; second_value(bytes), Some((0x111, "C", "11")));
-    assert_eq!(rt; second_name(bytes), Some("sdk"));
+    assert!(rt; second_value(bytes) == Some((0x111, "C", "11")));
+    assert!(rt; second_name(bytes) == Some("sdk"));
 }
 
 /// What a role is called here.
@@ -89,7 +89,7 @@ fn sections_have_roles(rt: HostRuntime) {
         ("dylink.0", b"\x00\x01", "faulted"),
     ];
     for (name, bytes, wanted) in sections {
-        assert_eq!(rt; role_word(name, bytes), wanted);
+        assert!(rt; role_word(name, bytes) == wanted);
     }
     assert!(rt;
         matches!(
@@ -119,7 +119,7 @@ fn identifier_characters_are_known(rt: HostRuntime) {
         (b'}', "raw"),
         (0x7f, "raw"),
     ] {
-        assert_eq!(rt; role_word("producers", &[0x01, 0x01, byte, 0x00]), wanted);
+        assert!(rt; role_word("producers", &[0x01, 0x01, byte, 0x00]) == wanted);
     }
 }
 
@@ -187,34 +187,31 @@ fn import_of(bytes: &[u8]) -> Option<(&str, &str, u32)> {
 #[test]
 fn subsections_of_dylink_are_read(rt: HostRuntime) {
     let sizes = b"\x01\x04\x10\x02\x03\x00\x05\x01\x00";
-    assert_eq!(rt; second_place(sizes), Some(0x106));
-    assert_eq!(rt; sizes_of(sizes), Some([16, 2, 3, 0]));
+    assert!(rt; second_place(sizes) == Some(0x106));
+    assert!(rt; sizes_of(sizes) == Some([16, 2, 3, 0]));
     let paths: [(&[u8], Option<&str>); 2] = [
         (b"\x02\x05\x02\x01a\x01b", Some("b")),
         (b"\x05\x03\x01\x01a", None),
     ];
     for (bytes, path) in paths {
-        assert_eq!(rt; second_path(bytes), path);
+        assert!(rt; second_path(bytes) == path);
     }
 }
 
 #[test]
 fn symbols_of_dylink_are_read(rt: HostRuntime) {
-    assert_eq!(rt; export_of(b"\x03\x04\x01\x01f\x21"), Some(("f", 0x21)));
-    assert_eq!(rt;
-        import_of(b"\x04\x07\x01\x01m\x01g\x88\x08"),
-        Some(("m", "g", 0x408))
-    );
+    assert!(rt; export_of(b"\x03\x04\x01\x01f\x21") == Some(("f", 0x21)));
+    assert!(rt; import_of(b"\x04\x07\x01\x01m\x01g\x88\x08") == Some(("m", "g", 0x408)));
 }
 
 /// Asserts that the flags have these words, in this order, and these other bits.
 fn assert_flags(rt: &impl Abort, flags: SymbolFlags, wanted: &[&str], other_bits: u32) {
     let mut words = flags.words();
     for word in wanted {
-        assert_eq!(rt; words.next(), Some(*word));
+        assert!(rt; words.next() == Some(*word));
     }
-    assert_eq!(rt; words.next(), None);
-    assert_eq!(rt; flags.other_bits(), other_bits);
+    assert!(rt; words.next() == None);
+    assert!(rt; flags.other_bits() == other_bits);
 }
 
 #[test]
@@ -225,7 +222,7 @@ fn flags_have_words(rt: HostRuntime) {
     assert_flags(&rt, odd, &["binding-local"], 0xffff_fc08);
     assert!(rt; odd.contains(SymbolFlags::BINDING_LOCAL));
     let named = SymbolFlags::from_name("no-strip");
-    assert_eq!(rt; named.map(|flags| flags.bits()), Some(0x80));
+    assert!(rt; named.map(|flags| flags.bits()) == Some(0x80));
 }
 
 /// The place of a hint and whether it is taken.
@@ -241,9 +238,8 @@ fn assert_hints(
     rows: &[(u64, Option<(u64, bool)>)],
 ) {
     for (offset, hint) in rows {
-        assert_eq!(rt;
-            shown(hints.next_at(*offset)),
-            *hint,
+        assert!(rt;
+            shown(hints.next_at(*offset)) == *hint,
             "function {function}, offset {offset}"
         );
     }
@@ -291,7 +287,7 @@ fn a_fault_gives_no_hints(rt: HostRuntime) {
     ];
     for bytes in faults {
         let mut hints = Hints::given(0, bytes);
-        assert_eq!(rt; shown(hints.next_function(1).next_at(3)), None);
+        assert!(rt; shown(hints.next_function(1).next_at(3)) == None);
     }
 }
 
@@ -311,11 +307,11 @@ fn hints_are_read_once(rt: HostRuntime) -> Result<(), Fail> {
     let bytes = many_hints(rt.alloc(), 131_071, [0xff, 0xff, 0x07])?;
     let mut hints = Hints::given(0, &bytes);
     for number in 0..100_000 {
-        assert_eq!(rt; shown(hints.next_function(number).next_at(0)), None);
+        assert!(rt; shown(hints.next_function(number).next_at(0)) == None);
     }
     let mut function = hints.next_function(100_000);
-    assert_eq!(rt; shown(function.next_at(0)), Some((7, true)));
-    assert_eq!(rt; shown(function.next_at(0)), Some((10, true)));
+    assert!(rt; shown(function.next_at(0)) == Some((7, true)));
+    assert!(rt; shown(function.next_at(0)) == Some((10, true)));
     Ok(())
 }
 
@@ -323,6 +319,6 @@ fn hints_are_read_once(rt: HostRuntime) -> Result<(), Fail> {
 fn a_hint_too_many_is_a_fault(rt: HostRuntime) -> Result<(), Fail> {
     let bytes = many_hints(rt.alloc(), 131_072, [0x80, 0x80, 0x08])?;
     let mut hints = Hints::given(0, &bytes);
-    assert_eq!(rt; shown(hints.next_function(100_000).next_at(0)), None);
+    assert!(rt; shown(hints.next_function(100_000).next_at(0)) == None);
     Ok(())
 }

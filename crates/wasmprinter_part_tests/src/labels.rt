@@ -90,10 +90,13 @@ fn assert_steps(rt: &impl Abort, labels: OpenLabels, steps: &[Step])
         match step {
             Step::Begin(function) => walk.begin(*function),
             Step::Advance(role) => walk.advance(rt, *role),
-            Step::Own(own) => assert_eq!(rt; walk.labels.own(), *own, "at step {number}"),
-            Step::Depth(depth) => assert_eq!(rt; walk.labels.depth(), *depth, "at step {number}"),
+            Step::Own(own) => assert!(rt; walk.labels.own() == *own, "at step {number}"),
+            Step::Depth(depth) => assert!(rt; walk.labels.depth() == *depth, "at step {number}"),
             Step::Find(role, label, meant) => {
-                assert_eq!(rt; walk.labels.find(*role, *label), *meant, "at step {number}");
+                assert!(rt;
+                    walk.labels.find(*role, *label) == *meant,
+                    "at step {number}"
+                );
             }
         }
     }
@@ -113,7 +116,7 @@ fn assert_labels(
         invents,
     };
     let labels = OpenLabels::new(alloc, identifiers)?;
-    assert_eq!(rt; labels.identifiers().invents, invents);
+    assert!(rt; labels.identifiers().invents == invents);
     assert_steps(rt, labels, steps);
     Ok(())
 }

@@ -7,6 +7,7 @@ use wasmprinter_error::Error;
 use wasmprinter_names::{
     Identifier, Identifiers, LabelName, Name, Names, NamesBuilder, Space, read_names,
 };
+use wasmprinter_samples::expect_text;
 
 /// The names by these sections.
 fn names_of<'a>(alloc: Global, sections: &[&'a [u8]]) -> Result<Names<'a>, Error> {
@@ -31,35 +32,35 @@ fn names_are_marked(rt: HostRuntime) -> Result<(), Fail> {
         None,
     ];
     for (index, identifier) in (0..).zip(identifiers) {
-        assert_eq!(rt; names.identifier(Space::Func, 0, index), identifier);
+        assert!(rt; names.identifier(Space::Func, 0, index) == identifier);
     }
-    assert_eq!(rt;
-        names.name(Space::Func, 0, 1),
-        Some(Name {
-            given: "a",
-            content: "#func1 a",
-        })
+    assert!(rt;
+        names.name(Space::Func, 0, 1)
+            == Some(Name {
+                given: "a",
+                content: "#func1 a",
+            })
     );
     // the outer number means nothing here
-    assert_eq!(rt; names.identifier(Space::Func, 7, 0), Some("b"));
-    assert_eq!(rt; names.identifier(Space::Table, 0, 0), None);
-    assert_eq!(rt; names.module(), None);
+    assert!(rt; names.identifier(Space::Func, 7, 0) == Some("b"));
+    assert!(rt; names.identifier(Space::Table, 0, 0) == None);
+    assert!(rt; names.module() == None);
     Ok(())
 }
 
 #[test]
 fn a_local_has_a_name(rt: HostRuntime) -> Result<(), Fail> {
     let names = names_of(rt.alloc(), &[b"\x02\x06\x01\x00\x01\x00\x01x"])?;
-    assert_eq!(rt; names.identifier(Space::Local, 0, 0), Some("x"));
-    assert_eq!(rt; names.identifier(Space::Func, 0, 0), None);
-    assert_eq!(rt; names.module(), None);
+    assert!(rt; names.identifier(Space::Local, 0, 0) == Some("x"));
+    assert!(rt; names.identifier(Space::Func, 0, 0) == None);
+    assert!(rt; names.module() == None);
     Ok(())
 }
 
 #[test]
 fn a_cut_name_is_none(rt: HostRuntime) -> Result<(), Fail> {
     let names = names_of(rt.alloc(), &[b"\x01\x04\x01\x00\x05a"])?;
-    assert_eq!(rt; names.name(Space::Func, 0, 0), None);
+    assert!(rt; names.name(Space::Func, 0, 0) == None);
     Ok(())
 }
 
@@ -71,7 +72,7 @@ fn reading_stops_at_the_first_fault(rt: HostRuntime) -> Result<(), Fail> {
     // a second section: function 0 `f`, 1 `f`
     let second = b"\x01\x07\x02\x00\x01f\x01\x01f";
     let names = names_of(rt.alloc(), &[first, second])?;
-    assert_eq!(rt; names.module(), Some("m"));
+    assert!(rt; names.module() == Some("m"));
     for (space, outer, index, identifier) in [
         (Space::Local, 1, 0, Some("x")),
         (Space::Local, 0, 0, None),
@@ -79,9 +80,8 @@ fn reading_stops_at_the_first_fault(rt: HostRuntime) -> Result<(), Fail> {
         (Space::Func, 0, 0, Some("f")),
         (Space::Func, 0, 1, Some("#func1 f")),
     ] {
-        assert_eq!(rt;
-            names.identifier(space, outer, index),
-            identifier,
+        assert!(rt;
+            names.identifier(space, outer, index) == identifier,
             "{outer} {index}"
         );
     }
@@ -109,10 +109,10 @@ fn names_count_in_their_space(rt: HostRuntime) -> Result<(), Fail> {
         let is_indirect = matches!(space, Space::Local | Space::Field);
         let bytes: &[u8] = if is_indirect { &indirect } else { &direct };
         let names = names_of(rt.alloc(), &[bytes])?;
-        assert_eq!(rt; names.identifier(space, 5, 0), Some("a"));
-        assert_eq!(rt; names.identifier(space, 5, 1), Some(second));
+        assert!(rt; names.identifier(space, 5, 0) == Some("a"));
+        assert!(rt; names.identifier(space, 5, 1) == Some(second));
         let elsewhere = names.identifier(space, 4, 0);
-        assert_eq!(rt; elsewhere.is_none(), is_indirect);
+        assert!(rt; elsewhere.is_none() == is_indirect);
     }
     Ok(())
 }
@@ -123,23 +123,23 @@ fn names_of_labels_and_the_module_never_count(rt: HostRuntime) -> Result<(), Fai
     let labels = b"\x03\x0b\x01\x00\x03\x00\x01a\x01\x01a\x02\x00";
     let module = b"\x00\x02\x01m\x00\x02\x01m";
     let names = names_of(rt.alloc(), &[labels, module])?;
-    assert_eq!(rt; names.identifier(Space::Label, 0, 0), Some("a"));
-    assert_eq!(rt; names.identifier(Space::Label, 0, 1), Some("a"));
-    assert_eq!(rt; names.identifier(Space::Label, 0, 2), Some("#label2 "));
-    assert_eq!(rt;
-        names.module_name(),
-        Some(Name {
-            given: "m",
-            content: "m",
-        })
+    assert!(rt; names.identifier(Space::Label, 0, 0) == Some("a"));
+    assert!(rt; names.identifier(Space::Label, 0, 1) == Some("a"));
+    assert!(rt; names.identifier(Space::Label, 0, 2) == Some("#label2 "));
+    assert!(rt;
+        names.module_name()
+            == Some(Name {
+                given: "m",
+                content: "m",
+            })
     );
     let nameless = names_of(rt.alloc(), &[b"\x00\x01\x00"])?;
-    assert_eq!(rt;
-        nameless.module_name(),
-        Some(Name {
-            given: "",
-            content: "#module0 ",
-        })
+    assert!(rt;
+        nameless.module_name()
+            == Some(Name {
+                given: "",
+                content: "#module0 ",
+            })
     );
     Ok(())
 }
@@ -166,9 +166,8 @@ fn identifiers_are_given_or_made_up(rt: HostRuntime) -> Result<(), Fail> {
             names: &names,
             invents,
         };
-        assert_eq!(rt;
-            identifiers.item(space, outer, index),
-            identifier,
+        assert!(rt;
+            identifiers.item(space, outer, index) == identifier,
             "{invents} {index}"
         );
     }
@@ -176,14 +175,14 @@ fn identifiers_are_given_or_made_up(rt: HostRuntime) -> Result<(), Fail> {
         names: &names,
         invents: false,
     };
-    assert_eq!(rt; given.module().is_some(), true);
+    assert!(rt; given.module().is_some());
     Ok(())
 }
 
 #[test]
 fn spaces_have_words(rt: HostRuntime) {
-    assert_eq!(rt; Space::Types.word(), "type");
-    assert_eq!(rt; Space::Data.word(), "data");
+    expect_text(Space::Types.word(), "type")?;
+    expect_text(Space::Data.word(), "data")?;
 }
 
 #[test]
@@ -193,7 +192,7 @@ fn no_identifier_is_made_up_for_a_module(rt: HostRuntime) -> Result<(), Fail> {
         names: &names,
         invents: true,
     };
-    assert_eq!(rt; all.module(), None);
+    assert!(rt; all.module() == None);
     Ok(())
 }
 
@@ -205,7 +204,7 @@ fn labels_are_listed_by_function_and_number(rt: HostRuntime) -> Result<(), Fail>
     let names = names_of(rt.alloc(), &[labels, others])?;
     let listed = names.labels(rt.alloc())?;
     let expected = [(0, 7, "c"), (2, 0, "a"), (2, 1, "b")];
-    assert_eq!(rt; listed.len(), expected.len());
+    assert!(rt; listed.len() == expected.len());
     for (label, (function, number, name)) in listed.iter().zip(expected) {
         let name = Name {
             given: name,
@@ -216,7 +215,7 @@ fn labels_are_listed_by_function_and_number(rt: HostRuntime) -> Result<(), Fail>
             number,
             name,
         };
-        assert_eq!(rt; *label, expected);
+        assert!(rt; *label == expected);
     }
     Ok(())
 }
@@ -251,13 +250,13 @@ fn many_names_are_kept(rt: HostRuntime) -> Result<(), Fail> {
     for id in [1, 4, 5, 6, 7, 8, 9, 11] {
         let bytes = subsection_of(alloc, id, &map)?;
         let names = names_of(alloc, &[&bytes])?;
-        assert_eq!(rt; names.module(), None);
+        assert!(rt; names.module() == None);
     }
     let bytes = subsection_of(alloc, 1, &map)?;
     let names = names_of(alloc, &[&bytes])?;
-    assert_eq!(rt; names.identifier(Space::Func, 0, 0), Some("a"));
-    assert_eq!(rt; names.identifier(Space::Func, 0, 299), Some("#func299 a"));
-    assert_eq!(rt; names.identifier(Space::Func, 0, 300), None);
+    assert!(rt; names.identifier(Space::Func, 0, 0) == Some("a"));
+    assert!(rt; names.identifier(Space::Func, 0, 299) == Some("#func299 a"));
+    assert!(rt; names.identifier(Space::Func, 0, 300) == None);
     Ok(())
 }
 
@@ -273,12 +272,12 @@ fn many_names_of_many_functions_are_kept(rt: HostRuntime) -> Result<(), Fail> {
     for id in [2, 3, 10] {
         let bytes = subsection_of(alloc, id, &maps)?;
         let names = names_of(alloc, &[&bytes])?;
-        assert_eq!(rt; names.module(), None);
+        assert!(rt; names.module() == None);
     }
     let bytes = subsection_of(alloc, 2, &maps)?;
     let names = names_of(alloc, &[&bytes])?;
-    assert_eq!(rt; names.identifier(Space::Local, 39, 0), Some("a"));
-    assert_eq!(rt; names.identifier(Space::Local, 39, 19), Some("#local19 a"));
-    assert_eq!(rt; names.identifier(Space::Local, 40, 0), None);
+    assert!(rt; names.identifier(Space::Local, 39, 0) == Some("a"));
+    assert!(rt; names.identifier(Space::Local, 39, 19) == Some("#local19 a"));
+    assert!(rt; names.identifier(Space::Local, 40, 0) == None);
     Ok(())
 }

@@ -12,6 +12,7 @@ use wasmprinter_names::{Identifiers, NamesBuilder, read_names};
 use wasmprinter_ops::expression::Expression;
 use wasmprinter_ops::types::composite::FuncType;
 use wasmprinter_print::PrintFmtWrite;
+use wasmprinter_samples::expect_text;
 use wasmprinter_text::signature::Signatures;
 
 /// No types.
@@ -106,11 +107,11 @@ fn in_line(alloc: Global, bytes: &[u8]) -> Result<String, Fail> {
 #[test]
 fn operators_stand_one_blank_apart(rt: HostRuntime) -> Result<(), Fail> {
     let empty = in_line(rt.alloc(), &[0x0b])?;
-    assert_eq!(rt; empty.as_str(), "");
+    expect_text(empty.as_str(), "")?;
     let one = in_line(rt.alloc(), &[0x23, 0x02, 0x0b])?;
-    assert_eq!(rt; one.as_str(), "global.get 2");
+    expect_text(one.as_str(), "global.get 2")?;
     let sum = in_line(rt.alloc(), &[0x41, 0x01, 0x41, 0x7b, 0x6a, 0x0b])?;
-    assert_eq!(rt; sum.as_str(), "i32.const 1 i32.const -5 i32.add");
+    expect_text(sum.as_str(), "i32.const 1 i32.const -5 i32.add")?;
     Ok(())
 }
 
@@ -120,20 +121,20 @@ fn blocks_stand_in_the_line(rt: HostRuntime) -> Result<(), Fail> {
         rt.alloc(),
         &[0x02, 0x7f, 0x41, 0x07, 0x0c, 0x00, 0x0b, 0x1a, 0x0b],
     )?;
-    assert_eq!(rt;
+    expect_text(
         one.as_str(),
-        "block (result i32)  (; label = @1 ;) i32.const 7 br 0 (;@1;) end drop"
-    );
+        "block (result i32)  (; label = @1 ;) i32.const 7 br 0 (;@1;) end drop",
+    )?;
     let two = in_line(
         rt.alloc(),
         &[
             0x02, 0x40, 0x41, 0x01, 0x04, 0x40, 0x0c, 0x01, 0x05, 0x0c, 0x00, 0x0b, 0x0b, 0x0b,
         ],
     )?;
-    assert_eq!(rt;
+    expect_text(
         two.as_str(),
-        "block  (; label = @1 ;) i32.const 1 if  (; label = @2 ;) br 1 (;@1;) else br 0 (;@2;) end end"
-    );
+        "block  (; label = @1 ;) i32.const 1 if  (; label = @2 ;) br 1 (;@1;) else br 0 (;@2;) end end",
+    )?;
     Ok(())
 }
 
@@ -150,10 +151,10 @@ fn names_stand_for_indices(rt: HostRuntime) -> Result<(), Fail> {
             0x20, 0x00, 0x20, 0x01, 0x23, 0x00, 0x28, 0x02, 0x00, 0xfc, 0x0a, 0x00, 0x01, 0x0b,
         ],
     )?;
-    assert_eq!(rt;
+    expect_text(
         plain.as_str(),
-        "local.get $x local.get 1 global.get $g i32.load memory.copy $m 1"
-    );
+        "local.get $x local.get 1 global.get $g i32.load memory.copy $m 1",
+    )?;
     // the inner `a` hides the outer one, and the third block has no name
     let blocks = with_names(
         rt.alloc(),
@@ -164,10 +165,10 @@ fn names_stand_for_indices(rt: HostRuntime) -> Result<(), Fail> {
             0x00, 0x0c, 0x01, 0x0b, 0x0b, 0x0b,
         ],
     )?;
-    assert_eq!(rt;
+    expect_text(
         blocks.as_str(),
-        "block $a block $a br $a br 1 br 2 end block  (; label = @2 ;) br 0 (;@2;) br $a end end"
-    );
+        "block $a block $a br $a br 1 br 2 end block  (; label = @2 ;) br 0 (;@2;) br $a end end",
+    )?;
     Ok(())
 }
 
@@ -179,10 +180,10 @@ fn identifiers_are_made_up(rt: HostRuntime) -> Result<(), Fail> {
         true,
         &[0x20, 0x02, 0x10, 0x05, 0xfb, 0x02, 0x03, 0x01, 0x0b],
     )?;
-    assert_eq!(rt;
+    expect_text(
         plain.as_str(),
-        "local.get $#local2 call $#func5 struct.get $#type3 $#field1"
-    );
+        "local.get $#local2 call $#func5 struct.get $#type3 $#field1",
+    )?;
     let blocks = with_names(
         rt.alloc(),
         &[],
@@ -191,10 +192,10 @@ fn identifiers_are_made_up(rt: HostRuntime) -> Result<(), Fail> {
             0x02, 0x40, 0x06, 0x40, 0x18, 0x00, 0x0c, 0x00, 0x0c, 0x01, 0x0b, 0x0b,
         ],
     )?;
-    assert_eq!(rt;
+    expect_text(
         blocks.as_str(),
-        "block $#label0 try $#label1 delegate $#label0 br $#label0 br 1 end"
-    );
+        "block $#label0 try $#label1 delegate $#label0 br $#label0 br 1 end",
+    )?;
     Ok(())
 }
 
@@ -208,7 +209,7 @@ fn hints_stand_before_their_operators(rt: HostRuntime) -> Result<(), Fail> {
             0x02, 0x40, 0x20, 0x00, 0x0d, 0x00, 0x0b, 0x20, 0x00, 0x04, 0x40, 0x0b, 0x0b,
         ],
     )?;
-    assert_eq!(rt;
+    expect_text(
         text.as_str(),
         "\n    block ;; label = @1\
          \n      local.get 0\
@@ -218,7 +219,7 @@ fn hints_stand_before_their_operators(rt: HostRuntime) -> Result<(), Fail> {
          \n    local.get 0\
          \n    (@metadata.code.branch_hint \"\\00\")\
          \n    if ;; label = @1\
-         \n    end"
-    );
+         \n    end",
+    )?;
     Ok(())
 }

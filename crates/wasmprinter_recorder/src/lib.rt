@@ -8,7 +8,9 @@ use std::io;
 use std::io::ErrorKind;
 #[cfg(test)]
 use std::test::Fail;
-use wasmprinter::print::Print;
+use wasmprinter_print::Print;
+#[cfg(test)]
+use wasmprinter_samples::expect_text;
 
 /// Stands behind a call that was refused.
 pub const REFUSED: &str = "{!}";
@@ -190,16 +192,16 @@ fn writes_down_each_call_at_once(rt: HostRuntime) -> Result<(), Fail> {
     recorder.write_str("[0]\n{K}\\")?;
     recorder.newline()?;
     recorder.start_keyword()?;
-    assert_eq!(rt; recorder.print_custom_section("a\"b", 8, &[1, 2])?, false);
+    assert!(rt; !recorder.print_custom_section("a\"b", 8, &[1, 2])?);
     let refused = recorder.start_type();
     assert!(rt; matches!(refused, Err(e) if e.kind() == ErrorKind::BrokenPipe));
     recorder.reset_color()?;
     recorder.start_line(Some(0));
-    assert_eq!(rt;
+    expect_text(
         recorder.calls(),
-        "[][0x1f]\\[0\\]\\n\\{K\\}\\\\\n{K}{? \"a\\\"b\" 0x8 [1, 2]}{T}{!}{R}[0x0]"
-    );
-    assert_eq!(rt; recorder.made(), 6);
+        "[][0x1f]\\[0\\]\\n\\{K\\}\\\\\n{K}{? \"a\\\"b\" 0x8 [1, 2]}{T}{!}{R}[0x0]",
+    )?;
+    assert!(rt; recorder.made() == 6);
     assert!(rt; recorder.is_complete());
     Ok(())
 }

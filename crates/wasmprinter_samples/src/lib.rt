@@ -2,6 +2,10 @@
 //! texts from the text format and the layout.
 #![tactic(auto)]
 
+mod expect;
+
+pub use expect::{Different, expect_text};
+
 /// Magic and version, a whole module by themselves.
 pub const PREAMBLE: [u8; 8] = [0x00, 0x61, 0x73, 0x6d, 0x01, 0x00, 0x00, 0x00];
 

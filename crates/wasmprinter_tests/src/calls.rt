@@ -1,13 +1,25 @@
 //! The calls on a printer, in their order, and which error comes where one of them fails.
 
+use std::alloc::Global;
 use std::io::ErrorKind;
 use std::test::Fail;
-use wasmprinter::{Config, Error};
+use wasmprinter::{Config, Error, Print};
 use wasmprinter_recorder::{REFUSED, Recorder};
 use wasmprinter_samples::{
     CONTROL, CONTROL_CALLS, EMPTY_CALLS, EVERYTHING, EVERYTHING_CALLS, FIELDS, FIELDS_CALLS,
     IDENTITY, IDENTITY_CALLS, INVENTED_CALLS, KINDS, KINDS_CALLS, NAMED, NAMED_CALLS, PREAMBLE,
+    expect_text,
 };
+
+/// Prints to any printer. It promises nothing, so that no caller works out what the promises mean for its own printer.
+pub fn print_to<P: Print>(
+    config: &Config,
+    alloc: Global,
+    wasm: &[u8],
+    printer: &mut P,
+) -> Result<(), Error> {
+    config.print(alloc, wasm, printer)
+}
 
 #[test]
 fn makes_each_call_in_order(rt: HostRuntime) -> Result<(), Fail> {
@@ -22,8 +34,8 @@ fn makes_each_call_in_order(rt: HostRuntime) -> Result<(), Fail> {
     ];
     for (wasm, calls) in modules {
         let mut recorder = Recorder::new(rt.alloc());
-        Config::new().print(rt.alloc(), wasm, &mut recorder)?;
-        assert_eq!(rt; recorder.calls(), calls);
+        print_to(&Config::new(), rt.alloc(), wasm, &mut recorder)?;
+        expect_text(recorder.calls(), calls)?;
         assert!(rt; recorder.is_complete());
     }
     Ok(())
@@ -34,8 +46,8 @@ fn makes_the_calls_of_identifiers_that_are_made_up(rt: HostRuntime) -> Result<()
     let mut recorder = Recorder::new(rt.alloc());
     let mut config = Config::new();
     config.name_unnamed(true);
-    config.print(rt.alloc(), &NAMED[..40], &mut recorder)?;
-    assert_eq!(rt; recorder.calls(), INVENTED_CALLS);
+    print_to(&config, rt.alloc(), &NAMED[..40], &mut recorder)?;
+    expect_text(recorder.calls(), INVENTED_CALLS)?;
     assert!(rt; recorder.is_complete());
     Ok(())
 }
@@ -43,10 +55,10 @@ fn makes_the_calls_of_identifiers_that_are_made_up(rt: HostRuntime) -> Result<()
 #[test]
 fn makes_no_call_before_a_refusal(rt: HostRuntime) -> Result<(), Fail> {
     let mut recorder = Recorder::new(rt.alloc());
-    let refused = Config::new().print(rt.alloc(), &IDENTITY[..34], &mut recorder);
+    let refused = print_to(&Config::new(), rt.alloc(), &IDENTITY[..34], &mut recorder);
     assert!(rt; matches!(refused, Err(Error::Malformed { .. })));
-    assert_eq!(rt; recorder.calls(), "");
-    assert_eq!(rt; recorder.made(), 0);
+    expect_text(recorder.calls(), "")?;
+    assert!(rt; recorder.made() == 0);
     assert!(rt; recorder.is_complete());
     Ok(())
 }
@@ -66,11 +78,11 @@ const BEGINNINGS: [&str; 5] = [
 fn stops_at_the_call_that_fails_and_answers_its_error(rt: HostRuntime) -> Result<(), Fail> {
     let alloc = rt.alloc();
     let mut whole = Recorder::new(alloc);
-    Config::new().print(alloc, &IDENTITY, &mut whole)?;
+    print_to(&Config::new(), alloc, &IDENTITY, &mut whole)?;
     let mut seen: usize = 0;
     for call in 1..=whole.made() {
         let mut recorder = Recorder::refusing(alloc, call, ErrorKind::BrokenPipe);
-        let refused = Config::new().print(alloc, &IDENTITY, &mut recorder);
+        let refused = print_to(&Config::new(), alloc, &IDENTITY, &mut recorder);
         assert!(rt;
             matches!(refused, Err(Error::Printer(e)) if e.kind() == ErrorKind::BrokenPipe),
             "at call {call}"
@@ -85,7 +97,7 @@ fn stops_at_the_call_that_fails_and_answers_its_error(rt: HostRuntime) -> Result
             seen = seen.saturating_add(1);
         }
     }
-    assert_eq!(rt; seen, BEGINNINGS.len());
+    assert!(rt; seen == BEGINNINGS.len());
     Ok(())
 }
 
@@ -99,7 +111,7 @@ fn answers_each_kind_of_error_as_it_is(rt: HostRuntime) {
         ErrorKind::Other,
     ] {
         let mut recorder = Recorder::refusing(rt.alloc(), 3, kind);
-        let refused = Config::default().print(rt.alloc(), &PREAMBLE, &mut recorder);
+        let refused = print_to(&Config::default(), rt.alloc(), &PREAMBLE, &mut recorder);
         assert!(rt; matches!(refused, Err(Error::Printer(e)) if e.kind() == kind));
     }
 }

@@ -1,13 +1,14 @@
 //! Custom sections: raw ones with their places, `producers`, `dylink.0`, and sections that the printer takes itself (custom sections:
 //! section 5.5.3 of the standard; `producers` and `dylink.0`: tool conventions).
 
+use crate::calls::print_to;
 use crate::sections::add_section;
 use std::alloc::{AllocError, Global};
 use std::test::Fail;
 use wasmprinter::wasm::{CustomEntry, SectionKind, decode};
 use wasmprinter::{Config, Error, print_bytes};
 use wasmprinter_recorder::Recorder;
-use wasmprinter_samples::PREAMBLE;
+use wasmprinter_samples::{PREAMBLE, expect_text};
 
 /// The number of custom sections.
 const CUSTOM: u8 = 0;
@@ -53,7 +54,7 @@ const AROUND_A_MEMORY_TEXT: &str = r#"(module
 #[test]
 fn prints_custom_sections_at_their_places(rt: HostRuntime) -> Result<(), Fail> {
     let text = print_bytes(rt.alloc(), &AROUND_A_MEMORY[..22])?;
-    assert_eq!(rt; text.as_str(), AROUND_A_MEMORY_TEXT);
+    expect_text(text.as_str(), AROUND_A_MEMORY_TEXT)?;
     let cut = print_bytes(rt.alloc(), &AROUND_A_MEMORY);
     assert!(rt; matches!(cut, Err(Error::Malformed { .. })));
     Ok(())
@@ -117,7 +118,7 @@ fn knows_every_place(rt: HostRuntime) -> Result<(), Fail> {
         add_custom(alloc, &mut wasm, "c", &[])?;
     }
     let text = print_bytes(alloc, &wasm)?;
-    assert_eq!(rt; text.as_str(), EVERY_PLACE_TEXT);
+    expect_text(text.as_str(), EVERY_PLACE_TEXT)?;
     let module = decode(alloc, &wasm)?;
     let kinds = [
         None,
@@ -136,9 +137,9 @@ fn knows_every_place(rt: HostRuntime) -> Result<(), Fail> {
         Some(SectionKind::Data),
     ];
     let customs: &[CustomEntry<'_>] = module.customs();
-    assert_eq!(rt; customs.len(), kinds.len());
+    assert!(rt; customs.len() == kinds.len());
     for (custom, kind) in customs.iter().zip(kinds) {
-        assert_eq!(rt; custom.behind, kind);
+        assert!(rt; custom.behind == kind);
     }
     Ok(())
 }
@@ -155,9 +156,8 @@ fn passes_over_empty_sections(rt: HostRuntime) -> Result<(), Fail> {
         add_section(&mut wasm, id, &[0x00])?;
         add_custom(alloc, &mut wasm, "c", &[])?;
         let text = print_bytes(alloc, &wasm)?;
-        assert_eq!(rt;
-            text.as_str(),
-            "(module\n  (@custom \"c\" (before first) \"\")\n)\n",
+        assert!(rt;
+            text.as_str() == "(module\n  (@custom \"c\" (before first) \"\")\n)\n",
             "behind an empty section {word}"
         );
     }
@@ -165,10 +165,10 @@ fn passes_over_empty_sections(rt: HostRuntime) -> Result<(), Fail> {
     add_section(&mut wasm, 8, &[0x00])?;
     add_custom(alloc, &mut wasm, "c", &[])?;
     let text = print_bytes(alloc, &wasm)?;
-    assert_eq!(rt;
+    expect_text(
         text.as_str(),
-        "(module\n  (start 0)\n  (@custom \"c\" (after start) \"\")\n)\n"
-    );
+        "(module\n  (start 0)\n  (@custom \"c\" (after start) \"\")\n)\n",
+    )?;
     Ok(())
 }
 
@@ -198,15 +198,15 @@ fn leaves_the_data_out_of_a_skeleton(rt: HostRuntime) -> Result<(), Fail> {
         .print_skeleton(true)
         .print_offsets(true)
         .print_to_string(rt.alloc(), &AROUND_A_MEMORY[..22])?;
-    assert_eq!(rt;
+    expect_text(
         text.as_str(),
         r#"(module
 (;@a     ;)  (@custom "a" (before first) ...)
 (;@10    ;)  (memory (;0;) 1)
 (;@14    ;)  (@custom "b" (after memory) ...)
 (;@16    ;))
-"#
-    );
+"#,
+    )?;
     Ok(())
 }
 
@@ -255,7 +255,7 @@ const PRODUCERS: [(&[u8], &str); 9] = [
 fn prints_producers(rt: HostRuntime) -> Result<(), Fail> {
     for (data, expected) in PRODUCERS {
         let text = text_of_custom(rt.alloc(), "producers", data)?;
-        assert_eq!(rt; text.as_str(), expected);
+        expect_text(text.as_str(), expected)?;
     }
     Ok(())
 }
@@ -313,7 +313,7 @@ const DYLINK: [(&[u8], &str); 9] = [
 fn prints_dylink(rt: HostRuntime) -> Result<(), Fail> {
     for (data, expected) in DYLINK {
         let text = text_of_custom(rt.alloc(), "dylink.0", data)?;
-        assert_eq!(rt; text.as_str(), expected);
+        expect_text(text.as_str(), expected)?;
     }
     Ok(())
 }
@@ -328,15 +328,15 @@ fn refuses_a_subsection_that_is_not_known(rt: HostRuntime) -> Result<(), Fail> {
     assert!(rt; matches!(refused, Err(Error::DylinkSubsection { id: 9 })));
     // what stands in front of it was printed
     let mut recorder = Recorder::new(alloc);
-    let refused = Config::new().print(alloc, &wasm, &mut recorder);
+    let refused = print_to(&Config::new(), alloc, &wasm, &mut recorder);
     assert!(rt; matches!(refused, Err(Error::DylinkSubsection { id: 9 })));
-    assert_eq!(rt;
+    expect_text(
         recorder.calls(),
         r#"[0x0]({K}module{R}{? "a" 0xc [1]}
 [0xa]  ({K}@custom {R}{L}"a"{R} (before first) {L}"\\01"{R})
 [0x10]  ({K}memory {R}{N}(;0;){R} {L}1{R}){? "b" 0x16 []}
-[0x14]  ({K}@custom {R}{L}"b"{R} (after memory) {L}""{R}){? "dylink.0" 0x21 [9, 0]}"#
-    );
+[0x14]  ({K}@custom {R}{L}"b"{R} (after memory) {L}""{R}){? "dylink.0" 0x21 [9, 0]}"#,
+    )?;
     assert!(rt; recorder.is_complete());
     Ok(())
 }
@@ -369,15 +369,15 @@ fn prints_nothing_of_what_the_printer_takes(rt: HostRuntime) -> Result<(), Fail>
     add_custom(alloc, &mut wasm, "dylink.0", &[0x09, 0x00])?;
     add_custom(alloc, &mut wasm, "b", &[])?;
     let mut recorder = Recorder::taking(alloc, "dylink.0");
-    Config::new().print(alloc, &wasm, &mut recorder)?;
-    assert_eq!(rt;
+    print_to(&Config::new(), alloc, &wasm, &mut recorder)?;
+    expect_text(
         recorder.calls(),
         r#"[0x0]({K}module{R}{? "a" 0xc []}
 [0xa]  ({K}@custom {R}{L}"a"{R} (before first) {L}""{R}){? "dylink.0" 0x17 [9, 0]}{? "b" 0x1d []}
 [0x1b]  ({K}@custom {R}{L}"b"{R} (before first) {L}""{R})
 [0x1d])
-"#
-    );
+"#,
+    )?;
     assert!(rt; recorder.is_complete());
     Ok(())
 }
@@ -389,20 +389,20 @@ fn asks_for_the_same_section_twice(rt: HostRuntime) -> Result<(), Fail> {
     add_custom(alloc, &mut wasm, "a", &[0x01])?;
     add_custom(alloc, &mut wasm, "a", &[0x01])?;
     let text = print_bytes(alloc, &wasm)?;
-    assert_eq!(rt;
+    expect_text(
         text.as_str(),
         r#"(module
   (@custom "a" (before first) "\01")
   (@custom "a" (before first) "\01")
 )
-"#
-    );
+"#,
+    )?;
     let mut recorder = Recorder::taking(alloc, "a");
-    Config::new().print(alloc, &wasm, &mut recorder)?;
-    assert_eq!(rt;
+    print_to(&Config::new(), alloc, &wasm, &mut recorder)?;
+    expect_text(
         recorder.calls(),
-        "[0x0]({K}module{R}{? \"a\" 0xc [1]}{? \"a\" 0x11 [1]})\n"
-    );
+        "[0x0]({K}module{R}{? \"a\" 0xc [1]}{? \"a\" 0x11 [1]})\n",
+    )?;
     Ok(())
 }
 
@@ -412,10 +412,10 @@ fn keeps_the_names_of_a_section_that_is_taken(rt: HostRuntime) -> Result<(), Fai
     let mut wasm = Vec::from_slice(alloc, &PREAMBLE)?;
     add_custom(alloc, &mut wasm, "name", b"\x00\x02\x01m")?;
     let mut recorder = Recorder::taking(alloc, "name");
-    Config::new().print(alloc, &wasm, &mut recorder)?;
-    assert_eq!(rt;
+    print_to(&Config::new(), alloc, &wasm, &mut recorder)?;
+    expect_text(
         recorder.calls(),
-        "[0x0]({K}module{R} $m{? \"name\" 0xf [0, 2, 1, 109]})\n"
-    );
+        "[0x0]({K}module{R} $m{? \"name\" 0xf [0, 2, 1, 109]})\n",
+    )?;
     Ok(())
 }

@@ -6,6 +6,7 @@ use std::test::Fail;
 use wasmprinter::text::{write_f32, write_f64};
 use wasmprinter::{Error, PrintFmtWrite};
 use wasmprinter_recorder::Recorder;
+use wasmprinter_samples::expect_text;
 
 /// The bits of f32, each with its text.
 const SINGLES: [(u32, &str); 14] = [
@@ -52,7 +53,7 @@ fn text_of_double(alloc: Global, bits: u64) -> Result<String, Error> {
 #[test]
 fn writes_floats_of_32_bits(rt: HostRuntime) -> Result<(), Fail> {
     for (bits, text) in SINGLES {
-        assert_eq!(rt; text_of_single(rt.alloc(), bits)?.as_str(), text);
+        expect_text(text_of_single(rt.alloc(), bits)?.as_str(), text)?;
     }
     Ok(())
 }
@@ -60,7 +61,7 @@ fn writes_floats_of_32_bits(rt: HostRuntime) -> Result<(), Fail> {
 #[test]
 fn writes_floats_of_64_bits(rt: HostRuntime) -> Result<(), Fail> {
     for (bits, text) in DOUBLES {
-        assert_eq!(rt; text_of_double(rt.alloc(), bits)?.as_str(), text);
+        expect_text(text_of_double(rt.alloc(), bits)?.as_str(), text)?;
     }
     Ok(())
 }
@@ -69,7 +70,7 @@ fn writes_floats_of_64_bits(rt: HostRuntime) -> Result<(), Fail> {
 fn makes_the_calls_of_a_finite_float(rt: HostRuntime) -> Result<(), Fail> {
     let mut recorder = Recorder::new(rt.alloc());
     write_f32(&mut recorder, 0xbfc0_0000)?;
-    assert_eq!(rt; recorder.calls(), "-{L}0x1.8p+0{R}");
+    expect_text(recorder.calls(), "-{L}0x1.8p+0{R}")?;
     assert!(rt; recorder.is_complete());
     Ok(())
 }
@@ -78,11 +79,11 @@ fn makes_the_calls_of_a_finite_float(rt: HostRuntime) -> Result<(), Fail> {
 fn makes_the_calls_of_infinity_and_nan(rt: HostRuntime) -> Result<(), Fail> {
     let mut recorder = Recorder::new(rt.alloc());
     write_f32(&mut recorder, 0xff80_0000)?;
-    assert_eq!(rt; recorder.calls(), "-{L}inf {C}(;=-inf;){R}");
+    expect_text(recorder.calls(), "-{L}inf {C}(;=-inf;){R}")?;
     assert!(rt; recorder.is_complete());
     let mut recorder = Recorder::new(rt.alloc());
     write_f64(&mut recorder, 0x7ff0_0000_0000_0001)?;
-    assert_eq!(rt; recorder.calls(), "{L}nan:0x1 {C}(;=NaN;){R}");
+    expect_text(recorder.calls(), "{L}nan:0x1 {C}(;=NaN;){R}")?;
     assert!(rt; recorder.is_complete());
     Ok(())
 }
@@ -98,7 +99,7 @@ fn answers_the_error_of_the_printer(rt: HostRuntime) -> Result<(), Fail> {
             matches!(refused, Err(Error::Printer(e)) if e.kind() == ErrorKind::BrokenPipe),
             "at call {call}"
         );
-        assert_eq!(rt; recorder.made(), call);
+        assert!(rt; recorder.made() == call);
     }
     Ok(())
 }

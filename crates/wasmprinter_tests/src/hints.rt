@@ -1,12 +1,13 @@
 //! Branch hints (Code Metadata): each stands on a line of its own, directly in front of its operator.
 
+use crate::calls::print_to;
 use crate::customs::add_custom;
 use crate::sections::add_section;
 use std::alloc::{AllocError, Global};
 use std::test::Fail;
 use wasmprinter::{Config, print_bytes};
 use wasmprinter_recorder::Recorder;
-use wasmprinter_samples::PREAMBLE;
+use wasmprinter_samples::{PREAMBLE, expect_text};
 
 /// The name of hint sections.
 const HINTS: &str = "metadata.code.branch_hint";
@@ -73,7 +74,7 @@ fn prints_hints_in_front_of_their_operators(rt: HostRuntime) -> Result<(), Fail>
         let wasm = hinted(rt.alloc(), data)?;
         let text = print_bytes(rt.alloc(), &wasm)?;
         let expected = text_with(rt.alloc(), line)?;
-        assert_eq!(rt; text.as_str(), expected.as_str());
+        expect_text(text.as_str(), expected.as_str())?;
     }
     Ok(())
 }
@@ -103,7 +104,7 @@ fn stands_as_deep_as_the_operators_of_its_block(rt: HostRuntime) -> Result<(), F
         ],
     )?;
     let text = print_bytes(alloc, &wasm)?;
-    assert_eq!(rt;
+    expect_text(
         text.as_str(),
         r#"(module
   (type (;0;) (func))
@@ -121,8 +122,8 @@ fn stands_as_deep_as_the_operators_of_its_block(rt: HostRuntime) -> Result<(), F
     end
   )
 )
-"#
-    );
+"#,
+    )?;
     Ok(())
 }
 
@@ -132,12 +133,12 @@ fn takes_the_last_hint_section_alone(rt: HostRuntime) -> Result<(), Fail> {
     let mut wasm = hinted(alloc, &[0x01, 0x00, 0x01, 0x03, 0x01, 0x01])?;
     let first = print_bytes(alloc, &wasm)?;
     let hint = text_with(alloc, TAKEN)?;
-    assert_eq!(rt; first.as_str(), hint.as_str());
+    expect_text(first.as_str(), hint.as_str())?;
     // a second one, which says nothing
     add_custom(alloc, &mut wasm, HINTS, &[0x00])?;
     let second = print_bytes(alloc, &wasm)?;
     let none = text_with(alloc, "")?;
-    assert_eq!(rt; second.as_str(), none.as_str());
+    expect_text(second.as_str(), none.as_str())?;
     Ok(())
 }
 
@@ -158,8 +159,8 @@ fn makes_the_calls_of_a_hint(rt: HostRuntime) -> Result<(), Fail> {
 "#;
     for taken in ["", HINTS] {
         let mut recorder = Recorder::taking(alloc, taken);
-        Config::new().print(alloc, &wasm, &mut recorder)?;
-        assert_eq!(rt; recorder.calls(), calls);
+        print_to(&Config::new(), alloc, &wasm, &mut recorder)?;
+        expect_text(recorder.calls(), calls)?;
         assert!(rt; recorder.is_complete());
     }
     Ok(())
@@ -191,7 +192,7 @@ fn doubly_hinted(alloc: Global) -> Result<Vec<u8>, AllocError> {
 fn numbers_functions_behind_the_imported_ones(rt: HostRuntime) -> Result<(), Fail> {
     let wasm = doubly_hinted(rt.alloc())?;
     let text = print_bytes(rt.alloc(), &wasm)?;
-    assert_eq!(rt;
+    expect_text(
         text.as_str(),
         r#"(module
   (type (;0;) (func (param i32)))
@@ -209,8 +210,8 @@ fn numbers_functions_behind_the_imported_ones(rt: HostRuntime) -> Result<(), Fai
     end
   )
 )
-"#
-    );
+"#,
+    )?;
     Ok(())
 }
 
@@ -220,7 +221,7 @@ fn leaves_hints_out_with_bodies(rt: HostRuntime) -> Result<(), Fail> {
     let mut config = Config::new();
     config.print_skeleton(true);
     let text = config.print_to_string(rt.alloc(), &wasm)?;
-    assert_eq!(rt;
+    expect_text(
         text.as_str(),
         r#"(module
   (type (;0;) (func (param i32)))
@@ -228,7 +229,7 @@ fn leaves_hints_out_with_bodies(rt: HostRuntime) -> Result<(), Fail> {
   (func (;1;) (type 0) (param i32) ...)
   (func (;2;) (type 0) (param i32) ...)
 )
-"#
-    );
+"#,
+    )?;
     Ok(())
 }

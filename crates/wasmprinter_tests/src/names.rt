@@ -5,7 +5,9 @@ use std::alloc::{AllocError, Global};
 use std::test::Fail;
 use wasmprinter::wasm::{Space, decode};
 use wasmprinter::{Config, Error, print_bytes};
-use wasmprinter_samples::{EVERY_SPACE, EVERY_SPACE_NAMES, IDENTITY, IDENTITY_TEXT, PREAMBLE};
+use wasmprinter_samples::{
+    EVERY_SPACE, EVERY_SPACE_NAMES, IDENTITY, IDENTITY_TEXT, PREAMBLE, expect_text,
+};
 
 /// The number of custom sections.
 const CUSTOM: u8 = 0;
@@ -55,7 +57,7 @@ fn body_of(text: &str) -> Option<&str> {
 fn names_a_parameter(rt: HostRuntime) -> Result<(), Fail> {
     let wasm = with_names(rt.alloc(), &IDENTITY, b"\x02\x06\x01\x00\x01\x00\x01x")?;
     let text = print_bytes(rt.alloc(), &wasm)?;
-    assert_eq!(rt;
+    expect_text(
         text.as_str(),
         r#"(module
   (type (;0;) (func (param i32) (result i32)))
@@ -64,8 +66,8 @@ fn names_a_parameter(rt: HostRuntime) -> Result<(), Fail> {
     local.get $x
   )
 )
-"#
-    );
+"#,
+    )?;
     Ok(())
 }
 
@@ -74,9 +76,9 @@ fn gives_out_names(rt: HostRuntime) -> Result<(), Fail> {
     let wasm = with_names(rt.alloc(), &IDENTITY, b"\x02\x06\x01\x00\x01\x00\x01x")?;
     let module = decode(rt.alloc(), &wasm)?;
     let names = module.names(rt.alloc())?;
-    assert_eq!(rt; names.identifier(Space::Local, 0, 0), Some("x"));
-    assert_eq!(rt; names.identifier(Space::Func, 0, 0), None);
-    assert_eq!(rt; names.module(), None);
+    assert!(rt; names.identifier(Space::Local, 0, 0) == Some("x"));
+    assert!(rt; names.identifier(Space::Func, 0, 0) == None);
+    assert!(rt; names.module() == None);
     Ok(())
 }
 
@@ -84,14 +86,14 @@ fn gives_out_names(rt: HostRuntime) -> Result<(), Fail> {
 fn passes_over_a_name_that_is_cut(rt: HostRuntime) -> Result<(), Fail> {
     let wasm = with_names(rt.alloc(), &IDENTITY, b"\x01\x04\x01\x00\x05a")?;
     let text = print_bytes(rt.alloc(), &wasm)?;
-    assert_eq!(rt; text.as_str(), IDENTITY_TEXT);
+    expect_text(text.as_str(), IDENTITY_TEXT)?;
     Ok(())
 }
 
 #[test]
 fn makes_up_identifiers(rt: HostRuntime) -> Result<(), Fail> {
     let text = invented(rt.alloc(), &IDENTITY)?;
-    assert_eq!(rt;
+    expect_text(
         text.as_str(),
         r#"(module
   (type $#type0 (;0;) (func (param i32) (result i32)))
@@ -100,8 +102,8 @@ fn makes_up_identifiers(rt: HostRuntime) -> Result<(), Fail> {
     local.get $#local0
   )
 )
-"#
-    );
+"#,
+    )?;
     Ok(())
 }
 
@@ -117,7 +119,7 @@ fn marks_names_that_are_no_identifiers(rt: HostRuntime) -> Result<(), Fail> {
     let names = b"\x01\x04\x01\x00\x01a\x01\x0f\x04\x01\x01a\x02\x00\x03\x02#x\x04\x03a b";
     add_names(alloc, &mut wasm, names)?;
     let text = print_bytes(alloc, &wasm)?;
-    assert_eq!(rt;
+    expect_text(
         text.as_str(),
         r##"(module
   (type (;0;) (func))
@@ -127,8 +129,8 @@ fn marks_names_that_are_no_identifiers(rt: HostRuntime) -> Result<(), Fail> {
   (func $"#func3 #x" (@name "#x") (;3;) (type 0))
   (func $"a b" (;4;) (type 0))
 )
-"##
-    );
+"##,
+    )?;
     Ok(())
 }
 
@@ -138,10 +140,10 @@ fn prints_a_shadowed_label_by_its_number(rt: HostRuntime) -> Result<(), Fail> {
     let wasm = one_function(alloc, b"\x02\x40\x02\x40\x0c\x01\x0c\x00\x0b\x0b")?;
     let named = with_names(alloc, &wasm, b"\x03\x09\x01\x00\x02\x00\x01a\x01\x01a")?;
     let text = print_bytes(alloc, &named)?;
-    assert_eq!(rt;
-        body_of(&text),
-        Some(
-            r#"    block $a
+    assert!(rt;
+        body_of(&text)
+            == Some(
+                r#"    block $a
       block $a
         br 1
         br $a
@@ -150,7 +152,7 @@ fn prints_a_shadowed_label_by_its_number(rt: HostRuntime) -> Result<(), Fail> {
   )
 )
 "#
-        )
+            )
     );
     Ok(())
 }
@@ -161,10 +163,10 @@ fn takes_the_label_off_behind_delegate(rt: HostRuntime) -> Result<(), Fail> {
     let wasm = one_function(alloc, b"\x06\x40\x18\x00\x02\x40\x0c\x00\x0c\x01\x0b")?;
     let named = with_names(alloc, &wasm, b"\x03\x09\x01\x00\x02\x00\x01t\x01\x01u")?;
     let text = print_bytes(alloc, &named)?;
-    assert_eq!(rt;
-        body_of(&text),
-        Some(
-            r#"    try $t
+    assert!(rt;
+        body_of(&text)
+            == Some(
+                r#"    try $t
     delegate 0
     block $u
       br $u
@@ -173,13 +175,13 @@ fn takes_the_label_off_behind_delegate(rt: HostRuntime) -> Result<(), Fail> {
   )
 )
 "#
-        )
+            )
     );
     let made_up = invented(alloc, &wasm)?;
-    assert_eq!(rt;
-        body_of(&made_up),
-        Some(
-            r#"    try $#label0
+    assert!(rt;
+        body_of(&made_up)
+            == Some(
+                r#"    try $#label0
     delegate 0
     block $#label0
       br $#label0
@@ -188,7 +190,7 @@ fn takes_the_label_off_behind_delegate(rt: HostRuntime) -> Result<(), Fail> {
   )
 )
 "#
-        )
+            )
     );
     Ok(())
 }
@@ -198,17 +200,17 @@ fn makes_up_labels(rt: HostRuntime) -> Result<(), Fail> {
     let alloc = rt.alloc();
     let wasm = one_function(alloc, b"\x02\x40\x0c\x00\x0c\x01\x0b")?;
     let text = invented(alloc, &wasm)?;
-    assert_eq!(rt;
-        body_of(&text),
-        Some(
-            r#"    block $#label0
+    assert!(rt;
+        body_of(&text)
+            == Some(
+                r#"    block $#label0
       br $#label0
       br 1
     end
   )
 )
 "#
-        )
+            )
     );
     Ok(())
 }
@@ -354,13 +356,13 @@ const EVERY_SPACE_INVENTED: &str = r#"(module
 #[test]
 fn names_an_item_of_each_space(rt: HostRuntime) -> Result<(), Fail> {
     let text = print_bytes(rt.alloc(), &EVERY_SPACE)?;
-    assert_eq!(rt; text.as_str(), EVERY_SPACE_TEXT);
+    expect_text(text.as_str(), EVERY_SPACE_TEXT)?;
     Ok(())
 }
 
 #[test]
 fn makes_up_identifiers_in_each_space(rt: HostRuntime) -> Result<(), Fail> {
     let text = invented(rt.alloc(), &EVERY_SPACE[..EVERY_SPACE_NAMES])?;
-    assert_eq!(rt; text.as_str(), EVERY_SPACE_INVENTED);
+    expect_text(text.as_str(), EVERY_SPACE_INVENTED)?;
     Ok(())
 }

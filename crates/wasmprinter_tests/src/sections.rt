@@ -3,7 +3,7 @@
 use std::alloc::{AllocError, Global};
 use std::test::Fail;
 use wasmprinter::{Error, print_bytes};
-use wasmprinter_samples::PREAMBLE;
+use wasmprinter_samples::{PREAMBLE, expect_text};
 
 /// The number of the type section.
 pub const TYPE: u8 = 1;
@@ -61,7 +61,7 @@ const MEMORIES: [(&[u8], &str); 5] = [
 fn prints_each_memory(rt: HostRuntime) -> Result<(), Fail> {
     for (content, expected) in MEMORIES {
         let text = text_of(rt.alloc(), MEMORY, content)?;
-        assert_eq!(rt; text.as_str(), expected);
+        expect_text(text.as_str(), expected)?;
     }
     Ok(())
 }
@@ -76,7 +76,7 @@ const FLAGS: [u8; 21] = [
 #[test]
 fn prints_memories_by_their_flags(rt: HostRuntime) -> Result<(), Fail> {
     let text = text_of(rt.alloc(), MEMORY, &FLAGS)?;
-    assert_eq!(rt;
+    expect_text(
         text.as_str(),
         r#"(module
   (memory (;0;) 1)
@@ -88,8 +88,8 @@ fn prints_memories_by_their_flags(rt: HostRuntime) -> Result<(), Fail> {
   (memory (;6;) i64 1 shared)
   (memory (;7;) i64 1 2 shared)
 )
-"#
-    );
+"#,
+    )?;
     Ok(())
 }
 
@@ -125,7 +125,7 @@ fn prints_tags_with_their_signatures(rt: HostRuntime) -> Result<(), Fail> {
         &[0x04, 0x00, 0x01, 0x00, 0x00, 0x00, 0x02, 0x00, 0x07],
     )?;
     let text = print_bytes(rt.alloc(), &wasm)?;
-    assert_eq!(rt;
+    expect_text(
         text.as_str(),
         r#"(module
   (type (;0;) (func (param i32 (ref null 0))))
@@ -136,15 +136,15 @@ fn prints_tags_with_their_signatures(rt: HostRuntime) -> Result<(), Fail> {
   (tag (;2;) (type 2))
   (tag (;3;) (type 7))
 )
-"#
-    );
+"#,
+    )?;
     Ok(())
 }
 
 #[test]
 fn prints_the_start_function(rt: HostRuntime) -> Result<(), Fail> {
     let text = text_of(rt.alloc(), START, &[0x05])?;
-    assert_eq!(rt; text.as_str(), "(module\n  (start 5)\n)\n");
+    expect_text(text.as_str(), "(module\n  (start 5)\n)\n")?;
     Ok(())
 }
 

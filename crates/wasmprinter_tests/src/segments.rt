@@ -4,7 +4,7 @@ use crate::sections::{add_section, text_of};
 use std::alloc::Global;
 use std::test::Fail;
 use wasmprinter::{Error, print_bytes};
-use wasmprinter_samples::PREAMBLE;
+use wasmprinter_samples::{PREAMBLE, expect_text};
 
 /// The number of the element section.
 const ELEMENT: u8 = 9;
@@ -31,7 +31,7 @@ const ELEMENTS: [u8; 58] = [
 #[test]
 fn prints_each_element_segment(rt: HostRuntime) -> Result<(), Fail> {
     let text = text_of(rt.alloc(), ELEMENT, &ELEMENTS)?;
-    assert_eq!(rt;
+    expect_text(
         text.as_str(),
         r#"(module
   (elem (;0;) (i32.const 1) func 0 1)
@@ -43,8 +43,8 @@ fn prints_each_element_segment(rt: HostRuntime) -> Result<(), Fail> {
   (elem (;6;) (table 0) (i32.const 0) externref (ref.null extern))
   (elem (;7;) declare funcref (item ) (item i32.const 0 drop))
 )
-"#
-    );
+"#,
+    )?;
     Ok(())
 }
 
@@ -52,10 +52,10 @@ fn prints_each_element_segment(rt: HostRuntime) -> Result<(), Fail> {
 fn prints_a_segment_of_no_functions_with_its_table(rt: HostRuntime) -> Result<(), Fail> {
     let content = [0x01, 0x02, 0x00, 0x41, 0x00, 0x0b, 0x00, 0x00];
     let text = text_of(rt.alloc(), ELEMENT, &content)?;
-    assert_eq!(rt;
+    expect_text(
         text.as_str(),
-        "(module\n  (elem (;0;) (table 0) (i32.const 0) func)\n)\n"
-    );
+        "(module\n  (elem (;0;) (table 0) (i32.const 0) func)\n)\n",
+    )?;
     Ok(())
 }
 
@@ -90,7 +90,7 @@ const DATAS: [u8; 42] = [
 #[test]
 fn prints_each_data_segment(rt: HostRuntime) -> Result<(), Fail> {
     let text = text_of(rt.alloc(), DATA, &DATAS)?;
-    assert_eq!(rt;
+    expect_text(
         text.as_str(),
         r#"(module
   (data (;0;) (i32.const 8) "a\22\5c\00\ff")
@@ -100,8 +100,8 @@ fn prints_each_data_segment(rt: HostRuntime) -> Result<(), Fail> {
   (data (;4;) (offset global.get 0 i32.const 2 i32.add) "\c3\a4\0a ")
   (data (;5;) (offset ) "")
 )
-"#
-    );
+"#,
+    )?;
     Ok(())
 }
 
@@ -132,14 +132,14 @@ fn counted(alloc: Global, count: u8, content: &[u8]) -> Result<String, Error> {
 fn compares_the_count_of_data_segments(rt: HostRuntime) -> Result<(), Fail> {
     let one = [0x01, 0x01, 0x00];
     let text = counted(rt.alloc(), 1, &one)?;
-    assert_eq!(rt; text.as_str(), "(module\n  (data (;0;) \"\")\n)\n");
+    expect_text(text.as_str(), "(module\n  (data (;0;) \"\")\n)\n")?;
     let more = counted(rt.alloc(), 2, &one);
     assert!(rt; matches!(more, Err(Error::Malformed { .. })));
     let none = counted(rt.alloc(), 0, &one);
     assert!(rt; matches!(none, Err(Error::Malformed { .. })));
     // none are counted and none stand there
     let empty = text_of(rt.alloc(), DATA_COUNT, &[0x00])?;
-    assert_eq!(rt; empty.as_str(), "(module)\n");
+    expect_text(empty.as_str(), "(module)\n")?;
     let missing = text_of(rt.alloc(), DATA_COUNT, &[0x01]);
     assert!(rt; matches!(missing, Err(Error::Malformed { .. })));
     Ok(())

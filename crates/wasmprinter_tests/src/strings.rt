@@ -5,15 +5,16 @@ use std::test::Fail;
 use wasmprinter::Error;
 use wasmprinter::text::{write_bytes, write_quoted};
 use wasmprinter_recorder::Recorder;
+use wasmprinter_samples::expect_text;
 
 #[test]
 fn writes_a_string_in_quotes(rt: HostRuntime) -> Result<(), Fail> {
     let mut recorder = Recorder::new(rt.alloc());
     write_quoted(&mut recorder, "a b\"\\\u{1b}\u{e9}~\u{7f}")?;
-    assert_eq!(rt;
+    expect_text(
         recorder.calls(),
-        r#"{L}"a b\\u\{22\}\\u\{5c\}\\u\{1b\}\\u\{e9\}~\\u\{7f\}"{R}"#
-    );
+        r#"{L}"a b\\u\{22\}\\u\{5c\}\\u\{1b\}\\u\{e9\}~\\u\{7f\}"{R}"#,
+    )?;
     assert!(rt; recorder.is_complete());
     Ok(())
 }
@@ -23,7 +24,7 @@ fn answers_the_error_of_the_printer(rt: HostRuntime) -> Result<(), Fail> {
     let mut recorder = Recorder::refusing(rt.alloc(), 2, ErrorKind::BrokenPipe);
     let refused = write_quoted(&mut recorder, "a");
     assert!(rt; matches!(refused, Err(Error::Printer(e)) if e.kind() == ErrorKind::BrokenPipe));
-    assert_eq!(rt; recorder.calls(), r#"{L}"{!}"#);
+    expect_text(recorder.calls(), r#"{L}"{!}"#)?;
     Ok(())
 }
 
@@ -31,14 +32,14 @@ fn answers_the_error_of_the_printer(rt: HostRuntime) -> Result<(), Fail> {
 fn writes_bytes_in_quotes(rt: HostRuntime) -> Result<(), Fail> {
     let mut recorder = Recorder::new(rt.alloc());
     write_bytes(&mut recorder, b"A\"\x00")?;
-    assert_eq!(rt; recorder.calls(), r#"{L}"A\\22\\00"{R}"#);
+    expect_text(recorder.calls(), r#"{L}"A\\22\\00"{R}"#)?;
     assert!(rt; recorder.is_complete());
     let mut recorder = Recorder::new(rt.alloc());
     write_bytes(&mut recorder, b"a b\"\\~\x00\x1b\x7f\xc3\xa9\xff")?;
-    assert_eq!(rt;
+    expect_text(
         recorder.calls(),
-        r#"{L}"a b\\22\\5c~\\00\\1b\\7f\\c3\\a9\\ff"{R}"#
-    );
+        r#"{L}"a b\\22\\5c~\\00\\1b\\7f\\c3\\a9\\ff"{R}"#,
+    )?;
     assert!(rt; recorder.is_complete());
     Ok(())
 }
@@ -47,7 +48,7 @@ fn writes_bytes_in_quotes(rt: HostRuntime) -> Result<(), Fail> {
 fn writes_no_bytes_in_quotes(rt: HostRuntime) -> Result<(), Fail> {
     let mut recorder = Recorder::new(rt.alloc());
     write_bytes(&mut recorder, b"")?;
-    assert_eq!(rt; recorder.calls(), r#"{L}""{R}"#);
+    expect_text(recorder.calls(), r#"{L}""{R}"#)?;
     Ok(())
 }
 
@@ -56,6 +57,6 @@ fn answers_the_error_of_the_printer_for_bytes(rt: HostRuntime) -> Result<(), Fai
     let mut recorder = Recorder::refusing(rt.alloc(), 4, ErrorKind::BrokenPipe);
     let refused = write_bytes(&mut recorder, b"ab");
     assert!(rt; matches!(refused, Err(Error::Printer(e)) if e.kind() == ErrorKind::BrokenPipe));
-    assert_eq!(rt; recorder.calls(), r#"{L}"ab{!}"#);
+    expect_text(recorder.calls(), r#"{L}"ab{!}"#)?;
     Ok(())
 }

@@ -3,6 +3,7 @@
 use crate::sections::text_of;
 use std::test::Fail;
 use wasmprinter::Error;
+use wasmprinter_samples::expect_text;
 
 /// The number of the table section.
 const TABLE: u8 = 4;
@@ -23,7 +24,7 @@ const TABLES: [u8; 26] = [
 #[test]
 fn prints_each_table(rt: HostRuntime) -> Result<(), Fail> {
     let text = text_of(rt.alloc(), TABLE, &TABLES)?;
-    assert_eq!(rt;
+    expect_text(
         text.as_str(),
         r#"(module
   (table (;0;) 1 funcref)
@@ -32,8 +33,8 @@ fn prints_each_table(rt: HostRuntime) -> Result<(), Fail> {
   (table (;3;) i64 0 16384 (ref 0))
   (table (;4;) 3 funcref ref.null func)
 )
-"#
-    );
+"#,
+    )?;
     Ok(())
 }
 
@@ -82,7 +83,7 @@ const GLOBALS: [u8; 28] = [
 #[test]
 fn prints_each_global(rt: HostRuntime) -> Result<(), Fail> {
     let text = text_of(rt.alloc(), GLOBAL, &GLOBALS)?;
-    assert_eq!(rt;
+    expect_text(
         text.as_str(),
         r#"(module
   (global (;0;) i32 i32.const -1)
@@ -90,15 +91,15 @@ fn prints_each_global(rt: HostRuntime) -> Result<(), Fail> {
   (global (;2;) (mut (ref func)) ref.func 3)
   (global (;3;) f32 f32.const 0x1.8p+0)
 )
-"#
-    );
+"#,
+    )?;
     Ok(())
 }
 
 #[test]
 fn prints_an_initialiser_of_no_operators(rt: HostRuntime) -> Result<(), Fail> {
     let text = text_of(rt.alloc(), GLOBAL, &[0x01, 0x7f, 0x00, 0x0b])?;
-    assert_eq!(rt; text.as_str(), "(module\n  (global (;0;) i32 )\n)\n");
+    expect_text(text.as_str(), "(module\n  (global (;0;) i32 )\n)\n")?;
     Ok(())
 }
 
@@ -108,10 +109,10 @@ fn prints_blocks_of_an_initialiser_in_its_line(rt: HostRuntime) -> Result<(), Fa
         0x01, 0x7f, 0x00, 0x02, 0x7f, 0x41, 0x01, 0x0c, 0x00, 0x0b, 0x0b,
     ];
     let text = text_of(rt.alloc(), GLOBAL, &content)?;
-    assert_eq!(rt;
+    expect_text(
         text.as_str(),
-        "(module\n  (global (;0;) i32 block (result i32)  (; label = @1 ;) i32.const 1 br 0 (;@1;) end)\n)\n"
-    );
+        "(module\n  (global (;0;) i32 block (result i32)  (; label = @1 ;) i32.const 1 br 0 (;@1;) end)\n)\n",
+    )?;
     Ok(())
 }
 

@@ -4,7 +4,7 @@ use std::test::Fail;
 use wasmprinter::print_bytes;
 use wasmprinter_samples::{
     CONTROL, CONTROL_TEXT, EMPTY_TEXT, EVERYTHING, EVERYTHING_TEXT, FIELDS, FIELDS_TEXT, IDENTITY,
-    IDENTITY_TEXT, KINDS, KINDS_TEXT, MINUS_ONE, MINUS_ONE_TEXT, PREAMBLE,
+    IDENTITY_TEXT, KINDS, KINDS_TEXT, MINUS_ONE, MINUS_ONE_TEXT, PREAMBLE, expect_text,
 };
 
 #[test]
@@ -20,7 +20,7 @@ fn prints_each_module(rt: HostRuntime) -> Result<(), Fail> {
     ];
     for (wasm, text) in modules {
         let printed = print_bytes(rt.alloc(), wasm)?;
-        assert_eq!(rt; printed.as_str(), text);
+        expect_text(printed.as_str(), text)?;
     }
     Ok(())
 }
@@ -81,7 +81,7 @@ fn prints_longer_spellings_as_the_shortest(rt: HostRuntime) -> Result<(), Fail> 
             }
         }
         let text = print_bytes(rt.alloc(), &wasm)?;
-        assert_eq!(rt; text.as_str(), IDENTITY_TEXT, "from {}", longer.from);
+        assert!(rt; text.as_str() == IDENTITY_TEXT, "from {}", longer.from);
     }
     Ok(())
 }

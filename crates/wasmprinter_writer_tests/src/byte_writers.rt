@@ -1,7 +1,7 @@
 //! Printers over writers of bytes that take few bytes at once, write down the calls on them, or fail at one.
 
 use crate::colors::{EMPTY_COLORED, print_colors_to};
-use crate::scripted::Scripted;
+use crate::scripted::{Scripted, print_to};
 use std::alloc::Global;
 use std::io::{ErrorKind, Write};
 use std::test::Fail;
@@ -12,7 +12,7 @@ use wasmprinter_samples::{EMPTY_TEXT, IDENTITY, IDENTITY_TEXT, PREAMBLE};
 /// Prints to any writer of bytes.
 pub fn print_bytes_to<W: Write + Drop>(alloc: Global, wasm: &[u8], writer: W) -> Result<W, Error> {
     let mut printer = PrintIoWrite(writer);
-    Config::new().print(alloc, wasm, &mut printer)?;
+    print_to(&Config::new(), alloc, wasm, &mut printer)?;
     Ok(printer.0)
 }
 
@@ -89,7 +89,7 @@ fn stops_at_the_write_that_fails_and_answers_its_error(rt: HostRuntime) -> Resul
     for run in runs() {
         let mut whole = Scripted::new(alloc, run.most);
         run.print(alloc, &mut whole)?;
-        assert_eq!(rt; whole.bytes.as_slice(), run.wanted.as_bytes());
+        assert!(rt; whole.bytes.as_slice() == run.wanted.as_bytes());
         let one_more = whole.calls.len().saturating_add(1);
         for write in 1..one_more {
             let way = run.way;
@@ -119,8 +119,8 @@ fn tries_a_write_again_that_was_interrupted(rt: HostRuntime) -> Result<(), Fail>
             ErrorKind::Interrupted,
         );
         run.print(alloc, &mut writer)?;
-        assert_eq!(rt; writer.calls.len(), whole.calls.len().saturating_add(1));
-        assert_eq!(rt; writer.bytes.as_slice(), run.wanted.as_bytes());
+        assert!(rt; writer.calls.len() == whole.calls.len().saturating_add(1));
+        assert!(rt; writer.bytes.as_slice() == run.wanted.as_bytes());
     }
     Ok(())
 }
@@ -131,7 +131,7 @@ fn fails_where_a_writer_takes_nothing(rt: HostRuntime) {
         let mut writer = Scripted::new(rt.alloc(), 0);
         let refused = run.print(rt.alloc(), &mut writer);
         assert!(rt; matches!(refused, Err(Error::Printer(e)) if e.kind() == ErrorKind::WriteZero));
-        assert_eq!(rt; writer.calls.len(), 1);
+        assert!(rt; writer.calls.len() == 1);
         assert!(rt; writer.bytes.is_empty());
     }
 }
@@ -156,16 +156,16 @@ fn leaves_the_sequences_up_to_the_one_that_failed(rt: HostRuntime) {
         ));
         let answer = writer.set_color(&spec);
         let script = writer.into_inner();
-        assert_eq!(rt;
-            answer.map_err(|e| e.kind()),
-            if write < 4 {
-                Err(ErrorKind::BrokenPipe)
-            } else {
-                Ok(())
-            }
+        assert!(rt;
+            answer.map_err(|e| e.kind())
+                == if write < 4 {
+                    Err(ErrorKind::BrokenPipe)
+                } else {
+                    Ok(())
+                }
         );
-        assert_eq!(rt; script.calls.len(), write.min(3));
-        assert_eq!(rt; script.bytes.as_slice(), left.as_bytes());
+        assert!(rt; script.calls.len() == write.min(3));
+        assert!(rt; script.bytes.as_slice() == left.as_bytes());
     }
 }
 
@@ -184,13 +184,13 @@ fn fails_only_where_it_writes(rt: HostRuntime) -> Result<(), Fail> {
     printer.start_type()?;
     printer.start_comment()?;
     printer.reset_color()?;
-    assert_eq!(rt; printer.print_custom_section("name", 8, &[0])?, false);
-    assert_eq!(rt; printer.0.calls.len(), 0);
+    assert!(rt; !printer.print_custom_section("name", 8, &[0])?);
+    assert!(rt; printer.0.calls.len() == 0);
     let refused = printer.newline();
     assert!(rt; matches!(refused, Err(e) if e.kind() == ErrorKind::BrokenPipe));
     printer.write_str("b")?;
-    assert_eq!(rt; printer.0.calls.len(), 2);
-    assert_eq!(rt; printer.0.bytes.as_slice(), b"b".as_slice());
+    assert!(rt; printer.0.calls.len() == 2);
+    assert!(rt; printer.0.bytes.as_slice() == b"b".as_slice());
     Ok(())
 }
 
@@ -203,12 +203,12 @@ fn fails_at_a_style_where_it_writes_a_sequence(rt: HostRuntime) -> Result<(), Fa
         ErrorKind::BrokenPipe,
     )));
     printer.start_line(Some(8));
-    assert_eq!(rt; printer.print_custom_section("name", 8, &[0])?, false);
+    assert!(rt; !printer.print_custom_section("name", 8, &[0])?);
     let refused = printer.reset_color();
     assert!(rt; matches!(refused, Err(e) if e.kind() == ErrorKind::BrokenPipe));
     printer.start_comment()?;
     let script = printer.0.into_inner();
-    assert_eq!(rt; script.calls.len(), 3);
-    assert_eq!(rt; script.bytes.as_slice(), b"\x1b[0m\x1b[36m".as_slice());
+    assert!(rt; script.calls.len() == 3);
+    assert!(rt; script.bytes.as_slice() == b"\x1b[0m\x1b[36m".as_slice());
     Ok(())
 }

@@ -2,7 +2,7 @@
 ghost use Rattle.std.specs.Prelude.{◌≡◌, true, Ok};
 
 use crate::byte_writers::print_bytes_to;
-use crate::scripted::Scripted;
+use crate::scripted::{Scripted, print_to};
 use std::alloc::Global;
 use std::io;
 use std::io::Write;
@@ -68,7 +68,7 @@ pub fn print_colors_to<W: WriteColor + Drop>(
     writer: W,
 ) -> Result<W, Error> {
     let mut printer = PrintTermcolor(writer);
-    Config::new().print(alloc, wasm, &mut printer)?;
+    print_to(&Config::new(), alloc, wasm, &mut printer)?;
     Ok(printer.0)
 }
 
@@ -76,7 +76,7 @@ pub fn print_colors_to<W: WriteColor + Drop>(
 fn prints_in_colors(rt: HostRuntime) -> Result<(), Fail> {
     let alloc = rt.alloc();
     let empty = print_colors_to(alloc, &PREAMBLE, Ansi::new(Vec::new(alloc)))?;
-    assert_eq!(rt; empty.into_inner().as_slice(), EMPTY_COLORED.as_bytes());
+    assert!(rt; empty.into_inner().as_slice() == EMPTY_COLORED.as_bytes());
     let identity = print_colors_to(alloc, &IDENTITY, Ansi::new(Vec::new(alloc)))?;
     assert!(rt;
         identity
@@ -96,11 +96,11 @@ fn prints_plain_text_where_there_are_no_colors(rt: HostRuntime) -> Result<(), Fa
     ];
     for (wasm, text) in modules {
         let uncolored = print_colors_to(alloc, wasm, NoColor::new(Vec::new(alloc)))?;
-        assert_eq!(rt; uncolored.into_inner().as_slice(), text.as_bytes());
+        assert!(rt; uncolored.into_inner().as_slice() == text.as_bytes());
         let plain = print_bytes_to(alloc, wasm, Vec::new(alloc))?;
-        assert_eq!(rt; plain.as_slice(), text.as_bytes());
+        assert!(rt; plain.as_slice() == text.as_bytes());
         let behind = print_bytes_to(alloc, wasm, vec![in alloc; b'a', b'\n']?)?;
-        assert_eq!(rt; behind.strip_prefix(b"a\n"), Some(text.as_bytes()));
+        assert!(rt; behind.strip_prefix(b"a\n") == Some(text.as_bytes()));
     }
     Ok(())
 }
@@ -117,7 +117,7 @@ fn writes_the_sequences_of_each_style(rt: HostRuntime) -> Result<(), Fail> {
     printer.write_str("k")?;
     printer.start_type()?;
     printer.write_str("t")?;
-    assert_eq!(rt; printer.print_custom_section("name", 8, &[0])?, false);
+    assert!(rt; !printer.print_custom_section("name", 8, &[0])?);
     printer.start_comment()?;
     printer.write_str("c")?;
     printer.start_line(None);
@@ -126,7 +126,7 @@ fn writes_the_sequences_of_each_style(rt: HostRuntime) -> Result<(), Fail> {
     printer.newline()?;
     let wanted =
         "\x1b[0m\x1b[35mn\x1b[0m\x1b[31ml\x1b[0m\x1b[1m\x1b[38;5;11mk\x1b[0m\x1b[1m\x1b[38;5;10mt\x1b[0m\x1b[36mc\x1b[0m\n";
-    assert_eq!(rt; printer.0.into_inner().as_slice(), wanted.as_bytes());
+    assert!(rt; printer.0.into_inner().as_slice() == wanted.as_bytes());
     Ok(())
 }
 
@@ -139,14 +139,11 @@ fn writes_no_sequence_without_colors(rt: HostRuntime) -> Result<(), Fail> {
     printer.start_keyword()?;
     printer.start_type()?;
     printer.start_comment()?;
-    assert_eq!(rt; printer.print_custom_section("name", 8, &[0])?, false);
+    assert!(rt; !printer.print_custom_section("name", 8, &[0])?);
     printer.write_str("a\u{e9}")?;
     printer.reset_color()?;
     printer.newline()?;
-    assert_eq!(rt;
-        printer.0.into_inner().as_slice(),
-        b"a\xc3\xa9\n".as_slice()
-    );
+    assert!(rt; printer.0.into_inner().as_slice() == b"a\xc3\xa9\n".as_slice());
     Ok(())
 }
 
@@ -179,7 +176,7 @@ fn writes_the_sequences_of_each_color(rt: HostRuntime) -> Result<(), Fail> {
         spec.set_fg(fg).set_bold(bold).set_intense(intense);
         let mut writer = Ansi::new(Vec::new(rt.alloc()));
         writer.set_color(&spec)?;
-        assert_eq!(rt; writer.into_inner().as_slice(), wanted.as_bytes());
+        assert!(rt; writer.into_inner().as_slice() == wanted.as_bytes());
     }
     Ok(())
 }
@@ -187,25 +184,13 @@ fn writes_the_sequences_of_each_color(rt: HostRuntime) -> Result<(), Fail> {
 #[test]
 fn sets_one_part_of_a_look_and_keeps_the_rest(rt: HostRuntime) {
     let mut spec = ColorSpec::new();
-    assert_eq!(rt;
-        (spec.fg(), spec.bold(), spec.intense()),
-        (None, false, false)
-    );
+    assert!(rt; (spec.fg(), spec.bold(), spec.intense()) == (None, false, false));
     spec.set_bold(true).set_fg(Some(Color::Cyan));
-    assert_eq!(rt;
-        (spec.fg(), spec.bold(), spec.intense()),
-        (Some(Color::Cyan), true, false)
-    );
+    assert!(rt; (spec.fg(), spec.bold(), spec.intense()) == (Some(Color::Cyan), true, false));
     spec.set_intense(true).set_bold(false);
-    assert_eq!(rt;
-        (spec.fg(), spec.bold(), spec.intense()),
-        (Some(Color::Cyan), false, true)
-    );
+    assert!(rt; (spec.fg(), spec.bold(), spec.intense()) == (Some(Color::Cyan), false, true));
     spec.set_fg(None);
-    assert_eq!(rt;
-        (spec.fg(), spec.bold(), spec.intense()),
-        (None, false, true)
-    );
+    assert!(rt; (spec.fg(), spec.bold(), spec.intense()) == (None, false, true));
 }
 
 #[test]
@@ -222,21 +207,15 @@ fn tells_whether_colors_can_be_written_as_text(rt: HostRuntime) {
 fn passes_bytes_on_as_they_are(rt: HostRuntime) -> Result<(), Fail> {
     let alloc = rt.alloc();
     let mut colored = Ansi::new(Scripted::new(alloc, 2));
-    assert_eq!(rt; colored.write(b"\x1b[0mabc")?, 2);
+    assert!(rt; colored.write(b"\x1b[0mabc")? == 2);
     colored.write_all(b"\x00\xff\n")?;
     colored.flush()?;
-    assert_eq!(rt;
-        colored.into_inner().bytes.as_slice(),
-        b"\x1b[\x00\xff\n".as_slice()
-    );
+    assert!(rt; colored.into_inner().bytes.as_slice() == b"\x1b[\x00\xff\n".as_slice());
     let mut plain = NoColor::new(Scripted::new(alloc, 2));
-    assert_eq!(rt; plain.write(b"\x1b[0mabc")?, 2);
+    assert!(rt; plain.write(b"\x1b[0mabc")? == 2);
     plain.write_all(b"\x00\xff\n")?;
     plain.flush()?;
-    assert_eq!(rt;
-        plain.into_inner().bytes.as_slice(),
-        b"\x1b[\x00\xff\n".as_slice()
-    );
+    assert!(rt; plain.into_inner().bytes.as_slice() == b"\x1b[\x00\xff\n".as_slice());
     Ok(())
 }
 
@@ -244,16 +223,10 @@ fn passes_bytes_on_as_they_are(rt: HostRuntime) -> Result<(), Fail> {
 fn prints_the_same_to_a_writer_that_takes_one_byte(rt: HostRuntime) -> Result<(), Fail> {
     let alloc = rt.alloc();
     let colored = print_colors_to(alloc, &PREAMBLE, Ansi::new(Scripted::new(alloc, 1)))?;
-    assert_eq!(rt;
-        colored.into_inner().bytes.as_slice(),
-        EMPTY_COLORED.as_bytes()
-    );
+    assert!(rt; colored.into_inner().bytes.as_slice() == EMPTY_COLORED.as_bytes());
     let uncolored = print_colors_to(alloc, &IDENTITY, NoColor::new(Scripted::new(alloc, 1)))?;
-    assert_eq!(rt;
-        uncolored.into_inner().bytes.as_slice(),
-        IDENTITY_TEXT.as_bytes()
-    );
+    assert!(rt; uncolored.into_inner().bytes.as_slice() == IDENTITY_TEXT.as_bytes());
     let plain = print_bytes_to(alloc, &IDENTITY, Scripted::new(alloc, 1))?;
-    assert_eq!(rt; plain.bytes.as_slice(), IDENTITY_TEXT.as_bytes());
+    assert!(rt; plain.bytes.as_slice() == IDENTITY_TEXT.as_bytes());
     Ok(())
 }

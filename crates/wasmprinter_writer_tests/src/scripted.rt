@@ -1,8 +1,19 @@
-//! A writer of bytes that writes down each call on it, and fails at one if it is told to.
+//! A writer of bytes that writes down each call on it, and fails at one if it is told to; and how any printer is called.
 
 use std::alloc::Global;
 use std::io;
 use std::io::{ErrorKind, Write};
+use wasmprinter::{Config, Error, Print};
+
+/// Prints to any printer. It promises nothing, so that no caller works out what the promises mean for its own printer.
+pub fn print_to<P: Print>(
+    config: &Config,
+    alloc: Global,
+    wasm: &[u8],
+    printer: &mut P,
+) -> Result<(), Error> {
+    config.print(alloc, wasm, printer)
+}
 
 /// A call on the writer.
 #[derive(Clone, Copy, Debug, PartialEq, Eq)]

@@ -1,10 +1,11 @@
 //! `PrintFmtWrite` over a string, and over a writer that refuses a piece.
 
+use crate::scripted::print_to;
 use std::fmt;
 use std::io::ErrorKind;
 use std::test::Fail;
 use wasmprinter::{Config, Error, Print, PrintFmtWrite, print};
-use wasmprinter_samples::{EMPTY_TEXT, IDENTITY, IDENTITY_TEXT, PREAMBLE};
+use wasmprinter_samples::{EMPTY_TEXT, IDENTITY, IDENTITY_TEXT, PREAMBLE, expect_text};
 
 /// A writer that refuses one piece, and takes all others.
 #[derive(Drop)]
@@ -41,28 +42,28 @@ impl fmt::Write for Refusing {
 fn writes_nothing_behind_a_piece_that_was_refused(rt: HostRuntime) -> Result<(), Fail> {
     let alloc = rt.alloc();
     let mut whole = PrintFmtWrite(Refusing::new(String::new(alloc), 0));
-    Config::new().print(alloc, &IDENTITY, &mut whole)?;
-    assert_eq!(rt; whole.0.text.as_str(), IDENTITY_TEXT);
+    print_to(&Config::new(), alloc, &IDENTITY, &mut whole)?;
+    expect_text(whole.0.text.as_str(), IDENTITY_TEXT)?;
     let pieces = whole.0.given;
     let one_more = pieces.saturating_add(1);
     for piece in 1..one_more {
         let mut printer = PrintFmtWrite(Refusing::new(String::new(alloc), piece));
-        let refused = Config::new().print(alloc, &IDENTITY, &mut printer);
+        let refused = print_to(&Config::new(), alloc, &IDENTITY, &mut printer);
         assert!(rt;
             matches!(refused, Err(Error::Printer(e)) if e.kind() == ErrorKind::Other),
             "at piece {piece}"
         );
         // no piece was given behind the one that was refused, and none before it failed
-        assert_eq!(rt; printer.0.given, piece);
+        assert!(rt; printer.0.given == piece);
         assert!(rt;
             IDENTITY_TEXT.starts_with(printer.0.text.as_str()),
             "at piece {piece}"
         );
     }
     let mut printer = PrintFmtWrite(Refusing::new(String::new(alloc), one_more));
-    Config::new().print(alloc, &IDENTITY, &mut printer)?;
-    assert_eq!(rt; printer.0.given, pieces);
-    assert_eq!(rt; printer.0.text.as_str(), IDENTITY_TEXT);
+    print_to(&Config::new(), alloc, &IDENTITY, &mut printer)?;
+    assert!(rt; printer.0.given == pieces);
+    expect_text(printer.0.text.as_str(), IDENTITY_TEXT)?;
     Ok(())
 }
 
@@ -77,14 +78,14 @@ fn gives_each_piece_and_line_feed_to_the_writer(rt: HostRuntime) -> Result<(), F
     printer.start_type()?;
     printer.start_comment()?;
     printer.reset_color()?;
-    assert_eq!(rt; printer.print_custom_section("name", 8, &[0])?, false);
-    assert_eq!(rt; printer.supports_async_color(), false);
+    assert!(rt; !printer.print_custom_section("name", 8, &[0])?);
+    assert!(rt; !printer.supports_async_color());
     printer.newline()?;
     let refused = printer.write_str("b");
     assert!(rt; matches!(refused, Err(e) if e.kind() == ErrorKind::Other));
     printer.write_str("c")?;
-    assert_eq!(rt; printer.0.given, 4);
-    assert_eq!(rt; printer.0.text.as_str(), "old (a\nc");
+    assert!(rt; printer.0.given == 4);
+    expect_text(printer.0.text.as_str(), "old (a\nc")?;
     let refused = PrintFmtWrite(Refusing::new(String::new(rt.alloc()), 1)).newline();
     assert!(rt; matches!(refused, Err(e) if e.kind() == ErrorKind::Other));
     Ok(())
@@ -94,9 +95,9 @@ fn gives_each_piece_and_line_feed_to_the_writer(rt: HostRuntime) -> Result<(), F
 fn keeps_the_text_that_a_string_begins_with(rt: HostRuntime) -> Result<(), Fail> {
     let alloc = rt.alloc();
     let mut printer = print::PrintFmtWrite(String::from_str(alloc, "first ")?);
-    Config::default().print(alloc, &PREAMBLE, &mut printer)?;
-    Config::default().print(alloc, &PREAMBLE, &mut printer)?;
-    let refused = Config::default().print(alloc, &PREAMBLE[..7], &mut printer);
+    print_to(&Config::default(), alloc, &PREAMBLE, &mut printer)?;
+    print_to(&Config::default(), alloc, &PREAMBLE, &mut printer)?;
+    let refused = print_to(&Config::default(), alloc, &PREAMBLE[..7], &mut printer);
     assert!(rt; matches!(refused, Err(Error::Malformed { .. })));
     let text = printer
         .0
@@ -104,7 +105,7 @@ fn keeps_the_text_that_a_string_begins_with(rt: HostRuntime) -> Result<(), Fail>
         .strip_prefix("first ")
         .ok_or("the old text is gone")?;
     let second = text.strip_prefix(EMPTY_TEXT).ok_or("not the first module")?;
-    assert_eq!(rt; second, EMPTY_TEXT);
+    assert!(rt; second == EMPTY_TEXT);
     Ok(())
 }
 
@@ -116,7 +117,7 @@ fn gives_a_long_piece_to_the_writer(rt: HostRuntime) -> Result<(), Fail> {
     }
     let mut printer = PrintFmtWrite(Refusing::new(String::new(rt.alloc()), 0));
     printer.write_str(piece.as_str())?;
-    assert_eq!(rt; printer.0.given, 1);
-    assert_eq!(rt; printer.0.text.as_str(), piece.as_str());
+    assert!(rt; printer.0.given == 1);
+    expect_text(printer.0.text.as_str(), piece.as_str())?;
     Ok(())
 }

@@ -9,6 +9,7 @@ use wasmprinter_error::Malformed;
 use wasmprinter_ops::operands::{MemArg, cast_source, cast_target};
 use wasmprinter_ops::operator::Operator;
 use wasmprinter_ops::types::{HeapType, RefType, ValType};
+use wasmprinter_samples::expect_text;
 
 /// Asserts that the bytes of each row are an operator with the word and these immediates, and nothing else.
 fn assert_operators(rt: &impl Abort, rows: &[(&[u8], &'static str, Wanted)]) {
@@ -16,7 +17,7 @@ fn assert_operators(rt: &impl Abort, rows: &[(&[u8], &'static str, Wanted)]) {
         let mut cursor = Cursor::new(0, bytes);
         match Operator::read(&mut cursor) {
             Ok(operator) => {
-                assert_eq!(rt; operator.opcode.word(), *word);
+                expect_text(operator.opcode.word(), *word)?;
                 assert!(rt; are_wanted(&operator.immediates, wanted), "{word}");
             }
             Err(Malformed { place }) => assert!(rt; false, "{word} is refused at {place}"),
@@ -59,7 +60,7 @@ fn indices_are_read_in_order(rt: HostRuntime) {
             (&[0xfc, 14, 11, 12], "table.copy", Wanted::Indices(11, 12)),
         ],
     );
-    assert_eq!(rt; refused_at(&[0xfc, 14, 11]), Some(3));
+    assert!(rt; refused_at(&[0xfc, 14, 11]) == Some(3));
 }
 
 /// References to exceptions, which may be null.
@@ -83,8 +84,8 @@ fn types_are_read(rt: HostRuntime) {
             (&[0xfb, 23, 0], "ref.cast", Wanted::Heap(HeapType::Index(0))),
         ],
     );
-    assert_eq!(rt; refused_at(&[0x1c, 1, 0x40]), Some(2));
-    assert_eq!(rt; refused_at(&[0xd0, 0x40]), Some(1));
+    assert!(rt; refused_at(&[0x1c, 1, 0x40]) == Some(2));
+    assert!(rt; refused_at(&[0xd0, 0x40]) == Some(1));
 }
 
 #[test]
@@ -98,8 +99,8 @@ fn casts_are_read(rt: HostRuntime) {
             (&[0xfb, 25, 2, 0, 3, 0x6c], "br_on_cast_fail", second),
         ],
     );
-    assert_eq!(rt; refused_at(&[0xfb, 24, 3, 0, 0x6e, 0x6e]), None);
-    assert_eq!(rt; refused_at(&[0xfb, 24, 4, 0, 0x6e, 0x6e]), Some(2));
+    assert!(rt; refused_at(&[0xfb, 24, 3, 0, 0x6e, 0x6e]) == None);
+    assert!(rt; refused_at(&[0xfb, 24, 4, 0, 0x6e, 0x6e]) == Some(2));
 }
 
 #[test]
@@ -111,8 +112,8 @@ fn flags_say_what_may_be_null(rt: HostRuntime) {
         (3, true, true),
     ];
     for (flags, source, target) in rows {
-        assert_eq!(rt; cast_source(flags, HeapType::Eq).nullable, source);
-        assert_eq!(rt; cast_target(flags, HeapType::Eq).nullable, target);
+        assert!(rt; cast_source(flags, HeapType::Eq).nullable == source);
+        assert!(rt; cast_target(flags, HeapType::Eq).nullable == target);
     }
 }
 
@@ -145,8 +146,8 @@ fn memory_operands_are_read(rt: HostRuntime) {
             ),
         ],
     );
-    assert_eq!(rt; refused_at(&[0x28, 0x80, 0x01, 0]), Some(1));
-    assert_eq!(rt; refused_at(&[0x28, 64, 0]), Some(3));
+    assert!(rt; refused_at(&[0x28, 0x80, 0x01, 0]) == Some(1));
+    assert!(rt; refused_at(&[0x28, 64, 0]) == Some(3));
 }
 
 /// Sixteen bytes.
@@ -170,7 +171,7 @@ fn lanes_are_read(rt: HostRuntime) {
             (&lanes, "i8x16.shuffle", Wanted::Bytes(LANES)),
         ],
     );
-    assert_eq!(rt; refused_at(&lanes[..17]), Some(2));
+    assert!(rt; refused_at(&lanes[..17]) == Some(2));
 }
 
 #[test]
@@ -189,13 +190,13 @@ fn constants_are_read(rt: HostRuntime) {
             (&double, "f64.const", Wanted::F64(0x8877_6655_4433_2211)),
         ],
     );
-    assert_eq!(rt; refused_at(&[0x43, 0x11, 0x22, 0x33]), Some(1));
+    assert!(rt; refused_at(&[0x43, 0x11, 0x22, 0x33]) == Some(1));
 }
 
 #[test]
 fn behind_a_fence_stands_zero(rt: HostRuntime) {
     assert_operators(&rt, &[(&[0xfe, 3, 0], "atomic.fence", Wanted::None)]);
-    assert_eq!(rt; refused_at(&[0xfe, 3, 1]), Some(2));
+    assert!(rt; refused_at(&[0xfe, 3, 1]) == Some(2));
 }
 
 #[test]

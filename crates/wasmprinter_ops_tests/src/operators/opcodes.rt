@@ -1,5 +1,6 @@
 //! Opcodes, their words, shapes, arities and roles. What is expected is typed by hand.
 use wasmprinter_ops::opcode::{Arity, Opcode, Role, Shape, Space};
+use wasmprinter_samples::expect_text;
 
 #[test]
 fn opcodes_have_words_and_shapes(rt: HostRuntime) {
@@ -60,8 +61,8 @@ fn opcodes_have_words_and_shapes(rt: HostRuntime) {
     ];
     for (prefix, number, word, shape) in rows {
         let opcode = Opcode { prefix, number };
-        assert_eq!(rt; opcode.word(), word);
-        assert_eq!(rt; opcode.shape(), Some(shape));
+        expect_text(opcode.word(), word)?;
+        assert!(rt; opcode.shape() == Some(shape));
     }
 }
 
@@ -100,8 +101,8 @@ fn opcodes_have_arities(rt: HostRuntime) {
     ];
     for (prefix, number, word, arity) in rows {
         let opcode = Opcode { prefix, number };
-        assert_eq!(rt; opcode.word(), word);
-        assert_eq!(rt; opcode.arity(), Some(arity));
+        expect_text(opcode.word(), word)?;
+        assert!(rt; opcode.arity() == Some(arity));
     }
 }
 
@@ -126,10 +127,10 @@ fn other_opcodes_have_none(rt: HostRuntime) {
     ];
     for (prefix, number) in rows {
         let opcode = Opcode { prefix, number };
-        assert_eq!(rt; opcode.word(), "");
-        assert_eq!(rt; opcode.shape(), None);
-        assert_eq!(rt; opcode.arity(), None);
-        assert_eq!(rt; opcode.role(), Role::Plain);
+        expect_text(opcode.word(), "")?;
+        assert!(rt; opcode.shape() == None);
+        assert!(rt; opcode.arity() == None);
+        assert!(rt; opcode.role() == Role::Plain);
     }
 }
 
@@ -151,11 +152,11 @@ fn opcodes_have_roles(rt: HostRuntime) {
         (0x100, Role::Plain),
     ];
     for (number, role) in rows {
-        assert_eq!(rt; Opcode { prefix: 0, number }.role(), role);
+        assert!(rt; Opcode { prefix: 0, number }.role() == role);
     }
     let other = Opcode {
         prefix: 0xfc,
         number: 0x02,
     };
-    assert_eq!(rt; other.role(), Role::Plain);
+    assert!(rt; other.role() == Role::Plain);
 }
