@@ -2,11 +2,12 @@
 //! and in front of an operator that takes one operand.
 
 use crate::arity_rows::{AGGREGATES, CONTROL, NUMBERS};
-use crate::modules::{FUNCTION, IMPORT, TAG, TYPE, add_code, add_section, folded};
+use crate::modules::{add_code, folded};
 use crate::vector_rows::{ATOMICS, VECTORS};
 use std::alloc::{AllocError, Global};
 use std::test::Fail;
 use wasmprinter_samples::PREAMBLE;
+use wasmprinter_samples::sections::{FUNCTION, IMPORT, TAG, TYPE, add_section};
 
 /// An operator with the numbers of its operands and results.
 #[derive(Drop)]

@@ -1,9 +1,8 @@
 //! Folded bodies: which nodes an operator takes as its operands.
 
-use crate::modules::{
-    FUNCTION, IMPORT, NO_PARAMS, TAG, TYPE, add_code, add_section, around, folded, with_body,
-};
+use crate::modules::{NO_PARAMS, add_code, around, folded, with_body};
 use std::test::Fail;
+use wasmprinter_samples::sections::{FUNCTION, IMPORT, TAG, TYPE, add_section};
 use wasmprinter_samples::{PREAMBLE, expect_text};
 
 /// Operators of a function without parameters and results, and their lines.

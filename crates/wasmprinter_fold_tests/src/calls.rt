@@ -1,12 +1,13 @@
 //! The calls on a printer that folded operators make, in their order, and which error comes where one of them fails. For a printer that
 //! takes no colours within a text, an operator and what is added by folding are text without styles.
 
-use crate::modules::{NO_PARAMS, add_custom, with_body};
+use crate::modules::{NO_PARAMS, with_body};
 use std::alloc::Global;
 use std::io::ErrorKind;
 use std::test::Fail;
 use wasmprinter::{Config, Error, Print};
 use wasmprinter_recorder::{REFUSED, Recorder};
+use wasmprinter_samples::sections::add_custom;
 use wasmprinter_samples::{EMPTY_CALLS, FIELDS, IDENTITY, PREAMBLE, expect_text};
 
 /// The calls for `IDENTITY`.

@@ -1,9 +1,7 @@
 //! Folded operators with the sequences that colour them on a terminal. The sequences are typed by hand: those of an operator's immediates
 //! stand in its node, and what folding adds has none.
 
-use crate::modules::{
-    DATA, FUNCTION, GLOBAL, NO_PARAMS, TYPE, add_code, add_custom, add_section, with_body,
-};
+use crate::modules::{NO_PARAMS, add_code, with_body};
 use std::alloc::Global;
 use std::test::Fail;
 use wasmprinter::{Config, Error};

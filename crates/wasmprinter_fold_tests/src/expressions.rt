@@ -1,10 +1,10 @@
 //! Folded constant expressions: nodes stand on the line of their field, parted by blanks, and a label's comment is a block comment.
 
-use crate::modules::{
-    DATA, ELEMENT, FUNCTION, GLOBAL, NO_PARAMS, TABLE, TAG, TYPE, add_code, add_section,
-    around_field, folded, with_section,
-};
+use crate::modules::{NO_PARAMS, add_code, around_field, folded, with_section};
 use std::test::Fail;
+use wasmprinter_samples::sections::{
+    DATA, ELEMENT, FUNCTION, GLOBAL, TABLE, TAG, TYPE, add_section,
+};
 use wasmprinter_samples::{PREAMBLE, expect_text};
 
 /// Global sections of one global each, and its text.

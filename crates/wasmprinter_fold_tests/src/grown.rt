@@ -1,14 +1,11 @@
 //! What is kept grows where it has to: several imports, blocks in blocks, long texts, lists of many operators, hints of later functions.
 
-use crate::modules::{
-    DATA, ELEMENT, FUNCTION, IMPORT, NO_PARAMS, TYPE, add_code, add_custom, add_section, around,
-    around_field, folded, with_body, with_section,
-};
+use crate::modules::{NO_PARAMS, add_code, around, around_field, folded, with_body, with_section};
 use std::test::Fail;
+use wasmprinter_samples::sections::{
+    CODE, DATA, ELEMENT, FUNCTION, IMPORT, TYPE, add_custom, add_section,
+};
 use wasmprinter_samples::{PREAMBLE, expect_text};
-
-/// The number of the section of bodies.
-const CODE: u8 = 10;
 
 /// Operators in blocks, and their lines.
 const NESTED: [(&[u8], &str); 2] = [
@@ -60,40 +57,26 @@ fn folds_blocks_in_blocks(rt: HostRuntime) -> Result<(), Fail> {
     Ok(())
 }
 
-#[test]
-fn folds_beside_several_imports(rt: HostRuntime) -> Result<(), Fail> {
-    let alloc = rt.alloc();
-    let mut wasm = Vec::from_slice(alloc, &PREAMBLE)?;
-    add_section(
-        &mut wasm,
-        TYPE,
-        &[
-            0x04, 0x60, 0x00, 0x01, 0x7f, 0x60, 0x01, 0x7f, 0x00, 0x60, 0x02, 0x7f, 0x7f, 0x00,
-            0x60, 0x00, 0x00,
-        ],
-    )?;
-    // two functions, and two tags
-    add_section(
-        &mut wasm,
-        IMPORT,
-        &[
-            0x04, 0x00, 0x00, 0x00, 0x00, 0x00, 0x00, 0x00, 0x01, 0x00, 0x00, 0x04, 0x00, 0x01,
-            0x00, 0x00, 0x04, 0x00, 0x02,
-        ],
-    )?;
-    add_section(&mut wasm, FUNCTION, &[0x01, 0x03])?;
-    add_code(
-        &mut wasm,
-        &[
-            0x10, 0x00, 0x10, 0x01, // call, twice
-            0x41, 0x01, 0x08, 0x00, // i32.const and throw
-            0x41, 0x02, 0x41, 0x03, 0x08, 0x01, // i32.const twice, and throw
-        ],
-    )?;
-    let text = folded(alloc, &wasm)?;
-    expect_text(
-        text.as_str(),
-        r#"(module
+/// Two function types with a result or a parameter, one with two parameters, and one with nothing.
+const FOUR_TYPES: [u8; 17] = [
+    0x04, 0x60, 0x00, 0x01, 0x7f, 0x60, 0x01, 0x7f, 0x00, 0x60, 0x02, 0x7f, 0x7f, 0x00, 0x60, 0x00,
+    0x00,
+];
+
+/// Imports of two functions and two tags, of the first three types.
+const FOUR_IMPORTS: [u8; 19] = [
+    0x04, 0x00, 0x00, 0x00, 0x00, 0x00, 0x00, 0x00, 0x01, 0x00, 0x00, 0x04, 0x00, 0x01, 0x00, 0x00,
+    0x04, 0x00, 0x02,
+];
+
+/// A body that uses each of them.
+const USING_IMPORTS: [u8; 14] = [
+    0x10, 0x00, 0x10, 0x01, // call, twice
+    0x41, 0x01, 0x08, 0x00, // i32.const and throw
+    0x41, 0x02, 0x41, 0x03, 0x08, 0x01, // i32.const twice, and throw
+];
+
+const FOUR_IMPORTS_TEXT: &str = r#"(module
   (type (;0;) (func (result i32)))
   (type (;1;) (func (param i32)))
   (type (;2;) (func (param i32 i32)))
@@ -112,8 +95,17 @@ fn folds_beside_several_imports(rt: HostRuntime) -> Result<(), Fail> {
       (i32.const 3))
   )
 )
-"#,
-    )?;
+"#;
+
+#[test]
+fn folds_beside_several_imports(rt: HostRuntime) -> Result<(), Fail> {
+    let alloc = rt.alloc();
+    let mut wasm = Vec::from_slice(alloc, &PREAMBLE)?;
+    add_section(&mut wasm, TYPE, &FOUR_TYPES)?;
+    add_section(&mut wasm, IMPORT, &FOUR_IMPORTS)?;
+    add_section(&mut wasm, FUNCTION, &[0x01, 0x03])?;
+    add_code(&mut wasm, &USING_IMPORTS)?;
+    expect_text(folded(alloc, &wasm)?.as_str(), FOUR_IMPORTS_TEXT)?;
     Ok(())
 }
 

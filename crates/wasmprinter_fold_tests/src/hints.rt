@@ -1,10 +1,11 @@
 //! Branch hints of folded operators (Code Metadata): each stands on a line of its own, in front of the node of its operator; and those of
 //! operators that have no node of their own, or whose node a hint can't stand in front of, which are refused.
 
-use crate::modules::{FUNCTION, TYPE, add_code, add_custom, add_section, folded, refusal_of_lines};
+use crate::modules::{add_code, folded, refusal_of_lines};
 use std::alloc::{AllocError, Global};
 use std::test::Fail;
 use wasmprinter::{Config, Error};
+use wasmprinter_samples::sections::{FUNCTION, TYPE, add_custom, add_section};
 use wasmprinter_samples::{PREAMBLE, expect_text};
 
 /// The name of hint sections.

@@ -3,47 +3,10 @@
 use std::alloc::{AllocError, Global};
 use wasmprinter::{Config, Error};
 use wasmprinter_samples::PREAMBLE;
-
-/// The numbers of sections.
-pub const CUSTOM: u8 = 0;
-
-pub const TYPE: u8 = 1;
-
-pub const IMPORT: u8 = 2;
-
-pub const FUNCTION: u8 = 3;
-
-pub const TABLE: u8 = 4;
-
-pub const GLOBAL: u8 = 6;
-
-pub const ELEMENT: u8 = 9;
-
-pub const DATA: u8 = 11;
-
-pub const TAG: u8 = 13;
+use wasmprinter_samples::sections::{FUNCTION, TYPE, add_section};
 
 /// The type of functions without parameters and results, alone.
 pub const NO_PARAMS: [u8; 4] = [0x01, 0x60, 0x00, 0x00];
-
-/// Adds a section with this number and content, of which there are fewer than 128 bytes.
-pub fn add_section(wasm: &mut Vec<u8>, id: u8, content: &[u8]) -> Result<(), AllocError> {
-    wasm.extend_from_slice(&[id, content.len().min(127) as u8])?;
-    wasm.extend_from_slice(content)
-}
-
-/// Adds a custom section, of which there are fewer than 128 bytes.
-pub fn add_custom(
-    alloc: Global,
-    wasm: &mut Vec<u8>,
-    name: &str,
-    data: &[u8],
-) -> Result<(), AllocError> {
-    let mut content = Vec::from_slice(alloc, &[name.len().min(127) as u8])?;
-    content.extend_from_slice(name.as_bytes())?;
-    content.extend_from_slice(data)?;
-    add_section(wasm, CUSTOM, &content)
-}
 
 /// Adds a code section with one body: without locals, with these operators, of which there are fewer than 100 bytes, and an `end`.
 pub fn add_code(wasm: &mut Vec<u8>, operators: &[u8]) -> Result<(), AllocError> {

@@ -1,10 +1,11 @@
 //! Folded operators with names: a line begins behind a node without children whose text holds two semicolons, which could begin a comment,
 //! also where these stand in a name.
 
-use crate::modules::{
-    DATA, ELEMENT, FUNCTION, GLOBAL, TYPE, add_code, add_custom, add_section, folded,
-};
+use crate::modules::{add_code, folded};
 use std::test::Fail;
+use wasmprinter_samples::sections::{
+    DATA, ELEMENT, FUNCTION, GLOBAL, TYPE, add_custom, add_section,
+};
 use wasmprinter_samples::{PREAMBLE, expect_text};
 
 /// Names of globals: that of the first is `a;;b`.

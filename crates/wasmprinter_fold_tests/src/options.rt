@@ -1,9 +1,10 @@
 //! Folded operators together with the other options, in each list of operators that a module has; and the lines of folded texts.
 
-use crate::modules::{GLOBAL, add_custom, add_section, folded};
+use crate::modules::folded;
 use std::alloc::{AllocError, Global};
 use std::test::Fail;
 use wasmprinter::{Config, OffsetsAndLines};
+use wasmprinter_samples::sections::{GLOBAL, add_custom, add_section};
 use wasmprinter_samples::{EMPTY_TEXT, EVERYTHING, EVERYTHING_TEXT, PREAMBLE, expect_text};
 
 /// A table with an initialiser, a global, element and data segments with offsets and items, and a function with an `if`.

@@ -1,10 +1,11 @@
 //! Legacy exception operators, which can't be folded, in each list of operators; and lists that aren't printed, in which they stay.
 
-use crate::modules::{DATA, ELEMENT, GLOBAL, TABLE, folded, refusal_of_lines, with_section};
+use crate::modules::{folded, refusal_of_lines, with_section};
 use std::alloc::{AllocError, Global};
 use std::test::Fail;
 use wasmprinter::{Config, Error};
 use wasmprinter_samples::expect_text;
+use wasmprinter_samples::sections::{DATA, ELEMENT, GLOBAL, TABLE};
 
 /// A function with a `try` at byte 23, and a `catch_all` in it.
 const CAUGHT: [u8; 28] = [

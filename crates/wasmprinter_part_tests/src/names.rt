@@ -180,9 +180,10 @@ fn identifiers_are_given_or_made_up(rt: HostRuntime) -> Result<(), Fail> {
 }
 
 #[test]
-fn spaces_have_words(rt: HostRuntime) {
+fn spaces_have_words(rt: HostRuntime) -> Result<(), Fail> {
     expect_text(Space::Types.word(), "type")?;
     expect_text(Space::Data.word(), "data")?;
+    Ok(())
 }
 
 #[test]

@@ -3,6 +3,7 @@
 #![tactic(auto)]
 
 mod expect;
+pub mod sections;
 
 pub use expect::{Different, expect_text};
 

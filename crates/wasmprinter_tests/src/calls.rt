@@ -5,6 +5,7 @@ use std::io::ErrorKind;
 use std::test::Fail;
 use wasmprinter::{Config, Error, Print};
 use wasmprinter_recorder::{REFUSED, Recorder};
+use wasmprinter_samples::sections::{TYPE, add_section};
 use wasmprinter_samples::{
     CONTROL, CONTROL_CALLS, EMPTY_CALLS, EVERYTHING, EVERYTHING_CALLS, FIELDS, FIELDS_CALLS,
     IDENTITY, IDENTITY_CALLS, INVENTED_CALLS, KINDS, KINDS_CALLS, NAMED, NAMED_CALLS, PREAMBLE,
@@ -114,4 +115,28 @@ fn answers_each_kind_of_error_as_it_is(rt: HostRuntime) {
         let refused = print_to(&Config::default(), rt.alloc(), &PREAMBLE, &mut recorder);
         assert!(rt; matches!(refused, Err(Error::Printer(e)) if e.kind() == kind));
     }
+}
+
+#[test]
+fn places_the_types_of_a_group_behind_its_first_two_bytes(rt: HostRuntime) -> Result<(), Fail> {
+    let mut wasm = Vec::from_slice(rt.alloc(), &PREAMBLE)?;
+    add_section(
+        &mut wasm,
+        TYPE,
+        &[0x01, 0x4e, 0x02, 0x5f, 0x01, 0x78, 0x01, 0x60, 0x00, 0x00],
+    )?;
+    let mut recorder = Recorder::new(rt.alloc());
+    print_to(&Config::new(), rt.alloc(), &wasm, &mut recorder)?;
+    expect_text(
+        recorder.calls(),
+        r#"[0x0]({K}module{R}
+[0xb]  ({K}rec{R}
+[0xd]    ({K}type {R}{N}(;0;){R} ({K}struct{R} (field (mut i8))))
+[0xd]    ({K}type {R}{N}(;1;){R} ({K}func{R}))
+[]  )
+[0x14])
+"#,
+    )?;
+    assert!(rt; recorder.is_complete());
+    Ok(())
 }

@@ -2,29 +2,13 @@
 //! section 5.5.3 of the standard; `producers` and `dylink.0`: tool conventions).
 
 use crate::calls::print_to;
-use crate::sections::add_section;
 use std::alloc::{AllocError, Global};
 use std::test::Fail;
 use wasmprinter::wasm::{CustomEntry, SectionKind, decode};
 use wasmprinter::{Config, Error, print_bytes};
 use wasmprinter_recorder::Recorder;
+use wasmprinter_samples::sections::{CUSTOM, add_custom, add_section};
 use wasmprinter_samples::{PREAMBLE, expect_text};
-
-/// The number of custom sections.
-const CUSTOM: u8 = 0;
-
-/// Adds a custom section, of which there are fewer than 100 bytes.
-pub fn add_custom(
-    alloc: Global,
-    wasm: &mut Vec<u8>,
-    name: &str,
-    data: &[u8],
-) -> Result<(), AllocError> {
-    let mut content = Vec::from_slice(alloc, &[name.len().min(90) as u8])?;
-    content.extend_from_slice(name.as_bytes())?;
-    content.extend_from_slice(data)?;
-    add_section(wasm, CUSTOM, &content)
-}
 
 /// The text of a module that holds one custom section alone.
 fn text_of_custom(alloc: Global, name: &str, data: &[u8]) -> Result<String, Error> {

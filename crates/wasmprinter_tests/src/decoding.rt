@@ -161,7 +161,7 @@ fn walks_over_blocks(rt: HostRuntime) -> Result<(), Fail> {
 }
 
 #[test]
-fn has_no_words_for_opcodes_that_are_not_listed(rt: HostRuntime) {
+fn has_no_words_for_opcodes_that_are_not_listed(rt: HostRuntime) -> Result<(), Fail> {
     for (prefix, number) in [
         (0, 0x27),
         (0, 0x100),
@@ -176,6 +176,7 @@ fn has_no_words_for_opcodes_that_are_not_listed(rt: HostRuntime) {
     ] {
         expect_text(Opcode { prefix, number }.word(), "")?;
     }
+    Ok(())
 }
 
 /// The place of a type.

@@ -1,12 +1,11 @@
 //! Branch hints (Code Metadata): each stands on a line of its own, directly in front of its operator.
 
 use crate::calls::print_to;
-use crate::customs::add_custom;
-use crate::sections::add_section;
 use std::alloc::{AllocError, Global};
 use std::test::Fail;
 use wasmprinter::{Config, print_bytes};
 use wasmprinter_recorder::Recorder;
+use wasmprinter_samples::sections::{add_custom, add_section};
 use wasmprinter_samples::{PREAMBLE, expect_text};
 
 /// The name of hint sections.

@@ -1,16 +1,13 @@
 //! Modules with name sections: texts with the identifiers that names give, and with identifiers made up for all other items.
 
-use crate::sections::add_section;
 use std::alloc::{AllocError, Global};
 use std::test::Fail;
 use wasmprinter::wasm::{Space, decode};
 use wasmprinter::{Config, Error, print_bytes};
+use wasmprinter_samples::sections::{CUSTOM, add_section};
 use wasmprinter_samples::{
     EVERY_SPACE, EVERY_SPACE_NAMES, IDENTITY, IDENTITY_TEXT, PREAMBLE, expect_text,
 };
-
-/// The number of custom sections.
-const CUSTOM: u8 = 0;
 
 /// The text of a module with identifiers made up for what has no name.
 fn invented(alloc: Global, wasm: &[u8]) -> Result<String, Error> {

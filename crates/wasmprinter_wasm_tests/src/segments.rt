@@ -144,15 +144,15 @@ fn globals_have_types(rt: HostRuntime) -> Result<(), Fail> {
     Ok(())
 }
 
-#[test]
-fn imports_have_types(rt: HostRuntime) -> Result<(), Fail> {
-    let section = [
-        0x02, 0x24, 0x05, 0x01, 0x6d, 0x01, 0x66, 0x00, 0x03, 0x01, 0x6d, 0x01, 0x74, 0x01, 0x70,
-        0x00, 0x01, 0x01, 0x6d, 0x01, 0x65, 0x02, 0x00, 0x01, 0x01, 0x6d, 0x01, 0x67, 0x03, 0x7f,
-        0x01, 0x01, 0x6d, 0x01, 0x78, 0x04, 0x00, 0x02,
-    ];
-    let bytes = module(rt.alloc(), &[&section])?;
-    let decoded = decode(rt.alloc(), &bytes)?;
+/// An import section: one import of each kind.
+const IMPORTS: [u8; 38] = [
+    0x02, 0x24, 0x05, 0x01, 0x6d, 0x01, 0x66, 0x00, 0x03, 0x01, 0x6d, 0x01, 0x74, 0x01, 0x70, 0x00,
+    0x01, 0x01, 0x6d, 0x01, 0x65, 0x02, 0x00, 0x01, 0x01, 0x6d, 0x01, 0x67, 0x03, 0x7f, 0x01, 0x01,
+    0x6d, 0x01, 0x78, 0x04, 0x00, 0x02,
+];
+
+/// Their places, names and types.
+fn imports_wanted() -> [(u64, &'static str, ExternType); 5] {
     let limits = Limits { min: 1, max: None };
     let table = TableType {
         wide: false,
@@ -172,13 +172,20 @@ fn imports_have_types(rt: HostRuntime) -> Result<(), Fail> {
         mutable: true,
         ty: ValType::I32,
     };
-    let wanted = [
+    [
         (0x0b, "f", ExternType::Func(3)),
         (0x11, "t", ExternType::Table(table)),
         (0x19, "e", ExternType::Memory(memory)),
         (0x20, "g", ExternType::Global(global)),
         (0x27, "x", ExternType::Tag(2)),
-    ];
+    ]
+}
+
+#[test]
+fn imports_have_types(rt: HostRuntime) -> Result<(), Fail> {
+    let bytes = module(rt.alloc(), &[&IMPORTS])?;
+    let decoded = decode(rt.alloc(), &bytes)?;
+    let wanted = imports_wanted();
     assert!(rt; decoded.imports().len() == wanted.len());
     for (import, (place, name, ty)) in decoded.imports().iter().zip(wanted.iter().copied()) {
         assert!(rt; import.place() == place);

@@ -1,73 +1,77 @@
 //! Opcodes, their words, shapes, arities and roles. What is expected is typed by hand.
+use std::test::Fail;
 use wasmprinter_ops::opcode::{Arity, Opcode, Role, Shape, Space};
 use wasmprinter_samples::expect_text;
 
+/// Opcodes by prefix and number, each with its word and the shape of its immediates.
+const OPCODES: [(u8, u32, &str, Shape); 38] = [
+    (0, 0x00, "unreachable", Shape::None),
+    (0, 0x02, "block", Shape::Block),
+    (0, 0x07, "catch", Shape::Index(Space::Tag)),
+    (0, 0x0d, "br_if", Shape::Index(Space::Label)),
+    (0, 0x0e, "br_table", Shape::BranchTable),
+    (0, 0x10, "call", Shape::Index(Space::Func)),
+    (0, 0x11, "call_indirect", Shape::Call),
+    (0, 0x14, "call_ref", Shape::Index(Space::Types)),
+    (0, 0x1c, "select", Shape::Select),
+    (0, 0x1f, "try_table", Shape::TryTable),
+    (0, 0x20, "local.get", Shape::Index(Space::Local)),
+    (0, 0x24, "global.set", Shape::Index(Space::Global)),
+    (0, 0x25, "table.get", Shape::Index(Space::Table)),
+    (0, 0x29, "i64.load", Shape::Memory(3)),
+    (0, 0x40, "memory.grow", Shape::DefaultIndex(Space::Memory)),
+    (0, 0x41, "i32.const", Shape::I32),
+    (0, 0x42, "i64.const", Shape::I64),
+    (0, 0x43, "f32.const", Shape::F32),
+    (0, 0x44, "f64.const", Shape::F64),
+    (0, 0xd0, "ref.null", Shape::Heap),
+    (0, 0xd6, "br_on_non_null", Shape::Index(Space::Label)),
+    (0xfb, 2, "struct.get", Shape::Field),
+    (0xfb, 8, "array.new_fixed", Shape::Count),
+    (
+        0xfb,
+        10,
+        "array.new_elem",
+        Shape::Pair(Space::Types, Space::Elem),
+    ),
+    (0xfb, 21, "ref.test", Shape::Ref(true)),
+    (0xfb, 25, "br_on_cast_fail", Shape::Cast),
+    (0xfb, 30, "i31.get_u", Shape::None),
+    (
+        0xfc,
+        8,
+        "memory.init",
+        Shape::Segment(Space::Data, Space::Memory),
+    ),
+    (0xfc, 14, "table.copy", Shape::Copy(Space::Table)),
+    (0xfc, 22, "i64.mul_wide_u", Shape::None),
+    (0xfd, 0, "v128.load", Shape::Memory(4)),
+    (0xfd, 12, "v128.const", Shape::Vector),
+    (0xfd, 13, "i8x16.shuffle", Shape::Lanes),
+    (0xfd, 34, "f64x2.replace_lane", Shape::Lane),
+    (0xfd, 91, "v128.store64_lane", Shape::MemoryLane(3)),
+    (
+        0xfd,
+        275,
+        "i32x4.relaxed_dot_i8x16_i7x16_add_s",
+        Shape::None,
+    ),
+    (0xfe, 0x03, "atomic.fence", Shape::Fence),
+    (0xfe, 0x4e, "i64.atomic.rmw32.cmpxchg_u", Shape::Memory(2)),
+];
+
 #[test]
-fn opcodes_have_words_and_shapes(rt: HostRuntime) {
-    let rows = [
-        (0, 0x00, "unreachable", Shape::None),
-        (0, 0x02, "block", Shape::Block),
-        (0, 0x07, "catch", Shape::Index(Space::Tag)),
-        (0, 0x0d, "br_if", Shape::Index(Space::Label)),
-        (0, 0x0e, "br_table", Shape::BranchTable),
-        (0, 0x10, "call", Shape::Index(Space::Func)),
-        (0, 0x11, "call_indirect", Shape::Call),
-        (0, 0x14, "call_ref", Shape::Index(Space::Types)),
-        (0, 0x1c, "select", Shape::Select),
-        (0, 0x1f, "try_table", Shape::TryTable),
-        (0, 0x20, "local.get", Shape::Index(Space::Local)),
-        (0, 0x24, "global.set", Shape::Index(Space::Global)),
-        (0, 0x25, "table.get", Shape::Index(Space::Table)),
-        (0, 0x29, "i64.load", Shape::Memory(3)),
-        (0, 0x40, "memory.grow", Shape::DefaultIndex(Space::Memory)),
-        (0, 0x41, "i32.const", Shape::I32),
-        (0, 0x42, "i64.const", Shape::I64),
-        (0, 0x43, "f32.const", Shape::F32),
-        (0, 0x44, "f64.const", Shape::F64),
-        (0, 0xd0, "ref.null", Shape::Heap),
-        (0, 0xd6, "br_on_non_null", Shape::Index(Space::Label)),
-        (0xfb, 2, "struct.get", Shape::Field),
-        (0xfb, 8, "array.new_fixed", Shape::Count),
-        (
-            0xfb,
-            10,
-            "array.new_elem",
-            Shape::Pair(Space::Types, Space::Elem),
-        ),
-        (0xfb, 21, "ref.test", Shape::Ref(true)),
-        (0xfb, 25, "br_on_cast_fail", Shape::Cast),
-        (0xfb, 30, "i31.get_u", Shape::None),
-        (
-            0xfc,
-            8,
-            "memory.init",
-            Shape::Segment(Space::Data, Space::Memory),
-        ),
-        (0xfc, 14, "table.copy", Shape::Copy(Space::Table)),
-        (0xfc, 22, "i64.mul_wide_u", Shape::None),
-        (0xfd, 0, "v128.load", Shape::Memory(4)),
-        (0xfd, 12, "v128.const", Shape::Vector),
-        (0xfd, 13, "i8x16.shuffle", Shape::Lanes),
-        (0xfd, 34, "f64x2.replace_lane", Shape::Lane),
-        (0xfd, 91, "v128.store64_lane", Shape::MemoryLane(3)),
-        (
-            0xfd,
-            275,
-            "i32x4.relaxed_dot_i8x16_i7x16_add_s",
-            Shape::None,
-        ),
-        (0xfe, 0x03, "atomic.fence", Shape::Fence),
-        (0xfe, 0x4e, "i64.atomic.rmw32.cmpxchg_u", Shape::Memory(2)),
-    ];
-    for (prefix, number, word, shape) in rows {
+fn opcodes_have_words_and_shapes(rt: HostRuntime) -> Result<(), Fail> {
+    for (prefix, number, word, shape) in OPCODES {
         let opcode = Opcode { prefix, number };
         expect_text(opcode.word(), word)?;
         assert!(rt; opcode.shape() == Some(shape));
     }
+    Ok(())
 }
 
 #[test]
-fn opcodes_have_arities(rt: HostRuntime) {
+fn opcodes_have_arities(rt: HostRuntime) -> Result<(), Fail> {
     let rows = [
         (0, 0x01, "nop", Arity::Fixed(0, 0)),
         (0, 0x02, "block", Arity::OfBlock),
@@ -104,10 +108,11 @@ fn opcodes_have_arities(rt: HostRuntime) {
         expect_text(opcode.word(), word)?;
         assert!(rt; opcode.arity() == Some(arity));
     }
+    Ok(())
 }
 
 #[test]
-fn other_opcodes_have_none(rt: HostRuntime) {
+fn other_opcodes_have_none(rt: HostRuntime) -> Result<(), Fail> {
     let rows = [
         (0, 0x16),
         (0, 0x27),
@@ -132,6 +137,7 @@ fn other_opcodes_have_none(rt: HostRuntime) {
         assert!(rt; opcode.arity() == None);
         assert!(rt; opcode.role() == Role::Plain);
     }
+    Ok(())
 }
 
 #[test]

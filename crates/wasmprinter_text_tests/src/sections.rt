@@ -3,25 +3,8 @@
 use std::alloc::{AllocError, Global};
 use std::test::Fail;
 use wasmprinter::{Error, print_bytes};
+use wasmprinter_samples::sections::{MEMORY, START, TAG, TYPE, add_section};
 use wasmprinter_samples::{PREAMBLE, expect_text};
-
-/// The number of the type section.
-pub const TYPE: u8 = 1;
-
-/// The number of the memory section.
-const MEMORY: u8 = 5;
-
-/// The number of the start section.
-const START: u8 = 8;
-
-/// The number of the tag section.
-const TAG: u8 = 13;
-
-/// Adds a section with this number and content, of which there are fewer than 100 bytes.
-pub fn add_section(wasm: &mut Vec<u8>, id: u8, content: &[u8]) -> Result<(), AllocError> {
-    wasm.extend_from_slice(&[id, content.len().min(100) as u8])?;
-    wasm.extend_from_slice(content)
-}
 
 /// The text of a module with one section.
 pub fn text_of(alloc: Global, id: u8, content: &[u8]) -> Result<String, Error> {

@@ -4,10 +4,8 @@ use crate::sections::text_of;
 use std::test::Fail;
 use wasmprinter::wasm::decode;
 use wasmprinter::{Error, print_bytes};
+use wasmprinter_samples::sections::IMPORT;
 use wasmprinter_samples::{PREAMBLE, expect_text};
-
-/// The number of the import section.
-const IMPORT: u8 = 2;
 
 /// A function type; imports of two functions, a table, a memory, a global and a tag; and one of each defined.
 const ALL_KINDS: [u8; 93] = [

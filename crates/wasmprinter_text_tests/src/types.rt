@@ -1,10 +1,8 @@
 //! Types: texts of value types, composite types, subtypes and groups, their places, and many types.
 
-use crate::calls::print_to;
 use std::alloc::{AllocError, Global};
 use std::test::Fail;
-use wasmprinter::{Config, Error, print_bytes};
-use wasmprinter_recorder::Recorder;
+use wasmprinter::{Error, print_bytes};
 use wasmprinter_samples::{PREAMBLE, expect_text};
 
 /// A module with a type section of these bytes, a count in front. There are fewer than 100.
@@ -120,28 +118,6 @@ fn numbers_types_over_all_groups(rt: HostRuntime) -> Result<(), Fail> {
 )
 "#,
     )?;
-    Ok(())
-}
-
-#[test]
-fn places_the_types_of_a_group_behind_its_first_two_bytes(rt: HostRuntime) -> Result<(), Fail> {
-    let wasm = with_types(
-        rt.alloc(),
-        &[0x01, 0x4e, 0x02, 0x5f, 0x01, 0x78, 0x01, 0x60, 0x00, 0x00],
-    )?;
-    let mut recorder = Recorder::new(rt.alloc());
-    print_to(&Config::new(), rt.alloc(), &wasm, &mut recorder)?;
-    expect_text(
-        recorder.calls(),
-        r#"[0x0]({K}module{R}
-[0xb]  ({K}rec{R}
-[0xd]    ({K}type {R}{N}(;0;){R} ({K}struct{R} (field (mut i8))))
-[0xd]    ({K}type {R}{N}(;1;){R} ({K}func{R}))
-[]  )
-[0x14])
-"#,
-    )?;
-    assert!(rt; recorder.is_complete());
     Ok(())
 }
 

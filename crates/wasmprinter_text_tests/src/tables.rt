@@ -4,12 +4,7 @@ use crate::sections::text_of;
 use std::test::Fail;
 use wasmprinter::Error;
 use wasmprinter_samples::expect_text;
-
-/// The number of the table section.
-const TABLE: u8 = 4;
-
-/// The number of the global section.
-const GLOBAL: u8 = 6;
+use wasmprinter_samples::sections::{GLOBAL, TABLE};
 
 /// Tables of each flags, and one with an initialiser.
 const TABLES: [u8; 26] = [

@@ -1,19 +1,11 @@
 //! Element and data segments: texts of modules with one section, and what is refused.
 
-use crate::sections::{add_section, text_of};
+use crate::sections::text_of;
 use std::alloc::Global;
 use std::test::Fail;
 use wasmprinter::{Error, print_bytes};
+use wasmprinter_samples::sections::{DATA, DATA_COUNT, ELEMENT, add_section};
 use wasmprinter_samples::{PREAMBLE, expect_text};
-
-/// The number of the element section.
-const ELEMENT: u8 = 9;
-
-/// The number of the data section.
-const DATA: u8 = 11;
-
-/// The number of the data count section.
-const DATA_COUNT: u8 = 12;
 
 /// Element segments of each flags.
 const ELEMENTS: [u8; 58] = [

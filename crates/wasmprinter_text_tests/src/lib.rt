@@ -1,0 +1,26 @@
+//! Tests of texts, through the paths of the crate `wasmprinter` alone: of modules, of each operator, of single values and of the fields of
+//! each section. What is expected is typed by hand.
+#![tactic(auto)]
+
+#[cfg(test)]
+mod control;
+#[cfg(test)]
+mod floats;
+#[cfg(test)]
+mod imports;
+#[cfg(test)]
+mod opcode_words;
+#[cfg(test)]
+mod opcodes;
+#[cfg(test)]
+mod sections;
+#[cfg(test)]
+mod segments;
+#[cfg(test)]
+mod strings;
+#[cfg(test)]
+mod tables;
+#[cfg(test)]
+mod texts;
+#[cfg(test)]
+mod types;
