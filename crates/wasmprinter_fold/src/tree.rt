@@ -167,8 +167,8 @@ impl GrowingTree {
         self.builder.end()
     }
 
-    /// An operator more, which takes and gives so many values. Those of the older `try` are taken as ends: no list with one of them is folded.
-    /// A hint in front of an `else` or an `end` goes nowhere: a module with one is refused before anything is printed of it.
+    /// An operator more, which takes and gives so many values. Those of the older `try` are taken as ends: no list with one of them is
+    /// folded. A hint in front of an `else` or an `end` goes nowhere: a module with one is refused before anything is printed of it.
     fn add<S: Signatures>(
         &mut self,
         setting: &Setting<'_, S>,
@@ -222,8 +222,8 @@ impl GrowingTree {
             .advance(operator.opcode.role(), label_of_block(callees, operator))
     }
 
-    /// Folds the operators of an expression, where the function around has `own` results: 0 in a constant expression, `None` where nothing is
-    /// known of its type. Answers whether they are folded: they aren't where one of them is of the older `try`.
+    /// Folds the operators of an expression, where the function around has `own` results: 0 in a constant expression, `None` where nothing
+    /// is known of its type. Answers whether they are folded: they aren't where one of them is of the older `try`.
     pub fn fold<S: Signatures>(
         &mut self,
         callees: &Callees<'_, '_>,

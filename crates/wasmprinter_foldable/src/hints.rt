@@ -45,7 +45,8 @@ fn has_hints(customs: &[CustomEntry<'_>]) -> bool
     false
 }
 
-/// Whether the operator's node has no place for a hint: it would stand before a node that holds what is before the operator, or before none.
+/// Whether the operator's node has no place for a hint: it would stand before a node that holds what is before
+/// the operator, or before none.
 fn is_hintless(role: Role) -> bool
     ensures { result ≡ is_hintless (role_view role) }
 {

@@ -27,7 +27,8 @@ pub fn printed_text_reads_back()
     ensures { ReadsBack }
 {}
 
-/// Places at the beginnings of lines, and the indent, change blanks and comments alone: the tokens stay, whether operators are folded or not.
+/// Places at the beginnings of lines, and the indent, change blanks and comments alone: the tokens stay,
+/// whether operators are folded or not.
 pub fn places_and_indent_keep_tokens()
     ensures { TokensStay }
 {}

@@ -46,8 +46,8 @@ abbrev pub offsets_rise : List FunctionHints → Bool
 offsets_rise [] = true
 offsets_rise (e ∷ es) = rise (map (λ h. h.value.offset) e.hints) && offsets_rise es
 
--- The hints of a module whose last hint section is well formed: its functions are defined and rise, and in each its offsets are those of operators and
--- rise.
+-- The hints of a module whose last hint section is well formed: its functions are defined and rise, and in each its offsets
+-- are those of operators and rise.
 abbrev pub module_hints : PlacedModule → Option (List OperatorHint)
 module_hints m =
     let es : List FunctionHints = hints_of m.customs in

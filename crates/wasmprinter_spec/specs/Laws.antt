@@ -58,8 +58,8 @@ FloatsAreExact = (w : Width) (s : Scaled) (bits : ℕ) → IsWidth w → (bits_w
 abbrev pub TakesNested : Type 0
 TakesNested = (os : List Operator) → (if_nested os ≡ Some os) ↔ Nests Sequence (map (λ o. role_of o.opcode) os)
 
--- The reading law: printed text reads back as the module that the bytes spell. (No initialiser of a table is empty: the text of such a table is
--- that of one without; where operators are folded, all can be; and no `dylink.0` section is refused.)
+-- The reading law: printed text reads back as the module that the bytes spell. (No initialiser of a table is empty: the text of such a
+-- table is that of one without; where operators are folded, all can be; and no `dylink.0` section is refused.)
 abbrev pub ReadsBack : Type 0
 ReadsBack =
     (bytes : List ℕ) (m : PlacedModule) (o : Options) (answers : Answers) →

@@ -10,8 +10,8 @@ pub record Opcode : Type 0 where
 abbrev pub opcode : ℕ → ℕ → Opcode
 opcode p n = record { prefix = p; number = n }
 
--- The type of a block (section 2.4 of the standard, "Block types"): no results, one, or a function type by its index. Three different things,
--- also where they say the same.
+-- The type of a block (section 2.4 of the standard, "Block types"): no results, one, or a function type by its index. Three different
+-- things, also where they say the same.
 pub data BlockType : Type 0 where
   Empty : BlockType
   Value : ValType → BlockType

@@ -43,8 +43,8 @@ pub data Shape : Type 0 where
   VectorShape : Shape  -- sixteen bytes, which the text writes as four numbers
   LanesShape : Shape  -- sixteen lanes
 
--- How many operands an operator takes and how many results it gives: fixed numbers, or those of a type or label that it names. P and Q are the
--- numbers of parameters and results of a function's or tag's type, v is how many operands a label wants.
+-- How many operands an operator takes and how many results it gives: fixed numbers, or those of a type or label that it names. P and Q are
+-- the numbers of parameters and results of a function's or tag's type, v is how many operands a label wants.
 pub data Arity : Type 0 where
   Fixed : ℕ → ℕ → Arity
   OfCall : Arity  -- takes P, gives Q

@@ -60,8 +60,8 @@ legacy_places o m = flat_map legacy_places_in (constant_lists o m) ++ flat_map l
 
 -- ---- hints
 
--- `block`, `loop`, `try_table`, `else` and `end` can't have a hint where they are folded: a rule of this printer. (An `end` has no node of its own; before those of
--- the others this printer puts none. The standard's tools put hints on `if` and on branches.)
+-- `block`, `loop`, `try_table`, `else` and `end` can't have a hint where they are folded: a rule of this printer. (An `end` has no node of
+-- its own; before those of the others this printer puts none. The standard's tools put hints on `if` and on branches.)
 abbrev pub is_hintless : Role → Bool
 is_hintless Opens = true
 is_hintless Turns = true

@@ -37,7 +37,8 @@ abbrev pub is_among : List ℕ → List (List ℕ) → Bool
 is_among name [] = false
 is_among name (n ∷ names) = bytes_eq n name || is_among name names
 
--- The content of an entry, where these names were given before in its space: the name, unless it is empty, begins with # or was given before.
+-- The content of an entry, where these names were given before in its space: the name, unless it is empty,
+-- begins with # or was given before.
 abbrev pub content : ℕ → List (List ℕ) → Entry → List ℕ
 content s given e =
     if not (is_clean e.name) || (is_counted s && is_among e.name given) then marked_content (group_of s) e.index e.name
@@ -46,8 +47,8 @@ content s given e =
 abbrev pub entry_name : ℕ → List (List ℕ) → Entry → Named
 entry_name s given e = record { given = Some e.name; content = content s given e }
 
--- Of the entries of one space the last one for an index names it. `given` are the names in front of these entries, `before` is what those in front of
--- them name the index.
+-- Of the entries of one space the last one for an index names it. `given` are the names in front of these entries, `before` is what those
+-- in front of them name the index.
 abbrev pub last_name : ℕ → List (List ℕ) → Option Named → List Entry → ℕ → Option Named
 last_name s given before [] index = before
 last_name s given before (e ∷ entries) index =
