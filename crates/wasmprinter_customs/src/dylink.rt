@@ -52,6 +52,7 @@ impl Model for MemInfo {
 }
 
 impl MemInfo {
+    /// Reads what is wanted of memory, and then of the table: a size and an alignment.
     fn read(cursor: &mut Cursor) -> Result<Self, Malformed>
         ensures { Reads (λ m. m) mem_info.parse cursor.old result cursor.new }
     {
@@ -254,11 +255,14 @@ impl<'a> Content<'a> {
 /// What stands in front: a subsection, or one of an unknown id.
 #[derive(Drop)]
 enum Found<'a> {
+    /// A subsection whose id is known.
     Known(Subsection<'a>),
+    /// One of another id, and the place of that.
     Other { place: u64, id: u8 },
 }
 
 impl<'a> Found<'a> {
+    /// Reads an id, a size and so many bytes, which a subsection of a known id fills. `Malformed` has the place of the id where it doesn't.
     fn read(cursor: &mut Cursor<'a>) -> Result<Self, Malformed>
         ensures reads { Reads found_view subsection.parse cursor.old result cursor.new }
         ensures known { IfOk result HasKnownId }
@@ -346,12 +350,16 @@ impl<'a> Iterator for Dylink<'a> {
 /// What a section is: the first subsection of an unknown id, or the first fault, decides.
 #[derive(Drop)]
 pub(crate) enum Judgement<'a> {
+    /// No fault: each subsection has a known id.
     Whole(Dylink<'a>),
+    /// The first subsection of an unknown id, which comes before any fault.
     Unknown(u8),
+    /// A fault, which comes before any unknown id.
     Faulty,
 }
 
 impl<'a> Judgement<'a> {
+    /// Judges what a section holds behind its name.
     pub(crate) fn of(section: Cursor<'a>) -> Self
         ensures { judgement_view result ≡ judged section.entry }
     {

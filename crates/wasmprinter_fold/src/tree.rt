@@ -32,8 +32,11 @@ use wasmprinter_text::signature::Signatures;
 /// The nodes of the operators so far, their texts, and what the labels of the open blocks take.
 #[derive(Drop)]
 pub struct GrowingTree {
+    /// The texts of the nodes, in one buffer.
     pub texts: Texts,
+    /// The nodes, and the blocks that are open.
     pub builder: Builder,
+    /// How many operands the label of each open block takes.
     pub labels: LabelCounts,
 }
 

@@ -4,7 +4,9 @@ use std::marker::Model;
 /// The text of one level of nesting. The default of two blanks owns no memory.
 #[derive(Debug, Drop)]
 enum Indent {
+    /// Two blanks.
     TwoBlanks,
+    /// This text, which may be empty.
     Text(String),
 }
 

@@ -200,36 +200,42 @@ impl Model for Opcode {
     ghost inverse = { λ o. record { prefix = o.prefix; number = o.number } };
 }
 
+/// The table of the opcodes of one byte.
 fn one_byte() -> &'static [Option<Entry>]
     ensures { map entry_view result.now ≡ each_entry 0 }
 {
     &tables::ONE_BYTE
 }
 
+/// The table behind the prefix `GC`.
 fn gc() -> &'static [Option<Entry>]
     ensures { map entry_view result.now ≡ each_entry 0xfb }
 {
     &tables::GC
 }
 
+/// The table behind the prefix `BULK`.
 fn bulk() -> &'static [Option<Entry>]
     ensures { map entry_view result.now ≡ each_entry 0xfc }
 {
     &tables::BULK
 }
 
+/// The table behind the prefix `VECTORS`.
 fn vectors() -> &'static [Option<Entry>]
     ensures { map entry_view result.now ≡ each_entry 0xfd }
 {
     &tables::VECTORS
 }
 
+/// The table behind the prefix `ATOMICS`.
 fn atomics() -> &'static [Option<Entry>]
     ensures { map entry_view result.now ≡ each_entry 0xfe }
 {
     &tables::ATOMICS
 }
 
+/// The roles of the opcodes of one byte. Those with a prefix are all plain.
 fn one_byte_roles() -> &'static [Role]
     ensures { map role_view result.now ≡ each_role 0 }
 {

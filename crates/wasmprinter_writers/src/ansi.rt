@@ -13,6 +13,7 @@ use std::io::Write;
 /// Back to text without colours.
 const RESET: &str = "\x1b[0m";
 
+/// The text that follows is bold.
 const BOLD: &str = "\x1b[1m";
 
 /// A writer that passes its bytes on, and writes colours as sequences of a terminal (Select Graphic Rendition of ECMA-48).
