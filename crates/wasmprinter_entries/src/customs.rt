@@ -33,6 +33,10 @@ impl<'a> Model for Custom<'a> {
 
 impl<'a> Custom<'a> {
     /// Reads what a custom section holds.
+    ///
+    /// # Errors
+    ///
+    /// `Malformed` where no name stands there, with the place of what may not stand there.
     pub fn read(cursor: &mut Cursor<'a>) -> Result<Self, Malformed>
         ensures { ReadsAll (λ c. c) custom_section.parse cursor.old result }
     {

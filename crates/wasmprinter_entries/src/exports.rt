@@ -123,6 +123,11 @@ impl<'a> Export<'a> {
 }
 
 /// Reads what an export section holds.
+///
+/// # Errors
+///
+/// `Malformed` where the bytes don't spell exports, a count in front, up to the end, with the place of
+/// what may not stand there; `Memory` where a growth is refused.
 pub fn read_exports<'a>(alloc: Global, cursor: &mut Cursor<'a>) -> Result<Vec<Export<'a>>, Error>
     ensures { TakesHeld ExportSection (λ v. v.items) cursor.old result }
 {

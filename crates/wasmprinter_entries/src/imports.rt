@@ -144,6 +144,11 @@ impl<'a> Import<'a> {
 }
 
 /// Reads what an import section holds.
+///
+/// # Errors
+///
+/// `Malformed` where the bytes don't spell imports, a count in front, up to the end, with the place of
+/// what may not stand there; `Memory` where a growth is refused.
 pub fn read_imports<'a>(alloc: Global, cursor: &mut Cursor<'a>) -> Result<Vec<Import<'a>>, Error>
     ensures { TakesHeld ImportSection (λ v. v.items) cursor.old result }
 {

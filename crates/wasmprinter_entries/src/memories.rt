@@ -130,6 +130,11 @@ impl Memory {
 }
 
 /// Reads what a memory section holds.
+///
+/// # Errors
+///
+/// `Malformed` where the bytes don't spell types of memories, a count in front, up to the end, with the place of
+/// what may not stand there; `Memory` where a growth is refused.
 pub fn read_memories(alloc: Global, cursor: &mut Cursor) -> Result<Vec<Memory>, Error>
     ensures { TakesHeld MemorySection (λ v. v.items) cursor.old result }
 {

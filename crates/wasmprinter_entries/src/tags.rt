@@ -69,6 +69,11 @@ impl Tag {
 }
 
 /// Reads what a tag section holds.
+///
+/// # Errors
+///
+/// `Malformed` where the bytes don't spell tags, a count in front, up to the end, with the place of
+/// what may not stand there; `Memory` where a growth is refused.
 pub fn read_tags(alloc: Global, cursor: &mut Cursor) -> Result<Vec<Tag>, Error>
     ensures { TakesHeld TagSection (λ v. v.items) cursor.old result }
 {

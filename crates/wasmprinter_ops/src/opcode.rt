@@ -275,6 +275,10 @@ fn is_prefix(byte: u8) -> bool
 
 impl Opcode {
     /// Reads a byte, and behind a prefix a number.
+    ///
+    /// # Errors
+    ///
+    /// `Malformed` where no byte is left, or no number stands behind a prefix. An opcode need not be listed.
     pub fn read(cursor: &mut Cursor) -> Result<Self, Malformed>
         ensures reads { Reads (λ o. o) opcode_grammar.parse cursor.old result cursor.new }
         ensures within { IsWithin cursor.old result }

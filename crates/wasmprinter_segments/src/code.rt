@@ -213,6 +213,12 @@ fn read_bodies<'a>(alloc: Global, cursor: &mut Cursor<'a>) -> Result<Vec<Body<'a
 }
 
 /// Reads what a code section holds.
+///
+/// # Errors
+///
+/// `Malformed` where the bytes don't spell bodies, a count in front, up to the end, with the place of
+/// what may not stand there; `TooManyLocals` with the place of the first body that has more than 50,000, parameters not counted;
+/// `Memory` where a growth is refused.
 pub fn read_code<'a>(alloc: Global, cursor: &mut Cursor<'a>) -> Result<Vec<Body<'a>>, Error>
     ensures { TakesHeld CodeSection (λ v. v.items) cursor.old result }
 {

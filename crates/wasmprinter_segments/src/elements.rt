@@ -215,6 +215,11 @@ impl<'a> Element<'a> {
 }
 
 /// Reads what an element section holds.
+///
+/// # Errors
+///
+/// `Malformed` where the bytes don't spell element segments, a count in front, up to the end, with the place of
+/// what may not stand there; `Memory` where a growth is refused.
 pub fn read_elements<'a>(alloc: Global, cursor: &mut Cursor<'a>) -> Result<Vec<Element<'a>>, Error>
     ensures { TakesHeld ElementSection (λ v. v.items) cursor.old result }
 {

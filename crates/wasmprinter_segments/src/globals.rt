@@ -72,6 +72,11 @@ impl<'a> Global<'a> {
 }
 
 /// Reads what a global section holds.
+///
+/// # Errors
+///
+/// `Malformed` where the bytes don't spell globals, a count in front, up to the end, with the place of
+/// what may not stand there; `Memory` where a growth is refused.
 pub fn read_globals<'a>(alloc: Allocator, cursor: &mut Cursor<'a>) -> Result<Vec<Global<'a>>, Error>
     ensures { TakesHeld GlobalSection (λ v. v.items) cursor.old result }
 {

@@ -128,6 +128,12 @@ fn empty_table(tables: &[Table]) -> Option<u64>
 }
 
 /// Reads what a table section holds.
+///
+/// # Errors
+///
+/// `Malformed` where the bytes don't spell tables, a count in front, up to the end, with the place of
+/// what may not stand there; `EmptyTableInit` with the place of the first table whose initialiser has no operators;
+/// `Memory` where a growth is refused.
 pub fn read_tables<'a>(alloc: Global, cursor: &mut Cursor<'a>) -> Result<Vec<Table<'a>>, Error>
     ensures { TakesHeld TableSection (λ v. v.items) cursor.old result }
 {
