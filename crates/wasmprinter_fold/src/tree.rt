@@ -227,6 +227,10 @@ impl GrowingTree {
 
     /// Folds the operators of an expression, where the function around has `own` results: 0 in a constant expression, `None` where nothing
     /// is known of its type. Answers whether they are folded: they aren't where one of them is of the older `try`.
+    ///
+    /// # Errors
+    ///
+    /// Where memory is refused: the nodes are of no use then, until the next list is folded.
     pub fn fold<S: Signatures>(
         &mut self,
         callees: &Callees<'_, '_>,

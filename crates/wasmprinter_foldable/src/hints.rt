@@ -82,7 +82,8 @@ fn check_body(hints: FunctionHints<'_>, body: &Body<'_>) -> Result<(), Error>
     Ok(())
 }
 
-/// Refuses the first hint of a module on an operator that can't have one. Functions are numbered behind the imported ones.
+/// Refuses the first hint of a module on an operator that can't have one: `FoldHint` with the place of the hint. Functions are numbered
+/// behind the imported ones.
 pub(crate) fn check_hints(module: &Module<'_>) -> Result<(), Error>
     ensures { result ≡ refused_at FoldHint
         (misplaced_from (hints_of module.now.customs) (imported_count FuncKind module.now.imports) module.now.functions) }

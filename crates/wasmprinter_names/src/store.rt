@@ -131,7 +131,7 @@ impl<'a> NamesBuilder<'a> {
         }
     }
 
-    /// Gives an item a name, in place of one that it has.
+    /// Gives an item a name, in place of one that it has. Fails where memory is refused, and the builder is then of no use.
     pub(crate) fn add(
         &mut self,
         alloc: Global,
