@@ -68,28 +68,28 @@ impl MemInfo {
         })
     }
 
-    /// Bytes of memory.
+    /// How many bytes of memory it wants.
     pub fn memory_size(&self) -> u32
         ensures { result ≡ self.now.memory_size }
     {
         self.memory_size
     }
 
-    /// Their alignment, as a power of two.
+    /// The exponent of their alignment in bytes, a power of two.
     pub fn memory_alignment(&self) -> u32
         ensures { result ≡ self.now.memory_alignment }
     {
         self.memory_alignment
     }
 
-    /// Elements of the table.
+    /// How many elements of the table it wants.
     pub fn table_size(&self) -> u32
         ensures { result ≡ self.now.table_size }
     {
         self.table_size
     }
 
-    /// Their alignment, as a power of two.
+    /// The exponent of their alignment in elements, a power of two.
     pub fn table_alignment(&self) -> u32
         ensures { result ≡ self.now.table_alignment }
     {

@@ -14,13 +14,13 @@ use wasmprinter_print::{Print, Style, feed, reset, start, text};
 use wasmprinter_words::numbers::{hexadecimal_len, write_hexadecimal};
 use wasmprinter_words::words::shut;
 
-/// The digits to which a place is filled up.
+/// How many digits a place is filled up to, by blanks.
 const PLACE_WIDTH: usize = 6;
 
 /// The characters of a place filled up, with its parentheses.
 const COMMENT_WIDTH: usize = 11;
 
-/// The levels of nesting of which each is indented.
+/// The most levels of nesting that a line is indented by; one that is nested deeper is indented by as many.
 const MOST_INDENTS: u64 = 50;
 
 /// Writes a text so many times.

@@ -10,7 +10,7 @@ enum Indent {
     Text(String),
 }
 
-/// The blanks of as many levels of two as a line is indented at most.
+/// The blanks of the most levels that a line is indented by, two for each: 100.
 const BLANKS: &str =
     "                                                                                                    ";
 

@@ -186,7 +186,7 @@ impl Role {
 pub struct Opcode {
     /// 0xfb to 0xfe, or 0.
     pub prefix: u8,
-    /// Without a prefix the byte.
+    /// The number behind the prefix, or without a prefix the byte.
     pub number: u32,
 }
 

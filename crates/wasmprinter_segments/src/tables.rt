@@ -24,7 +24,7 @@ use wasmprinter_ops::expression::Expression;
 /// In front of a table with an initialiser.
 const WITH_INIT: u8 = 0x40;
 
-/// Behind that byte.
+/// The byte behind [`WITH_INIT`], which says nothing.
 const RESERVED: u8 = 0x00;
 
 /// A table that the module defines, with the entry's place (section 2.5, "Tables").
