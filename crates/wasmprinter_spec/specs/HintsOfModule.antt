@@ -1,4 +1,4 @@
--- The branch hints of a module, each with its operator.
+-- The branch hints of a module, each with its operator. (Code Metadata, a document beside the standard.)
 use Rattle.std.specs.Prelude.{ℕ, ◌+◌, ◌-◌, List, [], ◌∷◌, ◌++◌, Bool, true, ◌==◌, ◌&&◌, nat_lt, length, map, slice_get, Option, Some, None, if◌then◌else◌, option_map}
 use Rattle.wasmprinter_spec.specs.Grammar.{◌>>=◌, Placed}
 use Rattle.wasmprinter_spec.specs.Operator.{Operator}

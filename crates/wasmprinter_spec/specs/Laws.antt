@@ -1,4 +1,4 @@
--- The laws of these definitions. Functions of the crates above have them as their contracts.
+-- The laws of these definitions. Functions of the crates above have them as their contracts. The standard states none of them.
 use Rattle.std.specs.Prelude.{◌≡◌, ℕ, ◌<◌, ◌^◌, List, [], ◌∷◌, ◌++◌, map, false, Some, None, ◌↔◌, chars, IsUtf8}
 use Rattle.std.specs.List.{AllByRecursion}
 use Rattle.wasmprinter_spec.specs.Binary.{AreBytes, Spells}

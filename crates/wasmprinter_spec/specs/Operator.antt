@@ -1,4 +1,5 @@
--- Operators: an opcode with its immediates. Which opcodes there are says the table.
+-- Operators: an opcode with its immediates. Which opcodes there are says the table. (Section 2.4 of the standard, "Instructions", and
+-- section 5.4.)
 use Rattle.std.specs.Prelude.{ℕ, ℤ, List}
 use Rattle.wasmprinter_spec.specs.Types.{HeapType, RefType, ValType}
 

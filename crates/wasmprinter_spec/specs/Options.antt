@@ -1,4 +1,4 @@
--- The options of a layout, and the answers to claims.
+-- The options of a layout, and the answers to claims. The standard has no such thing.
 use Rattle.std.specs.Prelude.{◌≡◌, ℕ, List, Bool, false, codes, ◌⊎◌}
 use Rattle.std.specs.List.{AllByRecursion}
 

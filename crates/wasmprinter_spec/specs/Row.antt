@@ -1,4 +1,5 @@
--- What the table of operators says of one operator.
+-- What the table of operators says of one operator. (Section 5.4 of the standard, of its opcode and immediates; section 6.5, of its word;
+-- section 3.4, of what it takes and gives.)
 use Rattle.std.specs.Prelude.{ℕ, List, Bool}
 
 -- the index spaces that immediates name (section 2.5 of the standard, "Indices")

@@ -1,5 +1,6 @@
 -- How many operands an operator takes, and how many results it gives, where it stands: by the column of the table, and for those that name
--- a type, a function, a tag or a label by what these are in the module.
+-- a type, a function, a tag or a label by what these are in the module. The types of operators (section 3.4 of the standard,
+-- "Instructions") say as much of valid code.
 use Rattle.std.specs.Prelude.{ℕ, zero, suc, ◌+◌, ◌-◌, ◌^◌, ◌==◌, ◌&&◌, min, List, [], ◌∷◌, ◌++◌, length, map, slice_get, Bool, true, false, Option, Some, None, option_map}
 use Rattle.wasmprinter_spec.specs.Grammar.{◌>>=◌}
 use Rattle.wasmprinter_spec.specs.Types.{FuncType, ValType, SubType, all_types, signature_at, fields_at}

@@ -1,4 +1,5 @@
--- What can't be folded in a module: operators of the older `try`, and branch hints on operators whose node has no place for one.
+-- What can't be folded in a module: operators of the older `try`, and branch hints on operators whose node has no place for one. The
+-- standard has no such thing: what can't be folded is this printer's own.
 use Rattle.std.specs.Prelude.{◌≡◌, ℕ, ◌+◌, ◌-◌, List, [], ◌∷◌, ◌++◌, map, flat_map, Bool, true, false, cond, length, Option, Some, None}
 use Rattle.wasmprinter_spec.specs.Grammar.{Placed}
 use Rattle.wasmprinter_spec.specs.Operator.{Operator}

@@ -1,4 +1,4 @@
--- What the fields of a module are laid out by.
+-- What the fields of a module are laid out by. The standard has no such thing.
 use Rattle.std.specs.Prelude.{ℕ, List, Bool, Option, Some, None, cond}
 use Rattle.wasmprinter_spec.specs.Types.{SubType, signature_at}
 use Rattle.wasmprinter_spec.specs.Row.{Space}

@@ -1,4 +1,5 @@
--- Operators, as they are printed when they are folded: each with its operands in parentheses, over lines or in one line.
+-- Operators, as they are printed when they are folded: each with its operands in parentheses, over lines or in one line. (Section 6.5 of
+-- the standard, "Folded Instructions"; which operators fold, and the lines, are this printer's own.)
 use Rattle.std.specs.Prelude.{◌≡◌, ℕ, ◌+◌, ◌-◌, ◌==◌, ◌&&◌, ◌||◌, List, [], ◌∷◌, ◌++◌, Bool, true, false, cond, codes, length, Option, Some, None, option_map}
 use Rattle.std.specs.Option.{is_none}
 use Rattle.wasmprinter_spec.specs.Grammar.{Placed}

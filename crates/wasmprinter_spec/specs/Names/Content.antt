@@ -1,4 +1,5 @@
--- The names of items by the entries of name sections, and what stands behind the dollar sign for each: the content of the name.
+-- The names of items by the entries of name sections, and what stands behind the dollar sign for each: the content of the name. The
+-- standard leaves identifiers open: these are this printer's own.
 use Rattle.std.specs.Prelude.{ℕ, List, [], ◌∷◌, ◌++◌, Bool, false, ◌||◌, ◌&&◌, ◌==◌, bytes_eq, not, Option, Some, None, if◌then◌else◌, codes, decimal, filter}
 use Rattle.wasmprinter_spec.specs.Labels.{Named}
 use Rattle.wasmprinter_spec.specs.LabelNames.{is_clean}
