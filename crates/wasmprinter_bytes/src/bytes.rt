@@ -85,14 +85,14 @@ impl<'a> Cursor<'a> {
         Cursor { place, rest: bytes }
     }
 
-    /// The place of the next byte.
+    /// The place of the next byte: a byte offset from the module's start.
     pub fn place(&self) -> u64
         ensures { result ≡ self.now.place }
     {
         self.place
     }
 
-    /// The place behind the last byte.
+    /// The place behind the last byte: a byte offset from the module's start.
     pub fn end(&self) -> u64
         ensures { result ≡ end_of self.now }
     {

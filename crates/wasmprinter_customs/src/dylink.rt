@@ -283,7 +283,7 @@ impl<'a> Found<'a> {
 }
 
 impl<'a> Subsection<'a> {
-    /// The place of its id.
+    /// The place of its id: a byte offset from the module's start.
     pub fn place(&self) -> u64
         ensures { result ≡ self.now.place }
     {

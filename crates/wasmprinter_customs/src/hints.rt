@@ -93,7 +93,7 @@ impl Spelled for Hint {
 }
 
 impl Hint {
-    /// The place of its first byte.
+    /// The place of its first byte: a byte offset from the module's start.
     pub fn place(&self) -> u64
         ensures { result ≡ self.now.place }
     {

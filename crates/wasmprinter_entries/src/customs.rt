@@ -49,7 +49,7 @@ impl<'a> Custom<'a> {
         })
     }
 
-    /// The place of its name, with which the section's content begins.
+    /// The place of its name, with which the section's content begins: a byte offset from the module's start.
     pub fn place(&self) -> u64
         ensures { result ≡ self.now.place }
     {
@@ -63,7 +63,7 @@ impl<'a> Custom<'a> {
         self.name
     }
 
-    /// The place of the first of its bytes.
+    /// The place of the first of its bytes: a byte offset from the module's start.
     pub fn bytes_place(&self) -> u64
         ensures { result ≡ self.now.value.bytes.place }
     {

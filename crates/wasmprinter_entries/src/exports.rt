@@ -93,7 +93,7 @@ impl<'a> SpelledIn<'a> for Export<'a> {
 }
 
 impl<'a> Export<'a> {
-    /// The place of the entry.
+    /// The place of the entry: a byte offset from the module's start.
     pub fn place(&self) -> u64
         ensures { result ≡ self.now.place }
     {

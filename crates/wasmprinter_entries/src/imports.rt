@@ -106,7 +106,7 @@ impl<'a> SpelledIn<'a> for Import<'a> {
 }
 
 impl<'a> Import<'a> {
-    /// The place of the entry.
+    /// The place of the entry: a byte offset from the module's start.
     pub fn place(&self) -> u64
         ensures { result ≡ self.now.place }
     {

@@ -113,7 +113,7 @@ impl<'a> SpelledIn<'a> for Memory {
 }
 
 impl Memory {
-    /// The place of the entry.
+    /// The place of the entry: a byte offset from the module's start.
     pub fn place(&self) -> u64
         ensures { result ≡ self.now.place }
     {

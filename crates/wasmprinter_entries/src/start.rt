@@ -28,7 +28,7 @@ impl Model for Start {
 }
 
 impl Start {
-    /// The place of the function's index.
+    /// The place of the function's index: a byte offset from the module's start.
     pub fn place(&self) -> u64
         ensures { result ≡ self.now.place }
     {

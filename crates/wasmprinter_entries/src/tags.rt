@@ -53,7 +53,7 @@ impl<'a> SpelledIn<'a> for Tag {
 }
 
 impl Tag {
-    /// The place of the entry.
+    /// The place of the entry: a byte offset from the module's start.
     pub fn place(&self) -> u64
         ensures { result ≡ self.now.place }
     {

@@ -59,7 +59,7 @@ impl<'a> SpelledIn<'a> for TypeGroup<'a> {
 }
 
 impl<'a> TypeGroup<'a> {
-    /// The place of the group's first byte.
+    /// The place of the group's first byte: a byte offset from the module's start.
     pub fn place(&self) -> u64
         ensures { result ≡ self.now.place }
     {

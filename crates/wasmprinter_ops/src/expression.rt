@@ -140,7 +140,7 @@ impl<'a> Expression<'a> {
         self.operators.is_empty()
     }
 
-    /// The place of the last `end`.
+    /// The place of the last `end`: a byte offset from the module's start.
     pub fn end(&self) -> u64
         ensures { result ≡ self.now.end }
     {

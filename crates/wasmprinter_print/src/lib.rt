@@ -137,7 +137,6 @@ pub trait Print {
     // the last pieces, of which one failed
     ghost pieces_fail_at_last: { PiecesFailAtLast meaning } = { λ o a t r e xs v f. last_pieces_end meaning r f v };
 
-    // no piece
     ghost no_pieces: { NoPieces meaning } = { λ o a. no_piece meaning o a };
 
     // a piece that failed, where more is kept in memory

@@ -57,7 +57,7 @@ impl Spelled for LocalEntry {
 }
 
 impl LocalEntry {
-    /// The place of the entry.
+    /// The place of the entry: a byte offset from the module's start.
     pub fn place(&self) -> u64
         ensures { result ≡ self.now.place }
     {
@@ -177,7 +177,7 @@ impl<'a> Body<'a> {
         &self.code
     }
 
-    /// The place of the body's first byte.
+    /// The place of the body's first byte: a byte offset from the module's start.
     pub fn place(&self) -> u64
         ensures { result ≡ self.now.place }
     {
@@ -191,7 +191,7 @@ impl<'a> Body<'a> {
         self.locals.iter()
     }
 
-    /// The place of the last `end`.
+    /// The place of the last `end`: a byte offset from the module's start.
     pub fn end(&self) -> u64
         ensures { result ≡ self.now.value.end }
     {

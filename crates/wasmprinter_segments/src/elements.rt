@@ -185,7 +185,7 @@ impl<'a> GrownIn<'a> for Element<'a> {
 }
 
 impl<'a> Element<'a> {
-    /// The place of the entry.
+    /// The place of the entry: a byte offset from the module's start.
     pub fn place(&self) -> u64
         ensures { result ≡ self.now.place }
     {

@@ -49,7 +49,7 @@ impl<'a> GrownIn<'a> for Global<'a> {
 }
 
 impl<'a> Global<'a> {
-    /// The place of the entry.
+    /// The place of the entry: a byte offset from the module's start.
     pub fn place(&self) -> u64
         ensures { result ≡ self.now.place }
     {

@@ -80,7 +80,7 @@ impl<'a> Table<'a> {
         Ok(Table { place, ty, init })
     }
 
-    /// The place of the entry.
+    /// The place of the entry: a byte offset from the module's start.
     pub fn place(&self) -> u64
         ensures { result ≡ self.now.place }
     {

@@ -35,7 +35,6 @@ labels ids _ = None
 abbrev pub label : Identifiers → Forest → Option ℕ
 label ids f = labels ids f >>= the_only
 
--- the last label apart
 abbrev pub last_apart : List ℕ → Option (List ℕ × ℕ)
 last_apart [] = None
 last_apart (l ∷ []) = Some ([], l)
@@ -253,7 +252,6 @@ vector_lane size w = option_map (λ z. bytes_of size (as_unsigned (8 * size) z))
 abbrev pub no_group : {A : Type 0} → Forest → Option A
 no_group f = None
 
--- sixteen bytes
 abbrev pub sixteen : List ℕ → Option Immediates
 sixteen bs = if length bs == 16 then Some (Bytes bs) else None
 
