@@ -168,7 +168,6 @@ leaving_without_type : body no_names (giving None) leaving
 unfolding printing items node_pieces folded_pieces
 leaving_without_type = refl
 
--- the older `try`
 older_try : map (body no_names pair_giving) ((0x06 ∷ 0x40 ∷ 0x19 ∷ 0x0b ∷ []) ∷ (0x06 ∷ 0x40 ∷ 0x07 ∷ 0x00 ∷ 0x0b ∷ []) ∷ (0x02 ∷ 0x40 ∷ 0x06 ∷ 0x40 ∷ 0x18 ∷ 0x00 ∷ 0x0b ∷ []) ∷ [])
     ≡ Some None ∷ Some None ∷ Some None ∷ []
 unfolding printing items node_pieces folded_pieces
