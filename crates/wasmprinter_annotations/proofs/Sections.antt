@@ -12,7 +12,8 @@ use Rattle.wasmprinter_annotations.specs.Lines.{PrintsPart, PrintsPartLines}
 use Rattle.wasmprinter_annotations.proofs.Parts.{no_part_lines, part_lines_then, part_lines_end}
 use Rattle.wasmprinter_annotations.proofs.Places.{with_answer, parts_at-passed, parts_at-answered}
 
--- Behind i sections: what was made of those at the place, which is a beginning of all parts, whatever is answered to the sections that come.
+-- Behind i sections: what was made of those at the place, which is a beginning of all parts, whatever is
+-- answered to the sections that come.
 pub record Walked {P : Type 0} (m : Meaning P) (o : Options) (old new : P) (place : Option Kind) (cs : List CustomEntry) (i : ℕ) (lines : Bool) : Type 0 where
   pub done : List Part
   pub prints : PrintsPartLines m o old new false (Ok lines) done

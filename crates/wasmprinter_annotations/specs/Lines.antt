@@ -9,7 +9,8 @@ use Rattle.wasmprinter_spec.specs.Layout.Groups.{has_break}
 use Rattle.wasmprinter_spec.specs.Layout.Customs.{Part, laid_parts}
 use Rattle.wasmprinter_annotations.specs.Parts.{PrintsParts}
 
--- The parts were written, up to a failed call or to a refusal, which is answered. Where neither comes, the answer is whether a line begins in them.
+-- The parts were written, up to a failed call or to a refusal, which is answered. Where neither comes, the answer is
+-- whether a line begins in them.
 pub record PrintsPartLines {P : Type 0} (m : Meaning P) (o : Options) (old new : P) (keeps : Bool) (r : Result Bool Error) (parts : List Part) : Type 0 where
   pub prints : PrintsParts m o old new keeps r parts
   pub lines : IfOk r (λ lines. lines ≡ has_break (laid_parts parts).pieces)

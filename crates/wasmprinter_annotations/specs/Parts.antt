@@ -8,8 +8,8 @@ use Rattle.wasmprinter_spec.specs.Layout.Customs.{Part, Laid, laid_parts}
 use Rattle.wasmprinter_print.specs.Emits.{Ending, Through, AtCall, Never, at_growth}
 use Rattle.wasmprinter_print.specs.Prints.{Written}
 
--- How the calls of a function end that answers this error: a refusal comes behind all calls up to it, want of memory between two calls, and only where
--- something is kept in memory.
+-- How the calls of a function end that answers this error: a refusal comes behind all calls up to it, want of memory between two calls, and
+-- only where something is kept in memory.
 abbrev pub stop_of : Bool → Error → Ending
 stop_of keeps (Malformed place) = Never
 stop_of keeps Component = Never
@@ -36,8 +36,8 @@ abbrev pub IsRefused : {T : Type 0} → Result T Error → Option ℕ → Type 0
 IsRefused (Ok x) refused = refused ≡ None
 IsRefused (Err e) refused = IsRefusedAs e refused
 
--- The calls made are those of the pieces, or a beginning of them where a call failed, whose error is then answered, or where something is kept in
--- memory and a growth was refused; behind them the refusal is answered, if there is one. Nothing else is.
+-- The calls made are those of the pieces, or a beginning of them where a call failed, whose error is then answered, or where something is
+-- kept in memory and a growth was refused; behind them the refusal is answered, if there is one. Nothing else is.
 pub record PrintsLaid {P T : Type 0} (m : Meaning P) (o : Options) (old new : P) (keeps : Bool) (r : Result T Error) (l : Laid) : Type 0 where
   pub written : Written m o old new (stop keeps r) l.pieces
   pub refused : IsRefused r l.refused

@@ -76,8 +76,8 @@ fn result_count(scope: &Scope<'_, '_>, type_index: u32) -> Option<u32>
     }
 }
 
-/// Writes the operators of a body, of a function of the type, behind their hints: each on a line of its own, or folded. Answers whether a line
-/// began.
+/// Writes the operators of a body, of a function of the type, behind their hints: each on a line of its own, or folded.
+/// Answers whether a line began.
 fn write_body<P: Print>(
     p: &mut P,
     options: &PrintOptions,

@@ -1,2 +1,3 @@
+-- What the contracts of the cursor and of lists cite.
 pub mod Reads
 pub mod Lists

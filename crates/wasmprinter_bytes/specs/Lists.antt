@@ -38,8 +38,8 @@ reader_reasons nothing grows at = record {
   memory = grows;
 }
 
--- The value stands there, and reading goes on behind it; or nothing of the kind stands there; or a growth was refused, and then `Grows` holds
--- of where reading stood.
+-- The value stands there, and reading goes on behind it; or nothing of the kind stands there; or a growth was refused, and then `Grows`
+-- holds of where reading stood.
 abbrev pub Takes : {X A : Type 0} → (X → A) → (Input → Option (A × Input)) → (Input → Type 0) → Input → Result X Error → Input → Type 0
 Takes view parse Grows old (Ok x) new = parse old ≡ Some (view x, new)
 Takes view parse Grows old (Err e) new = HasReason (reader_reasons (parse old ≡ None) (Grows old) old) e

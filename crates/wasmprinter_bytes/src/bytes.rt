@@ -85,14 +85,14 @@ impl<'a> Cursor<'a> {
         Cursor { place, rest: bytes }
     }
 
-    /// The place of the next byte.
+    /// The place of the next byte: a byte offset from the module's start.
     pub fn place(&self) -> u64
         ensures { result ≡ self.now.place }
     {
         self.place
     }
 
-    /// The place behind the last byte.
+    /// The place behind the last byte: a byte offset from the module's start.
     pub fn end(&self) -> u64
         ensures { result ≡ end_of self.now }
     {
@@ -150,6 +150,10 @@ impl<'a> Cursor<'a> {
     }
 
     /// The next byte.
+    ///
+    /// # Errors
+    ///
+    /// `Malformed` where no byte is left, with the place where they end.
     pub fn u8(&mut self) -> Result<u8, Malformed>
         ensures reads { Reads (λ b. b) byte.parse self.old result self.new }
         ensures within { IsWithin self.old result }
@@ -166,6 +170,10 @@ impl<'a> Cursor<'a> {
     }
 
     /// So many bytes.
+    ///
+    /// # Errors
+    ///
+    /// `Malformed` where fewer are left, with the place of the next byte.
     pub fn take(&mut self, len: usize) -> Result<&'a [u8], Malformed>
         ensures reads { Reads (λ b. b.now) (take_bytes len).parse self.old result self.new }
         ensures within { IsWithin self.old result }
@@ -181,6 +189,10 @@ impl<'a> Cursor<'a> {
     }
 
     /// A cursor over so many bytes, alone; this one goes on behind them.
+    ///
+    /// # Errors
+    ///
+    /// `Malformed` where fewer are left, with the place of the next byte.
     pub fn part(&mut self, len: usize) -> Result<Cursor<'a>, Malformed>
         ensures reads { Reads (λ c. c.bytes) (take_bytes len).parse self.old result self.new }
         ensures place { IfOk result (λ c. c.place ≡ self.old.place) }
@@ -249,6 +261,10 @@ impl<'a> Cursor<'a> {
     }
 
     /// An unsigned number of 32 bits.
+    ///
+    /// # Errors
+    ///
+    /// `Malformed` where none is spelled: with the place of the byte that may not stand there, or where the bytes end.
     pub fn u32(&mut self) -> Result<u32, Malformed>
         ensures reads { Reads (λ n. n) u32_grammar.parse self.old result self.new }
         ensures within { IsWithin self.old result }
@@ -259,6 +275,10 @@ impl<'a> Cursor<'a> {
     }
 
     /// An unsigned number of 64 bits.
+    ///
+    /// # Errors
+    ///
+    /// `Malformed` where none is spelled: with the place of the byte that may not stand there, or where the bytes end.
     pub fn u64(&mut self) -> Result<u64, Malformed>
         ensures reads { Reads (λ n. n) (unsigned 64).parse self.old result self.new }
         ensures within { IsWithin self.old result }
@@ -268,6 +288,10 @@ impl<'a> Cursor<'a> {
     }
 
     /// A signed number of 32 bits.
+    ///
+    /// # Errors
+    ///
+    /// `Malformed` where none is spelled: with the place of the byte that may not stand there, or where the bytes end.
     pub fn s32(&mut self) -> Result<i32, Malformed>
         ensures reads { Reads (λ n. n) (signed 32).parse self.old result self.new }
         ensures within { IsWithin self.old result }
@@ -278,6 +302,10 @@ impl<'a> Cursor<'a> {
     }
 
     /// A signed number of 33 bits.
+    ///
+    /// # Errors
+    ///
+    /// `Malformed` where none is spelled: with the place of the byte that may not stand there, or where the bytes end.
     pub fn s33(&mut self) -> Result<i64, Malformed>
         ensures reads { Reads (λ n. n) (signed 33).parse self.old result self.new }
         ensures within { IsWithin self.old result }
@@ -289,6 +317,10 @@ impl<'a> Cursor<'a> {
     }
 
     /// A signed number of 64 bits.
+    ///
+    /// # Errors
+    ///
+    /// `Malformed` where none is spelled: with the place of the byte that may not stand there, or where the bytes end.
     pub fn s64(&mut self) -> Result<i64, Malformed>
         ensures reads { Reads (λ n. n) (signed 64).parse self.old result self.new }
         ensures within { IsWithin self.old result }
@@ -298,6 +330,11 @@ impl<'a> Cursor<'a> {
     }
 
     /// A name: a length, and so many bytes of UTF-8.
+    ///
+    /// # Errors
+    ///
+    /// `Malformed` with the place of the length where the bytes aren't UTF-8, with that behind the length where they are too few, and as
+    /// [`Cursor::u32`] where there is no length.
     pub fn name(&mut self) -> Result<&'a str, Malformed>
         ensures reads { Reads (λ s. s.now) name.parse self.old result self.new }
         ensures within { IsWithin self.old result }

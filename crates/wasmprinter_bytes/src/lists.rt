@@ -49,6 +49,10 @@ pub trait SpelledIn<'a>: Drop {
 }
 
 /// Reads a count and so many values, and keeps them in memory.
+///
+/// # Errors
+///
+/// `Malformed` where the count or a value isn't spelled, with the place of what may not stand there; `Memory` where a growth is refused.
 pub fn read_list<'a, T: SpelledIn<'a>>(
     alloc: Global,
     cursor: &mut Cursor<'a>,
@@ -82,6 +86,10 @@ pub trait GrownIn<'a>: Drop {
 }
 
 /// Reads a count and so many values that may want memory, and keeps them.
+///
+/// # Errors
+///
+/// Those of reading a value; `Malformed` where the count isn't spelled; `Memory` where a growth is refused.
 pub fn read_grown_list<'a, T: GrownIn<'a>>(
     alloc: Global,
     cursor: &mut Cursor<'a>,
@@ -129,6 +137,10 @@ impl<'a, T: Spelled> Items<'a, T> {
     }
 
     /// Reads a count and so many values.
+    ///
+    /// # Errors
+    ///
+    /// `Malformed` where the count or a value isn't spelled, with the place of what may not stand there.
     pub fn read(cursor: &mut Cursor<'a>) -> Result<Self, Malformed>
         ensures reads { Reads (λ t. t) (vec_at T.parse) cursor.old result cursor.new }
         ensures within { IsWithin cursor.old result }

@@ -11,8 +11,8 @@ use Rattle.wasmprinter_spec.specs.Layout.Folded.{painted}
 use Rattle.wasmprinter_lexical.proofs.Pieces.{text_of-append}
 use Rattle.wasmprinter_writers.proofs.Uncoloured.{colours_keep_text}
 
--- The second list is the first, but for what stands behind the parenthesis of some nodes: there it has the text of some calls, where the first has their
--- text with the sequences of their styles.
+-- The second list is the first, but for what stands behind the parenthesis of some nodes: there it has the text of some calls, where the
+-- first has their text with the sequences of their styles.
 pub data Painted : List Piece → List Piece → Type 0 where
   none : Painted [] []
   same : {p : Piece} {ps qs : List Piece} → Painted ps qs → Painted (p ∷ ps) (p ∷ qs)
@@ -87,8 +87,8 @@ plain-own : (b : Bool) (cs : List Call) → text_of (own_calls b cs) ≡ text_of
 plain-own true cs = refl
 plain-own false cs = append-nil (text_of cs)
 
--- One list of calls has both texts: with the sequences of its styles that of the first pieces, which a printer writes with its own colours or without,
--- and without them that of the second.
+-- One list of calls has both texts: with the sequences of its styles that of the first pieces, which a printer writes with its own colours
+-- or without, and without them that of the second.
 record Colours (b : Bool) (o : Options) (ps qs : List Piece) : Type 0 where
   calls : List Call
   coloured : coloured_text calls ≡ painted b (all_calls o ps)

@@ -3,7 +3,6 @@ use Rattle.std.specs.Prelude.{ℕ, ◌-◌, List, [], ◌∷◌, if◌then◌els
 use Rattle.wasmprinter_spec.specs.Layout.Customs.{has_bit}
 use Rattle.wasmprinter_customs.specs.declared.flags.SymbolFlags.{SymbolFlags}
 
--- the bits of flags
 abbrev pub bits_of : SymbolFlags → ℕ
 bits_of flags = flags.0
 

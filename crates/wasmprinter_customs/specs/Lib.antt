@@ -1,3 +1,4 @@
+-- What the contracts of the custom sections that are known cite.
 pub mod Contents
 pub mod Entries
 pub mod FlagPieces

@@ -52,6 +52,7 @@ impl Model for MemInfo {
 }
 
 impl MemInfo {
+    /// Reads what is wanted of memory, and then of the table: a size and an alignment.
     fn read(cursor: &mut Cursor) -> Result<Self, Malformed>
         ensures { Reads (λ m. m) mem_info.parse cursor.old result cursor.new }
     {
@@ -67,28 +68,28 @@ impl MemInfo {
         })
     }
 
-    /// Bytes of memory.
+    /// How many bytes of memory it wants.
     pub fn memory_size(&self) -> u32
         ensures { result ≡ self.now.memory_size }
     {
         self.memory_size
     }
 
-    /// Their alignment, as a power of two.
+    /// The exponent of their alignment in bytes, a power of two.
     pub fn memory_alignment(&self) -> u32
         ensures { result ≡ self.now.memory_alignment }
     {
         self.memory_alignment
     }
 
-    /// Elements of the table.
+    /// How many elements of the table it wants.
     pub fn table_size(&self) -> u32
         ensures { result ≡ self.now.table_size }
     {
         self.table_size
     }
 
-    /// Their alignment, as a power of two.
+    /// The exponent of their alignment in elements, a power of two.
     pub fn table_alignment(&self) -> u32
         ensures { result ≡ self.now.table_alignment }
     {
@@ -254,11 +255,14 @@ impl<'a> Content<'a> {
 /// What stands in front: a subsection, or one of an unknown id.
 #[derive(Drop)]
 enum Found<'a> {
+    /// A subsection whose id is known.
     Known(Subsection<'a>),
+    /// One of another id, and the place of that.
     Other { place: u64, id: u8 },
 }
 
 impl<'a> Found<'a> {
+    /// Reads an id, a size and so many bytes, which a subsection of a known id fills. `Malformed` has the place of the id where it doesn't.
     fn read(cursor: &mut Cursor<'a>) -> Result<Self, Malformed>
         ensures reads { Reads found_view subsection.parse cursor.old result cursor.new }
         ensures known { IfOk result HasKnownId }
@@ -279,7 +283,7 @@ impl<'a> Found<'a> {
 }
 
 impl<'a> Subsection<'a> {
-    /// The place of its id.
+    /// The place of its id: a byte offset from the module's start.
     pub fn place(&self) -> u64
         ensures { result ≡ self.now.place }
     {
@@ -346,12 +350,16 @@ impl<'a> Iterator for Dylink<'a> {
 /// What a section is: the first subsection of an unknown id, or the first fault, decides.
 #[derive(Drop)]
 pub(crate) enum Judgement<'a> {
+    /// No fault: each subsection has a known id.
     Whole(Dylink<'a>),
+    /// The first subsection of an unknown id, which comes before any fault.
     Unknown(u8),
+    /// A fault, which comes before any unknown id.
     Faulty,
 }
 
 impl<'a> Judgement<'a> {
+    /// Judges what a section holds behind its name.
     pub(crate) fn of(section: Cursor<'a>) -> Self
         ensures { judgement_view result ≡ judged section.entry }
     {

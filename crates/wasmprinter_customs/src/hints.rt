@@ -16,10 +16,10 @@ use wasmprinter_error::Malformed;
 pub(crate) const HINT_SECTION: &str = "metadata.code.branch_hint";
 
 /// More functions with hints are taken for a fault.
-const MOST_FUNCTIONS: u32 = 1000000;
+const MOST_FUNCTIONS: u32 = 1_000_000;
 
 /// More hints in one function are taken for a fault.
-const MOST_HINTS: u32 = 131071;
+const MOST_HINTS: u32 = 131_071;
 
 /// How many bytes a hint has: one.
 const HINT_SIZE: u8 = 0x01;
@@ -93,7 +93,7 @@ impl Spelled for Hint {
 }
 
 impl Hint {
-    /// The place of its first byte.
+    /// The place of its first byte: a byte offset from the module's start.
     pub fn place(&self) -> u64
         ensures { result ≡ self.now.place }
     {

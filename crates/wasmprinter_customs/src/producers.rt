@@ -44,7 +44,7 @@ impl<'a> ReadFrom for Value<'a> {
 }
 
 impl<'a> Value<'a> {
-    /// The place of its first byte.
+    /// The place of its first byte: a byte offset from the module's start.
     pub fn place(&self) -> u64
         ensures { result ≡ self.now.place }
     {

@@ -33,7 +33,7 @@ pub enum CustomRole<'a> {
     Refused(u8),
     /// It stands in the text as it is.
     Raw,
-    /// So it does, behind a line that tells of its fault.
+    /// It stands in the text as it is, behind a line that tells of its fault.
     Faulted,
 }
 

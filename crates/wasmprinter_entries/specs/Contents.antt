@@ -95,7 +95,8 @@ pub record Counts (at : Input) (count : ℕ) : Type 0 where
   pub counted : u32.parse at ≡ Some (count, after)
 
 -- Why the content of a section may be refused, which is spelled so and makes this section. `items` says whether it is a list of items, and
--- `functions` whether it may be refused for its functions. What is said of the content is true of what stands there, if it is spelled at all.
+-- `functions` whether it may be refused for its functions. What is said of the content is true of what stands
+-- there, if it is spelled at all.
 abbrev pub whole_reasons : {C : Type 0} → Remainder C → (C → SectionValue) → Type 0 → Type 0 → Input → Reasons
 whole_reasons {C} w made items functions at = record {
   malformed = λ place. (w.parse at ≡ None) × (place ≤ end_of at);

@@ -33,6 +33,10 @@ impl<'a> Model for Custom<'a> {
 
 impl<'a> Custom<'a> {
     /// Reads what a custom section holds.
+    ///
+    /// # Errors
+    ///
+    /// `Malformed` where no name stands there, with the place of what may not stand there.
     pub fn read(cursor: &mut Cursor<'a>) -> Result<Self, Malformed>
         ensures { ReadsAll (λ c. c) custom_section.parse cursor.old result }
     {
@@ -45,7 +49,7 @@ impl<'a> Custom<'a> {
         })
     }
 
-    /// The place of its name, with which the section's content begins.
+    /// The place of its name, with which the section's content begins: a byte offset from the module's start.
     pub fn place(&self) -> u64
         ensures { result ≡ self.now.place }
     {
@@ -59,7 +63,7 @@ impl<'a> Custom<'a> {
         self.name
     }
 
-    /// The place of the first of its bytes.
+    /// The place of the first of its bytes: a byte offset from the module's start.
     pub fn bytes_place(&self) -> u64
         ensures { result ≡ self.now.value.bytes.place }
     {

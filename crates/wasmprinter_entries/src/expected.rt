@@ -7,6 +7,10 @@ use wasmprinter_bytes::bytes::Cursor;
 use wasmprinter_error::Malformed;
 
 /// Nothing may be left of what a section holds.
+///
+/// # Errors
+///
+/// `Malformed` where bytes are left, with the place of the first.
 pub fn expect_end(cursor: &Cursor) -> Result<(), Malformed>
     ensures { MatchResult result (λ _. cursor.now.bytes ≡ []) (λ e. (cursor.now.bytes ≡ [] → ⊥) × (e.place ≤ end_of cursor.now)) }
 {
@@ -20,6 +24,10 @@ pub fn expect_end(cursor: &Cursor) -> Result<(), Malformed>
 }
 
 /// Reads the byte, and no other.
+///
+/// # Errors
+///
+/// `Malformed` where another byte stands there or none, with the place of it.
 pub fn read_only(cursor: &mut Cursor, wanted: u8) -> Result<u8, Malformed>
     ensures reads { Reads (λ b. b) (only wanted).parse cursor.old result cursor.new }
     ensures within { IsWithin cursor.old result }

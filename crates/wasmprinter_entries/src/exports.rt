@@ -93,7 +93,7 @@ impl<'a> SpelledIn<'a> for Export<'a> {
 }
 
 impl<'a> Export<'a> {
-    /// The place of the entry.
+    /// The place of the entry: a byte offset from the module's start.
     pub fn place(&self) -> u64
         ensures { result ≡ self.now.place }
     {
@@ -123,6 +123,11 @@ impl<'a> Export<'a> {
 }
 
 /// Reads what an export section holds.
+///
+/// # Errors
+///
+/// `Malformed` where the bytes don't spell exports, a count in front, up to the end, with the place of
+/// what may not stand there; `Memory` where a growth is refused.
 pub fn read_exports<'a>(alloc: Global, cursor: &mut Cursor<'a>) -> Result<Vec<Export<'a>>, Error>
     ensures { TakesHeld ExportSection (λ v. v.items) cursor.old result }
 {

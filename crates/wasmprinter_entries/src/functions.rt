@@ -31,6 +31,12 @@ fn read_type_indices(alloc: Global, cursor: &mut Cursor) -> Result<Vec<u32>, Err
 }
 
 /// Reads what a function section holds.
+///
+/// # Errors
+///
+/// `Malformed` where the bytes don't spell type indices, a count in front, up to the end, with the place of
+/// what may not stand there; `TooManyFunctions` where there are more than 1,000,000;
+/// `Memory` where a growth is refused.
 pub fn read_functions(alloc: Global, cursor: &mut Cursor) -> Result<Vec<u32>, Error>
     ensures { TakesHeld FunctionSection (λ v. v.items) cursor.old result }
 {

@@ -20,6 +20,10 @@ pub struct GlobalType {
 
 impl GlobalType {
     /// Reads what it holds, and whether it can be changed.
+    ///
+    /// # Errors
+    ///
+    /// `Malformed` where the bytes don't spell the type of a global, with the place of what may not stand there.
     pub fn read(cursor: &mut Cursor) -> Result<GlobalType, Malformed>
         ensures reads { Reads global_type_view global_type_grammar.parse cursor.old result cursor.new }
         ensures within { IsWithin cursor.old result }

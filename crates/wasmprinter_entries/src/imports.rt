@@ -106,7 +106,7 @@ impl<'a> SpelledIn<'a> for Import<'a> {
 }
 
 impl<'a> Import<'a> {
-    /// The place of the entry.
+    /// The place of the entry: a byte offset from the module's start.
     pub fn place(&self) -> u64
         ensures { result ≡ self.now.place }
     {
@@ -144,6 +144,11 @@ impl<'a> Import<'a> {
 }
 
 /// Reads what an import section holds.
+///
+/// # Errors
+///
+/// `Malformed` where the bytes don't spell imports, a count in front, up to the end, with the place of
+/// what may not stand there; `Memory` where a growth is refused.
 pub fn read_imports<'a>(alloc: Global, cursor: &mut Cursor<'a>) -> Result<Vec<Import<'a>>, Error>
     ensures { TakesHeld ImportSection (λ v. v.items) cursor.old result }
 {

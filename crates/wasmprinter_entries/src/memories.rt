@@ -113,7 +113,7 @@ impl<'a> SpelledIn<'a> for Memory {
 }
 
 impl Memory {
-    /// The place of the entry.
+    /// The place of the entry: a byte offset from the module's start.
     pub fn place(&self) -> u64
         ensures { result ≡ self.now.place }
     {
@@ -130,6 +130,11 @@ impl Memory {
 }
 
 /// Reads what a memory section holds.
+///
+/// # Errors
+///
+/// `Malformed` where the bytes don't spell types of memories, a count in front, up to the end, with the place of
+/// what may not stand there; `Memory` where a growth is refused.
 pub fn read_memories(alloc: Global, cursor: &mut Cursor) -> Result<Vec<Memory>, Error>
     ensures { TakesHeld MemorySection (λ v. v.items) cursor.old result }
 {

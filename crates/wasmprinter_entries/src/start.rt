@@ -28,7 +28,7 @@ impl Model for Start {
 }
 
 impl Start {
-    /// The place of the function's index.
+    /// The place of the function's index: a byte offset from the module's start.
     pub fn place(&self) -> u64
         ensures { result ≡ self.now.place }
     {
@@ -44,6 +44,10 @@ impl Start {
 }
 
 /// Reads what a start section holds.
+///
+/// # Errors
+///
+/// `Malformed` where the bytes don't spell the index of a function and nothing behind it, with the place of what may not stand there.
 pub fn read_start(cursor: &mut Cursor) -> Result<Start, Malformed>
     ensures { ReadsAll (λ s. Some s) start_section.parse cursor.old result }
 {

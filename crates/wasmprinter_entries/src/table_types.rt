@@ -35,6 +35,10 @@ pub struct TableType {
 
 impl TableType {
     /// Reads what the table holds, the flags, and the limits.
+    ///
+    /// # Errors
+    ///
+    /// `Malformed` where the bytes don't spell the type of a table, with the place of what may not stand there.
     pub fn read(cursor: &mut Cursor) -> Result<TableType, Malformed>
         ensures reads { Reads table_type_view table_type_grammar.parse cursor.old result cursor.new }
         ensures within { IsWithin cursor.old result }

@@ -53,7 +53,7 @@ impl<'a> SpelledIn<'a> for Tag {
 }
 
 impl Tag {
-    /// The place of the entry.
+    /// The place of the entry: a byte offset from the module's start.
     pub fn place(&self) -> u64
         ensures { result ≡ self.now.place }
     {
@@ -69,6 +69,11 @@ impl Tag {
 }
 
 /// Reads what a tag section holds.
+///
+/// # Errors
+///
+/// `Malformed` where the bytes don't spell tags, a count in front, up to the end, with the place of
+/// what may not stand there; `Memory` where a growth is refused.
 pub fn read_tags(alloc: Global, cursor: &mut Cursor) -> Result<Vec<Tag>, Error>
     ensures { TakesHeld TagSection (λ v. v.items) cursor.old result }
 {

@@ -59,7 +59,7 @@ impl<'a> SpelledIn<'a> for TypeGroup<'a> {
 }
 
 impl<'a> TypeGroup<'a> {
-    /// The place of the group's first byte.
+    /// The place of the group's first byte: a byte offset from the module's start.
     pub fn place(&self) -> u64
         ensures { result ≡ self.now.place }
     {
@@ -73,7 +73,7 @@ impl<'a> TypeGroup<'a> {
         self.is_written
     }
 
-    /// The place behind the first two bytes of a written group.
+    /// The place behind the first two bytes of a written group. The lines of all its types begin with it.
     pub fn types_place(&self) -> u64
         requires { self.now.value.written ≡ true }
         ensures { result ≡ self.now.place + 2 }
@@ -145,6 +145,11 @@ impl<'a> Types<'a> {
     }
 
     /// Reads what a type section holds.
+    ///
+    /// # Errors
+    ///
+    /// `Malformed` where the bytes don't spell groups of types, a count in front, up to the end, with the place of
+    /// what may not stand there; `Memory` where a growth is refused.
     pub fn read(alloc: Global, cursor: &mut Cursor<'a>) -> Result<Self, Error>
         ensures { TakesHeld TypeSection (λ t. t) cursor.old result }
     {

@@ -1,1 +1,2 @@
+-- What contracts say of errors.
 pub mod Reasons

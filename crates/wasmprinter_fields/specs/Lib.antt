@@ -1,2 +1,3 @@
+-- What the contracts of fields cite.
 pub mod Parts
 pub mod TypeLines

@@ -44,7 +44,8 @@ fn write_named_table<P: Print>(
     write_index_group(p, scope, "table", Space::Table, table)
 }
 
-/// Writes what becomes of a segment, with a blank in front; `names_table` is whether the bytes name its table. Answers whether a line began.
+/// Writes what becomes of a segment, with a blank in front; `names_table` is whether the bytes name its table.
+/// Answers whether a line began.
 #[tactic(auto, unfolding(wasmprinter_spec::specs::Layout::Elements::mode_pieces))]
 fn write_element_mode<P: Print>(
     p: &mut P,

@@ -19,8 +19,10 @@ pub trait Field {
     ghost use Rattle.wasmprinter_spec.specs.Options.{Options};
     ghost use Rattle.wasmprinter_spec.specs.Layout.Declarations.{Scope as FieldScope};
 
+    /// The keyword of the group.
     ghost keyword: { List ℕ };
 
+    /// The place of the line in the module's bytes.
     ghost line_place: { Self → ℕ };
 
     /// What stands in the group, by the options, the scope and the field's number among those of its kind.

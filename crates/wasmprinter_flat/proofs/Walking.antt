@@ -63,7 +63,8 @@ pub operator-fits : (s : Setting) (l : Scan) (first : Bool) (o : Placed Operator
 operator-fits s l first o f =
     ap₂ (λ (names : Names) (own : Label). operator_pieces (record s { names = names }) first own l.labels o) f.names (own-fits s l f)
 
--- So far all operators have been written but for the rest, for which the hints `left` wait. There is room for as many labels as there may be.
+-- So far all operators have been written but for the rest, for which the hints `left` wait. There is room for
+-- as many labels as there may be.
 pub record Progress {P : Type 0} (m : Meaning P) (o : Options) (old new : P) (s : Setting) (start : Scan) (hints : List (Placed Hint)) (all rest : List (Placed Operator)) (left : List (Placed Hint)) (first : Bool) (l : Scan) : Type 0 where
   pub lacks : Lacks m o old new (operators_pieces s hints true 0 [] all) (operators_pieces s left first l.count l.labels rest)
   pub named : l.named ≡ start.named

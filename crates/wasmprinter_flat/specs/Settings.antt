@@ -33,7 +33,8 @@ abbrev pub over_lines : (ℕ → Option FuncType) → ℕ → Names → ℕ → 
 over_lines signature nesting names function body hints os =
     layout.operators_pieces (setting_of forms.OverLines signature nesting names function body) hints true 0 [] os
 
--- an operator's word and its immediates, where these labels are open in front of it; `own` is that of the block that it opens, if it opens one
+-- an operator's word and its immediates, where these labels are open in front of it; `own` is that of the block
+-- that it opens, if it opens one
 abbrev pub word_pieces : layout.Setting → Label → List Label → Operator → List Piece
 word_pieces s own xs o =
     let role : Role = role_of o.opcode in

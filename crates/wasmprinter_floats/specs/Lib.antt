@@ -1,1 +1,2 @@
+-- What the contracts of floats cite.
 pub mod Formats

@@ -76,7 +76,6 @@ whole buffer b nodes f p q h =
 
 -- ---- by role
 
--- the same step
 pub same_step : {T E : Type 0} (r : Result T E) (old new : GrowingTree) (a b : Step Shown) → a ≡ b → OnOk r (Steps old new a) → OnOk r (Steps old new b)
 same_step r old new a b e h = subst (λ (x : Step Shown). OnOk r (Steps old new x)) e h
 

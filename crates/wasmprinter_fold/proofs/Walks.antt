@@ -94,8 +94,8 @@ own-fits s l f =
 abbrev pub run_items : Bool → Setting → Signatures → List (Placed Hint) → Scan → List (Option ℕ) → StateOf Shown → List (Placed Operator) → StateOf Shown
 run_items paints s t hs l ls u os = run_all u (steps (shown_head paints) (items s t hs l.count l.labels ls os))
 
--- So far all operators have been folded but for the rest, for which the hints `left` wait: the rest leads from here where all lead from the beginning.
--- None of them is of the older `try`. There is room for as many labels as there may be.
+-- So far all operators have been folded but for the rest, for which the hints `left` wait: the rest leads from here where all lead from the
+-- beginning. None of them is of the older `try`. There is room for as many labels as there may be.
 pub record Progress (paints : Bool) (s : Setting) (t : Signatures) (from : Scan) (hints : List (Placed Hint)) (all rest : List (Placed Operator)) (left : List (Placed Hint)) (l : Scan) (g : GrowingTree) : Type 0 where
   pub state : StateOf Shown
   pub shows : Shows g state

@@ -58,8 +58,9 @@ impl<'m, 'a> Folder<'m, 'a> {
         })
     }
 
-    /// Writes the operators of an expression, folded. The function around has `own` results: 0 in a constant expression, `None` where nothing
-    /// is known of its type. `labels` may be anywhere before; its identifiers are those that are printed. Answers whether a line began.
+    /// Writes the operators of an expression, folded. The function around has `own` results: 0 in a constant expression,
+    /// `None` where nothing is known of its type. `labels` may be anywhere before; its identifiers are those that are printed.
+    /// Answers whether a line began.
     ///
     /// Nothing is written of a list with an operator of the older `try`, which isn't folded.
     ///

@@ -1,4 +1,4 @@
-//! Operators folded (section 6.5.13 of the WebAssembly Core Specification, "Folded Instructions"): each in parentheses, with its operands.
+//! Operators folded (section 6.5 of the WebAssembly Core Specification, "Folded Instructions"): each in parentheses, with its operands.
 #![tactic(auto)]
 
 mod folder;

@@ -32,8 +32,11 @@ use wasmprinter_text::signature::Signatures;
 /// The nodes of the operators so far, their texts, and what the labels of the open blocks take.
 #[derive(Drop)]
 pub struct GrowingTree {
+    /// The texts of the nodes, in one buffer.
     pub texts: Texts,
+    /// The nodes, and the blocks that are open.
     pub builder: Builder,
+    /// How many operands the label of each open block takes.
     pub labels: LabelCounts,
 }
 
@@ -167,8 +170,8 @@ impl GrowingTree {
         self.builder.end()
     }
 
-    /// An operator more, which takes and gives so many values. Those of the older `try` are taken as ends: no list with one of them is folded.
-    /// A hint in front of an `else` or an `end` goes nowhere: a module with one is refused before anything is printed of it.
+    /// An operator more, which takes and gives so many values. Those of the older `try` are taken as ends: no list with one of them is
+    /// folded. A hint in front of an `else` or an `end` goes nowhere: a module with one is refused before anything is printed of it.
     fn add<S: Signatures>(
         &mut self,
         setting: &Setting<'_, S>,
@@ -222,8 +225,12 @@ impl GrowingTree {
             .advance(operator.opcode.role(), label_of_block(callees, operator))
     }
 
-    /// Folds the operators of an expression, where the function around has `own` results: 0 in a constant expression, `None` where nothing is
-    /// known of its type. Answers whether they are folded: they aren't where one of them is of the older `try`.
+    /// Folds the operators of an expression, where the function around has `own` results: 0 in a constant expression, `None` where nothing
+    /// is known of its type. Answers whether they are folded: they aren't where one of them is of the older `try`.
+    ///
+    /// # Errors
+    ///
+    /// Where memory is refused: the nodes are of no use then, until the next list is folded.
     pub fn fold<S: Signatures>(
         &mut self,
         callees: &Callees<'_, '_>,

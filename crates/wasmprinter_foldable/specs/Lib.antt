@@ -1,1 +1,2 @@
+-- What the contracts of what can't be folded cite.
 pub mod Refused

@@ -45,7 +45,8 @@ fn has_hints(customs: &[CustomEntry<'_>]) -> bool
     false
 }
 
-/// Whether the operator's node has no place for a hint: it would stand before a node that holds what is before the operator, or before none.
+/// Whether the operator's node has no place for a hint: it would stand before a node that holds what is before
+/// the operator, or before none.
 fn is_hintless(role: Role) -> bool
     ensures { result ≡ is_hintless (role_view role) }
 {
@@ -81,7 +82,8 @@ fn check_body(hints: FunctionHints<'_>, body: &Body<'_>) -> Result<(), Error>
     Ok(())
 }
 
-/// Refuses the first hint of a module on an operator that can't have one. Functions are numbered behind the imported ones.
+/// Refuses the first hint of a module on an operator that can't have one: `FoldHint` with the place of the hint. Functions are numbered
+/// behind the imported ones.
 pub(crate) fn check_hints(module: &Module<'_>) -> Result<(), Error>
     ensures { result ≡ refused_at FoldHint
         (misplaced_from (hints_of module.now.customs) (imported_count FuncKind module.now.imports) module.now.functions) }

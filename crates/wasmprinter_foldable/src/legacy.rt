@@ -9,7 +9,7 @@ ghost use Rattle.wasmprinter_foldable.specs.Refused.{refused_at};
 use wasmprinter_error::Error;
 use wasmprinter_ops::expression::Expression;
 
-/// Refuses the first operator of the older `try`.
+/// Refuses the first operator of the older `try`: `FoldLegacy` with its place.
 #[tactic(auto, using(crate::proofs::Steps::legacy_none))]
 pub(crate) fn check_expression(expression: &Expression<'_>) -> Result<(), Error>
     ensures { result ≡ refused_at FoldLegacy (legacy_places_in expression.now.items) }

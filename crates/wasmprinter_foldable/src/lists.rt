@@ -95,7 +95,7 @@ impl<'a> Holder for Element<'a> {
     }
 }
 
-/// Refuses the first operator of the older `try` in lists that are printed of what a slice holds.
+/// Refuses the first operator of the older `try` in lists that are printed of what a slice holds: `FoldLegacy` with its place.
 pub(crate) fn check_each<T: Holder>(items: &[T], skeleton: bool) -> Result<(), Error>
     ensures { result ≡ refused_at FoldLegacy (flat_map legacy_places_in (flat_map (T.lists skeleton) items.now)) }
 {
@@ -105,7 +105,7 @@ pub(crate) fn check_each<T: Holder>(items: &[T], skeleton: bool) -> Result<(), E
     Ok(())
 }
 
-/// Refuses the first operator of the older `try` in the bodies of functions.
+/// Refuses the first operator of the older `try` in the bodies of functions: `FoldLegacy` with its place.
 pub(crate) fn check_bodies(module: &Module<'_>) -> Result<(), Error>
     ensures { result ≡ refused_at FoldLegacy (flat_map legacy_places_in (map (λ f. f.body.value.operators) module.now.functions)) }
 {

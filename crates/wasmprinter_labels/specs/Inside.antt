@@ -39,8 +39,8 @@ pub record IsOf (xs : List NumberedLabel) (b : Block) : Type 0 where
   pub alike : b.alike ≡ label.alike
   pub name : b.name ≡ name_view label.label.name
 
--- the names of the module; the labels that have names, and how many of them were passed; the function, how many of its blocks were opened and how many
--- are open; those of them that have names
+-- the names of the module; the labels that have names, and how many of them were passed; the function, how many of its blocks were opened
+-- and how many are open; those of them that have names
 pub record IsKept (named : List NamedItem) (xs : List NumberedLabel) (next function opened depth : ℕ) (stack : Stack) : Type 0 where
   pub lists : map (λ x. label_view x.label) xs ≡ labels_in named
   pub ascend : Ascend (labels_in named)

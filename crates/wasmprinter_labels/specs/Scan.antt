@@ -7,8 +7,8 @@ use Rattle.wasmprinter_names.specs.Views.{NamedItem, name_at}
 use Rattle.wasmprinter_names.specs.declared.identifiers.Identifiers.{Identifiers}
 use Rattle.wasmprinter_labels.specs.Found.{Found, found_among}
 
--- The names of the module, and whether identifiers are made up; then the function, how many blocks were opened in the expression, and the labels of
--- those that are open, the innermost first.
+-- The names of the module, and whether identifiers are made up; then the function, how many blocks were opened in the expression, and the
+-- labels of those that are open, the innermost first.
 pub record Scan : Type 0 where
   pub named : List NamedItem
   pub invents : Bool

@@ -1,6 +1,6 @@
--- What pieces read as. `WritesNoted a ps b f k`: behind the edge a the pieces ps may stand, or others that are printed as they are, they leave the
--- edge b, and their tokens are those of the items k, with annotations behind identifiers that count for nothing; f is k without its annotations. `Writes a ps b f`: k has none. One rule
--- for each piece and each kind of group; `search writing` finds whole derivations.
+-- What pieces read as. `WritesNoted a ps b f k`: behind the edge a the pieces ps may stand, or others that are printed as they are, they
+-- leave the edge b, and their tokens are those of the items k, with annotations behind identifiers that count for nothing; f is k without
+-- its annotations. `Writes a ps b f`: k has none. One rule for each piece and each kind of group; `search writing` finds whole derivations.
 use Rattle.std.proofs.Common.{◌≡◌, ℕ, ℤ, ◌<◌, ◌*◌, ◌^◌, Bool, true, false, ◌||◌, List, [], ◌∷◌, ◌++◌, Option, Some, None, refl, sym, ap, ap₂, ◌∙◌, append_assoc, append-nil, decimal, codes, subst, encode_utf8_all}
 use Rattle.std.proofs.lemmas.Bool.{and_parts, and_from, or_right}
 use Rattle.std.specs.Fmt.{signed_decimal}
@@ -526,7 +526,8 @@ close_are : (place : Option ℕ) (nesting : ℕ) (t : Bool) → ArePieces (close
 close_are place nesting true = (tt, (tt, tt))
 close_are place nesting false = (tt, tt)
 
--- The beginning of a group or an annotation, which leaves this edge. Around items it makes these items of them, and those where annotations are cut.
+-- The beginning of a group or an annotation, which leaves this edge. Around items it makes these items of them, and
+-- those where annotations are cut.
 record IsOpening (p : Piece) (a : Edge) (around kept : Forest → Forest) : Type 0 where
   delimits : begins p ≡ true
   leaves_it : leaves p ≡ a

@@ -1,1 +1,2 @@
+-- What the contracts of lines and options cite.
 pub mod Indents

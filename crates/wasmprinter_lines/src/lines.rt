@@ -14,13 +14,13 @@ use wasmprinter_print::{Print, Style, feed, reset, start, text};
 use wasmprinter_words::numbers::{hexadecimal_len, write_hexadecimal};
 use wasmprinter_words::words::shut;
 
-/// The digits to which a place is filled up.
+/// How many digits a place is filled up to, by blanks.
 const PLACE_WIDTH: usize = 6;
 
 /// The characters of a place filled up, with its parentheses.
 const COMMENT_WIDTH: usize = 11;
 
-/// The levels of nesting of which each is indented.
+/// The most levels of nesting that a line is indented by; one that is nested deeper is indented by as many.
 const MOST_INDENTS: u64 = 50;
 
 /// Writes a text so many times.
@@ -42,6 +42,7 @@ fn write_filled<P: Print>(p: &mut P, place: u64) -> io::Result<()>
     write_repeated(p, " ", PLACE_WIDTH.saturating_sub(hexadecimal_len(place)))
 }
 
+/// Writes a place filled up, between two texts.
 fn write_filled_between<P: Print>(
     p: &mut P,
     before: &str,
@@ -55,6 +56,7 @@ fn write_filled_between<P: Print>(
     text(p, after)
 }
 
+/// Writes a place as a comment.
 #[tactic(auto, unfolding(wasmprinter_spec::specs::Piece::place_text))]
 fn write_place<P: Print>(p: &mut P, place: u64) -> io::Result<()>
     ensures { Emits P.meaning p.old p.new result (place_calls true (Some place)) }
@@ -64,6 +66,7 @@ fn write_place<P: Print>(p: &mut P, place: u64) -> io::Result<()>
     reset(p)
 }
 
+/// Writes a place as a comment, or as many blanks where a line stands for no place.
 #[tactic(auto, unfolding(wasmprinter_spec::specs::Piece::place_text, wasmprinter_spec::specs::Piece::repeated))]
 fn write_offset<P: Print>(p: &mut P, place: Option<u64>) -> io::Result<()>
     ensures { Emits P.meaning p.old p.new result (place_calls true place) }
@@ -74,6 +77,7 @@ fn write_offset<P: Print>(p: &mut P, place: Option<u64>) -> io::Result<()>
     }
 }
 
+/// Writes what stands in front of a line, if lines begin with their places.
 fn write_wanted_offset<P: Print>(
     p: &mut P,
     options: &PrintOptions,
@@ -129,6 +133,7 @@ pub fn break_line<P: Print>(
     write_indent(p, options, nesting.min(MOST_INDENTS) as usize)
 }
 
+/// Begins a line, and closes a group on it.
 fn shut_below<P: Print>(
     p: &mut P,
     options: &PrintOptions,
@@ -141,6 +146,7 @@ fn shut_below<P: Print>(
     shut(p)
 }
 
+/// Closes a group, on a line of its own or on this one.
 fn shut_if<P: Print>(
     p: &mut P,
     options: &PrintOptions,

@@ -4,11 +4,13 @@ use std::marker::Model;
 /// The text of one level of nesting. The default of two blanks owns no memory.
 #[derive(Debug, Drop)]
 enum Indent {
+    /// Two blanks.
     TwoBlanks,
+    /// This text, which may be empty.
     Text(String),
 }
 
-/// The blanks of as many levels of two as a line is indented at most.
+/// The blanks of the most levels that a line is indented by, two for each: 100.
 const BLANKS: &str =
     "                                                                                                    ";
 

@@ -1,3 +1,4 @@
+-- What the contracts of names and identifiers cite.
 pub mod Spaces
 pub mod Views
 pub mod Labels

@@ -37,28 +37,36 @@ pub struct LabelName<'a> {
 /// A name that was given in a space.
 #[derive(Clone, Copy, PartialEq, Eq, PartialOrd, Ord)]
 pub struct Given<'a> {
+    /// The id of the subsection that gave it.
     subsection: u8,
+    /// The function of a local or a label, the type of a field, and 0 for all else.
     outer: u64,
+    /// The name.
     name: &'a str,
 }
 
 /// An item of a space.
 #[derive(Clone, Copy, PartialEq, Eq, PartialOrd, Ord)]
 pub struct Place {
+    /// The id of the subsection that names items of the space.
     subsection: u8,
+    /// The function of a local or a label, the type of a field, and 0 for all else.
     outer: u64,
+    /// The index of the item, of a label its number.
     index: u64,
 }
 
 /// A name as it is kept.
 #[derive(Drop)]
 pub struct StoredName<'a> {
+    /// The name as a name section gives it.
     given: &'a str,
     /// What stands behind the dollar sign where it isn't the name itself.
     marked: Option<String>,
 }
 
 impl StoredName<'_> {
+    /// The name as it was given, and what stands behind the dollar sign for it.
     fn name(&self) -> Name<'_>
         ensures { name_view result ≡ stored_view self.now }
     {
@@ -123,7 +131,7 @@ impl<'a> NamesBuilder<'a> {
         }
     }
 
-    /// Gives an item a name, in place of one that it has.
+    /// Gives an item a name, in place of one that it has. Fails where memory is refused, and the builder is then of no use.
     pub(crate) fn add(
         &mut self,
         alloc: Global,

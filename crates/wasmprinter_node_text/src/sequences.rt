@@ -1,9 +1,9 @@
-//! The sequences of styles on a terminal (Select Graphic Rendition of ECMA-48).
+//! The sequences of styles on a terminal (Select Graphic Rendition of ECMA-48). Each begins by taking back what was set before.
 ghost use Rattle.std.specs.Prelude.{◌≡◌};
 ghost use Rattle.wasmprinter_spec.specs.Call.{Start, Literal as LiteralStyle, Name as NameStyle, Keyword as KeywordStyle, TypeName as TypeStyle, Comment as CommentStyle, Reset as NoStyle};
 ghost use Rattle.wasmprinter_spec.specs.Coloured.{coloured_bytes};
 
-/// Red.
+/// Those of numbers and strings: red.
 #[tactic(auto, using(crate::proofs::Constants::literal))]
 pub fn literal_sequences() -> &'static str
     ensures { result.now ≡ coloured_bytes (Start LiteralStyle) }
@@ -11,7 +11,7 @@ pub fn literal_sequences() -> &'static str
     "\x1b[0m\x1b[31m"
 }
 
-/// Magenta.
+/// Those of names and of numbers of items: magenta.
 #[tactic(auto, using(crate::proofs::Constants::name))]
 pub fn name_sequences() -> &'static str
     ensures { result.now ≡ coloured_bytes (Start NameStyle) }
@@ -19,7 +19,7 @@ pub fn name_sequences() -> &'static str
     "\x1b[0m\x1b[35m"
 }
 
-/// Bold, and yellow in its intense shade.
+/// Those of keywords: bold, and yellow in its intense shade.
 #[tactic(auto, using(crate::proofs::Constants::keyword))]
 pub fn keyword_sequences() -> &'static str
     ensures { result.now ≡ coloured_bytes (Start KeywordStyle) }
@@ -27,7 +27,7 @@ pub fn keyword_sequences() -> &'static str
     "\x1b[0m\x1b[1m\x1b[38;5;11m"
 }
 
-/// Bold, and green in its intense shade.
+/// Those of the words of types: bold, and green in its intense shade.
 #[tactic(auto, using(crate::proofs::Constants::type_name))]
 pub fn type_sequences() -> &'static str
     ensures { result.now ≡ coloured_bytes (Start TypeStyle) }
@@ -35,7 +35,7 @@ pub fn type_sequences() -> &'static str
     "\x1b[0m\x1b[1m\x1b[38;5;10m"
 }
 
-/// Cyan.
+/// Those of comments: cyan.
 #[tactic(auto, using(crate::proofs::Constants::comment))]
 pub fn comment_sequences() -> &'static str
     ensures { result.now ≡ coloured_bytes (Start CommentStyle) }
@@ -43,7 +43,7 @@ pub fn comment_sequences() -> &'static str
     "\x1b[0m\x1b[36m"
 }
 
-/// Without colours.
+/// Those of text without a style, which is without colours.
 #[tactic(auto, using(crate::proofs::Constants::reset))]
 pub fn reset_sequences() -> &'static str
     ensures { result.now ≡ coloured_bytes (Start NoStyle) }

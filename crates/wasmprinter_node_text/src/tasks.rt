@@ -67,6 +67,10 @@ fn put_row<'a>(
 }
 
 /// Puts what is left of a task, once its front is written, on top of the others.
+///
+/// # Errors
+///
+/// Where memory for it is refused: some of it may be among the tasks then.
 pub fn put_rest<'a>(tasks: &mut Vec<Task<'a>>, task: &Task<'a>) -> Result<(), AllocError>
     requires sound { (buffer : List ℕ) × (bound : ℕ) × IsSound buffer bound task.now × (bound < 2 ^ 64) }
     ensures pieces { OnOk result ((form : Form) (nesting : ℕ) (buffer : List ℕ) →

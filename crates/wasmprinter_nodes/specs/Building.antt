@@ -1,12 +1,14 @@
--- Folding one operator after another: the blocks that are open, and the nodes of the innermost open part. `H` is what stands first in a node.
+-- Folding one operator after another: the blocks that are open, and the nodes of the innermost open part. `H`
+-- is what stands first in a node.
 use Rattle.std.specs.Prelude.{ℕ, List, [], ◌∷◌, map}
 use Rattle.wasmprinter_spec.specs.Row as row
 use Rattle.wasmprinter_spec.specs.Row.{Role}
 use Rattle.wasmprinter_spec.specs.Folding.Code.{Item, role}
 use Rattle.wasmprinter_spec.specs.Folding.Tree.{Head, Of, Then, Else, NodesOf, Nil, Snoc, front, last, operands, with_operands}
 
--- The open blocks, the innermost first: each with those around it, the nodes before it, what stands first in its node, and its results. An `if` has
--- its predicate too and what stands first in the node of its open case; behind its `else` the node of its `then` stands behind the predicate.
+-- The open blocks, the innermost first: each with those around it, the nodes before it, what stands first in its node, and its
+-- results. An `if` has its predicate too and what stands first in the node of its open case; behind its `else` the node of its
+-- `then` stands behind the predicate.
 pub data Open (H : Type 0) : Type 0 where
   Top : Open H
   InBlock : Open H → NodesOf H → H → ℕ → Open H

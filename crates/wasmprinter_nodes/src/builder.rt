@@ -12,6 +12,7 @@ use std::alloc::{AllocError, Global};
 /// Which part of a block is open.
 #[derive(Clone, Copy, Debug)]
 pub enum Arm {
+    /// What a block holds that has no cases.
     Block,
     /// The first case of an `if`, whose node has this label.
     Then(Label),
@@ -22,8 +23,11 @@ pub enum Arm {
 /// An open block.
 #[derive(Clone, Copy, Debug)]
 pub struct Frame {
+    /// Its part that is open.
     pub arm: Arm,
+    /// What is printed of its node.
     pub label: Label,
+    /// How many results it gives.
     pub gives: u32,
     /// Where the nodes begin that the block will hold.
     pub from: usize,

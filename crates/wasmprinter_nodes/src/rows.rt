@@ -9,8 +9,11 @@ use crate::Node;
 /// The last node of a row, the nodes before it, and those that it holds.
 #[derive(Clone, Copy, Debug)]
 pub struct Last<'a> {
+    /// The nodes before it and those that it holds.
     pub before: &'a [Node],
+    /// The last node.
     pub node: Node,
+    /// The nodes that it holds, at every depth.
     pub parts: &'a [Node],
 }
 

@@ -1,3 +1,4 @@
+-- What the contracts of types, opcodes and operators cite.
 pub mod Arities
 pub mod Shapes
 pub mod ByNumber

@@ -10,7 +10,7 @@ use wasmprinter_bytes::bytes::Cursor;
 use wasmprinter_bytes::lists::{Items, Spelled};
 use wasmprinter_error::Malformed;
 
-/// The first byte of a block type without results.
+/// The byte that is the type of a block without parameters and results.
 const EMPTY: u8 = 0x40;
 
 /// The type of a block (section 5.4, "Control Instructions").

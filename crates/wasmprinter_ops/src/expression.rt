@@ -96,6 +96,11 @@ fn skip_operators(alloc: Global, cursor: &mut Cursor) -> Result<u64, Error>
 
 impl<'a> Expression<'a> {
     /// Reads operators and the `end` that closes them.
+    ///
+    /// # Errors
+    ///
+    /// `Malformed` where no operators stand there that nest and are closed, with the place of what may not stand there;
+    /// `Memory` where a growth is refused, which needs a block in the expression.
     pub fn read(alloc: Global, cursor: &mut Cursor<'a>) -> Result<Self, Error>
         ensures reads { Takes (λ e. e) expression.parse HasBlock cursor.old result cursor.new }
         ensures end { end_of cursor.new ≡ end_of cursor.old }
@@ -135,7 +140,7 @@ impl<'a> Expression<'a> {
         self.operators.is_empty()
     }
 
-    /// The place of the last `end`.
+    /// The place of the last `end`: a byte offset from the module's start.
     pub fn end(&self) -> u64
         ensures { result ≡ self.now.end }
     {

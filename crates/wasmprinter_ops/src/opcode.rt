@@ -186,7 +186,7 @@ impl Role {
 pub struct Opcode {
     /// 0xfb to 0xfe, or 0.
     pub prefix: u8,
-    /// Without a prefix the byte.
+    /// The number behind the prefix, or without a prefix the byte.
     pub number: u32,
 }
 
@@ -200,36 +200,42 @@ impl Model for Opcode {
     ghost inverse = { λ o. record { prefix = o.prefix; number = o.number } };
 }
 
+/// The table of the opcodes of one byte.
 fn one_byte() -> &'static [Option<Entry>]
     ensures { map entry_view result.now ≡ each_entry 0 }
 {
     &tables::ONE_BYTE
 }
 
+/// The table behind the prefix `GC`.
 fn gc() -> &'static [Option<Entry>]
     ensures { map entry_view result.now ≡ each_entry 0xfb }
 {
     &tables::GC
 }
 
+/// The table behind the prefix `BULK`.
 fn bulk() -> &'static [Option<Entry>]
     ensures { map entry_view result.now ≡ each_entry 0xfc }
 {
     &tables::BULK
 }
 
+/// The table behind the prefix `VECTORS`.
 fn vectors() -> &'static [Option<Entry>]
     ensures { map entry_view result.now ≡ each_entry 0xfd }
 {
     &tables::VECTORS
 }
 
+/// The table behind the prefix `ATOMICS`.
 fn atomics() -> &'static [Option<Entry>]
     ensures { map entry_view result.now ≡ each_entry 0xfe }
 {
     &tables::ATOMICS
 }
 
+/// The roles of the opcodes of one byte. Those with a prefix are all plain.
 fn one_byte_roles() -> &'static [Role]
     ensures { map role_view result.now ≡ each_role 0 }
 {
@@ -269,6 +275,10 @@ fn is_prefix(byte: u8) -> bool
 
 impl Opcode {
     /// Reads a byte, and behind a prefix a number.
+    ///
+    /// # Errors
+    ///
+    /// `Malformed` where no byte is left, or no number stands behind a prefix. An opcode need not be listed.
     pub fn read(cursor: &mut Cursor) -> Result<Self, Malformed>
         ensures reads { Reads (λ o. o) opcode_grammar.parse cursor.old result cursor.new }
         ensures within { IsWithin cursor.old result }

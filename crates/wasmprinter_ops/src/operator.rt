@@ -186,6 +186,10 @@ fn read_memory_lane<'a>(cursor: &mut Cursor<'a>) -> Result<Immediates<'a>, Malfo
 
 impl<'a> Operator<'a> {
     /// Reads an opcode that the table lists, and its immediates.
+    ///
+    /// # Errors
+    ///
+    /// `Malformed` with the place of the opcode where it isn't listed, else with that of what may not stand there.
     pub fn read(cursor: &mut Cursor<'a>) -> Result<Self, Malformed>
         ensures reads { Reads (λ o. o) operator.parse cursor.old result cursor.new }
         ensures within { IsWithin cursor.old result }
@@ -202,6 +206,10 @@ impl<'a> Operator<'a> {
 }
 
 /// Reads an operator, with its place in front.
+///
+/// # Errors
+///
+/// Those of [`Operator::read`].
 pub fn read_placed<'a>(cursor: &mut Cursor<'a>) -> Result<(u64, Operator<'a>), Malformed>
     ensures reads { Reads placed_view (placed operator).parse cursor.old result cursor.new }
     ensures within { IsWithin cursor.old result }

@@ -155,6 +155,10 @@ impl HeapType {
     }
 
     /// Reads the byte of an abstract heap type, or a type index.
+    ///
+    /// # Errors
+    ///
+    /// `Malformed` where the bytes don't spell a heap type, with the place of what may not stand there.
     pub fn read(cursor: &mut Cursor) -> Result<Self, Malformed>
         ensures reads { Reads heap_view heap_type.parse cursor.old result cursor.new }
         ensures within { IsWithin cursor.old result }
@@ -195,6 +199,10 @@ impl RefType {
     }
 
     /// Reads a reference type.
+    ///
+    /// # Errors
+    ///
+    /// `Malformed` where the bytes don't spell a reference type, with the place of what may not stand there.
     pub fn read(cursor: &mut Cursor) -> Result<Self, Malformed>
         ensures reads { Reads ref_view reference_type.parse cursor.old result cursor.new }
         ensures within { IsWithin cursor.old result }
@@ -245,6 +253,10 @@ impl ValType {
 }
 
 /// Reads a value type.
+///
+/// # Errors
+///
+/// `Malformed` where the bytes don't spell a value type, with the place of what may not stand there.
 pub fn read_type(cursor: &mut Cursor) -> Result<ValType, Malformed>
     ensures reads { Reads type_view val_type.parse cursor.old result cursor.new }
     ensures within { IsWithin cursor.old result }
@@ -263,6 +275,10 @@ impl Spelled for ValType {
 }
 
 /// Reads a count and so many value types.
+///
+/// # Errors
+///
+/// `Malformed` where the bytes don't spell value types, a count in front, with the place of what may not stand there.
 pub fn read_types<'a>(cursor: &mut Cursor<'a>) -> Result<ValTypes<'a>, Malformed>
     ensures reads { Reads types_view (vec val_type).parse cursor.old result cursor.new }
     ensures within { IsWithin cursor.old result }

@@ -40,8 +40,8 @@ all_inside P low high (x ∷ xs) have h = (have x h.0 h.1, all_inside P low high
 abbrev AreOutside : ℕ → ℕ → List Section → Type 0
 AreOutside low high ss = AllByRecursion (λ s. AllByRecursion (IsOutside low high) (other_places s)) ss
 
--- The interval of the last code section among sections that begin at the place p. Where there is none, it is the one that counted in front of them.
--- What lies in front of them, and outside of that one, lies outside of it.
+-- The interval of the last code section among sections that begin at the place p. Where there is none, it is the one that counted in front
+-- of them. What lies in front of them, and outside of that one, lies outside of it.
 record CodeLies (older old p : ℕ) (text : List ℕ) (before : List (Placed Body)) (ss : List Section) : Type 0 where
   low : ℕ
   high : ℕ

@@ -20,7 +20,8 @@ pub fn bodies_lie_apart()
     ensures { BodiesLieApart }
 {}
 
-/// The header of a function, its locals and each of its operators have a line of their own, in order.
+/// Where bodies are printed flat and no `dylink.0` section is refused, the header of a function, its locals and each of its operators have
+/// a line of their own, in order.
 pub fn functions_have_lines()
     ensures { FunctionsHaveLines }
 {}
@@ -30,7 +31,8 @@ pub fn finds_places()
     ensures { FindsPlace }
 {}
 
-/// In the lines of a module each operator's line is found.
+/// In the lines of a module whose bodies are printed flat, and of which no `dylink.0` section is refused, each operator's line is found,
+/// the only one with its place.
 pub fn finds_lines()
     ensures { FindsLine }
 {}

@@ -39,8 +39,8 @@ pub record Begun {P : Type 0} (m : Meaning P) (old new : P) (layout : List Call)
   pub run : Run m old calls new
   pub alike : atoms calls ++ rest ≡ atoms layout
 
--- How a function over a printer ends: it is through; a call on the printer failed with this error; it stopped between two calls, since a growth was
--- refused; or, which doesn't happen, it refuses by itself.
+-- How a function over a printer ends: it is through; a call on the printer failed with this error; it stopped between two calls, since a
+-- growth was refused; or, which doesn't happen, it refuses by itself.
 pub data Ending : Type 0 where
   Through : Ending
   AtCall : IoError → Ending

@@ -1,3 +1,4 @@
+-- What the contracts of printers, and of all that prints, cite.
 pub mod CallLaws
 pub mod Emits
 pub mod EmitsLaws

@@ -39,7 +39,6 @@ module _ {P : Type 0} (m : Meaning P) where
   abbrev pub PiecesFailAtLast : Type 0
   PiecesFailAtLast = (o : Options) (a t : P) (r : Result (Unit {0}) IoError) (e : IoError) (xs : List Piece) → Written m o a t (AtCall e) xs → Answers r e → Prints m o a t r xs
 
-  -- no piece
   abbrev pub NoPieces : Type 0
   NoPieces = (o : Options) (a : P) → Written m o a a Through []
 

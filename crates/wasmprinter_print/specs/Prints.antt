@@ -19,8 +19,8 @@ pub record Written {P : Type 0} (m : Meaning P) (o : Options) (old new : P) (r :
 abbrev pub Prints : {P T : Type 0} → Meaning P → Options → P → P → Result T IoError → List Piece → Type 0
 Prints m o old new r pieces = Written m o old new (ending r) pieces
 
--- The same of a function that may keep something in memory while it prints: it answers the error of a failed call, or, if it keeps something, that a
--- growth was refused; the calls up to there are a beginning of those of the pieces.
+-- The same of a function that may keep something in memory while it prints: it answers the error of a failed call, or, if it keeps
+-- something, that a growth was refused; the calls up to there are a beginning of those of the pieces.
 abbrev pub PrintsOrStops : {P T : Type 0} → Meaning P → Options → P → P → Bool → Result T Error → List Piece → Type 0
 PrintsOrStops m o old new keeps r pieces = Written m o old new (halt keeps r) pieces
 

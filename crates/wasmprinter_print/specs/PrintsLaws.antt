@@ -29,11 +29,9 @@ pub writes : {P : Type 0} (m : Meaning P) (o : Options) {a t : P} {r : Ending} (
 unfolding Laid
 writes m o xs v = record { laid = v }
 
--- no piece
 pub no_piece : {P : Type 0} (m : Meaning P) (o : Options) (a : P) → Written m o a a Through []
 no_piece m o a = writes m o [] (nothing m a)
 
--- one piece
 pub one_piece : {P : Type 0} (m : Meaning P) (o : Options) {a t : P} {r : Ending} (x : Piece) →
     Made m a t r (calls o x) → Written m o a t r (x ∷ [])
 one_piece m o {a} {t} {r} x v =

@@ -1,4 +1,5 @@
-//! The calls of a printer, each with what it makes of a layout.
+//! The calls of a printer, each with what it makes of a layout. What fails does so with the error of the call on the printer that failed,
+//! and for no other reason.
 ghost use Rattle.std.specs.Prelude.{[], ◌∷◌};
 ghost use Rattle.wasmprinter_spec.specs.Call.{Text, Newline, Start, Reset};
 ghost use Rattle.wasmprinter_print.specs.Emits.{Emits};

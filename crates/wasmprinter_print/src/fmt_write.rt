@@ -12,7 +12,7 @@ use std::{fmt, io};
 #[derive(Drop)]
 pub struct PrintFmtWrite<T>(pub T);
 
-// What the writer refuses tells no cause.
+/// The error of a writer that refused: it tells no cause, and so is of the kind `Other`.
 fn refused(_e: fmt::Error) -> io::Error
     ensures { error_kind result ≡ Other }
 {

@@ -23,10 +23,12 @@ use std::io;
 /// A destination for the text of a module.
 ///
 /// An implementation states what its calls mean: the state that each leaves, when it may fail, and what a failed call leaves.
-/// All that prints is proved against this meaning.
+/// All that prints is proved against this meaning. It stops at the first call that fails, and hands that call's error on.
 pub trait Print {
+    /// What each call makes of the printer, when it may fail, and what is left then.
     ghost meaning: { Meaning Self };
 
+    /// Whether colours can be written to it as text.
     ghost colors: { Self → Bool };
 
     /// Writes a piece of text.
@@ -111,6 +113,7 @@ pub trait Print {
     // a call on the printer
     ghost call_done: { CallDone meaning } = { λ a t c s. called meaning s };
 
+    // a call on the printer that failed
     ghost call_failed: { CallFailed meaning } = { λ a t r e c v f. call_fails meaning r e f v };
 
     // no call
@@ -134,7 +137,6 @@ pub trait Print {
     // the last pieces, of which one failed
     ghost pieces_fail_at_last: { PiecesFailAtLast meaning } = { λ o a t r e xs v f. last_pieces_end meaning r f v };
 
-    // no piece
     ghost no_pieces: { NoPieces meaning } = { λ o a. no_piece meaning o a };
 
     // a piece that failed, where more is kept in memory

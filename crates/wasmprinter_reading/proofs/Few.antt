@@ -1,5 +1,5 @@
--- What holds of all values that fewer than 2 ^ 32 bytes spell, which are all that a section can hold: as for any number of bytes, and besides the
--- operators of an expression are no more than its bytes.
+-- What holds of all values that fewer than 2 ^ 32 bytes spell, which are all that a section can hold: as for any number of bytes, and
+-- besides the operators of an expression are no more than its bytes.
 use Rattle.std.proofs.Common.{◌≡◌, ℕ, ◌+◌, ◌<◌, ◌^◌, List, [], ◌∷◌, ◌++◌, length, Bool, true, false, subst, sym, arith}
 use Rattle.std.proofs.lemmas.List.{length-append}
 use Rattle.std.specs.List.{AllByRecursion}

@@ -1,4 +1,5 @@
--- What the parts of sections that bytes spell keep to: limits, the types of memories, tables and globals, imports, expressions and segments.
+-- What the parts of sections that bytes spell keep to: limits, the types of memories, tables and globals,
+-- imports, expressions and segments.
 use Rattle.std.proofs.Common.{◌≡◌, ℕ, ◌<◌, ◌^◌, ◌==◌, ◌||◌, Bool, true, false, ltb, Some, refl, subst, arith}
 use Rattle.std.specs.Prelude.{IsUtf8}
 use Rattle.std.specs.Str.{is_utf8}

@@ -1,5 +1,5 @@
--- The laws of folded text: that of operators reads as exactly them, whatever numbers of operands and results they are said to have; that of a
--- module reads as its flat text does.
+-- The laws of folded text: that of operators reads as exactly them, whatever numbers of operands and results they are said to have; that of
+-- a module reads as its flat text does.
 use Rattle.std.specs.Prelude.{◌≡◌, ℕ, List, [], map, true, false, Some, None}
 use Rattle.std.specs.List.{AllByRecursion}
 use Rattle.wasmprinter_spec.specs.Grammar.{Placed}
@@ -29,8 +29,8 @@ use Rattle.wasmprinter_reading.specs.OperatorLaws.{HaveSameTypes, HaveSameNames,
 abbrev pub uncounted : Item → Item
 uncounted x = record x { takes = 0; gives = 0 }
 
--- The text that is laid out for operators folded by any numbers of operands and results, over lines or in one, with hints in front of them or
--- without, reads as exactly them.
+-- The text that is laid out for operators folded by any numbers of operands and results, over lines or in one, with hints in front of them
+-- or without, reads as exactly them.
 abbrev pub FoldedOperatorsReadBack : Type 0
 FoldedOperatorsReadBack =
     (s : Setting) → AreApart s.names → AreNamed s.names →
@@ -41,8 +41,8 @@ FoldedOperatorsReadBack =
     (o : Options) → IsBlank o.indent →
     read_alone c (text_of (all_calls o (node_pieces o false s.form true s.nesting (tree code)))) ≡ Some (without_places os)
 
--- The text of a module whose operators are folded reads as its flat text does. (As in the reading law, no initialiser of a table is empty, all
--- operators can be folded, and no `dylink.0` section is refused.)
+-- The text of a module whose operators are folded reads as its flat text does. (As in the reading law, no initialiser of a table is empty,
+-- all operators can be folded, and no `dylink.0` section is refused.)
 abbrev pub FoldedModulesReadAsFlat : Type 0
 FoldedModulesReadAsFlat =
     (bytes : List ℕ) (m : PlacedModule) (o : Options) (answers : Answers) →

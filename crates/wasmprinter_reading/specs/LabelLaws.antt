@@ -10,8 +10,9 @@ abbrev pub Opened : Naming → List Label → Type 0
 Opened naming [] = Unit {0}
 Opened naming (x ∷ xs) = ((i : ℕ) × (naming i (length xs) ≡ x)) × (length xs < 2 ^ 64) × Opened naming xs
 
--- A label of a block with an identifier, among the labels that an operator may mean and, further in than these, others that it may not: where none
--- further in was given its name, the identifier is printed, and by it a reader finds that very block; where one was, the number is printed.
+-- A label of a block with an identifier, among the labels that an operator may mean and, further in than these, others that it
+-- may not: where none further in was given its name, the identifier is printed, and by it a reader finds that very block; where
+-- one was, the number is printed.
 abbrev pub LabelsMeanTheirBlocks : Type 0
 LabelsMeanTheirBlocks =
     (naming : Naming) → AreApart naming → (inner xs : List Label) → Opened naming xs →

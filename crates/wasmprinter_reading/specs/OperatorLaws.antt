@@ -42,7 +42,8 @@ pub record HaveSameTypes (s : Setting) (c : Context) (n : Counts) : Type 0 where
   pub counted : (i : ℕ) → n.signature i ≡ s.signature i
   pub in_range : AreSignaturesInRange s.signature
 
--- And the same identifiers: those of all items that are counted. What has a signature or fields is a counted type, and so is what a signature names.
+-- And the same identifiers: those of all items that are counted. What has a signature or fields is a counted type, and
+-- so is what a signature names.
 pub record HaveSameNames (s : Setting) (c : Context) (n : Counts) : Type 0 where
   pub spaces : (space : Space) → space_in c.spaces space ≡ identifiers (in_function s.names s.function space) (count_in n space)
   pub fields : (t : ℕ) (fs : List FieldType) → n.fields t ≡ Some fs → c.fields t ≡ identifiers (s.names.fields t) (length fs)
@@ -63,8 +64,8 @@ pub record AreOperators (n : Counts) (os : List (Placed Operator)) : Type 0 wher
 abbrev pub read_alone : Context → List ℕ → Option (List Operator)
 read_alone c text = forest text >>= λ f. unfolded (cut f) >>= read_operators c
 
--- The text that is laid out for operators, over lines or in one, with hints in front of them or without, reads as exactly them, whatever items and
--- labels are called.
+-- The text that is laid out for operators, over lines or in one, with hints in front of them or without, reads as exactly them,
+-- whatever items and labels are called.
 abbrev pub OperatorsReadBack : Type 0
 OperatorsReadBack =
     (s : Setting) → AreApart s.names → AreNamed s.names →

@@ -21,62 +21,69 @@ pub fn reader_takes_nested_operators()
 {}
 
 /// The reading law: the text that is laid out for a module that some bytes spell, flat or folded, reads as exactly that module, the custom
-/// sections that are printed as they stand among it. No initialiser of a table is empty: the text of such a table is that of one without;
-/// where operators are folded, all can be; and no `dylink.0` section is refused.
+/// sections that are printed as they stand among it. Every index that the module uses is declared, as in each valid module. The text is no
+/// skeleton and has no colours, its indent is of blanks and tabs, and the printer takes no custom section itself. No initialiser of a table
+/// is empty: the text of such a table is that of one without; where operators are folded, all can be; and no `dylink.0` section is refused.
 pub fn printed_text_reads_back()
     ensures { ReadsBack }
 {}
 
-/// Places at the beginnings of lines, and the indent, change blanks and comments alone: the tokens stay, whether operators are folded or not.
+/// Places at the beginnings of lines, and an indent of blanks and tabs, change blanks and comments alone: the tokens of a text without
+/// colours stay, whether operators are folded or not.
 pub fn places_and_indent_keep_tokens()
     ensures { TokensStay }
 {}
 
 /// Branch hints stay: those of a module whose hint section is well formed are those of its text, each once, directly before its operator or
-/// before the group of its operator.
+/// before the group of its operator. The text is no skeleton and has no colours, its indent is of blanks and tabs; where operators are
+/// folded, all can be; and no `dylink.0` section is refused.
 pub fn hints_stay()
     ensures { HintsStay }
 {}
 
-/// Printed text is made of tabs, line feeds and the characters from the blank to the tilde alone.
+/// Printed text without colours, whose indent is of blanks and tabs, is made of tabs, line feeds and the characters from the blank to the
+/// tilde alone.
 pub fn printed_text_is_plain()
     ensures { PrintsPlainText }
 {}
 
-/// Such text is UTF-8.
+/// Text of tabs, line feeds and the characters from the blank to the tilde alone is UTF-8.
 pub fn plain_text_is_utf8()
     ensures { PlainTextIsUtf8 }
 {}
 
-/// Deleting colour sequences leaves such text as it is.
+/// Deleting colour sequences leaves text of these characters alone as it is.
 pub fn plain_text_has_no_colour()
     ensures { PlainTextHasNoColour }
 {}
 
-/// Two such texts, one behind the other, are such a text.
+/// Two texts of these characters alone, one behind the other, are such a text.
 pub fn plain_texts_join()
     ensures { PlainTextsJoin }
 {}
 
 /// The text that is laid out for nested operators, over lines or in one, with branch hints in front of them or without, reads as exactly
-/// them, whatever items and labels are called.
+/// them, whatever items and labels are called, so long as no identifier means two of them. Every index that they use is declared, and the
+/// indent is of blanks and tabs.
 pub fn printed_operators_read_back()
     ensures { OperatorsReadBack }
 {}
 
-/// The same where items and labels have the names of name sections, and the others identifiers made up for them, or none.
+/// The text that is laid out for nested operators reads as exactly them also where items and labels have the names of name sections, and
+/// the others identifiers made up for them, or none.
 pub fn named_operators_read_back()
     ensures { NamedOperatorsReadBack }
 {}
 
 /// The text that is laid out for folded operators, over lines or in one, with branch hints in front of them or without, reads as exactly
-/// them, whatever numbers of operands and results they are said to have.
+/// them, whatever numbers of operands and results they are said to have. Names, indices and the indent are as in
+/// [`printed_operators_read_back`], and none of the operators is of the older `try`.
 pub fn folded_operators_read_back()
     ensures { FoldedOperatorsReadBack }
 {}
 
-/// The text of a module whose operators are folded reads as its flat text does. The module is as in the reading law: no initialiser of a
-/// table is empty, all operators can be folded, and no `dylink.0` section is refused.
+/// The text of a module whose operators are folded reads as its flat text does. The module and its text are as in the reading law
+/// ([`printed_text_reads_back`]), and all operators can be folded.
 pub fn folded_text_reads_as_flat()
     ensures { FoldedModulesReadAsFlat }
 {}
@@ -86,7 +93,7 @@ pub fn name_sections_give_one_list()
     ensures { NamesAreOneList }
 {}
 
-/// That list is the one by which a module's items have their names.
+/// The list of entries that name sections give is the one by which a module's items have their names.
 pub fn entries_are_given()
     ensures { EntriesAreGiven }
 {}
@@ -111,8 +118,8 @@ pub fn identifiers_are_named()
     ensures { IdentifiersAreNamed }
 {}
 
-/// Both hold of each module that bytes spell: its name sections give identifiers of which none means two items of one space, of one
-/// function or of one type.
+/// Of each module that bytes spell the name sections give identifiers that are UTF-8 and not empty, and of which none means two items of
+/// one space, of one function or of one type.
 pub fn modules_have_identifiers()
     ensures { ModulesHaveIdentifiers }
 {}

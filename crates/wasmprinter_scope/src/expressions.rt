@@ -1,5 +1,5 @@
-//! Constant expressions in fields (section 6.6 of the WebAssembly Core Specification, "Expressions"), each in one line, but where the comment
-//! of a folded operator ends it.
+//! Constant expressions in fields (section 6.6 of the WebAssembly Core Specification, "Expressions"), each in one line, but where the
+//! comment of a folded operator ends it.
 ghost use Rattle.std.specs.Prelude.{◌≡◌, Bool, true, false, IfOk};
 ghost use Rattle.wasmprinter_spec.specs.Layout.Groups.{has_break};
 ghost use Rattle.wasmprinter_spec.specs.Layout.Operators.{expression_pieces};
@@ -160,7 +160,8 @@ fn write_held<P: Print>(
     write_nested(p, options, scope, HELD_NESTING, expression)
 }
 
-/// Writes what stands in the group of an expression: a single operator alone, and any other behind the keyword. Answers whether a line began.
+/// Writes what stands in the group of an expression: a single operator alone, and any other behind the keyword.
+/// Answers whether a line began.
 fn write_group_parts<P: Print>(
     p: &mut P,
     options: &PrintOptions,

@@ -25,8 +25,8 @@ pub record HasEntryBlocks (at : Input) : Type 0 where
   pub cut : front_at size behind ≡ Some (part, rest)
   pub blocks : HasBlocks (input behind.place part)
 
--- nothing of the kind stands there; or there are too many locals, and what stands there, if anything, has them; or a growth was refused, for
--- which this is so
+-- nothing of the kind stands there; or there are too many locals, and what stands there, if anything, has them; or a growth was
+-- refused, for which this is so
 abbrev pub body_reasons : (Input → Option (Placed Body × Input)) → Type 0 → Input → Reasons
 body_reasons parse grows at = record {
   malformed = λ place. (parse at ≡ None) × (place ≤ end_of at);

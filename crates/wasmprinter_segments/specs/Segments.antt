@@ -1,4 +1,5 @@
--- What holds expressions in the program, and in the definitions; and how element segments are spelled behind their flags, mode and items apart.
+-- What holds expressions in the program, and in the definitions; and how element segments are spelled behind
+-- their flags, mode and items apart.
 use Rattle.std.specs.Prelude.{ℕ, List, map, Bool, true, not, ◌&&◌, Option, Some, None}
 use Rattle.std.specs.Borrow.{Bor}
 use Rattle.wasmprinter_spec.specs.Grammar.{Grammar, Placed, succeed, choose}
@@ -55,8 +56,8 @@ data_mode_view (d.Active memory offset) = ActiveData memory (constant_of offset)
 
 -- ---- element segments behind their flags, which are below 8
 
--- The flags bit by bit: bit 0 says that the segment is passive or declarative, not active; bit 1 that an active one names its table, and that
--- another one is declarative; bit 2 that the items are expressions, not indices of functions.
+-- The flags bit by bit: bit 0 says that the segment is passive or declarative, not active; bit 1 that an active one names its table, and
+-- that another one is declarative; bit 2 that the items are expressions, not indices of functions.
 abbrev pub is_inactive : ℕ → Bool
 is_inactive flags = has_bit 0 flags
 

@@ -57,7 +57,7 @@ impl Spelled for LocalEntry {
 }
 
 impl LocalEntry {
-    /// The place of the entry.
+    /// The place of the entry: a byte offset from the module's start.
     pub fn place(&self) -> u64
         ensures { result ≡ self.now.place }
     {
@@ -177,7 +177,7 @@ impl<'a> Body<'a> {
         &self.code
     }
 
-    /// The place of the body's first byte.
+    /// The place of the body's first byte: a byte offset from the module's start.
     pub fn place(&self) -> u64
         ensures { result ≡ self.now.place }
     {
@@ -191,7 +191,7 @@ impl<'a> Body<'a> {
         self.locals.iter()
     }
 
-    /// The place of the last `end`.
+    /// The place of the last `end`: a byte offset from the module's start.
     pub fn end(&self) -> u64
         ensures { result ≡ self.now.value.end }
     {
@@ -213,6 +213,12 @@ fn read_bodies<'a>(alloc: Global, cursor: &mut Cursor<'a>) -> Result<Vec<Body<'a
 }
 
 /// Reads what a code section holds.
+///
+/// # Errors
+///
+/// `Malformed` where the bytes don't spell bodies, a count in front, up to the end, with the place of
+/// what may not stand there; `TooManyLocals` with the place of the first body that has more than 50,000, parameters not counted;
+/// `Memory` where a growth is refused.
 pub fn read_code<'a>(alloc: Global, cursor: &mut Cursor<'a>) -> Result<Vec<Body<'a>>, Error>
     ensures { TakesHeld CodeSection (λ v. v.items) cursor.old result }
 {

@@ -109,7 +109,7 @@ impl<'a> GrownIn<'a> for Data<'a> {
 }
 
 impl<'a> Data<'a> {
-    /// The place of the entry.
+    /// The place of the entry: a byte offset from the module's start.
     pub fn place(&self) -> u64
         ensures { result ≡ self.now.place }
     {
@@ -132,6 +132,11 @@ impl<'a> Data<'a> {
 }
 
 /// Reads what a data section holds.
+///
+/// # Errors
+///
+/// `Malformed` where the bytes don't spell data segments, a count in front, up to the end, with the place of
+/// what may not stand there; `Memory` where a growth is refused.
 pub fn read_data<'a>(alloc: Global, cursor: &mut Cursor<'a>) -> Result<Vec<Data<'a>>, Error>
     ensures { TakesHeld DataSection (λ v. v.items) cursor.old result }
 {
@@ -141,6 +146,10 @@ pub fn read_data<'a>(alloc: Global, cursor: &mut Cursor<'a>) -> Result<Vec<Data<
 }
 
 /// Reads what a data count section holds.
+///
+/// # Errors
+///
+/// `Malformed` where the bytes don't spell a number and nothing behind it, with the place of what may not stand there.
 pub fn read_data_count(cursor: &mut Cursor) -> Result<u32, Malformed>
     ensures { ReadsAll (λ n. Some n) data_count_section.parse cursor.old result }
 {

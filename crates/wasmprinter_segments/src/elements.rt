@@ -185,7 +185,7 @@ impl<'a> GrownIn<'a> for Element<'a> {
 }
 
 impl<'a> Element<'a> {
-    /// The place of the entry.
+    /// The place of the entry: a byte offset from the module's start.
     pub fn place(&self) -> u64
         ensures { result ≡ self.now.place }
     {
@@ -215,6 +215,11 @@ impl<'a> Element<'a> {
 }
 
 /// Reads what an element section holds.
+///
+/// # Errors
+///
+/// `Malformed` where the bytes don't spell element segments, a count in front, up to the end, with the place of
+/// what may not stand there; `Memory` where a growth is refused.
 pub fn read_elements<'a>(alloc: Global, cursor: &mut Cursor<'a>) -> Result<Vec<Element<'a>>, Error>
     ensures { TakesHeld ElementSection (λ v. v.items) cursor.old result }
 {

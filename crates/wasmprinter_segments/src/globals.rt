@@ -49,7 +49,7 @@ impl<'a> GrownIn<'a> for Global<'a> {
 }
 
 impl<'a> Global<'a> {
-    /// The place of the entry.
+    /// The place of the entry: a byte offset from the module's start.
     pub fn place(&self) -> u64
         ensures { result ≡ self.now.place }
     {
@@ -72,6 +72,11 @@ impl<'a> Global<'a> {
 }
 
 /// Reads what a global section holds.
+///
+/// # Errors
+///
+/// `Malformed` where the bytes don't spell globals, a count in front, up to the end, with the place of
+/// what may not stand there; `Memory` where a growth is refused.
 pub fn read_globals<'a>(alloc: Allocator, cursor: &mut Cursor<'a>) -> Result<Vec<Global<'a>>, Error>
     ensures { TakesHeld GlobalSection (λ v. v.items) cursor.old result }
 {

@@ -24,7 +24,7 @@ use wasmprinter_ops::expression::Expression;
 /// In front of a table with an initialiser.
 const WITH_INIT: u8 = 0x40;
 
-/// Behind that byte.
+/// The byte behind [`WITH_INIT`], which says nothing.
 const RESERVED: u8 = 0x00;
 
 /// A table that the module defines, with the entry's place (section 2.5, "Tables").
@@ -80,7 +80,7 @@ impl<'a> Table<'a> {
         Ok(Table { place, ty, init })
     }
 
-    /// The place of the entry.
+    /// The place of the entry: a byte offset from the module's start.
     pub fn place(&self) -> u64
         ensures { result ≡ self.now.place }
     {
@@ -128,6 +128,12 @@ fn empty_table(tables: &[Table]) -> Option<u64>
 }
 
 /// Reads what a table section holds.
+///
+/// # Errors
+///
+/// `Malformed` where the bytes don't spell tables, a count in front, up to the end, with the place of
+/// what may not stand there; `EmptyTableInit` with the place of the first table whose initialiser has no operators;
+/// `Memory` where a growth is refused.
 pub fn read_tables<'a>(alloc: Global, cursor: &mut Cursor<'a>) -> Result<Vec<Table<'a>>, Error>
     ensures { TakesHeld TableSection (λ v. v.items) cursor.old result }
 {

@@ -17,8 +17,8 @@ use Rattle.wasmprinter_spec.proofs.BlockSamples.{block, loop, if_op, try_table, 
 abbrev signature : List ValType → List ValType → FuncType
 signature ps rs = record { params = ps; results = rs }
 
--- a function type of two parameters and a result, which function 0 has; a structure of three fields; a tag of three parameters; around is a function
--- of two results
+-- a function type of two parameters and a result, which function 0 has; a structure of three fields; a tag of three parameters;
+-- around is a function of two results
 abbrev known : Signatures
 known = record {
   types = slice_get (signature (types.I32 ∷ types.I64 ∷ []) (types.F32 ∷ []) ∷ []);

@@ -1,5 +1,5 @@
--- Operators that nest, written by hand, which the worked rows share: their bytes without the `end` behind them, what these spell, and their lines in a
--- body.
+-- Operators that nest, written by hand, which the worked rows share: their bytes without the `end` behind them, what these
+-- spell, and their lines in a body.
 use Rattle.std.specs.Prelude.{ℕ, pos, List, [], ◌∷◌, codes}
 use Rattle.wasmprinter_spec.specs.Types as types
 use Rattle.wasmprinter_spec.specs.Types.{SubType}
@@ -100,7 +100,8 @@ block_types =
     (codes "block (type 1) (result i32) ;; label = @1" ∷ codes "  i32.const 1" ∷ codes "end" ∷ [])
     ∷ []
 
--- One result of another number type, of the vector type or of a reference type. A reference that may be null has two spellings, and one text.
+-- One result of another number type, of the vector type or of a reference type. A reference that may be null
+-- has two spellings, and one text.
 abbrev value_types : List Sample
 value_types =
     sample (0x02 ∷ 0x63 ∷ 0x00 ∷ 0x0b ∷ []) (block (Value (to_null (types.Index 0))) ∷ end ∷ []) (codes "block (result (ref null 0)) ;; label = @1" ∷ codes "end" ∷ [])

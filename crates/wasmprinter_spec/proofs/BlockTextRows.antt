@@ -1,4 +1,5 @@
--- Worked rows of operators that nest in the text format (section 6.5 of the standard): flat and folded blocks, labels, block types, catch clauses.
+-- Worked rows of operators that nest in the text format (section 6.5 of the standard): flat and folded blocks,
+-- labels, block types, catch clauses.
 use Rattle.std.specs.Prelude.{◌≡◌, ℕ, pos, List, [], ◌∷◌, ◌++◌, ◌+◌, codes, Option, Some, None, refl}
 use Rattle.wasmprinter_spec.specs.Grammar.{◌>>=◌}
 use Rattle.wasmprinter_spec.specs.Types as types
@@ -302,7 +303,8 @@ unread_results : numbers_read (
 unfolding lex class numeral natural integer groups heap_of_word ref_of_word number_of_word table head
 unread_results = refl
 
--- What the standard has and the reader hasn't: identifiers again behind `else` and `end`, and block types without an index that aren't one result.
+-- What the standard has and the reader hasn't: identifiers again behind `else` and `end`, and block types without an
+-- index that aren't one result.
 unread_forms : numbers_read (
     codes "block $a end $a"
     ∷ codes "if $a else $a end"

@@ -1,5 +1,5 @@
--- Worked rows of blocks over all types (section 2.4 of the standard, "Block types"): block types that name types of groups, types that are no
--- function types, and references; from bytes to text and back, and which of them are declared.
+-- Worked rows of blocks over all types (section 2.4 of the standard, "Block types"): block types that name types of groups, types that are
+-- no function types, and references; from bytes to text and back, and which of them are declared.
 use Rattle.std.specs.Prelude.{◌≡◌, ℕ, ◌+◌, List, [], ◌∷◌, ◌++◌, length, map, replicate, false, codes, Option, Some, None, option_map, refl}
 use Rattle.std.proofs.Common.{arith}
 use Rattle.std.specs.Fmt.{digits}

@@ -1,5 +1,5 @@
--- Worked rows of code (section 6.5 of the standard, "Folded Instructions"): what is an operator, which of several with one word it is, and the
--- hints in front of it.
+-- Worked rows of code (section 6.5 of the standard, "Folded Instructions"): what is an operator, which of several with one word it is,
+-- and the hints in front of it.
 use Rattle.std.specs.Prelude.{◌≡◌, ℕ, pos, List, [], ◌∷◌, map, codes, Option, Some, None, refl}
 use Rattle.std.specs.Char.{encode_utf8}
 use Rattle.std.specs.Str.{is_utf8, chars}

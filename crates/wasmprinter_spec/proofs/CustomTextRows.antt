@@ -1,5 +1,5 @@
--- Worked rows of custom sections and branch hints: the texts that modules give, the calls that ask for claims, and that the texts read as the same
--- modules.
+-- Worked rows of custom sections and branch hints: the texts that modules give, the calls that ask for claims, and that the
+-- texts read as the same modules.
 use Rattle.std.specs.Prelude.{◌≡◌, ℕ, List, [], ◌∷◌, ◌++◌, length, true, false, ◌==◌, codes, Option, Some, None, option_map, refl}
 use Rattle.wasmprinter_spec.specs.Grammar.{◌>>=◌, input}
 use Rattle.wasmprinter_spec.specs.Placed.{PlacedModule}

@@ -1,5 +1,5 @@
--- Worked rows of whole modules whose operators are folded: the texts that they give, that these texts read as the same modules, and what can't be
--- folded in a module.
+-- Worked rows of whole modules whose operators are folded: the texts that they give, that these texts read as the same modules, and
+-- what can't be folded in a module.
 use Rattle.std.specs.Prelude.{◌≡◌, ℕ, ◌+◌, List, [], ◌∷◌, ◌++◌, length, true, false, codes, Option, Some, option_map, refl}
 use Rattle.std.specs.List.{AllByRecursion}
 use Rattle.wasmprinter_spec.specs.Grammar.{input}

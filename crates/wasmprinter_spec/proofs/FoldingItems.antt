@@ -1,5 +1,5 @@
--- The operators of a list, each with what is printed of it, are the operators of the list; and a list is folded where it is well nested and holds none
--- of the older `try`.
+-- The operators of a list, each with what is printed of it, are the operators of the list; and a list is folded where it is well nested and
+-- holds none of the older `try`.
 use Rattle.std.proofs.Common.{subst, ◌≡◌, ℕ, ◌+◌, List, [], ◌∷◌, ◌++◌, map, length, refl, sym, ap, Bool, true, Option, Some, None, option_map}
 use Rattle.wasmprinter_spec.specs.Grammar.{Placed}
 use Rattle.wasmprinter_spec.specs.Operator.{Operator}

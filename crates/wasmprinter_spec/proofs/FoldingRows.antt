@@ -1,4 +1,5 @@
--- Worked rows of folding: how bodies and constant expressions are printed when they are folded, and that these texts read as the same operators.
+-- Worked rows of folding: how bodies and constant expressions are printed when they are folded, and that these
+-- texts read as the same operators.
 use Rattle.std.specs.Prelude.{◌≡◌, ℕ, List, [], ◌∷◌, ◌++◌, map, flat_map, true, false, codes, slice_get, Option, Some, None, option_map, refl}
 use Rattle.wasmprinter_spec.specs.Grammar.{input, Placed, ◌>>=◌}
 use Rattle.wasmprinter_spec.specs.Types as types
@@ -37,7 +38,8 @@ giving own = record pair_giving { own = own }
 abbrev setting : Form → Names → Setting
 setting form names = record { form = form; signature = λ n. None; nesting = 2; names = names; function = 0; body = 0 }
 
--- The text of the operators that the bytes spell, of which the first is at the place 1. Bytes may spell nothing, and what they spell may not be folded.
+-- The text of the operators that the bytes spell, of which the first is at the place 1. Bytes may spell nothing, and what
+-- they spell may not be folded.
 abbrev folded_by : Options → Setting → Signatures → List (Placed Hint) → List ℕ → Option (Option (List ℕ))
 folded_by o s ts hs bytes =
     option_map (λ x. option_map (λ ps. text_of (all_calls o ps)) (folded_pieces o false s ts hs x.0.items)) (expression.parse (input 1 (bytes ++ 0x0b ∷ [])))
@@ -166,7 +168,6 @@ leaving_without_type : body no_names (giving None) leaving
 unfolding printing items node_pieces folded_pieces
 leaving_without_type = refl
 
--- the older `try`
 older_try : map (body no_names pair_giving) ((0x06 ∷ 0x40 ∷ 0x19 ∷ 0x0b ∷ []) ∷ (0x06 ∷ 0x40 ∷ 0x07 ∷ 0x00 ∷ 0x0b ∷ []) ∷ (0x02 ∷ 0x40 ∷ 0x06 ∷ 0x40 ∷ 0x18 ∷ 0x00 ∷ 0x0b ∷ []) ∷ [])
     ≡ Some None ∷ Some None ∷ Some None ∷ []
 unfolding printing items node_pieces folded_pieces

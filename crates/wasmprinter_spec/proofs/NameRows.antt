@@ -177,7 +177,8 @@ parts_made_up = refl
 
 -- ---- faults
 
--- The module is `m`; a subsection with an unknown id; locals of function 1: 0 `x`, then a name that is cut; functions, which aren't reached.
+-- The module is `m`; a subsection with an unknown id; locals of function 1: 0 `x`, then a name that is cut;
+-- functions, which aren't reached.
 cut_name : read (codes "\0\u{2}\u{1}m\u{c}\u{1}\u{7}\u{2}\t\u{1}\u{1}\u{2}\0\u{1}x\u{1}\u{5}y\u{1}\u{4}\u{1}\0\u{1}z")
     ≡ (entry 0 0 0 (codes "m") ∷ entry 2 1 0 (codes "x") ∷ [], None)
 unfolding is_utf8 chars encode_utf8

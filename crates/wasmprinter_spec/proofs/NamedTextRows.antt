@@ -197,7 +197,8 @@ invented_variables_read = refl
 
 -- ---- types and their fields
 
--- type 0, a structure called `point`, has the fields `x` and one without a name; type 1 is an array of references to it, and a subtype of nothing
+-- type 0, a structure called `point`, has the fields `x` and one without a name; type 1 is an array of references
+-- to it, and a subtype of nothing
 abbrev structures : List ℕ
 structures =
     head_bytes
@@ -232,8 +233,8 @@ structures_read = refl
 
 -- ---- all kinds of items
 
--- an imported function called `imp` with a parameter `a`, an imported tag, a table `t`, a memory `m`, a global `g`, an element segment `e` and a
--- data segment `d`, with uses of each, and a start function
+-- an imported function called `imp` with a parameter `a`, an imported tag, a table `t`, a memory `m`, a global `g`, an element segment `e`
+-- and a data segment `d`, with uses of each, and a start function
 abbrev items : List ℕ
 items =
     head_bytes

@@ -1,4 +1,5 @@
--- Worked rows of expressions with blocks (section 5.4 of the standard, "Control Instructions" and "Expressions"): which bytes spell one, and where it ends.
+-- Worked rows of expressions with blocks (section 5.4 of the standard, "Control Instructions" and "Expressions"): which bytes
+-- spell one, and where it ends.
 use Rattle.std.specs.Prelude.{◌≡◌, ℕ, ◌+◌, List, [], ◌∷◌, ◌++◌, map, true, false, Option, Some, None, option_map, length, refl}
 use Rattle.std.proofs.Common.{sym, ◌∙◌}
 use Rattle.wasmprinter_spec.specs.Grammar.{Input, input, Placed, some_is, Spans, ◌>>=◌}
@@ -87,9 +88,9 @@ unread_opcodes : numbers_read ((0x8b ∷ 0x00 ∷ []) ∷ (0xfc ∷ 0x0b ∷ [])
 unfolding table
 unread_opcodes = refl
 
--- No such block type: 41 alone and 7A are negative numbers, as is the byte of a composite type or of a packed one, also in two bytes; references
--- to a number type and to nothing, and one that takes an `end` for its index; 2 to the power 32; six bytes. No such kind of a clause. A list of labels
--- or of clauses that its bytes don't fill; a clause without its label.
+-- No such block type: 41 alone and 7A are negative numbers, as is the byte of a composite type or of a packed one, also in two bytes;
+-- references to a number type and to nothing, and one that takes an `end` for its index; 2 to the power 32; six bytes. No such kind of a
+-- clause. A list of labels or of clauses that its bytes don't fill; a clause without its label.
 unread_immediates : numbers_read (
     (0x02 ∷ 0x41 ∷ 0x0b ∷ 0x0b ∷ [])
     ∷ (0x02 ∷ 0x7a ∷ 0x0b ∷ 0x0b ∷ [])

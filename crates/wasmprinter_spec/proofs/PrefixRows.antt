@@ -1,4 +1,5 @@
--- Worked rows of the table of operators (section 5.4 of the standard): calls, variables, references, aggregates and whole regions by opcode.
+-- Worked rows of the table of operators (section 5.4 of the standard): calls, variables, references, aggregates
+-- and whole regions by opcode.
 use Rattle.std.specs.Prelude.{◌≡◌, ℕ, List, [], ◌∷◌, ◌++◌, replicate, true, false, map, codes, Option, Some, option_map, refl}
 use Rattle.wasmprinter_spec.specs.Operator.{Opcode, opcode}
 use Rattle.wasmprinter_spec.specs.Row.{Types, Func, Table, Memory, Global, Local, Label, Elem, Data, Shape, NoneShape, IndexShape, DefaultIndexShape, PairShape, FieldShape, CountShape, CallShape, SegmentShape, CopyShape, SelectShape, HeapShape, RefShape, CastShape, F32Shape, F64Shape, VectorShape, LanesShape, FenceShape, Arity, Fixed, OfReturnCall, OfIndirectCall, OfReturnIndirectCall, OfBranchOnNull, OfBranchOnNonNull, OfBranchOnCast, OfStruct, OfCount}

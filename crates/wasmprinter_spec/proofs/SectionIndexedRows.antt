@@ -1,5 +1,5 @@
--- Worked rows of declared indices in imports, tables, globals, element segments and data segments (section 2.5 of the standard, "Indices"): an index
--- space counts what is imported first, and outside functions there are no locals.
+-- Worked rows of declared indices in imports, tables, globals, element segments and data segments (section 2.5 of the standard, "Indices"):
+-- an index space counts what is imported first, and outside functions there are no locals.
 use Rattle.std.specs.Prelude.{List, [], ◌∷◌, codes, true, false, None, refl}
 use Rattle.std.proofs.Common.{arith}
 use Rattle.wasmprinter_spec.specs.Types as types

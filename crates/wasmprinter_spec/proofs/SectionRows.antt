@@ -1,5 +1,5 @@
--- Worked rows of the sections of imports, tables, globals, element segments, data segments and the data count (section 5.5 of the standard): what
--- single lists of bytes spell, and what of it a module is.
+-- Worked rows of the sections of imports, tables, globals, element segments, data segments and the data count (section 5.5 of the
+-- standard): what single lists of bytes spell, and what of it a module is.
 use Rattle.std.specs.Prelude.{◌≡◌, ℕ, List, [], ◌∷◌, ◌++◌, map, Option, Some, None, refl}
 use Rattle.std.specs.List.{AllByRecursion}
 use Rattle.wasmprinter_spec.specs.Grammar.{input}

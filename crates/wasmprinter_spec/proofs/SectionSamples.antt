@@ -1,5 +1,5 @@
--- Modules of one field, written by hand, which the worked rows share: a table, a global, an element segment, a data segment, and imports of each
--- kind. Of each its bytes, what these spell with places, the module, and the line of its text.
+-- Modules of one field, written by hand, which the worked rows share: a table, a global, an element segment, a data segment, and imports of
+-- each kind. Of each its bytes, what these spell with places, the module, and the line of its text.
 use Rattle.std.specs.Prelude.{ℕ, ◌+◌, pos, List, [], ◌∷◌, ◌++◌, Bool, true, false, length, codes, Option, Some, None}
 use Rattle.wasmprinter_spec.specs.Grammar.{Placed}
 use Rattle.wasmprinter_spec.specs.Types as types

@@ -1,5 +1,5 @@
--- Worked rows of imports, tables, globals, element segments and data segments in the text format (sections 6.4 to 6.6 of the standard): the texts
--- that single modules give, and what texts write.
+-- Worked rows of imports, tables, globals, element segments and data segments in the text format (sections 6.4 to 6.6 of the standard): the
+-- texts that single modules give, and what texts write.
 use Rattle.std.specs.Prelude.{◌≡◌, ℕ, pos, List, [], ◌∷◌, map, true, false, codes, Option, Some, None, refl}
 use Rattle.std.specs.List.{AllByRecursion}
 use Rattle.wasmprinter_spec.specs.Types as types

@@ -128,8 +128,8 @@ casts =
     (codes "br_on_cast_fail 0 (ref null 1) (ref null 0)")
     ∷ []
 
--- Memory operands: an exponent below 64 is one of memory 0, from 64 on an index follows, which may be 0 too. The natural alignment and what is 0
--- are left out.
+-- Memory operands: an exponent below 64 is one of memory 0, from 64 on an index follows, which may be 0 too. The natural
+-- alignment and what is 0 are left out.
 abbrev memory_operands : List Sample
 memory_operands =
     sample (0x28 ∷ 0x02 ∷ 0x00 ∷ []) 0 0x28 (Memory (mem_arg_of 2 0 0)) (codes "i32.load")

@@ -35,8 +35,8 @@ unlisted : numbers_from spelled 0 (
 unfolding table
 unlisted = refl
 
--- A cast has flags below 4, a memory operand begins with a number below 128. Another byte of a fence, a byte that is no type, immediates that are
--- cut off.
+-- A cast has flags below 4, a memory operand begins with a number below 128. Another byte of a fence, a byte that is no
+-- type, immediates that are cut off.
 misspelled : numbers_from spelled 0 (
     (0xfb ∷ 0x18 ∷ 0x03 ∷ 0x00 ∷ 0x6e ∷ 0x6e ∷ [])
     ∷ (0xfb ∷ 0x18 ∷ 0x04 ∷ 0x00 ∷ 0x6e ∷ 0x6e ∷ [])

@@ -1,5 +1,5 @@
--- Rules over the words of the table: how many operators there are, which words stand for several, the natural alignment of each memory operand
--- (section 2.4 of the standard, "Memory Instructions"), and how many operands operators on numbers and vectors take.
+-- Rules over the words of the table: how many operators there are, which words stand for several, the natural alignment of each memory
+-- operand (section 2.4 of the standard, "Memory Instructions"), and how many operands operators on numbers and vectors take.
 use Rattle.std.specs.Prelude.{◌≡◌, ℕ, ◌+◌, ◌*◌, List, [], ◌∷◌, length, Bool, true, false, ◌&&◌, ◌||◌, ◌==◌, is_some, map, cond, codes, Option, Some, None, refl}
 use Rattle.std.specs.List.{filter, list_any}
 use Rattle.wasmprinter_spec.specs.Row.{Row, Shape, NoneShape, MemoryShape, MemoryLaneShape, LaneShape, Arity, Fixed}

@@ -60,7 +60,8 @@ first_bytes : passing begins_val_type 256
     ≡ 0x63 ∷ 0x64 ∷ 0x69 ∷ 0x6a ∷ 0x6b ∷ 0x6c ∷ 0x6d ∷ 0x6e ∷ 0x6f ∷ 0x70 ∷ 0x71 ∷ 0x72 ∷ 0x73 ∷ 0x74 ∷ 0x7b ∷ 0x7c ∷ 0x7d ∷ 0x7e ∷ 0x7f ∷ []
 first_bytes = refl
 
--- What is said of the first byte is so: behind each of these bytes something makes a value type of it, and behind the other bytes nothing does.
+-- What is said of the first byte is so: behind each of these bytes something makes a value type of it, and behind
+-- the other bytes nothing does.
 begun : map (λ b. is_some (val_type.parse (input 0 (b ∷ 0x00 ∷ [])))) (passing begins_val_type 256) ≡ replicate 19 true
 begun = refl
 

@@ -43,7 +43,6 @@ printed bytes = printed_by defaults bytes
 abbrev module_text : List (List ℕ) → List ℕ
 module_text fields = lines (codes "(module" ∷ (fields ++ codes ")" ∷ []))
 
--- a group of one
 group_of_one : printed (with_types (0x01 ∷ 0x4e ∷ 0x01 ∷ 0x60 ∷ 0x00 ∷ 0x00 ∷ [])) ≡ Some (module_text (
     codes "  (rec"
     ∷ codes "    (type (;0;) (func))"

@@ -1,4 +1,5 @@
--- Where the things lie that lines begin with: those of the code section lie in an interval of their own, and rise there.
+-- Where the things lie that lines begin with: those of the code section lie in an interval of their own, and rise there. The standard has
+-- neither lines nor places.
 use Rattle.std.specs.Prelude.{ℕ, ◌+◌, ◌<◌, ◌≤◌, ◌⊎◌, List, [], ◌∷◌, ◌++◌, Bool, true, false, map, Option, Some, None}
 use Rattle.std.specs.List.{AllByRecursion, flat_map}
 use Rattle.wasmprinter_spec.specs.Grammar.{Placed}

@@ -1,4 +1,4 @@
--- What a test has decided, from the value that it chose.
+-- What a test has decided, from the value that it chose. They are facts of logic, and nothing of the standard.
 use Rattle.std.specs.Prelude.{◌≡◌, ◌⊎◌, Bool, true, false, Option, Some, None, refl}
 use Rattle.std.proofs.Common.{cond, inl, inr}
 

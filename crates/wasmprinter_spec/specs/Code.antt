@@ -1,6 +1,6 @@
--- Operators in the text format, and folded ones as a flat list (section 6.5 of the standard, "Folded Instructions"): a folded group of an operator
--- gives its operands, each a group, and then the operator. Branch hints are annotations (Code Metadata, a document beside the standard): each
--- belongs to the operator or group directly behind it.
+-- Operators in the text format, and folded ones as a flat list (section 6.5 of the standard, "Folded Instructions"): a folded group of an
+-- operator gives its operands, each a group, and then the operator. Branch hints are annotations (Code Metadata, a document beside the
+-- standard): each belongs to the operator or group directly behind it.
 use Rattle.std.specs.Prelude.{ℕ, List, [], ◌∷◌, ◌++◌, Bool, true, false, bytes_eq, codes, Option, Some, None, option_map, if◌then◌else◌, map}
 use Rattle.std.specs.List.{list_any}
 use Rattle.wasmprinter_spec.specs.Grammar.{◌>>=◌}
@@ -19,8 +19,8 @@ pub record Chunk : Type 0 where
 abbrev pub chunk : List Row → Forest → Chunk
 chunk rs f = record { rows = rs; arguments = f; hints = [] }
 
--- An operator by itself, or a folded one: the operators that stand before its own, its own, and those behind it; or what a folded `if` holds in
--- its groups `then` and `else`.
+-- An operator by itself, or a folded one: the operators that stand before its own, its own, and those behind it; or what a folded `if`
+-- holds in its groups `then` and `else`.
 pub data Instruction : Type 0 where
   Flat : Chunk → Instruction
   Folded : List Chunk → Chunk → List Chunk → Instruction
@@ -82,8 +82,8 @@ branches (Then t ∷ Else e ∷ []) = Some ([], t ++ (word_chunk (codes "else") 
 branches (Folded before own behind ∷ is) = option_map (λ x. (before ++ (own ∷ (behind ++ x.0)), x.1)) (branches is)
 branches _ = None
 
--- The operator of these rows, folded: operands and the operator; the opening operator of a block, what the block holds, and its `end`; for `if`
--- its operands stand in front. The older `try` isn't folded.
+-- The operator of these rows, folded: operands and the operator; the opening operator of a block, what the block holds, and its `end`; for
+-- `if` its operands stand in front. The older `try` isn't folded.
 abbrev pub folded_as : Role → List Row → Code → Option Instruction
 folded_as Plain rs c = option_map (λ cs. Folded cs (chunk rs c.front) []) (operands c.instructions)
 folded_as Opens rs c = option_map (λ cs. Folded [] (chunk rs c.front) (cs ++ (word_chunk (codes "end") ∷ []))) (flattened c.instructions >>= if_nested)

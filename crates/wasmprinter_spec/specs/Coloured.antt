@@ -1,4 +1,4 @@
--- How the styles of a layout look on a terminal, and the text of calls with the sequences of their styles.
+-- How the styles of a layout look on a terminal, and the text of calls with the sequences of their styles. The standard has no such thing.
 use Rattle.std.specs.Prelude.{ℕ, List, [], ◌∷◌, ◌++◌, true, false, Option, Some, None}
 use Rattle.wasmprinter_spec.specs.Call.{Call, Text, Newline, Line, Start, Claim, Style, Literal, Name, Keyword, TypeName, Comment, Reset}
 use Rattle.wasmprinter_spec.specs.Colour.{uncolour}

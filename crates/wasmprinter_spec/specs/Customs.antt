@@ -1,5 +1,5 @@
--- The custom sections that are known (of the standard's appendix, of Code Metadata and of the tool conventions), and which of a module's are printed
--- as they stand.
+-- The custom sections that are known (of the standard's appendix, of Code Metadata and of the tool conventions), and which of a
+-- module's are printed as they stand.
 use Rattle.std.specs.Prelude.{ℕ, List, [], ◌∷◌, ◌++◌, Bool, true, false, codes, bytes_eq, Option, Some, None, if◌then◌else◌}
 use Rattle.wasmprinter_spec.specs.Grammar.{input}
 use Rattle.wasmprinter_spec.specs.Kinds.{Kind}

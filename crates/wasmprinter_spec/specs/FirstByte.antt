@@ -1,4 +1,5 @@
--- Grammars that the first byte decides: it is taken, or only looked at, and chooses what is spelled.
+-- Grammars that the first byte decides: it is taken, or only looked at, and chooses what is spelled. The standard has no word for
+-- them.
 use Rattle.std.specs.Prelude.{◌≡◌, ℕ, List, [], ◌∷◌, ◌++◌, ◌+◌, ◌<◌, ◌==◌, length, nat_lt, Option, Some, None, if◌then◌else◌, refl}
 use Rattle.std.proofs.Common.{sym, ap, subst, ◌∙◌, arith, ltb}
 use Rattle.std.proofs.lemmas.Bool.{ltb-true, lt-ltb}

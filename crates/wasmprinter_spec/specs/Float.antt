@@ -76,8 +76,8 @@ pub record IsValue (w : Width) (bits : ℕ) (s : Scaled) : Type 0 where
 unfoldable pub units : ℕ → Scaled → Option ℕ
 units least s = if (s.significand * 2 ^ (s.up + least)) % 2 ^ s.down == 0 then Some (s.significand * 2 ^ (s.up + least) / 2 ^ s.down) else None
 
--- The bits of so many units from 2 ^ fraction on: those of half as many units with the next exponent, until a number of fraction + 1 bits is
--- left, whose highest bit is not written. `exponents` counts the exponents that are left.
+-- The bits of so many units from 2 ^ fraction on: those of half as many units with the next exponent, until a number of fraction + 1 bits
+-- is left, whose highest bit is not written. `exponents` counts the exponents that are left.
 unfoldable pub bits_by_halving : ℕ → ℕ → ℕ → ℕ → Option ℕ
 bits_by_halving fraction zero exponent n = None
 bits_by_halving fraction (suc exponents) exponent n =

@@ -1,4 +1,4 @@
--- The branch hints of a module, each with its operator.
+-- The branch hints of a module, each with its operator. (Code Metadata, a document beside the standard.)
 use Rattle.std.specs.Prelude.{ℕ, ◌+◌, ◌-◌, List, [], ◌∷◌, ◌++◌, Bool, true, ◌==◌, ◌&&◌, nat_lt, length, map, slice_get, Option, Some, None, if◌then◌else◌, option_map}
 use Rattle.wasmprinter_spec.specs.Grammar.{◌>>=◌, Placed}
 use Rattle.wasmprinter_spec.specs.Operator.{Operator}
@@ -46,8 +46,8 @@ abbrev pub offsets_rise : List FunctionHints → Bool
 offsets_rise [] = true
 offsets_rise (e ∷ es) = rise (map (λ h. h.value.offset) e.hints) && offsets_rise es
 
--- The hints of a module whose last hint section is well formed: its functions are defined and rise, and in each its offsets are those of operators and
--- rise.
+-- The hints of a module whose last hint section is well formed: its functions are defined and rise, and in each its offsets
+-- are those of operators and rise.
 abbrev pub module_hints : PlacedModule → Option (List OperatorHint)
 module_hints m =
     let es : List FunctionHints = hints_of m.customs in

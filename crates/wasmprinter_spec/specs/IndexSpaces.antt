@@ -72,8 +72,8 @@ space_in s Data = s.datas
 space_in s Local = s.locals
 space_in s Label = []
 
--- what functions and operators are read with: the index spaces, the signature of each function type, and the fields of each structure type, which are
--- an index space of their own
+-- what functions and operators are read with: the index spaces, the signature of each function type, and the fields of each structure type,
+-- which are an index space of their own
 pub record Context : Type 0 where
   pub spaces : Spaces
   pub signature : ℕ → Option FuncType

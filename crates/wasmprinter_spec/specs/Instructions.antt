@@ -53,8 +53,8 @@ catch = announced catch_by
 abbrev pub u64 : Grammar ℕ
 u64 = unsigned 64
 
--- A memory operand (section 5.4, "Memory Instructions"): below 64 the exponent of the alignment, of an operand of memory 0; else 64 more, and
--- the memory's index; and an offset.
+-- A memory operand (section 5.4, "Memory Instructions"): below 64 the exponent of the alignment, of an operand of memory 0; else 64 more,
+-- and the memory's index; and an offset.
 abbrev pub mem_arg_by : ℕ → Grammar MemArg
 mem_arg_by n =
     choose (nat_lt n 64) (map_value (mem_arg_of n 0) u64)

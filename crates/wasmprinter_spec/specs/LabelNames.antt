@@ -1,4 +1,5 @@
--- The identifiers of labels: from the names that a name section gives them, or invented from how many blocks stand around them.
+-- The identifiers of labels: from the names that a name section gives them, or invented from how many blocks stand around them. The
+-- standard leaves identifiers open (section 6.3, "Identifiers"): these are this printer's own.
 use Rattle.std.specs.Prelude.{ℕ, List, [], ◌∷◌, ◌++◌, Bool, true, false, not, cond, ◌==◌, codes, decimal, Option, Some, None}
 use Rattle.wasmprinter_spec.specs.Labels.{Label, Naming}
 

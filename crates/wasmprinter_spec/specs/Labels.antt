@@ -1,4 +1,5 @@
--- The labels that a layout sees: which name a label has, and which name an operator may use for it.
+-- The labels that a layout sees: which name a label has, and which name an operator may use for it. The standard says what an identifier of
+-- a label means (section 6.5, "Labels"); which label is printed by one is this printer's own.
 use Rattle.std.specs.Prelude.{◌≡◌, ℕ, zero, suc, ◌<◌, ◌^◌, List, [], ◌∷◌, Bool, true, false, ◌||◌, bytes_eq, Option, Some, None}
 use Rattle.wasmprinter_spec.specs.Row.{Role, Opens, OpensIf, OpensTry, Delegates, Ends}
 

@@ -1,4 +1,4 @@
--- The laws of these definitions. Functions of the crates above have them as their contracts.
+-- The laws of these definitions. Functions of the crates above have them as their contracts. The standard states none of them.
 use Rattle.std.specs.Prelude.{◌≡◌, ℕ, ◌<◌, ◌^◌, List, [], ◌∷◌, ◌++◌, map, false, Some, None, ◌↔◌, chars, IsUtf8}
 use Rattle.std.specs.List.{AllByRecursion}
 use Rattle.wasmprinter_spec.specs.Binary.{AreBytes, Spells}
@@ -58,8 +58,8 @@ FloatsAreExact = (w : Width) (s : Scaled) (bits : ℕ) → IsWidth w → (bits_w
 abbrev pub TakesNested : Type 0
 TakesNested = (os : List Operator) → (if_nested os ≡ Some os) ↔ Nests Sequence (map (λ o. role_of o.opcode) os)
 
--- The reading law: printed text reads back as the module that the bytes spell. (No initialiser of a table is empty: the text of such a table is
--- that of one without; where operators are folded, all can be; and no `dylink.0` section is refused.)
+-- The reading law: printed text reads back as the module that the bytes spell. (No initialiser of a table is empty: the text of such a
+-- table is that of one without; where operators are folded, all can be; and no `dylink.0` section is refused.)
 abbrev pub ReadsBack : Type 0
 ReadsBack =
     (bytes : List ℕ) (m : PlacedModule) (o : Options) (answers : Answers) →

@@ -56,8 +56,8 @@ unfoldable pub start_pieces : Scope → Option (Placed ℕ) → List Piece
 start_pieces s None = []
 start_pieces s (Some start) = Break (Some start.place) 1 ∷ line_group_gap (codes "start") (item_index s Func start.value)
 
--- Expressions in front of the functions mean the labels and locals of the first function that is defined, those behind them of the one that would be
--- next. (In a valid module no such expression has any.)
+-- Expressions in front of the functions mean the labels and locals of the first function that is defined, those behind them of the one that
+-- would be next. (In a valid module no such expression has any.)
 abbrev pub early_scope : Options → Names → PlacedModule → Scope
 early_scope o names m = scope_of (all_types (groups_of m.types)) names (length (imported func_import (without_places m.imports))) (folding_of o m)
 

@@ -1,6 +1,7 @@
--- Bytes that are read as far as they stand: the entries in front of the first fault, and where reading stands behind them, or none where it met a
--- fault. `gives` says which entries, as a relation; `read` computes them; `sound` and `complete` prove that both say the same. So from each place on
--- there is exactly one list of entries.
+-- Bytes that are read as far as they stand: the entries in front of the first fault, and where reading stands behind them, or none where it
+-- met a fault. `gives` says which entries, as a relation; `read` computes them; `sound` and `complete` prove that both say the same. So
+-- from each place on there is exactly one list of entries. (By section 5.5 of the standard, "Custom Section", no fault in the data of a
+-- custom section invalidates the module.)
 use Rattle.std.specs.Prelude.{◌≡◌, ◌≢◌, ◌==◌, if◌then◌else◌, ◌⊎◌, ℕ, zero, suc, List, [], ◌∷◌, ◌++◌, ◌<◌, length, Bool, true, false, Option, Some, None, MatchOption, refl}
 use Rattle.std.proofs.Common.{ap, inl, inr}
 use Rattle.std.proofs.lemmas.Bool.{eqb-true, eqb-false, eq-eqb, ne_eqb}

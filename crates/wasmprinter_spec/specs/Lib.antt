@@ -1,3 +1,4 @@
+-- The definitions that the printer is proved against, and their laws. Each file says which section of the standard it restates.
 pub mod Grammar
 pub mod Choices
 pub mod FirstByte

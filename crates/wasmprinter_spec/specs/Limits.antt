@@ -1,6 +1,6 @@
--- The limits of this printer (the standard leaves them to implementations, in its appendix "Implementation Limitations"): at most 50,000 locals in a
--- function, parameters not counted, and at most 1,000,000 functions. Nor is a table with an initialiser that is empty: its text would be that of a
--- table without one.
+-- The limits of this printer (the standard leaves them to implementations, in its appendix "Implementation Limitations"): at most 50,000
+-- locals in a function, parameters not counted, and at most 1,000,000 functions. Nor is a table with an initialiser that is empty: its text
+-- would be that of a table without one.
 use Rattle.std.specs.Prelude.{ℕ, ◌+◌, ◌≤◌, List, [], ◌∷◌, Option, Some, length}
 use Rattle.std.specs.List.{AllByRecursion}
 use Rattle.wasmprinter_spec.specs.Grammar.{Placed}

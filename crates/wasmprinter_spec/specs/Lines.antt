@@ -68,8 +68,8 @@ kept ps (line ∷ lines) = cond (is_among ps line) (kept ps lines) (line ∷ kep
 
 -- ---- the lines of a function
 
--- Where the lines of hints are left out, the line with this number begins with this place, and no other line does. Where they are not, one line begins
--- with this place too.
+-- Where the lines of hints are left out, the line with this number begins with this place, and no other line does. Where they are not, one
+-- line begins with this place too.
 pub record IsItsLine (hints : List ℕ) (lines : List (Option ℕ)) (place number : ℕ) : Type 0 where
   pub among_kept : IsOnlyLine (kept hints lines) place number
   pub among_all : (n : ℕ) × IsOnlyLine lines place n
@@ -79,8 +79,9 @@ abbrev pub lines_for : Option ℕ → ℕ
 lines_for None = 0
 lines_for (Some place) = 1
 
--- The lines of a function among all lines, of which those of hints are left out. Its header is the only line with the place of the body's first byte.
--- Behind it comes the line of its locals, if it has any, and then a line for each operator, in order. Each of them is the only one with its place.
+-- The lines of a function among all lines, of which those of hints are left out. Its header is the only line with the place of the
+-- body's first byte. Behind it comes the line of its locals, if it has any, and then a line for each operator, in order. Each of them
+-- is the only one with its place.
 pub record HasFunctionLines (hints : List ℕ) (lines : List (Option ℕ)) (f : PlacedFunction) : Type 0 where
   pub header : ℕ
   pub at_header : IsItsLine hints lines f.body.place header

@@ -13,7 +13,8 @@ pub record Function : Type 0 where
   pub locals : List ValType
   pub operators : List Operator
 
--- Custom sections are those that are printed as they stand. The types stand in their groups. A type by itself is a group of one. Tags are given by the indices of their types.
+-- Custom sections are those that are printed as they stand. The types stand in their groups. A type by itself is a group of one. Tags are
+-- given by the indices of their types.
 pub record Module : Type 0 where
   pub types : List (List SubType)
   pub imports : List Import

@@ -1,4 +1,5 @@
--- How operators nest (section 5.4 of the standard, "Control Instructions", and the older `try`): over the roles of the operators in their flat order.
+-- How operators nest (section 5.4 of the standard, "Control Instructions", and the older `try`): over the roles of the
+-- operators in their flat order.
 use Rattle.std.specs.Prelude.{List, [], ◌∷◌, ◌++◌}
 use Rattle.wasmprinter_spec.specs.Row.{Role, Plain, Opens, OpensIf, Turns, OpensTry, Catches, CatchesAll, Delegates, Ends}
 use Rattle.wasmprinter_spec.specs.Stepped.{Move, On, Stop, Never}

@@ -1,4 +1,5 @@
--- Steps over open blocks go through what is well nested, with an `end` behind it, and through nothing else.
+-- Steps over open blocks go through what is well nested, with an `end` behind it, and through nothing else. The standard nests operators by
+-- its grammar (section 5.4, "Control Instructions"), and has no such steps.
 use Rattle.std.specs.Prelude.{◌≡◌, ◌⊎◌, List, [], ◌∷◌, ◌++◌, Bool, true, false, refl}
 use Rattle.std.proofs.Common.{sym, ap, subst, ◌∙◌, append_assoc, append-nil, inl, inr}
 use Rattle.std.proofs.lemmas.List.{same_from_push}

@@ -1,4 +1,5 @@
--- Operators: an opcode with its immediates. Which opcodes there are says the table.
+-- Operators: an opcode with its immediates. Which opcodes there are says the table. (Section 2.4 of the standard, "Instructions", and
+-- section 5.4.)
 use Rattle.std.specs.Prelude.{ℕ, ℤ, List}
 use Rattle.wasmprinter_spec.specs.Types.{HeapType, RefType, ValType}
 
@@ -10,8 +11,8 @@ pub record Opcode : Type 0 where
 abbrev pub opcode : ℕ → ℕ → Opcode
 opcode p n = record { prefix = p; number = n }
 
--- The type of a block (section 2.4 of the standard, "Block types"): no results, one, or a function type by its index. Three different things,
--- also where they say the same.
+-- The type of a block (section 2.4 of the standard, "Block types"): no results, one, or a function type by its index. Three different
+-- things, also where they say the same.
 pub data BlockType : Type 0 where
   Empty : BlockType
   Value : ValType → BlockType

@@ -1,4 +1,4 @@
--- The options of a layout, and the answers to claims.
+-- The options of a layout, and the answers to claims. The standard has no such thing.
 use Rattle.std.specs.Prelude.{◌≡◌, ℕ, List, Bool, false, codes, ◌⊎◌}
 use Rattle.std.specs.List.{AllByRecursion}
 
@@ -11,7 +11,8 @@ pub record Options : Type 0 where
   pub invents : Bool
   -- each operator stands in parentheses with its operands
   pub folds : Bool
-  -- What stands first in these parentheses carries the sequences of colours. This isn't chosen: it is so where a printer can write colours as text.
+  -- What stands first in these parentheses carries the sequences of colours. This isn't chosen: it is so where a
+  -- printer can write colours as text.
   pub paints : Bool
   -- the text that stands once for each level of nesting
   pub indent : List ℕ

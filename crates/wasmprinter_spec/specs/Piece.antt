@@ -1,5 +1,5 @@
--- Pieces: the smallest parts of a layout that read by themselves. Each has its calls on the printer and its tokens. (Of a folded operator one piece
--- holds the whole text up to its operands, and one its hint: what these read as is said of the pieces that they stand for.)
+-- Pieces: the smallest parts of a layout that read by themselves. Each has its calls on the printer and its tokens. (Of a folded operator
+-- one piece holds the whole text up to its operands, and one its hint: what these read as is said of the pieces that they stand for.)
 use Rattle.std.specs.Prelude.{ℕ, ℤ, zero, suc, ◌-◌, min, List, [], ◌∷◌, ◌++◌, Bool, true, false, codes, decimal, Option, Some, None, replicate, length, flat_map, encode_utf8_all, map}
 use Rattle.std.specs.Fmt.{signed_decimal, digits}
 use Rattle.wasmprinter_spec.specs.Call.{Call, Text, Newline, Line, Start, Claim, Style, Literal, Name, Keyword, TypeName, Comment, Reset, text_of}

@@ -22,7 +22,8 @@ LinesJoin = (o : Options) (answers : Answers) (m : PlacedModule) → joined_line
 abbrev pub BodiesLieApart : Type 0
 BodiesLieApart = (bytes : List ℕ) (m : PlacedModule) → Spells bytes m → IsApart m
 
--- Where bodies are printed flat and no `dylink.0` section is refused, each function has its lines, and each of its operators one of its own.
+-- Where bodies are printed flat and no `dylink.0` section is refused, each function has its lines, and each of
+-- its operators one of its own.
 abbrev pub FunctionsHaveLines : Type 0
 FunctionsHaveLines =
     (bytes : List ℕ) (m : PlacedModule) (o : Options) (answers : Answers) →
@@ -36,8 +37,8 @@ FindsPlace =
     (m : PlacedModule) (lines : List TextLine) (i j number place : ℕ) → place_of m lines i j ≡ Some (number, place) →
     (o : Placed Operator) × (operator_at m i j ≡ Some o) × (place ≡ o.place) × (slice_get (line_places lines) number ≡ Some (Some place))
 
--- In the lines of a module where bodies are printed flat and no `dylink.0` section is refused, each operator's line is found, the only one with its
--- place, and for no operator none.
+-- In the lines of a module where bodies are printed flat and no `dylink.0` section is refused, each operator's line is found, the only one
+-- with its place, and for no operator none.
 abbrev pub FindsLine : Type 0
 FindsLine =
     (bytes : List ℕ) (m : PlacedModule) (o : Options) (answers : Answers) →

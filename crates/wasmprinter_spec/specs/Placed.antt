@@ -1,5 +1,5 @@
--- A module as its bytes lay it out: what the sections hold, with the places that the text can show. All places are counted
--- from the module's first byte.
+-- A module as its bytes lay it out: what the sections hold, with the places that the text can show. All places are counted from the
+-- module's first byte. (Section 2.5 of the standard, "Modules", which has no places.)
 use Rattle.std.specs.Prelude.{ℕ, List, Bool, Option}
 use Rattle.wasmprinter_spec.specs.Grammar.{Placed}
 use Rattle.wasmprinter_spec.specs.Types.{ValType, SubType, RefType, TableType, MemoryType, GlobalType, ExternKind, ExternType}

@@ -1,4 +1,4 @@
--- Plain text: the bytes that a printed module is made of.
+-- Plain text: the bytes that a printed module is made of. The standard allows more in a text (section 6.2, "Characters").
 use Rattle.std.specs.Prelude.{◌≡◌, ℕ, ◌≤◌, List, ◌⊎◌}
 use Rattle.std.specs.List.{AllByRecursion}
 

@@ -1,6 +1,6 @@
 -- Reading a text (section 6 of the standard): the module that it writes, or none. Identifiers may be used before they are declared, so the
--- fields are sorted by kind and their identifiers gathered before a field is read. Of the abbreviations of section 6.6 the reader has folded
--- operators, and groups of several parameters, results, locals and fields.
+-- fields are sorted by kind and their identifiers gathered before a field is read. Of the abbreviations of section 6.6 the reader has
+-- folded operators, and groups of several parameters, results, locals and fields.
 use Rattle.std.specs.Prelude.{ℕ, List, [], ◌∷◌, ◌++◌, Bool, true, false, codes, bytes_eq, Option, Some, None, if◌then◌else◌, map, option_map}
 use Rattle.std.specs.List.{filter}
 use Rattle.std.specs.Str.{is_utf8}

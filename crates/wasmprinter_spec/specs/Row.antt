@@ -1,4 +1,5 @@
--- What the table of operators says of one operator.
+-- What the table of operators says of one operator. (Section 5.4 of the standard, of its opcode and immediates; section 6.5, of its word;
+-- section 3.4, of what it takes and gives.)
 use Rattle.std.specs.Prelude.{ℕ, List, Bool}
 
 -- the index spaces that immediates name (section 2.5 of the standard, "Indices")
@@ -43,8 +44,8 @@ pub data Shape : Type 0 where
   VectorShape : Shape  -- sixteen bytes, which the text writes as four numbers
   LanesShape : Shape  -- sixteen lanes
 
--- How many operands an operator takes and how many results it gives: fixed numbers, or those of a type or label that it names. P and Q are the
--- numbers of parameters and results of a function's or tag's type, v is how many operands a label wants.
+-- How many operands an operator takes and how many results it gives: fixed numbers, or those of a type or label that it names. P and Q are
+-- the numbers of parameters and results of a function's or tag's type, v is how many operands a label wants.
 pub data Arity : Type 0 where
   Fixed : ℕ → ℕ → Arity
   OfCall : Arity  -- takes P, gives Q

@@ -1,5 +1,5 @@
--- Sections (section 5.5 of the standard, "Sections"): each has a kind, and holds what is spelled by all the bytes of its size. What is said of each kind stands here, one line for each; how the content of a kind
--- is spelled stands in a file of its own, in `Binary`.
+-- Sections (section 5.5 of the standard, "Sections"): each has a kind, and holds what is spelled by all the bytes of its size. What is said
+-- of each kind stands here, one line for each; how the content of a kind is spelled stands in a file of its own, in `Binary`.
 use Rattle.std.specs.Prelude.{ℕ, List, [], ◌∷◌, Bool, true, false, ◌&&◌, nat_lt, if◌then◌else◌, Option, Some, None}
 use Rattle.wasmprinter_spec.specs.Grammar.{Grammar, Remainder, byte, seq, map_value, try_map, Placed}
 use Rattle.wasmprinter_spec.specs.Repeated.{some_or}
@@ -142,8 +142,8 @@ abbrev pub is_filled : {A : Type 0} → List A → Bool
 is_filled [] = false
 is_filled (x ∷ xs) = true
 
--- Whether there is something behind which a custom section can stand: a list with items, or a start function. (A data count is nothing of the
--- module.)
+-- Whether there is something behind which a custom section can stand: a list with items, or a start function. (A data
+-- count is nothing of the module.)
 abbrev pub is_place : (kind : Kind) → Content kind → Bool
 is_place CustomSection x = false
 is_place TypeSection xs = is_filled xs

@@ -76,8 +76,8 @@ pub record Limits : Type 0 where
 abbrev pub limits_of : ℕ → Option ℕ → Limits
 limits_of min max = record { min = min; max = max }
 
--- A memory: whether its addresses have 64 bits, whether threads may share it, its size in pages, and the exponent of the size of a page. (No
--- exponent is another thing than 16, which means the same size.)
+-- A memory: whether its addresses have 64 bits, whether threads may share it, its size in pages, and the exponent of the size of a page.
+-- (No exponent is another thing than 16, which means the same size.)
 pub record MemoryType : Type 0 where
   pub wide : Bool
   pub shared : Bool

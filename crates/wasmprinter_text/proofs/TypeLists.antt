@@ -11,7 +11,6 @@ use Rattle.wasmprinter_ops.specs.ValTypes.{type_view, types_view}
 use Rattle.wasmprinter_ops.specs.declared.types.ValType.{ValType}
 
 module _ (names : Names) where
-  -- one type
   pub one_type : (t : DefinedType) → type_list names (t ∷ []) ≡ Gap ∷ val_pieces names t
   unfolding type_list
   one_type t = ap (λ ps. Gap ∷ ps) (append-nil (val_pieces names t))

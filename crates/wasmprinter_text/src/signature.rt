@@ -21,6 +21,7 @@ pub trait Signatures {
     ghost use Rattle.std.specs.Prelude.{◌≡◌, ℕ, Option};
     ghost use Rattle.wasmprinter_spec.specs.Types.{FuncType};
 
+    /// The function type with an index.
     ghost signature_at: { Self → ℕ → Option FuncType };
 
     /// The function type with the index, `None` where there is no such type or it is of another kind.

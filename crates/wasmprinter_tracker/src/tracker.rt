@@ -17,8 +17,11 @@ use wasmprinter_print::Print;
 #[derive(Drop)]
 pub struct Tracker {
     text: String,
+    /// The lines that have their entries, in order.
     starts: Vec<LineStart>,
+    /// The place of the line that waits for its entry, if one does; the line may have no place.
     waiting: Option<Option<u64>>,
+    /// Whether a line began while one waited.
     lost: bool,
 }
 
@@ -53,7 +56,7 @@ impl Tracker {
         }
     }
 
-    // Gives the line that waits its entry.
+    /// Gives the line that waits its entry. Fails where memory for it is refused or a line was lost, and then changes nothing.
     fn enter(&mut self) -> Result<(), AllocError>
         ensures ok { OnOk result (self.new ≡ record self.old { new_line = false }) }
         ensures kept { OnOk result (self.new.lost ≡ false) }
@@ -70,7 +73,8 @@ impl Tracker {
         Ok(())
     }
 
-    // Appends a piece of text.
+    /// Appends a piece of text, behind the entry of the line that waits. Fails where memory is refused or a line was lost; the text and
+    /// its lines are then as they were.
     fn push_str(&mut self, piece: &str) -> Result<(), AllocError>
         ensures ok { OnOk result (self.new ≡ with_text self.old piece.now) }
         ensures kept { OnOk result (self.new.lost ≡ false) }

@@ -32,7 +32,8 @@ use Rattle.wasmprinter_wasm.proofs.Pairing.{Paired, Pairs, paired_of, paired_len
 use Rattle.wasmprinter_wasm.proofs.OrderedSections.{HoldsFew, few_held}
 use Rattle.wasmprinter_wasm.proofs.Listed.{bytes_apart, sections_listed, items_held}
 
--- what the bytes of a module are: a preamble, and sections in order with as many type indices as bodies, and as many data segments as are counted
+-- what the bytes of a module are: a preamble, and sections in order with as many type indices as bodies, and as
+-- many data segments as are counted
 record Spelled (at : Input) (m : PlacedModule) (size : ℕ) : Type 0 where
   sections : List Section
   read : sections_at at ≡ Some sections

@@ -10,7 +10,8 @@ use Rattle.wasmprinter_error.specs.Reasons.{Reasons, HasReason}
 use Rattle.wasmprinter_entries.specs.Refusals.{HasManyLocals, HasEmptyInit, BeginsSection, KeepsSome, AnyIsOver, FirstIsEmpty}
 use Rattle.wasmprinter_wasm.specs.Modules.{bodies_of}
 
--- how many groups of types, imports, functions, tables, memories, tags, globals, exports, element segments, data segments and custom sections it has
+-- how many groups of types, imports, functions, tables, memories, tags, globals, exports, element segments, data
+-- segments and custom sections it has
 abbrev pub items_held : PlacedModule → ℕ
 items_held m =
     length m.types + length m.imports + length m.functions + length m.tables + length m.memories + length m.tags + length m.globals + length m.exports
@@ -26,7 +27,8 @@ HoldsNothing m = items_held m ≡ 0
 
 -- Why decoding may be refused: the bytes are a component; or no module is spelled; or there are too many locals in a function whose body
 -- lies at the place; or too many functions; or the table at the place has an empty initialiser; or a growth was refused, and then something
--- stands among the bytes that is kept, and a module that is spelled holds something. `component` says when the bytes are refused as a component.
+-- stands among the bytes that is kept, and a module that is spelled holds something. `component` says when the
+-- bytes are refused as a component.
 abbrev pub module_reasons : List ℕ → Type 0 → Reasons
 module_reasons bytes component = record {
   malformed = λ place. ((m : PlacedModule) → Spells bytes m → ⊥) × (place ≤ length bytes);

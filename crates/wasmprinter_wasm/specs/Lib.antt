@@ -1,3 +1,4 @@
+-- What the contracts of decoding and of a decoded module cite.
 pub mod Sections
 pub mod Modules
 pub mod Gathering

@@ -23,32 +23,46 @@ use wasmprinter_segments::elements::{Element, read_elements};
 use wasmprinter_segments::globals::{Global as GlobalVariable, read_globals};
 use wasmprinter_segments::tables::{Table, read_tables};
 
+/// The id of custom sections.
 const CUSTOM: u8 = 0;
 
+/// The id of the type section.
 const TYPE: u8 = 1;
 
+/// The id of the import section.
 const IMPORT: u8 = 2;
 
+/// The id of the function section.
 const FUNCTION: u8 = 3;
 
+/// The id of the table section.
 const TABLE: u8 = 4;
 
+/// The id of the memory section.
 const MEMORY: u8 = 5;
 
+/// The id of the global section.
 const GLOBAL: u8 = 6;
 
+/// The id of the export section.
 const EXPORT: u8 = 7;
 
+/// The id of the start section.
 const START: u8 = 8;
 
+/// The id of the element section.
 const ELEMENT: u8 = 9;
 
+/// The id of the code section.
 const CODE: u8 = 10;
 
+/// The id of the data section.
 const DATA: u8 = 11;
 
+/// The id of the data count section, which stands in front of the code section.
 const DATA_COUNT: u8 = 12;
 
+/// The id of the tag section, which stands behind the memory section.
 const TAG: u8 = 13;
 
 /// What a section holds.

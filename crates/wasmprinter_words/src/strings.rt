@@ -19,6 +19,7 @@ fn is_plain(c: char) -> bool
     matches!(c, ' '..='~') && c != '"' && c != '\\'
 }
 
+/// Writes a character as it stands in quotes: itself, or `\u{..}` with its number in hexadecimal.
 #[tactic(auto, unfolding(wasmprinter_spec::specs::Quoted::char_text))]
 fn write_char<P: Print>(p: &mut P, c: char) -> io::Result<()>
     ensures { Emits P.meaning p.old p.new result (Text (char_text c) ∷ []) }
@@ -65,6 +66,7 @@ pub fn write_quoted<P: Print>(p: &mut P, s: &str) -> Result<(), Error>
     Ok(())
 }
 
+/// Writes a byte as it stands in quotes: the ASCII character, or `\hh` with its two hexadecimal digits.
 #[tactic(auto, unfolding(wasmprinter_spec::specs::Quoted::byte_text))]
 fn write_byte<P: Print>(p: &mut P, byte: u8) -> io::Result<()>
     ensures { Emits P.meaning p.old p.new result (Text (byte_text byte) ∷ []) }
@@ -77,6 +79,7 @@ fn write_byte<P: Print>(p: &mut P, byte: u8) -> io::Result<()>
     write_byte_digits(p, byte)
 }
 
+/// Writes bytes as they stand in quotes.
 fn write_each_byte<P: Print>(p: &mut P, bytes: &[u8]) -> io::Result<()>
     ensures { Emits P.meaning p.old p.new result (Text (flat_map byte_text bytes.now) ∷ []) }
 {

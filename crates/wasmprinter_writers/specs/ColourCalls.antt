@@ -19,8 +19,8 @@ PaintsBySequences inner_of takes old look answer new = WritesEach takes (inner_o
 abbrev pub PaintsNothing : {T : Type 0} → Painting T
 PaintsNothing old look answer new = WritesNothing old answer new
 
--- A text and a line feed are written, in one write each, and a style asks for its look, once; the answer is that of the call. A line and a claim write
--- nothing, and no claim is taken.
+-- A text and a line feed are written, in one write each, and a style asks for its look, once; the answer is that of the call. A line and a
+-- claim write nothing, and no claim is taken.
 abbrev pub WritesInColour : {T : Type 0} → Writing T → Painting T → T → Call → Result (Unit {0}) IoError → T → Type 0
 WritesInColour takes paints old (Text bytes) answer new = takes old bytes answer new
 WritesInColour takes paints old Newline answer new = takes old (10 ∷ []) answer new

@@ -5,8 +5,8 @@ use Rattle.wasmprinter_spec.specs.Call.{Call, Text, Newline, Line, Start, Claim}
 use Rattle.wasmprinter_spec.specs.Meaning.{Meaning}
 use Rattle.wasmprinter_writers.specs.Writing.{Writing, WritesNothing}
 
--- A text and a line feed are written, in one write each, whose answer is that of the call. A line, a style and a claim write nothing, and no claim is
--- taken.
+-- A text and a line feed are written, in one write each, whose answer is that of the call. A line, a style and a claim write
+-- nothing, and no claim is taken.
 abbrev pub WritesText : {T : Type 0} → Writing T → T → Call → Result (Unit {0}) IoError → T → Type 0
 WritesText takes old (Text bytes) answer new = takes old bytes answer new
 WritesText takes old Newline answer new = takes old (10 ∷ []) answer new

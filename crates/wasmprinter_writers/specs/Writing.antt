@@ -15,7 +15,8 @@ TakesWhole contents old bytes answer new = OnOk answer (Appends (contents old) (
 abbrev pub WritesNothing : {T : Type 0} → T → Result (Unit {0}) IoError → T → Type 0
 WritesNothing old answer new = (answer ≡ Ok tt) × (new ≡ old)
 
--- Each of the byte strings is written, in order, up to the first write that fails: its error is the answer, and nothing is written behind it.
+-- Each of the byte strings is written, in order, up to the first write that fails: its error is the answer, and
+-- nothing is written behind it.
 abbrev pub WritesEach : {T : Type 0} → Writing T → T → List (List ℕ) → Result (Unit {0}) IoError → T → Type 0
 WritesEach takes old [] answer new = WritesNothing old answer new
 WritesEach {T} takes old (bytes ∷ rest) answer new =

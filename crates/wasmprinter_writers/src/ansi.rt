@@ -10,9 +10,10 @@ use crate::{Color, ColorSpec, WriteBytes, WriteColor};
 use std::io;
 use std::io::Write;
 
-/// Back to text without colours.
+/// Text without colours follows, and not bold.
 const RESET: &str = "\x1b[0m";
 
+/// Bold text follows.
 const BOLD: &str = "\x1b[1m";
 
 /// A writer that passes its bytes on, and writes colours as sequences of a terminal (Select Graphic Rendition of ECMA-48).
@@ -103,7 +104,7 @@ fn write_color<W: WriteBytes>(w: &mut W, fg: Option<Color>, is_intense: bool) ->
     }
 }
 
-/// The sequence of a colour: those of the first eight have one digit, the intense ones are among the palette's 256.
+/// The sequence of a colour: 3 and its number for one of the first eight; intense ones go by their numbers among the palette's 256.
 #[tactic(auto, using(crate::proofs::Decimals::decimals))]
 fn sequence(color: Color, is_intense: bool) -> &'static str
     ensures { result.now ≡ foreground (number_of color) is_intense }

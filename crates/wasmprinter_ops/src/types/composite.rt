@@ -127,6 +127,10 @@ impl StorageType {
 }
 
 /// Reads whether a field or a global variable can be changed.
+///
+/// # Errors
+///
+/// `Malformed` where the byte is neither 00 nor 01, with its place.
 pub fn read_mutability(cursor: &mut Cursor) -> Result<bool, Malformed>
     ensures reads { Reads (λ b. b) mutability.parse cursor.old result cursor.new }
     ensures within { IsWithin cursor.old result }
@@ -348,6 +352,10 @@ impl<'a> SubTypes<'a> {
     }
 
     /// Reads a type that stands by itself.
+    ///
+    /// # Errors
+    ///
+    /// `Malformed` where the bytes don't spell a subtype, with the place of what may not stand there.
     pub fn read_one(cursor: &mut Cursor<'a>) -> Result<Self, Malformed>
         ensures reads { Reads (λ t. t) (items_at subtype.parse 1) cursor.old result cursor.new }
         ensures within { IsWithin cursor.old result }
@@ -357,6 +365,10 @@ impl<'a> SubTypes<'a> {
     }
 
     /// Reads a count and so many types.
+    ///
+    /// # Errors
+    ///
+    /// `Malformed` where the bytes don't spell a count and so many subtypes, with the place of what may not stand there.
     pub fn read(cursor: &mut Cursor<'a>) -> Result<Self, Malformed>
         ensures reads { Reads (λ t. t) (vec subtype).parse cursor.old result cursor.new }
         ensures within { IsWithin cursor.old result }

@@ -82,7 +82,6 @@ fields_written (f ∷ fs) h = both_written (values_written f.name f.values h.0.0
 
 -- ---- `dylink.0`
 
--- words of flags
 abbrev are_flag_words : List (ℕ × List ℕ) → Bool
 are_flag_words [] = true
 are_flag_words (row ∷ rows) = is_word row.1 && are_flag_words rows

@@ -1,5 +1,5 @@
--- What functions and tags begin with: an identifier, the index of a type, and its signature. It is all that a tag holds, and a function or tag that
--- is imported.
+-- What functions and tags begin with: an identifier, the index of a type, and its signature. It is all that a tag holds, and a
+-- function or tag that is imported.
 use Rattle.std.proofs.Common.{◌≡◌, ℕ, ◌<◌, ◌^◌, [], List, ◌++◌, length, Option, Some, None, refl, ap, ◌∙◌, subst, append-nil, arith}
 use Rattle.wasmprinter_spec.specs.Forest.{Forest, End, onto}
 use Rattle.wasmprinter_spec.specs.Types.{FuncType, signature_at}

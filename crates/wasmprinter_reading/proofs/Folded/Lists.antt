@@ -1,4 +1,5 @@
--- The operators of a body or of an expression, flat or folded: what they are written as, that their pieces write it, and that it is their code.
+-- The operators of a body or of an expression, flat or folded: what they are written as, that their pieces write
+-- it, and that it is their code.
 use Rattle.std.proofs.Common.{◌≡◌, inl, ℕ, Bool, true, false, List, [], ◌∷◌, Option, Some, None, option_map, map, refl, sym, ap, ap₂, subst, ◌∙◌}
 use Rattle.std.specs.List.{AllByRecursion}
 use Rattle.wasmprinter_spec.specs.Grammar.{Placed}

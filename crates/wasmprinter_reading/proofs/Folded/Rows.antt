@@ -23,8 +23,8 @@ are_nested cs = stops advance at_start (map (λ c. role_by c.rows) cs) Ends
 abbrev pub IsNested : Nodes → Type 0
 IsNested f = are_nested (told_chunks false (unfolded f)) ≡ true
 
--- Nodes in a row, by the last of them: the node of a plain operator with its operands, of a block with what it holds, or of an `if` with the nodes that are
--- given to it and with its cases.
+-- Nodes in a row, by the last of them: the node of a plain operator with its operands, of a block with what it holds, or of an `if` with
+-- the nodes that are given to it and with its cases.
 pub data IsRow (form : Form) : Nodes → Type 0 where
   no_nodes : IsRow form Nil
   a_plain : (b : Nodes) (x : Item) (r : ℕ) (held : Nodes) → role x ≡ row.Plain → IsPrinted form x → IsRow form b → IsRow form held → IsRow form (Snoc b (Of x) r held)

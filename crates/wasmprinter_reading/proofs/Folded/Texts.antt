@@ -1,4 +1,5 @@
--- The text of folded operators is that of pieces that read by themselves: those of each operator's immediates, and the annotation of each hint.
+-- The text of folded operators is that of pieces that read by themselves: those of each operator's immediates,
+-- and the annotation of each hint.
 use Rattle.std.proofs.Common.{◌≡◌, ℕ, ◌+◌, ◌==◌, Bool, true, false, ◌&&◌, ◌||◌, true≢false, List, [], ◌∷◌, ◌++◌, Option, Some, None, refl, sym, ap, ◌∙◌, append_assoc, append-nil, codes}
 use Rattle.std.proofs.lemmas.Bool.{and_parts, and_from}
 use Rattle.std.specs.Option.{is_none}

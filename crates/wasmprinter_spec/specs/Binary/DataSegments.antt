@@ -1,4 +1,5 @@
--- The data section (section 5.5 of the standard, "Data Section"): a list of data segments; and the data count section, which holds their number.
+-- The data section (section 5.5 of the standard, "Data Section"): a list of data segments; and the data count
+-- section, which holds their number.
 use Rattle.std.specs.Prelude.{ℕ, List, ◌==◌, Option, Some}
 use Rattle.wasmprinter_spec.specs.Grammar.{Grammar, Remainder, seq, map_value, succeed, fail, choose, Placed, placed}
 use Rattle.wasmprinter_spec.specs.Sized.{take_bytes, alone}

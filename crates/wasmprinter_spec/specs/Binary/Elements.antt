@@ -35,8 +35,8 @@ items_of_type = map_value (λ x. x.1) (seq reference_type expression_items)
 abbrev pub segment : Bool → Grammar (Mode (Placed Operator)) → Grammar (Items (Placed Operator)) → Grammar ElementEntry
 segment names mode items = map_value (λ x. entry_of names (element_of x.0 x.1)) (seq mode (λ _. items))
 
--- Behind the flags: bit 0 says that the segment is not active, bit 1 that it is declared or that it names its table, bit 2 that its items are
--- expressions.
+-- Behind the flags: bit 0 says that the segment is not active, bit 1 that it is declared or that it names its table, bit 2
+-- that its items are expressions.
 abbrev pub element_behind : ℕ → Grammar ElementEntry
 element_behind flags =
     choose (flags == 0) (segment false active function_items)

@@ -1,5 +1,5 @@
--- How bytes spell the types of memories (section 5.3 of the standard, "Memory Types", with the sizes of pages that a proposal to the standard
--- adds), and the memory section (section 5.5, "Memory Section"): a list of these.
+-- How bytes spell the types of memories (section 5.3 of the standard, "Memory Types", with the sizes of pages that a proposal to the
+-- standard adds), and the memory section (section 5.5, "Memory Section"): a list of these.
 use Rattle.std.specs.Prelude.{ℕ, nat_lt, Bool, true, false, List, Option, Some, None, if◌then◌else◌}
 use Rattle.wasmprinter_spec.specs.Grammar.{Grammar, Remainder, seq, try_map, map_value, succeed, fail, choose, Placed, placed}
 use Rattle.wasmprinter_spec.specs.FirstByte.{announced}
@@ -16,8 +16,8 @@ abbrev pub page : Bool → Grammar (Option ℕ)
 page true = map_value Some (try_map page_exponent u32)
 page false = succeed None
 
--- Behind the flags: bit 0 says that there is a greatest size, bit 1 that the memory is shared, bit 2 that addresses have 64 bits, bit 3 that
--- the size of a page follows.
+-- Behind the flags: bit 0 says that there is a greatest size, bit 1 that the memory is shared, bit 2 that addresses have 64 bits, bit 3
+-- that the size of a page follows.
 abbrev pub memory_type_behind : ℕ → Grammar MemoryType
 memory_type_behind flags =
     choose (nat_lt flags 16)

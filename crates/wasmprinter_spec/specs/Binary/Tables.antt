@@ -1,5 +1,5 @@
--- How bytes spell the types of tables (section 5.3 of the standard, "Table Types"), and the table section (section 5.5, "Table Section"): a list of
--- tables, with or without an initialiser.
+-- How bytes spell the types of tables (section 5.3 of the standard, "Table Types"), and the table section (section 5.5, "Table Section"): a
+-- list of tables, with or without an initialiser.
 use Rattle.std.specs.Prelude.{ℕ, List, Bool, ◌==◌, ◌||◌, Some, None}
 use Rattle.wasmprinter_spec.specs.Grammar.{Grammar, Remainder, seq, map_value, fail, choose, Placed, placed}
 use Rattle.wasmprinter_spec.specs.FirstByte.{only, announced, peeked}

@@ -1,5 +1,5 @@
--- How bytes spell composite types, subtypes and their groups (section 5.3 of the standard), and the type section (section 5.5, "Type Section"):
--- a list of groups.
+-- How bytes spell composite types, subtypes and their groups (section 5.3 of the standard), and the type section (section 5.5,
+-- "Type Section"): a list of groups.
 use Rattle.std.specs.Prelude.{ℕ, List, [], ◌∷◌, Bool, true, false, ◌==◌, is_some, Option}
 use Rattle.wasmprinter_spec.specs.Grammar.{Grammar, Remainder, byte, seq, try_map, map_value, fail, choose, Placed, placed}
 use Rattle.wasmprinter_spec.specs.FirstByte.{announced}

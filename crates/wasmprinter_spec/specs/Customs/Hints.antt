@@ -1,4 +1,5 @@
--- Branch hints (Code Metadata, a document beside the standard; branch hinting proposal): for functions, which operators are likely to branch.
+-- Branch hints (Code Metadata, a document beside the standard; branch hinting proposal): for functions, which
+-- operators are likely to branch.
 use Rattle.std.specs.Prelude.{ℕ, List, [], ◌∷◌, Bool, true, false, ◌==◌, nat_le, codes, bytes_eq, length, Option, Some, None, if◌then◌else◌}
 use Rattle.wasmprinter_spec.specs.Grammar.{Grammar, Remainder, input, Placed, placed, byte, seq, map_value, try_map}
 use Rattle.wasmprinter_spec.specs.Sized.{alone}

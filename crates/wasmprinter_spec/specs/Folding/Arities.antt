@@ -1,5 +1,6 @@
--- How many operands an operator takes, and how many results it gives, where it stands: by the column of the table, and for those that name a
--- type, a function, a tag or a label by what these are in the module.
+-- How many operands an operator takes, and how many results it gives, where it stands: by the column of the table, and for those that name
+-- a type, a function, a tag or a label by what these are in the module. The types of operators (section 3.4 of the standard,
+-- "Instructions") say as much of valid code.
 use Rattle.std.specs.Prelude.{ℕ, zero, suc, ◌+◌, ◌-◌, ◌^◌, ◌==◌, ◌&&◌, min, List, [], ◌∷◌, ◌++◌, length, map, slice_get, Bool, true, false, Option, Some, None, option_map}
 use Rattle.wasmprinter_spec.specs.Grammar.{◌>>=◌}
 use Rattle.wasmprinter_spec.specs.Types.{FuncType, ValType, SubType, all_types, signature_at, fields_at}
@@ -9,9 +10,9 @@ use Rattle.wasmprinter_spec.specs.Table.{by_opcode}
 use Rattle.wasmprinter_spec.specs.Placed.{PlacedModule}
 use Rattle.wasmprinter_spec.specs.Module.{without_places, groups_of, imported, func_import, tag_import}
 
--- What operators name, each by its index: the function types, the types of functions and of tags, how many fields a structure type has; and how many
--- results the function around has, of which a constant expression has none. Nothing is known of an index without an item, or with one of another
--- kind.
+-- What operators name, each by its index: the function types, the types of functions and of tags, how many fields a structure type
+-- has; and how many results the function around has, of which a constant expression has none. Nothing is known of an index without an
+-- item, or with one of another kind.
 pub record Signatures : Type 0 where
   pub types : ℕ → Option FuncType
   pub functions : ℕ → Option FuncType

@@ -1,4 +1,5 @@
--- Well-nested operators as a tree of blocks (section 5.4 of the standard, "Control Instructions"), without the older `try`, which isn't folded.
+-- Well-nested operators as a tree of blocks (section 5.4 of the standard, "Control Instructions"), without the
+-- older `try`, which isn't folded.
 use Rattle.std.specs.Prelude.{◌≡◌, ℕ, List, [], ◌∷◌, ◌++◌, map, Bool, true, false, Option, Some, None}
 use Rattle.std.specs.List.{AllByRecursion}
 use Rattle.wasmprinter_spec.specs.Grammar.{Placed, ◌>>=◌}
@@ -10,8 +11,8 @@ use Rattle.wasmprinter_spec.specs.Nesting.{Nests, Sequence}
 use Rattle.wasmprinter_spec.specs.Customs.Hints.{Hint}
 use Rattle.wasmprinter_spec.specs.Piece.{Piece}
 
--- an operator of a list: with its place, its word and immediates as they are printed, its hint if it has one, how many operands it takes, and how
--- many results it gives, where it opens a block those of the block
+-- an operator of a list: with its place, its word and immediates as they are printed, its hint if it has one, how many operands it takes,
+-- and how many results it gives, where it opens a block those of the block
 pub record Item : Type 0 where
   pub operator : Placed Operator
   pub pieces : List Piece
@@ -19,8 +20,8 @@ pub record Item : Type 0 where
   pub takes : ℕ
   pub gives : ℕ
 
--- Operators whose blocks are closed. Each constructor is the first operator, and its last part is what stands behind it; between them what the
--- block holds, the `else` if there is one with what it holds, and the `end`.
+-- Operators whose blocks are closed. Each constructor is the first operator, and its last part is what stands behind it; between them what
+-- the block holds, the `else` if there is one with what it holds, and the `end`.
 pub data Code : Type 0 where
   Done : Code
   Plain : Item → Code → Code
@@ -54,8 +55,9 @@ AreWithoutTry rs = AllByRecursion (λ r. is_try r ≡ false) rs
 
 -- ---- from the list to the tree, from right to left
 
--- What stands behind a place in a list: no `end` that closes a block around the place; or the code up to such an `end`, the `end`, and what stands
--- behind it; or the code up to the `else` of such a block, the `else`, the code up to the `end`, the `end`, and what stands behind it.
+-- What stands behind a place in a list: no `end` that closes a block around the place; or the code up to such an `end`, the
+-- `end`, and what stands behind it; or the code up to the `else` of such a block, the `else`, the code up to the `end`, the
+-- `end`, and what stands behind it.
 pub data Behind : Type 0 where
   Outside : Code → Behind
   InBlock : Code → Item → Behind → Behind
@@ -67,8 +69,8 @@ with_code f (Outside code) = Outside (f code)
 with_code f (InBlock code end behind) = InBlock (f code) end behind
 with_code f (InIf code turn other end behind) = InIf (f code) turn other end behind
 
--- One operator in front. An `end` closes a block that is still to come, an `else` stands in such a block, and what opens a block takes what is there
--- up to the `end`. The operators of the older `try` have no tree.
+-- One operator in front. An `end` closes a block that is still to come, an `else` stands in such a block, and what opens a block takes what
+-- is there up to the `end`. The operators of the older `try` have no tree.
 abbrev pub in_front : Role → Item → Behind → Option Behind
 in_front row.Plain x behind = Some (with_code (Plain x) behind)
 in_front Ends x behind = Some (InBlock Done x behind)

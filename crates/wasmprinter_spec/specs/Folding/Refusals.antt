@@ -1,4 +1,5 @@
--- What can't be folded in a module: operators of the older `try`, and branch hints on operators whose node has no place for one.
+-- What can't be folded in a module: operators of the older `try`, and branch hints on operators whose node has no place for one. The
+-- standard has no such thing: what can't be folded is this printer's own.
 use Rattle.std.specs.Prelude.{◌≡◌, ℕ, ◌+◌, ◌-◌, List, [], ◌∷◌, ◌++◌, map, flat_map, Bool, true, false, cond, length, Option, Some, None}
 use Rattle.wasmprinter_spec.specs.Grammar.{Placed}
 use Rattle.wasmprinter_spec.specs.Operator.{Operator}
@@ -60,8 +61,8 @@ legacy_places o m = flat_map legacy_places_in (constant_lists o m) ++ flat_map l
 
 -- ---- hints
 
--- `block`, `loop`, `try_table`, `else` and `end` can't have a hint where they are folded: a rule of this printer. (An `end` has no node of its own; before those of
--- the others this printer puts none. The standard's tools put hints on `if` and on branches.)
+-- `block`, `loop`, `try_table`, `else` and `end` can't have a hint where they are folded: a rule of this printer. (An `end` has no node of
+-- its own; before those of the others this printer puts none. The standard's tools put hints on `if` and on branches.)
 abbrev pub is_hintless : Role → Bool
 is_hintless Opens = true
 is_hintless Turns = true

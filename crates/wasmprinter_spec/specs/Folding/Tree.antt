@@ -1,5 +1,5 @@
--- Nodes: what code folds into. A node is a pair of parentheses with an operator and its operands, with a block and what it holds, or with a case of
--- an `if`. Which operators take which nodes as operands is this printer's own rule.
+-- Nodes: what code folds into. A node is a pair of parentheses with an operator and its operands, with a block and what it holds, or with a
+-- case of an `if`. Which operators take which nodes as operands is this printer's own rule.
 use Rattle.std.specs.Prelude.{◌≡◌, ◌≢◌, ◌<◌, ℕ, zero, suc, ◌+◌, nat_lt, ◌==◌, Bool, true, false, if◌then◌else◌}
 use Rattle.wasmprinter_spec.specs.Folding.Arities.{greatest, saturated}
 use Rattle.wasmprinter_spec.specs.Folding.Code.{Item, Code, Done, Plain, Block, If, IfElse}
@@ -10,8 +10,8 @@ pub data Head : Type 0 where
   Then : Item → Head
   Else : Item → Head
 
--- Nodes in a row, with heads of some kind. The last one stands behind the others, with its head, how many results it counts for, and the nodes
--- that it holds.
+-- Nodes in a row, with heads of some kind. The last one stands behind the others, with its head, how many results it counts
+-- for, and the nodes that it holds.
 pub data NodesOf (H : Type 0) : Type 0 where
   Nil : NodesOf H
   Snoc : NodesOf H → H → ℕ → NodesOf H → NodesOf H
@@ -74,8 +74,8 @@ abbrev pub operands : {H : Type 0} → ℕ → NodesOf H → OperandsOf H
 operands zero f = Short
 operands (suc n) f = operands_from (suc n) 0 f
 
--- An operator behind a row of nodes, with those that it takes. Where a sum passed, results that were given together would have to be parted: the
--- operator takes no node, and counts for so many results that hardly any other takes it.
+-- An operator behind a row of nodes, with those that it takes. Where a sum passed, results that were given together would have to be
+-- parted: the operator takes no node, and counts for so many results that hardly any other takes it.
 abbrev pub with_operands : {H : Type 0} → NodesOf H → H → ℕ → OperandsOf H → NodesOf H
 with_operands f head gives (Fit before run) = Snoc before head gives run
 with_operands f head gives Passed = Snoc f head greatest Nil
@@ -112,8 +112,8 @@ OperandRule = (wanted : ℕ) (f : Nodes) → 0 < wanted → IsAnswer wanted 0 f 
 
 -- ---- code
 
--- The nodes of code behind a row of nodes. A block gives its results alone. An `if` holds the last node before it, if there is one, and then its
--- cases.
+-- The nodes of code behind a row of nodes. A block gives its results alone. An `if` holds the last node before it, if
+-- there is one, and then its cases.
 abbrev pub tree_behind : Nodes → Code → Nodes
 tree_behind f Done = f
 tree_behind f (Plain x rest) = tree_behind (folded f x) rest

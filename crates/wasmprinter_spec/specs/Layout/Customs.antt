@@ -1,5 +1,5 @@
--- The layout of custom sections: raw ones as annotations `(@custom ..)` (custom annotations, appendix of the standard), `producers` and `dylink.0` in
--- lines of their own (tool conventions). Before each the printer is asked whether it takes the section itself.
+-- The layout of custom sections: raw ones as annotations `(@custom ..)` (custom annotations, appendix of the standard), `producers` and
+-- `dylink.0` in lines of their own (tool conventions). Before each the printer is asked whether it takes the section itself.
 use Rattle.std.specs.Prelude.{ℕ, ◌+◌, ◌-◌, ◌/◌, ◌%◌, ◌==◌, ◌&&◌, List, [], ◌∷◌, ◌++◌, Bool, true, false, codes, chars, decimal, cond, Option, Some, None, if◌then◌else◌}
 use Rattle.std.specs.Fmt.{digits}
 use Rattle.wasmprinter_spec.specs.Grammar.{Placed}

@@ -1,4 +1,4 @@
--- What the fields of a module are laid out by.
+-- What the fields of a module are laid out by. The standard has no such thing.
 use Rattle.std.specs.Prelude.{ℕ, List, Bool, Option, Some, None, cond}
 use Rattle.wasmprinter_spec.specs.Types.{SubType, signature_at}
 use Rattle.wasmprinter_spec.specs.Row.{Space}
@@ -10,8 +10,8 @@ use Rattle.wasmprinter_spec.specs.Piece.{Piece}
 use Rattle.wasmprinter_spec.specs.Layout.Identifiers.{declaration_pieces, index_pieces}
 use Rattle.wasmprinter_spec.specs.Layout.Types.{type_use_pieces}
 
--- what operators are folded by: whether their text carries the sequences of colours, and what they name in the module, in a function that has so
--- many results
+-- what operators are folded by: whether their text carries the sequences of colours, and what they name in the module, in a
+-- function that has so many results
 pub record Folding : Type 0 where
   pub paints : Bool
   pub signatures : Option ℕ → Signatures
@@ -20,7 +20,8 @@ pub record Folding : Type 0 where
 abbrev pub folding_of : Options → PlacedModule → Option Folding
 folding_of o m = cond o.folds (Some (record { paints = o.paints; signatures = signatures_within m })) None
 
--- the module's types and identifiers, the function whose locals and labels an expression means, and what operators are folded by, where they are
+-- the module's types and identifiers, the function whose locals and labels an expression means, and what operators
+-- are folded by, where they are
 pub record Scope : Type 0 where
   pub types : List SubType
   pub names : Names

@@ -1,5 +1,6 @@
--- The layout of expressions in fields: in one line, but where the comment of a folded operator ends it. Where a field holds an expression in a group
--- of its own, a single operator stands there alone (section 6.6 of the standard: `(instr)` is short for `(offset instr)` and for `(item instr)`).
+-- The layout of expressions in fields: in one line, but where the comment of a folded operator ends it. Where a field holds an
+-- expression in a group of its own, a single operator stands there alone (section 6.6 of the standard: `(instr)` is short for
+-- `(offset instr)` and for `(item instr)`).
 use Rattle.std.specs.Prelude.{ℕ, ◌+◌, List, [], ◌∷◌, ◌++◌, Option, Some, None}
 use Rattle.wasmprinter_spec.specs.Grammar.{Placed}
 use Rattle.wasmprinter_spec.specs.Types.{signature_at}

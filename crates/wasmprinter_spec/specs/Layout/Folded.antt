@@ -1,4 +1,5 @@
--- Operators, as they are printed when they are folded: each with its operands in parentheses, over lines or in one line.
+-- Operators, as they are printed when they are folded: each with its operands in parentheses, over lines or in one line. (Section 6.5 of
+-- the standard, "Folded Instructions"; which operators fold, and the lines, are this printer's own.)
 use Rattle.std.specs.Prelude.{◌≡◌, ℕ, ◌+◌, ◌-◌, ◌==◌, ◌&&◌, ◌||◌, List, [], ◌∷◌, ◌++◌, Bool, true, false, cond, codes, length, Option, Some, None, option_map}
 use Rattle.std.specs.Option.{is_none}
 use Rattle.wasmprinter_spec.specs.Grammar.{Placed}
@@ -80,7 +81,8 @@ has_line_comment [] = false
 has_line_comment (a ∷ []) = false
 has_line_comment (a ∷ b ∷ cs) = ((a == 59) && (b == 59)) || has_line_comment (b ∷ cs)
 
--- The parenthesis that closes a node must not stand in a comment that goes up to the end of the line: where nothing else stands between, a new line.
+-- The parenthesis that closes a node must not stand in a comment that goes up to the end of the line: where nothing
+-- else stands between, a new line.
 abbrev pub comment_end : Bool → List ℕ → ℕ → ℕ → List Piece
 comment_end true s place nesting = cond (has_line_comment s) (Break (Some place) nesting ∷ []) []
 comment_end false s place nesting = []
@@ -112,8 +114,8 @@ abbrev pub if_folded : Option (List Piece) → List Piece
 if_folded None = []
 if_folded (Some ps) = ps
 
--- A list of operators within a module, where so many results are those of the function around. (The words and immediates of an operator stand in one
--- line, which is the same by all options.)
+-- A list of operators within a module, where so many results are those of the function around. (The words and immediates of an operator
+-- stand in one line, which is the same by all options.)
 abbrev pub folded_list : Folding → Option ℕ → Setting → List (Placed Hint) → List (Placed Operator) → List Piece
 folded_list f own s hs os = if_folded (folded_pieces defaults f.paints s (f.signatures own) hs os)
 

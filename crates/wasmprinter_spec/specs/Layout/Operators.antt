@@ -1,5 +1,6 @@
--- Operators, as they are printed: over lines, as in a body, or in one line, as in a field. Indices go by identifiers where there are any. Labels go
--- by theirs where these mean the block that is meant, else by their numbers, and without an identifier with a comment that names the block.
+-- Operators, as they are printed: over lines, as in a body, or in one line, as in a field. Indices go by identifiers where there are any.
+-- Labels go by theirs where these mean the block that is meant, else by their numbers, and without an identifier with a comment that names
+-- the block. (Section 6.5 of the standard, "Instructions"; the lines and comments are this printer's own.)
 use Rattle.std.specs.Prelude.{ℕ, suc, ◌+◌, ◌-◌, ◌/◌, ◌%◌, ◌^◌, ◌==◌, ◌&&◌, reverse, List, [], ◌∷◌, ◌++◌, Bool, true, false, ◌||◌, cond, codes, decimal, length, Option, Some, None}
 use Rattle.std.specs.Fmt.{digit_glyph}
 use Rattle.wasmprinter_spec.specs.Grammar.{Placed}
@@ -24,8 +25,8 @@ pub data Form : Type 0 where
   OverLines : Form
   InLine : Form
 
--- what every operator of a list is laid out by: the form, the signature of each type that is a function type, how deep the list is nested, and the
--- module's identifiers with the function whose locals and labels are meant, and where the body begins
+-- what every operator of a list is laid out by: the form, the signature of each type that is a function type, how deep the list is nested,
+-- and the module's identifiers with the function whose locals and labels are meant, and where the body begins
 pub record Setting : Type 0 where
   pub form : Form
   pub signature : ℕ → Option FuncType

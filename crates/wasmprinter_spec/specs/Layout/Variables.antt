@@ -1,5 +1,5 @@
--- The layout of parameters and locals (section 6.6 of the standard, "Functions" and "Type Uses"). One with an identifier stands in a group of its
--- own, and neighbours without share one.
+-- The layout of parameters and locals (section 6.6 of the standard, "Functions" and "Type Uses"). One with an identifier stands in a group
+-- of its own, and neighbours without share one.
 use Rattle.std.specs.Prelude.{ℕ, ◌+◌, List, [], ◌∷◌, ◌++◌, Option, Some, None}
 use Rattle.wasmprinter_spec.specs.Types.{ValType}
 use Rattle.wasmprinter_spec.specs.Labels.{Named}

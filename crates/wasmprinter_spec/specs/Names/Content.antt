@@ -1,4 +1,5 @@
--- The names of items by the entries of name sections, and what stands behind the dollar sign for each: the content of the name.
+-- The names of items by the entries of name sections, and what stands behind the dollar sign for each: the content of the name. The
+-- standard leaves identifiers open: these are this printer's own.
 use Rattle.std.specs.Prelude.{ℕ, List, [], ◌∷◌, ◌++◌, Bool, false, ◌||◌, ◌&&◌, ◌==◌, bytes_eq, not, Option, Some, None, if◌then◌else◌, codes, decimal, filter}
 use Rattle.wasmprinter_spec.specs.Labels.{Named}
 use Rattle.wasmprinter_spec.specs.LabelNames.{is_clean}
@@ -37,7 +38,8 @@ abbrev pub is_among : List ℕ → List (List ℕ) → Bool
 is_among name [] = false
 is_among name (n ∷ names) = bytes_eq n name || is_among name names
 
--- The content of an entry, where these names were given before in its space: the name, unless it is empty, begins with # or was given before.
+-- The content of an entry, where these names were given before in its space: the name, unless it is empty,
+-- begins with # or was given before.
 abbrev pub content : ℕ → List (List ℕ) → Entry → List ℕ
 content s given e =
     if not (is_clean e.name) || (is_counted s && is_among e.name given) then marked_content (group_of s) e.index e.name
@@ -46,8 +48,8 @@ content s given e =
 abbrev pub entry_name : ℕ → List (List ℕ) → Entry → Named
 entry_name s given e = record { given = Some e.name; content = content s given e }
 
--- Of the entries of one space the last one for an index names it. `given` are the names in front of these entries, `before` is what those in front of
--- them name the index.
+-- Of the entries of one space the last one for an index names it. `given` are the names in front of these entries, `before` is what those
+-- in front of them name the index.
 abbrev pub last_name : ℕ → List (List ℕ) → Option Named → List Entry → ℕ → Option Named
 last_name s given before [] index = before
 last_name s given before (e ∷ entries) index =

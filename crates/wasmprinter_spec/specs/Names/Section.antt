@@ -1,5 +1,5 @@
--- The data of a name section (appendix "Name Section" of the standard, and the extended name section proposal): subsections with names for indices.
--- What stands in front of the first fault counts.
+-- The data of a name section (appendix "Name Section" of the standard, and the extended name section proposal): subsections with names for
+-- indices. What stands in front of the first fault counts.
 use Rattle.std.specs.Prelude.{◌≡◌, ℕ, List, [], ◌∷◌, ◌++◌, Bool, ◌||◌, ◌==◌, nat_lt}
 use Rattle.wasmprinter_spec.specs.Grammar.{Input, Grammar, byte, seq}
 use Rattle.wasmprinter_spec.specs.Name.{u32, name}
@@ -50,7 +50,8 @@ is_indirect s = s == local_subsection || s == label_subsection || s == field_sub
 
 -- ---- entries
 
--- A name that the subsection of an id gives for an index. `outer` is the function of a local or a label and the type of a field, and 0 for all else.
+-- A name that the subsection of an id gives for an index. `outer` is the function of a local or a label and the type
+-- of a field, and 0 for all else.
 pub record Entry : Type 0 where
   pub subsection : ℕ
   pub outer : ℕ

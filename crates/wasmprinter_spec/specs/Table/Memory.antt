@@ -1,4 +1,5 @@
--- Operators on memories behind one byte (section 5.4 of the standard, "Memory Instructions"). The exponents are those of the natural alignment.
+-- Operators on memories behind one byte (section 5.4 of the standard, "Memory Instructions"). The exponents are
+-- those of the natural alignment.
 use Prim.Native.String.{String}
 use Rattle.std.specs.Prelude.{ℕ, List, [], ◌∷◌}
 use Rattle.wasmprinter_spec.specs.Row.{Row, Memory, DefaultIndexShape, MemoryShape, Fixed}

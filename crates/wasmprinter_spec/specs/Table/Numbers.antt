@@ -1,4 +1,5 @@
--- Operators on numbers (section 5.4 of the standard, "Numeric Instructions"; behind the prefix FC also those of the wide arithmetic proposal).
+-- Operators on numbers (section 5.4 of the standard, "Numeric Instructions"; behind the prefix FC also those of
+-- the wide arithmetic proposal).
 use Prim.Native.String.{String}
 use Rattle.std.specs.Prelude.{ℕ, List, [], ◌∷◌, ◌++◌}
 use Rattle.wasmprinter_spec.specs.Row.{Row, Shape, NoneShape, I32Shape, I64Shape, F32Shape, F64Shape, Fixed}

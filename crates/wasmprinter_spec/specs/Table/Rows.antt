@@ -1,4 +1,5 @@
--- How the parts of the table write a row: the number behind the prefix or the byte itself, the word, the shape, the arity.
+-- How the parts of the table write a row: the number behind the prefix or the byte itself, the word, the shape, the arity. The standard has
+-- the rows in sections 5.4 and 6.5.
 use Prim.Native.String.{String}
 use Rattle.std.specs.Prelude.{ℕ, codes}
 use Rattle.wasmprinter_spec.specs.Row.{Row, Shape, Arity, Role, Plain}

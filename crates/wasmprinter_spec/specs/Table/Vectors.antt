@@ -1,5 +1,5 @@
--- Operators on vectors, behind the prefix FD (section 5.4 of the standard, "Vector Instructions"): memories, lanes, comparisons and bits. The
--- exponents are those of the natural alignment.
+-- Operators on vectors, behind the prefix FD (section 5.4 of the standard, "Vector Instructions"): memories, lanes, comparisons and bits.
+-- The exponents are those of the natural alignment.
 use Prim.Native.String.{String}
 use Rattle.std.specs.Prelude.{ℕ, List, [], ◌∷◌}
 use Rattle.wasmprinter_spec.specs.Row.{Row, Shape, NoneShape, MemoryShape, MemoryLaneShape, LaneShape, VectorShape, LanesShape, Arity, Fixed}

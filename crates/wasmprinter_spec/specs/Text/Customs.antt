@@ -1,5 +1,5 @@
--- Custom sections in the text format (custom annotations, appendix of the standard): `(@custom "name" (before first) "bytes")`, or `(after ..)` one of
--- the other sections. An annotation without a place, or with another one, is an abbreviation that is not read.
+-- Custom sections in the text format (custom annotations, appendix of the standard): `(@custom "name" (before first) "bytes")`, or
+-- `(after ..)` one of the other sections. An annotation without a place, or with another one, is an abbreviation that is not read.
 use Rattle.std.specs.Prelude.{ℕ, List, [], ◌∷◌, codes, bytes_eq, Option, Some, None, if◌then◌else◌, option_map}
 use Rattle.std.specs.Str.{is_utf8}
 use Rattle.wasmprinter_spec.specs.Grammar.{◌>>=◌}

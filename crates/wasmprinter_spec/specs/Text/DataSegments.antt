@@ -1,5 +1,5 @@
--- Data segments in the text format (section 6.6 of the standard, "Data Segments"). Of the abbreviations an offset that is one instruction is read,
--- and an active segment without its memory, which is then memory 0.
+-- Data segments in the text format (section 6.6 of the standard, "Data Segments"). Of the abbreviations an offset that is one instruction
+-- is read, and an active segment without its memory, which is then memory 0.
 use Rattle.std.specs.Prelude.{ℕ, List, [], ◌++◌, codes, bytes_eq, Option, Some, None, option_map, if◌then◌else◌}
 use Rattle.wasmprinter_spec.specs.Grammar.{◌>>=◌}
 use Rattle.wasmprinter_spec.specs.Forest.{Forest, End, Word, String, Group}

@@ -1,5 +1,5 @@
--- Element segments in the text format (section 6.6 of the standard, "Element Segments"). Of the abbreviations an offset or an item that is one
--- instruction is read, and an active segment without its table, which is then table 0.
+-- Element segments in the text format (section 6.6 of the standard, "Element Segments"). Of the abbreviations an offset or an item that is
+-- one instruction is read, and an active segment without its table, which is then table 0.
 use Rattle.std.specs.Prelude.{ℕ, List, [], ◌∷◌, codes, bytes_eq, Option, Some, None, option_map, if◌then◌else◌}
 use Rattle.wasmprinter_spec.specs.Grammar.{◌>>=◌}
 use Rattle.wasmprinter_spec.specs.Forest.{Forest, End, Word, Name, Group}

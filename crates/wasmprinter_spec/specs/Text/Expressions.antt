@@ -1,5 +1,5 @@
--- Expressions of fields in the text format (section 6.5 of the standard, "Expressions"; section 6.6: an expression in a group of its own, and its
--- short form, one instruction).
+-- Expressions of fields in the text format (section 6.5 of the standard, "Expressions"; section 6.6: an expression in a group of its own,
+-- and its short form, one instruction).
 use Rattle.std.specs.Prelude.{List, ℕ, bytes_eq, Option, None, if◌then◌else◌}
 use Rattle.wasmprinter_spec.specs.Grammar.{◌>>=◌}
 use Rattle.wasmprinter_spec.specs.Forest.{Forest, End, Word, Group}

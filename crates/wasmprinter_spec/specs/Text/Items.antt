@@ -1,4 +1,4 @@
--- What the readers of rows of items have in common.
+-- What the readers of rows of items have in common. The standard has no such thing.
 use Rattle.std.specs.Prelude.{ℕ, List, [], ◌∷◌, ◌++◌, bytes_eq, cond, Option, Some, None, if◌then◌else◌, map}
 use Rattle.wasmprinter_spec.specs.Grammar.{◌>>=◌}
 use Rattle.wasmprinter_spec.specs.Forest.{Forest, End, Word, Name, Group}

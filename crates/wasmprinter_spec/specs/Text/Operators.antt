@@ -1,6 +1,6 @@
--- Operators in the text format (section 6.5 of the standard): the immediates of each are read by the shape that the table gives its word. Of
--- several operators with one word it is the first whose shape reads what stands behind the word. Labels go by one scan over the flat list,
--- with the labels that are open, the innermost first: an identifier means the innermost label that has it.
+-- Operators in the text format (section 6.5 of the standard): the immediates of each are read by the shape that the table gives its word.
+-- Of several operators with one word it is the first whose shape reads what stands behind the word. Labels go by one scan over the flat
+-- list, with the labels that are open, the innermost first: an identifier means the innermost label that has it.
 use Rattle.std.specs.Prelude.{ℕ, zero, suc, ℤ, pos, negsuc, ◌-◌, ◌*◌, ◌/◌, ◌%◌, ◌^◌, ◌==◌, ◌||◌, is_some, length, List, [], ◌∷◌, Bool, true, false, cond, codes, bytes_eq, Option, Some, None, option_map, if◌then◌else◌, map}
 use Rattle.wasmprinter_spec.specs.Grammar.{◌>>=◌}
 use Rattle.wasmprinter_spec.specs.Numeral.{u8, u32, u64, exponent_of, integer}
@@ -35,7 +35,6 @@ labels ids _ = None
 abbrev pub label : Identifiers → Forest → Option ℕ
 label ids f = labels ids f >>= the_only
 
--- the last label apart
 abbrev pub last_apart : List ℕ → Option (List ℕ × ℕ)
 last_apart [] = None
 last_apart (l ∷ []) = Some ([], l)
@@ -61,8 +60,8 @@ abbrev pub type_with : ℕ → Option FuncType → Signature × Forest → Optio
 type_with i None x = None
 type_with i (Some t) x = if agrees x.0 t then (if are_unnamed (ids_of x.0.params) then Some (OfType i, x.1) else None) else None
 
--- A block type, and what stands behind it: one result, or a type use, or nothing. (A block type without an index but with parameters, or with
--- more results than one, is an abbreviation that is not read.)
+-- A block type, and what stands behind it: one result, or a type use, or nothing. (A block type without an index but with parameters, or
+-- with more results than one, is an abbreviation that is not read.)
 abbrev pub block_type : Context → Forest → Option (BlockType × Forest)
 block_type c (Group (Word v g) f) =
     if bytes_eq v (codes "result") then val_types c.spaces.types g >>= the_only >>= (λ t. Some (Value t, f)) else
@@ -253,7 +252,6 @@ vector_lane size w = option_map (λ z. bytes_of size (as_unsigned (8 * size) z))
 abbrev pub no_group : {A : Type 0} → Forest → Option A
 no_group f = None
 
--- sixteen bytes
 abbrev pub sixteen : List ℕ → Option Immediates
 sixteen bs = if length bs == 16 then Some (Bytes bs) else None
 

@@ -1,5 +1,5 @@
--- Tables in the text format (section 6.4 of the standard, "Table Types"; section 6.6, "Tables"). A table with its elements or with its export
--- inside is an abbreviation that is not read.
+-- Tables in the text format (section 6.4 of the standard, "Table Types"; section 6.6, "Tables"). A table with its elements or with its
+-- export inside is an abbreviation that is not read.
 use Rattle.std.specs.Prelude.{Bool, List, Option, Some, None, option_map}
 use Rattle.wasmprinter_spec.specs.Grammar.{◌>>=◌}
 use Rattle.wasmprinter_spec.specs.Forest.{Forest, End}

@@ -53,8 +53,9 @@ no_type = record { params = []; results = [] }
 abbrev pub agrees : Signature → FuncType → Bool
 agrees s t = cond (same_func_type (type_of s) t) true (same_func_type (type_of s) no_type)
 
--- The identifiers of a function's parameters. The type that a function uses is a function type. A signature beside its index is that type's,
--- or it is absent, and then the parameters have no identifiers, whatever the type says (sections 6.4 and 6.6 of the standard, "Type Uses").
+-- The identifiers of a function's parameters. The type that a function uses is a function type. A signature beside its index
+-- is that type's, or it is absent, and then the parameters have no identifiers, whatever the type says (sections 6.4 and 6.6
+-- of the standard, "Type Uses").
 abbrev pub parameters : Signature → Option FuncType → Option Identifiers
 parameters s None = None
 parameters s (Some t) =
