@@ -9,8 +9,8 @@
 #
 #   PRINTWASM   the program (crates/printwasm/out/printwasm if not set; the README says how it is built)
 #   PROGRAM_IS  what the tables call it, such as "proved, of commit .."
-#   PEERS       a folder with `wasm-tools`, `wat2wasm`, `wasm2wat`, `wasm-as` and `wasm-opt`; if set, nothing is installed, and the modules are those
-#               that the machine's own compilers and packages give
+#   PEERS       a folder with `wasm-tools`, `wat2wasm`, `wasm2wat`, `wasm-as` and `wasm-opt`; if set, nothing is installed, and compilers and
+#               packages that aren't there give no modules
 #   JOBS        how many modules are worked on at once (as many as there are processors if not set)
 #   ONLY        a word: only the modules that have it in their path or in the name of their group
 #   MEMORY_GB   what a program that is run may take of memory at most (4 if not set)
