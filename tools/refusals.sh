@@ -1,11 +1,12 @@
 #!/bin/sh
-# Refuses each request for memory of the program `refusals` in turn, and judges how it takes that. Each run has to end with status 1, with one
-# line `out of memory` and all others `printed`. Ends with another status than 0 where a run doesn't, or faults or hangs.
+# Refuses each request for memory of the program `refusals` in turn, and judges how it takes that. A run in which one is refused has to end
+# with status 1, with one line `out of memory` and all others `printed`; any other with status 0 and all `printed`. Ends with another status than
+# 0 where a run doesn't, or faults or hangs. It proves nothing (`rt try`), and takes some minutes.
 #
-# tools/refusals.sh [LAST]: the request with the number LAST is refused in each run, and each makes requests of its own
-# first, so many that another one of the library's comes to be that request. LAST has to be greater than the number of the
-# library's requests (one of those counted is the program's own, for the text that lines are appended to); the runs past them show that
-# nothing was refused. The runs are dealt out to as many builds as there are processors.
+# tools/refusals.sh [LAST]: each run has request number LAST refused, 330 if not given. Before it begins, it makes requests of its own, one
+# fewer than the run before, so that another one of the library's comes to be that request. LAST has to be greater than the number of the
+# library's requests (one of those counted is the program's own, for the text that lines are appended to); in the runs past them nothing is
+# refused. The runs are dealt out to as many builds as there are processors.
 set -eu
 cd "$(dirname "$0")/../crates/refusals"
 last=${1:-330}

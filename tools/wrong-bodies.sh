@@ -1,6 +1,6 @@
 #!/bin/sh
-# Tries the wrong bodies that the gate leaves out, since each costs it half a minute: crates/NAME/wrong-bodies/*.edit, in the form of
-# crates/NAME/must-fail/*.edit. The prover has to refuse each. Ends with another status than 0 where it doesn't refuse one, or can't read it.
+# Tries the wrong bodies that the gate leaves out, since each would cost it half a minute or more: crates/NAME/wrong-bodies/*.edit, in the form
+# of crates/NAME/must-fail/*.edit. The prover has to refuse each. Ends with another status than 0 where it doesn't refuse one, or can't read it.
 #
 # tools/wrong-bodies.sh [NAME..]: those of these crates, or of all. Works on a copy, proves there what earlier checks haven't kept, and tries
 # as many crates at once as there are processors.
