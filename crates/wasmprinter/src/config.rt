@@ -81,7 +81,7 @@ impl Config {
         self
     }
 
-    /// The text that stands once for each level of nesting, two blanks by default. A text of other characters than blanks and tabs is
+    /// The text that stands once for each level of nesting, of the first 50, two blanks by default. A text of other characters than blanks and tabs is
     /// printed as it stands; what is printed then isn't promised to read back. Takes no memory.
     pub fn indent_text(&mut self, text: String) -> &mut Self
         ensures itself { result.ghost_name ≡ self.entry.ghost_name }

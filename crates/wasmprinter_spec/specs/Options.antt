@@ -5,7 +5,7 @@ use Rattle.std.specs.List.{AllByRecursion}
 pub record Options : Type 0 where
   -- each line begins with the place of what stands on it
   pub offsets : Bool
-  -- bodies, the items of element segments and the bytes of data segments are left out
+  -- bodies, the items of element segments, and the bytes of data segments and custom sections are left out
   pub skeleton : Bool
   -- items without a name have identifiers made up for them
   pub invents : Bool
@@ -14,7 +14,7 @@ pub record Options : Type 0 where
   -- What stands first in these parentheses carries the sequences of colours. This isn't chosen: it is so where a
   -- printer can write colours as text.
   pub paints : Bool
-  -- the text that stands once for each level of nesting
+  -- the text that stands once for each level of nesting, up to `most_indents` of `Piece`
   pub indent : List ℕ
 
 abbrev pub defaults : Options
