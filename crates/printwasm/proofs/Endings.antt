@@ -2,8 +2,9 @@
 use Rattle.std.specs.Prelude.{◌≡◌, ℕ, List, Option, Some, None}
 use Rattle.std.proofs.Common.{sym, subst, ◌∙◌, arith}
 use Rattle.wasmprinter_error.specs.declared.error.Error.{Error}
+use Rattle.wasmprinter.specs.OfFile.{Reading}
 use Rattle.printwasm.specs.Words.{named_file, chosen}
-use Rattle.printwasm.specs.Outcome.{Reading, Writing, FailsToWrite, Tells, error_line, HasOutcome}
+use Rattle.printwasm.specs.Outcome.{Writing, FailsToWrite, Tells, error_line, HasOutcome}
 
 -- the file is named, its module isn't printed for this error, and the error was told
 pub refusal_told : {W V : Type 0} (gives : List ℕ → Reading) (takes : Writing W) (tells : Writing V) (text_of : Error → Option (List ℕ)) (words : List (List ℕ))

@@ -3,16 +3,12 @@ use Rattle.std.specs.Prelude.{◌≡◌, ℕ, ◌≤◌, ◌⊎◌, ◌↔◌, L
 use Rattle.std.specs.Fmt.{◌++?◌}
 use Rattle.std.specs.declared.io.Error.{Error as IoError}
 use Rattle.wasmprinter_error.specs.declared.error.Error.{Error}
-use Rattle.wasmprinter_error.specs.declared.error.Error.TheVariants.{Unreadable, Printer}
+use Rattle.wasmprinter_error.specs.declared.error.Error.TheVariants.{Printer}
 use Rattle.wasmprinter_spec.specs.Options.{Options}
 use Rattle.wasmprinter.specs.Printed.{HasTextBy}
 use Rattle.wasmprinter.specs.Coloured.{HasColouredTextBy}
-use Rattle.wasmprinter.specs.Outcome.{HasTextCause, IsTrueOfText}
+use Rattle.wasmprinter.specs.OfFile.{Reading, IsRefusedBy}
 use Rattle.printwasm.specs.Words.{Choice, named_file, chosen}
-
--- what a read of one file may give: bytes, or `None` where it fails
-abbrev pub Reading : Type 1
-Reading = Option (List ℕ) → Type 0
 
 -- what a write of a text, if it is told, may answer, and what it makes of the sink
 abbrev pub Writing : Type 0 → Type 1
@@ -33,8 +29,7 @@ GivesText c gives text = (wasm : List ℕ) × gives (Some wasm) × IsTextBy c wa
 
 -- there is no text of the file: it can't be read, or its module can't be printed for a cause that is true of its bytes
 abbrev pub GivesNoText : Choice → Reading → Error → Type 0
-GivesNoText c gives error =
-    (gives None × (error ≡ Unreadable)) ⊎ ((wasm : List ℕ) × gives (Some wasm) × IsTrueOfText c.options wasm error × HasTextCause c.options wasm error)
+GivesNoText c gives error = IsRefusedBy c.options gives error
 
 -- the text of the file's module was written once, and the write answered this
 abbrev pub WritesText : {W : Type 0} → Choice → Reading → Writing W → W → W → Result (Unit {0}) IoError → Type 0

@@ -7,14 +7,14 @@ ghost use Rattle.printwasm.specs.Words.{AreWordsOf, WantsWords, is_option, is_kn
 ghost use Rattle.printwasm.specs.Outcome.{IsTextBy, GivesText, GivesNoText, WritesText, FailsToWrite, Tells, HasOutcome, error_line};
 ghost use Rattle.wasmprinter.specs.Outcome.{HasTextCause, IsTrueOfText};
 
-use crate::system::{Sink, Source};
+use crate::system::Sink;
 use std::alloc::Global;
 use std::fmt::Display;
 use std::io;
 use std::marker::Model;
 use std::path::Path;
 use std::process::ExitCode;
-use wasmprinter::{Config, Error};
+use wasmprinter::{Config, Error, Source};
 
 const USAGE: &str =
     "usage: printwasm [--offsets] [--skeleton] [--name-unnamed] [--fold] [--color] FILE\n";
