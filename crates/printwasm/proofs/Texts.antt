@@ -3,8 +3,9 @@ use Rattle.std.specs.Prelude.{ℕ, List, Some, Result, Ok, Err, IfOk, IfErr}
 use Rattle.std.proofs.Common.{inr}
 use Rattle.wasmprinter_error.specs.declared.error.Error.{Error}
 use Rattle.wasmprinter.specs.Outcome.{HasTextCause, IsTrueOfText}
+use Rattle.wasmprinter.specs.OfFile.{Reading}
 use Rattle.printwasm.specs.Words.{Choice}
-use Rattle.printwasm.specs.Outcome.{Reading, IsTextBy, GivesText, GivesNoText}
+use Rattle.printwasm.specs.Outcome.{IsTextBy, GivesText, GivesNoText}
 
 -- the text of the bytes is the file's
 pub gives_text : {T : Type 0} (choice : Choice) (view : T → List ℕ) (gives : Reading) (wasm : List ℕ) (r : Result T Error) →

@@ -1,18 +1,13 @@
 -- What a run leads to: what it writes of a module, why it writes none, what it tells of that, and its status.
 use Rattle.std.specs.Prelude.{◌≡◌, ℕ, ◌≤◌, ◌⊎◌, ◌↔◌, List, [], ◌∷◌, ◌++◌, Bool, true, false, Option, Some, None, Result, Ok, Err, codes}
-use Rattle.std.specs.Fmt.{◌++?◌}
 use Rattle.std.specs.declared.io.Error.{Error as IoError}
 use Rattle.wasmprinter_error.specs.declared.error.Error.{Error}
-use Rattle.wasmprinter_error.specs.declared.error.Error.TheVariants.{Unreadable, Printer}
+use Rattle.wasmprinter_error.specs.declared.error.Error.TheVariants.{Printer}
 use Rattle.wasmprinter_spec.specs.Options.{Options}
 use Rattle.wasmprinter.specs.Printed.{HasTextBy}
 use Rattle.wasmprinter.specs.Coloured.{HasColouredTextBy}
-use Rattle.wasmprinter.specs.Outcome.{HasTextCause, IsTrueOfText}
+use Rattle.wasmprinter.specs.OfFile.{Reading, IsRefusedBy}
 use Rattle.printwasm.specs.Words.{Choice, named_file, chosen}
-
--- what a read of one file may give: bytes, or `None` where it fails
-abbrev pub Reading : Type 1
-Reading = Option (List ℕ) → Type 0
 
 -- what a write of a text, if it is told, may answer, and what it makes of the sink
 abbrev pub Writing : Type 0 → Type 1
@@ -33,8 +28,7 @@ GivesText c gives text = (wasm : List ℕ) × gives (Some wasm) × IsTextBy c wa
 
 -- there is no text of the file: it can't be read, or its module can't be printed for a cause that is true of its bytes
 abbrev pub GivesNoText : Choice → Reading → Error → Type 0
-GivesNoText c gives error =
-    (gives None × (error ≡ Unreadable)) ⊎ ((wasm : List ℕ) × gives (Some wasm) × IsTrueOfText c.options wasm error × HasTextCause c.options wasm error)
+GivesNoText c gives error = IsRefusedBy c.options gives error
 
 -- the text of the file's module was written once, and the write answered this
 abbrev pub WritesText : {W : Type 0} → Choice → Reading → Writing W → W → W → Result (Unit {0}) IoError → Type 0
@@ -53,14 +47,22 @@ Tells takes old new text = (answer : Result (Unit {0}) IoError) × takes old tex
 abbrev pub usage_line : List ℕ
 usage_line = codes "usage: printwasm [--offsets] [--skeleton] [--name-unnamed] [--fold] [--color] FILE" ++ (10 ∷ [])
 
--- the line that tells an error, where the error's text is told
-abbrev pub error_line : Option (List ℕ) → Option (List ℕ)
-error_line text = Some (codes "error: ") ++? (text ++? Some (10 ∷ []))
+-- the line that tells an error which has this text
+abbrev pub error_line : List ℕ → List ℕ
+error_line text = codes "error: " ++ (text ++ (10 ∷ []))
 
--- What a run with these words leads to, where `text_of` tells the texts of errors: the status is 2 exactly where the words don't name one
+-- which texts an error of this type may have
+abbrev pub Rendering : Type 0 → Type 1
+Rendering X = X → List ℕ → Type 0
+
+-- this very error was told: exactly the line of a text of it was written, once, whatever the write answered
+abbrev pub TellsError : {V X : Type 0} → Writing V → V → V → Rendering X → X → Type 0
+TellsError tells old new renders error = (text : List ℕ) × renders error text × Tells tells old new (Some (error_line text))
+
+-- What a run with these words leads to, where errors have the texts that `renders` says: the status is 2 exactly where the words don't name one
 -- file beside options that there are, and then the output stays as it was and the usage line is told; it is 0 only where the text of the module in the
--- named file, as the words choose it, was written whole and nothing was told; and 1 only where it wasn't, and the error was told.
-pub record HasOutcome {W V : Type 0} (gives : List ℕ → Reading) (takes : Writing W) (tells : Writing V) (text_of : Error → Option (List ℕ))
+-- named file, as the words choose it, was written whole and nothing was told; and 1 only where it wasn't, and the error for which it wasn't was told.
+pub record HasOutcome {W V : Type 0} (gives : List ℕ → Reading) (takes : Writing W) (tells : Writing V) (renders : Rendering Error)
     (words : List (List ℕ)) (out new_out : W) (err new_err : V) (status : ℕ) : Type 0 where
   pub usage : (status ≡ 2) ↔ (named_file words ≡ None)
   pub bound : status ≤ 2
@@ -69,4 +71,4 @@ pub record HasOutcome {W V : Type 0} (gives : List ℕ → Reading) (takes : Wri
   pub printed : status ≡ 0 → (file : List ℕ) × (named_file words ≡ Some file) × WritesText (chosen words) (gives file) takes out new_out (Ok tt)
   pub quiet : status ≡ 0 → new_err ≡ err
   pub refused : status ≡ 1 → (file : List ℕ) × (error : Error) × (named_file words ≡ Some file) × FailsToWrite (chosen words) (gives file) takes out new_out error
-      × Tells tells err new_err (error_line (text_of error))
+      × TellsError tells err new_err renders error

@@ -2,17 +2,20 @@
 #![tactic(auto)]
 
 mod program;
+mod rendering;
 mod system;
 #[cfg(test)]
 mod tests;
 
 use program::start;
+use rendering::ByDisplay;
 use std::env;
 use std::process::ExitCode;
 
 fn main(rt: HostRuntime) -> ExitCode {
     start(
         &rt,
+        &ByDisplay,
         rt.alloc(),
         env::args(&rt),
         &mut rt.stdout(),

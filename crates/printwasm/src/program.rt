@@ -1,20 +1,20 @@
-//! What the program does with its words, over any source of files and any two sinks.
+//! What the program does with its words, over any source of files, any texts of errors and any two sinks.
 ghost use Rattle.std.specs.Prelude.{◌≡◌, ℕ, ◌⊎◌, List, ◌∷◌, [], Ok, map, option_copied, OnOk, IfOk, IfErr, string_bytes};
 ghost use Rattle.std.specs.Iterator.{IsFinite};
 ghost use Rattle.std.specs.Process.{exit_status};
 ghost use Rattle.std.specs.declared.io.Error.{Error as IoError};
 ghost use Rattle.printwasm.specs.Words.{AreWordsOf, WantsWords, is_option, is_known, named_file, has, chosen};
-ghost use Rattle.printwasm.specs.Outcome.{IsTextBy, GivesText, GivesNoText, WritesText, FailsToWrite, Tells, HasOutcome, error_line};
+ghost use Rattle.printwasm.specs.Outcome.{IsTextBy, GivesText, GivesNoText, WritesText, FailsToWrite, TellsError, HasOutcome};
 ghost use Rattle.wasmprinter.specs.Outcome.{HasTextCause, IsTrueOfText};
 
-use crate::system::{Sink, Source};
+use crate::rendering::Render;
+use crate::system::Sink;
 use std::alloc::Global;
-use std::fmt::Display;
 use std::io;
 use std::marker::Model;
 use std::path::Path;
 use std::process::ExitCode;
-use wasmprinter::{Config, Error};
+use wasmprinter::{Config, Error, Source};
 
 const USAGE: &str =
     "usage: printwasm [--offsets] [--skeleton] [--name-unnamed] [--fold] [--color] FILE\n";
@@ -65,25 +65,32 @@ impl Model for Choice {
 }
 
 /// The program over all words that it is started with, its own name first.
-pub fn start<S: Source, I: Iterator<Item = String>, O: Sink, E: Sink>(
+pub fn start<S, R, I, O, E>(
     source: &S,
+    renderer: &R,
     alloc: Global,
     args: io::Result<I>,
     out: &mut O,
     err: &mut E,
 ) -> ExitCode
+where
+    S: Source,
+    R: Render<Error> + Render<io::Error>,
+    I: Iterator<Item = String>,
+    O: Sink,
+    E: Sink,
     requires can { IfOk args I.can_next }
     requires finite { IfOk args (λ all. IsFinite (I.remaining all)) }
     ensures { ((words : List (List ℕ)) × AreWordsOf I.next_gives args words
-        × HasOutcome (S.gives source.now) O.takes E.takes ⟦<Error as Display>⟧.output
+        × HasOutcome (S.gives source.now) O.takes E.takes (⟦<R as Render<Error>>⟧.renders renderer.now)
         words out.old out.new err.old err.new (exit_status result))
         ⊎ ((error : IoError) × WantsWords args error
-        × Tells E.takes err.old err.new (error_line (⟦<io::Error as Display>⟧.output error))
+        × TellsError E.takes err.old err.new (⟦<R as Render<io::Error>>⟧.renders renderer.now) error
         × (out.new ≡ out.old) × (exit_status result ≡ 1)) }
 {
     let status = match words_of(alloc, args) {
-        Ok(words) => run(source, alloc, &words, out, err),
-        Err(error) => refuse(err, error),
+        Ok(words) => run(source, renderer, alloc, &words, out, err),
+        Err(failure) => refuse(renderer, err, failure),
     };
     ExitCode::from(status)
 }
@@ -104,14 +111,15 @@ fn words_of<I: Iterator<Item = String>>(
 /// Prints the module in the file that the words name, the program's own name not among them, and answers the status.
 ///
 /// Nothing is written to `out` before the whole text stands. A refusal writes one line to `err`.
-pub fn run<S: Source, O: Sink, E: Sink>(
+pub fn run<S: Source, R: Render<Error>, O: Sink, E: Sink>(
     source: &S,
+    renderer: &R,
     alloc: Global,
     words: &[String],
     out: &mut O,
     err: &mut E,
 ) -> u8
-    ensures { HasOutcome (S.gives source.now) O.takes E.takes ⟦<Error as Display>⟧.output
+    ensures { HasOutcome (S.gives source.now) O.takes E.takes (R.renders renderer.now)
         (map string_bytes words.now) out.old out.new err.old err.new result }
 {
     let Some(file) = file_of(words) else {
@@ -120,7 +128,7 @@ pub fn run<S: Source, O: Sink, E: Sink>(
     };
     match write_file(source, alloc, &choice_of(words), file, out) {
         Ok(()) => PRINTED,
-        Err(error) => refuse(err, error),
+        Err(error) => refuse(renderer, err, error),
     }
 }
 
@@ -220,10 +228,11 @@ fn print(alloc: Global, choice: &Choice, wasm: &[u8]) -> Result<Vec<u8>, Error>
 }
 
 /// Tells an error in a line of its own, and answers the status of a refusal, also where the line can't be written.
-fn refuse<E: Sink, D: Display + Drop>(err: &mut E, error: D) -> u8
-    ensures told { Tells E.takes err.old err.new (error_line (D.output error)) }
+fn refuse<X: Drop, R: Render<X>, E: Sink>(renderer: &R, err: &mut E, error: X) -> u8
+    ensures told { TellsError E.takes err.old err.new (R.renders renderer.now) error }
     ensures status { result ≡ 1 }
 {
-    let _ = err.write_text(format_args!("error: {error}\n"));
+    let text = renderer.render(&error);
+    let _ = err.write_text(format_args!("error: {}\n", text.as_str()));
     REFUSED
 }

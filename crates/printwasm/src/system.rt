@@ -1,29 +1,14 @@
-//! What the program asks of the system that it runs on: files to read, and streams to write to.
+//! What the program asks of the system that it runs on, beside files to read: streams to write to.
 //!
-//! The program is written over any `Source` and `Sink`s. A contract over them can say which file was read, and what was written
-//! where a write failed, since a function over any of them knows nothing of a call but that it was made.
-ghost use Rattle.std.specs.Prelude.{ℕ, List, Some, None, Option, Result, MatchResult, OnOk, IfSome, ⊤};
-ghost use Rattle.std.specs.Path.{path_bytes};
+//! The program is written over any `Source` of files and any `Sink`s. A contract over them can say which file was read, and what was
+//! written where a write failed, since a function over any of them knows nothing of a call but that it was made.
+ghost use Rattle.std.specs.Prelude.{ℕ, List, Some, Option, Result, OnOk, IfSome};
 ghost use Rattle.std.specs.Io.KnownBytes.{Appends};
 ghost use Rattle.std.specs.declared.io.Error.{Error};
 
 use std::fmt::Display;
+use std::io;
 use std::io::Write;
-use std::path::Path;
-use std::rt::Files;
-use std::{fs, io};
-
-/// Where files are read.
-pub trait Source {
-    // What a read of the file at the path with this text may give: bytes, or `None` where it fails.
-    ghost gives: { Self → List ℕ → Option (List ℕ) → Type 0 };
-
-    /// The bytes of a file.
-    fn read(&self, path: Path<'_>) -> io::Result<Vec<u8>>
-        ensures { MatchResult result
-            (λ bytes. gives self.now (path_bytes path.entry) (Some bytes.items))
-            (λ _. gives self.now (path_bytes path.entry) None) };
-}
 
 /// What texts are written to.
 pub trait Sink {
@@ -37,15 +22,6 @@ pub trait Sink {
     /// Writes the bytes of a text to their end, or fails.
     fn write_bytes(&mut self, text: &[u8]) -> io::Result<()>
         ensures { takes self.old (Some text.now) result self.new };
-}
-
-// The system's files. No contract can say what a file holds.
-impl<R: Files + AllocGlobal> Source for R {
-    ghost gives = { λ _ _ _. ⊤ };
-
-    fn read(&self, path: Path<'_>) -> io::Result<Vec<u8>> {
-        fs::read(self, path)
-    }
 }
 
 // Each writer gains exactly the text, where it tells its bytes and the text is told.

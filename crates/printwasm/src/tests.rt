@@ -1,6 +1,7 @@
 //! Runs over files that the tests write. What is expected is typed by hand.
 
 use crate::program::{run, start};
+use crate::rendering::ByDisplay;
 use std::alloc::AllocError;
 use std::io::Write;
 use std::process::ExitCode;
@@ -49,7 +50,7 @@ fn run_with(rt: &HostRuntime, words: &[&str]) -> Result<Outcome, Fail> {
     let owned = owned(rt, words)?;
     let mut out = Vec::new(alloc);
     let mut err = Vec::new(alloc);
-    let status = run(rt, alloc, &owned, &mut out, &mut err);
+    let status = run(rt, &ByDisplay, alloc, &owned, &mut out, &mut err);
     Ok(Outcome { out, err, status })
 }
 
@@ -396,7 +397,7 @@ fn tells_that_the_text_could_not_be_written(rt: HostRuntime) -> Result<(), Fail>
     for room in [0, 5] {
         let mut out = Narrow::new(&rt, room);
         let mut err = Vec::new(rt.alloc());
-        let status = run(&rt, rt.alloc(), &words, &mut out, &mut err);
+        let status = run(&rt, &ByDisplay, rt.alloc(), &words, &mut out, &mut err);
         assert_eq!(rt; status, 1);
         assert_eq!(rt; out.taken.as_slice(), &b"(module)\n"[..room]);
         assert_eq!(rt; err.as_slice(), b"error: the printer failed\n".as_slice());
@@ -413,7 +414,10 @@ fn keeps_its_status_where_errors_can_not_be_told(rt: HostRuntime) -> Result<(), 
             let words = owned(&rt, words)?;
             let mut out = Vec::new(rt.alloc());
             let mut err = Narrow::new(&rt, room);
-            assert_eq!(rt; run(&rt, rt.alloc(), &words, &mut out, &mut err), status);
+            assert_eq!(rt;
+                run(&rt, &ByDisplay, rt.alloc(), &words, &mut out, &mut err),
+                status
+            );
             assert_eq!(rt; out.len(), 0);
             assert_eq!(rt; err.taken.len(), room);
         }
@@ -440,7 +444,7 @@ fn starts_with_all_words_but_its_name(rt: HostRuntime) -> Result<(), Fail> {
         let args = Ok(owned(&rt, words)?.into_iter());
         let mut out = Vec::new(rt.alloc());
         let mut err = Vec::new(rt.alloc());
-        let code = start(&rt, rt.alloc(), args, &mut out, &mut err);
+        let code = start(&rt, &ByDisplay, rt.alloc(), args, &mut out, &mut err);
         assert_eq!(rt; code, ExitCode::from(status));
         assert_eq!(rt; out.len(), 0);
         assert_eq!(rt; err.as_slice(), told.as_bytes());
@@ -453,7 +457,7 @@ fn tells_that_its_words_can_not_be_held(rt: HostRuntime) -> Result<(), Fail> {
     let args: io::Result<env::Args> = Err(io::Error::from(AllocError));
     let mut out = Vec::new(rt.alloc());
     let mut err = Vec::new(rt.alloc());
-    let code = start(&rt, rt.alloc(), args, &mut out, &mut err);
+    let code = start(&rt, &ByDisplay, rt.alloc(), args, &mut out, &mut err);
     assert_eq!(rt; code, ExitCode::from(1));
     assert_eq!(rt; out.len(), 0);
     assert_eq!(rt; err.as_slice(), b"error: out of memory\n".as_slice());
@@ -465,7 +469,7 @@ fn tells_why_the_system_gives_no_words(rt: HostRuntime) -> Result<(), Fail> {
     let args: io::Result<env::Args> = Err(io::Error::other("no words"));
     let mut out = Vec::new(rt.alloc());
     let mut err = Vec::new(rt.alloc());
-    let code = start(&rt, rt.alloc(), args, &mut out, &mut err);
+    let code = start(&rt, &ByDisplay, rt.alloc(), args, &mut out, &mut err);
     assert_eq!(rt; code, ExitCode::from(1));
     assert_eq!(rt; out.len(), 0);
     assert_eq!(rt; err.as_slice(), b"error: no words\n".as_slice());
@@ -535,7 +539,7 @@ fn writes_nothing_behind_a_failed_write(rt: HostRuntime) -> Result<(), Fail> {
         is_late: false,
     };
     let mut err = Vec::new(rt.alloc());
-    let status = run(&rt, rt.alloc(), &words, &mut out, &mut err);
+    let status = run(&rt, &ByDisplay, rt.alloc(), &words, &mut out, &mut err);
     fs::remove_file(&rt, "late.wasm")?;
     assert_eq!(rt; status, 1);
     assert!(rt; out.is_late);

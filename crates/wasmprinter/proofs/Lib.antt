@@ -9,3 +9,4 @@ pub mod FoundLines
 pub mod Named
 pub mod Claims
 pub mod Subsections
+pub mod OfFile

@@ -1,15 +1,20 @@
--- What is printed of a file. No contract can say what a file holds: its bytes are some.
-use Rattle.std.specs.Prelude.{◌≡◌, ◌⊎◌, ℕ, List}
+-- What is printed of a file. No contract can say what a file holds: its bytes are those that a read of it gave.
+use Rattle.std.specs.Prelude.{◌≡◌, ◌⊎◌, ℕ, List, Option, Some, None}
 use Rattle.wasmprinter_error.specs.declared.error.Error.{Error}
 use Rattle.wasmprinter_error.specs.declared.error.Error.TheVariants.{Unreadable}
-use Rattle.wasmprinter_spec.specs.Options.{defaults}
+use Rattle.wasmprinter_spec.specs.Options.{Options}
 use Rattle.wasmprinter.specs.Printed.{HasText}
 use Rattle.wasmprinter.specs.Outcome.{HasTextCause, IsTrueOfText}
 
--- it is the text of a module that some bytes spell
-abbrev pub IsTextOfSome : List ℕ → Type 0
-IsTextOfSome text = (wasm : List ℕ) × HasText wasm text
+-- what a read of one file may give: bytes, or `None` where it fails
+abbrev pub Reading : Type 1
+Reading = Option (List ℕ) → Type 0
 
--- the file can't be read, or there is no text of some bytes, for a cause that is true of them
-abbrev pub IsRefusedOfSome : Error → Type 0
-IsRefusedOfSome error = (error ≡ Unreadable) ⊎ ((wasm : List ℕ) × IsTrueOfText defaults wasm error × HasTextCause defaults wasm error)
+-- the read gave bytes that spell a module with this text
+abbrev pub IsTextOf : Reading → List ℕ → Type 0
+IsTextOf gives text = (wasm : List ℕ) × gives (Some wasm) × HasText wasm text
+
+-- by these options there is no text of the file: the read failed, and the error says so; or the bytes that it gave are refused, for a cause that is true of them
+abbrev pub IsRefusedBy : Options → Reading → Error → Type 0
+IsRefusedBy o gives error =
+    (gives None × (error ≡ Unreadable)) ⊎ ((wasm : List ℕ) × gives (Some wasm) × IsTrueOfText o wasm error × HasTextCause o wasm error)

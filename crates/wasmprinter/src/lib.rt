@@ -16,7 +16,7 @@ pub mod text;
 pub mod wasm;
 
 pub use config::Config;
-pub use files::print_file;
+pub use files::{Source, print_file};
 pub use in_memory::print_bytes;
 pub use places::place_of;
 pub use print::{Print, PrintFmtWrite, PrintIoWrite, PrintTermcolor};
