@@ -1,5 +1,6 @@
 pub mod Spaces
 pub mod Views
+pub mod Lookups
 pub mod Labels
 pub mod LabelViews
 pub mod Holds
