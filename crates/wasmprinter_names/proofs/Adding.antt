@@ -46,7 +46,7 @@ eq_then3 a b c x y z p q r = eq_then a (ordering_then b c) ∙ ap (λ t. is_eq a
     assoc true v w = refl
     assoc false v w = refl
 
-same_place : (p q : Place) → is_at (place_cmp p) q ≡ ((nat_eq p.subsection q.subsection && nat_eq p.outer q.outer) && nat_eq p.index q.index)
+pub same_place : (p q : Place) → is_at (place_cmp p) q ≡ ((nat_eq p.subsection q.subsection && nat_eq p.outer q.outer) && nat_eq p.index q.index)
 same_place p q =
     eq_then3 (nat_cmp p.subsection q.subsection) (nat_cmp p.outer q.outer) (nat_cmp p.index q.index) _ _ _
     (eq_cmp p.subsection q.subsection) (eq_cmp p.outer q.outer) (eq_cmp p.index q.index)
@@ -73,7 +73,7 @@ at_by : (b : Bool) (x : Named) (o r : Option Named) → o ≡ r → (if b then S
 at_by true x o r e = refl
 at_by false x o r e = e
 
-name_at-lookup : (es : List (Place × StoredName)) (p : Place) → option_map stored_view (lookup (is_at (place_cmp p)) es) ≡ name_at (map item_view es) p.subsection p.outer p.index
+pub name_at-lookup : (es : List (Place × StoredName)) (p : Place) → option_map stored_view (lookup (is_at (place_cmp p)) es) ≡ name_at (map item_view es) p.subsection p.outer p.index
 name_at-lookup [] p = refl
 name_at-lookup (e ∷ es) p =
     map_if stored_view (is_at (place_cmp p) e.0) e.1 (lookup (is_at (place_cmp p)) es)

@@ -1,4 +1,5 @@
 pub mod Adding
 pub mod LabelOrder
+pub mod Lookups
 pub mod Loops
 pub mod Subsections

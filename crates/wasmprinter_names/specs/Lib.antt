@@ -1,6 +1,7 @@
 -- What the contracts of names and identifiers cite.
 pub mod Spaces
 pub mod Views
+pub mod Lookups
 pub mod Labels
 pub mod LabelViews
 pub mod Holds

@@ -2,8 +2,10 @@
 //! extended name section proposal).
 #![tactic(auto)]
 
+mod guesses;
 mod identifiers;
 mod read;
+mod search;
 mod space;
 mod store;
 mod subsection;

@@ -4,10 +4,13 @@ ghost use Rattle.wasmprinter_spec.specs.LabelNames.{is_clean, label_content};
 ghost use Rattle.wasmprinter_spec.specs.Names.Section.{Entry, entry_of, module_subsection, label_subsection};
 ghost use Rattle.wasmprinter_spec.specs.Names.Content.{is_among, content, name_of};
 ghost use Rattle.wasmprinter_names.specs.Spaces.{id_of, outer_of};
-ghost use Rattle.wasmprinter_names.specs.Views.{content_or, stored_view, name_view, NamedItem, items_view, name_at};
+ghost use Rattle.wasmprinter_names.specs.Views.{content_or, stored_view, item_view, name_view, NamedItem, items_view, name_at};
+ghost use Rattle.wasmprinter_names.specs.Lookups.{Ascends};
 ghost use Rattle.wasmprinter_names.specs.Labels.{labels_in, Ascend, AreOfLabels};
 ghost use Rattle.wasmprinter_names.specs.LabelViews.{label_view};
 
+use crate::guesses::Guesses;
+use crate::search::find;
 use crate::space::Space;
 use crate::subsection;
 use std::alloc::{AllocError, Global};
@@ -49,11 +52,11 @@ pub struct Given<'a> {
 #[derive(Clone, Copy, PartialEq, Eq, PartialOrd, Ord)]
 pub struct Place {
     /// The id of the subsection that names items of the space.
-    subsection: u8,
+    pub(crate) subsection: u8,
     /// The function of a local or a label, the type of a field, and 0 for all else.
-    outer: u64,
+    pub(crate) outer: u64,
     /// The index of the item, of a label its number.
-    index: u64,
+    pub(crate) index: u64,
 }
 
 /// A name as it is kept.
@@ -163,26 +166,41 @@ impl<'a> NamesBuilder<'a> {
     }
 
     /// The names, when all sections are read.
-    pub fn finish(self) -> Names<'a>
-        ensures { (entries : List Entry) → Holds entries self.entry
-            → (s outer index : ℕ) → name_at result s outer index ≡ name_of entries s outer index }
+    ///
+    /// # Errors
+    ///
+    /// Where memory is refused. None is asked for if no item has a name.
+    pub fn finish(self, alloc: Global) -> Result<Names<'a>, AllocError>
+        ensures names { IfOk result (λ names. (entries : List Entry) → Holds entries self.entry
+            → (s outer index : ℕ) → name_at names s outer index ≡ name_of entries s outer index) }
+
+        // Memory is wanted for names alone.
+        ensures needed { Holds [] self.entry → IsOk result }
     {
-        Names { names: self.names }
+        let mut entries = Vec::with_capacity(alloc, self.names.len())?;
+        for entry in self.names {
+            entries.push(entry)?;
+        }
+        let guesses = Guesses::new(alloc, &entries)?;
+        Ok(Names { entries, guesses })
     }
 }
 
 /// The names of a module. They borrow from its bytes.
 #[derive(Drop)]
 pub struct Names<'a> {
-    names: BTreeMap<Place, StoredName<'a>>,
+    /// The items that have names, by their places, which ascend.
+    entries: Vec<(Place, StoredName<'a>)>,
+    /// Where an item probably stands among them.
+    guesses: Guesses,
 }
 
 impl<'a> Model for Names<'a> {
     ghost Value = { List NamedItem };
 
-    ghost view = { λ n. items_view n.names };
+    ghost view = { λ n. map item_view n.entries.items };
 
-    ghost invariant = { λ n. AreOfLabels (items_view n.names) };
+    ghost invariant = { λ n. Ascends n.entries.items × AreOfLabels (map item_view n.entries.items) };
 }
 
 impl Names<'_> {
@@ -190,7 +208,8 @@ impl Names<'_> {
     fn get(&self, place: Place) -> Option<Name<'_>>
         ensures { option_map name_view result ≡ name_at self.now place.subsection place.outer place.index }
     {
-        self.names.get(&place).map(|stored| stored.name())
+        let likely = self.guesses.likely(&self.entries, place);
+        find(&self.entries, likely, place).map(|stored| stored.name())
     }
 
     /// The name of an item, `None` where none is given. `outer` is the function of a local or a label and the type of a field, and else
@@ -225,7 +244,7 @@ impl Names<'_> {
         ensures needed { labels_in self.now ≡ [] → IsOk result }
     {
         let mut labels = Vec::new(alloc);
-        for (place, stored) in &self.names {
+        for (place, stored) in &self.entries {
             if place.subsection == subsection::LABEL {
                 labels.push(LabelName {
                     function: place.outer,

@@ -14,7 +14,7 @@ use wasmprinter_ops::opcode::Role;
 fn names_of<'a>(alloc: Global, section: &'a [u8]) -> Result<Names<'a>, Error> {
     let mut builder = NamesBuilder::new(alloc);
     read_names(alloc, &mut builder, Cursor::new(0, section))?;
-    Ok(builder.finish())
+    Ok(builder.finish(alloc)?)
 }
 
 /// The name `a`, which is its own identifier.

@@ -1,6 +1,7 @@
 //! Names of a few name sections. The bytes and what is expected are typed by hand.
 
 use std::alloc::Global;
+use std::process::Abort;
 use std::test::Fail;
 use wasmprinter_bytes::bytes::Cursor;
 use wasmprinter_error::Error;
@@ -15,7 +16,7 @@ fn names_of<'a>(alloc: Global, sections: &[&'a [u8]]) -> Result<Names<'a>, Error
     for section in sections {
         read_names(alloc, &mut builder, Cursor::new(0, *section))?;
     }
-    Ok(builder.finish())
+    Ok(builder.finish(alloc)?)
 }
 
 #[test]
@@ -218,6 +219,153 @@ fn labels_are_listed_by_function_and_number(rt: HostRuntime) -> Result<(), Fail>
         };
         assert!(rt; *label == expected);
     }
+    Ok(())
+}
+
+/// Looks items of a space up, each by its function or type and its index.
+fn assert_found(
+    rt: &impl Abort,
+    names: &Names<'_>,
+    space: Space,
+    expected: &[(u32, u32, Option<&str>)],
+) {
+    for (outer, index, identifier) in expected {
+        assert!(rt;
+            names.identifier(space, *outer, *index) == *identifier,
+            "{outer} {index}"
+        );
+    }
+}
+
+#[test]
+fn names_without_gaps_are_found(rt: HostRuntime) -> Result<(), Fail> {
+    // functions: 0 `a`, 1 `b`, 2 `c`; locals of function 0: 0 `x`, 1 `y`; of function 1: 0 `z`
+    let functions = b"\x01\x0a\x03\x00\x01a\x01\x01b\x02\x01c";
+    let locals = b"\x02\x0e\x02\x00\x02\x00\x01x\x01\x01y\x01\x01\x00\x01z";
+    let names = names_of(rt.alloc(), &[functions, locals])?;
+    let functions = [
+        (0, 0, Some("a")),
+        (0, 1, Some("b")),
+        (0, 2, Some("c")),
+        (0, 3, None),
+    ];
+    assert_found(&rt, &names, Space::Func, &functions);
+    let locals = [
+        (0, 0, Some("x")),
+        (0, 1, Some("y")),
+        (0, 2, None),
+        (1, 0, Some("z")),
+        (1, 1, None),
+        (2, 0, None),
+    ];
+    assert_found(&rt, &names, Space::Local, &locals);
+    // nothing is named in front of the functions or behind the locals
+    assert_found(&rt, &names, Space::Label, &[(0, 0, None), (1, 0, None)]);
+    assert_found(&rt, &names, Space::Tag, &[(0, 0, None)]);
+    assert!(rt; names.module() == None);
+    Ok(())
+}
+
+#[test]
+fn names_with_gaps_between_indices_are_found(rt: HostRuntime) -> Result<(), Fail> {
+    // functions: 2 `a`, 3 `b`, 7 `c`, 9 `d`
+    let bytes = b"\x01\x0d\x04\x02\x01a\x03\x01b\x07\x01c\x09\x01d";
+    let names = names_of(rt.alloc(), &[bytes])?;
+    let expected = [
+        (0, 0, None),
+        (0, 1, None),
+        (0, 2, Some("a")),
+        (0, 3, Some("b")),
+        (0, 4, None),
+        (0, 6, None),
+        (0, 7, Some("c")),
+        (0, 8, None),
+        (0, 9, Some("d")),
+        (0, 10, None),
+        (0, 4_294_967_295, None),
+    ];
+    assert_found(&rt, &names, Space::Func, &expected);
+    Ok(())
+}
+
+#[test]
+fn names_with_gaps_between_functions_are_found(rt: HostRuntime) -> Result<(), Fail> {
+    // locals of function 2: 0 `x`, 1 `w`; of function 5: 0 `y`, 1 `z`
+    let bytes = b"\x02\x11\x02\x02\x02\x00\x01x\x01\x01w\x05\x02\x00\x01y\x01\x01z";
+    let names = names_of(rt.alloc(), &[bytes])?;
+    let expected = [
+        (0, 0, None),
+        (1, 7, None),
+        (2, 0, Some("x")),
+        (2, 1, Some("w")),
+        (2, 2, None),
+        (3, 0, None),
+        (4, 1, None),
+        (5, 0, Some("y")),
+        (5, 1, Some("z")),
+        (5, 2, None),
+        (6, 0, None),
+    ];
+    assert_found(&rt, &names, Space::Local, &expected);
+    Ok(())
+}
+
+#[test]
+fn names_of_a_function_far_behind_are_found(rt: HostRuntime) -> Result<(), Fail> {
+    // locals of function 4294967295: 0 `x`
+    let alone = names_of(
+        rt.alloc(),
+        &[b"\x02\x0a\x01\xff\xff\xff\xff\x0f\x01\x00\x01x"],
+    )?;
+    let expected = [
+        (0, 0, None),
+        (4_294_967_294, 0, None),
+        (4_294_967_295, 0, Some("x")),
+        (4_294_967_295, 1, None),
+    ];
+    assert_found(&rt, &alone, Space::Local, &expected);
+    // locals of function 0: 0 `x`; of function 4294967295: 0 `y`
+    let bytes = b"\x02\x0f\x02\x00\x01\x00\x01x\xff\xff\xff\xff\x0f\x01\x00\x01y";
+    let names = names_of(rt.alloc(), &[bytes])?;
+    let expected = [
+        (0, 0, Some("x")),
+        (0, 1, None),
+        (1, 0, None),
+        (4_294_967_294, 0, None),
+        (4_294_967_295, 0, Some("y")),
+        (4_294_967_295, 1, None),
+    ];
+    assert_found(&rt, &names, Space::Local, &expected);
+    Ok(())
+}
+
+#[test]
+fn names_given_from_the_last_to_the_first_are_found(rt: HostRuntime) -> Result<(), Fail> {
+    // globals: 1 `h`, 0 `g`; locals of function 1: 1 `z`, 0 `y`; of function 0: 0 `x`; functions: 3 `d`, 2 `c`, 1 `b`, 0 `a`
+    let globals = b"\x07\x07\x02\x01\x01h\x00\x01g";
+    let locals = b"\x02\x0e\x02\x01\x02\x01\x01z\x00\x01y\x00\x01\x00\x01x";
+    let functions = b"\x01\x0d\x04\x03\x01d\x02\x01c\x01\x01b\x00\x01a";
+    let names = names_of(rt.alloc(), &[globals, locals, functions])?;
+    let globals = [(0, 0, Some("g")), (0, 1, Some("h")), (0, 2, None)];
+    assert_found(&rt, &names, Space::Global, &globals);
+    let locals = [
+        (0, 0, Some("x")),
+        (0, 1, None),
+        (1, 0, Some("y")),
+        (1, 1, Some("z")),
+        (2, 0, None),
+    ];
+    assert_found(&rt, &names, Space::Local, &locals);
+    let functions = [
+        (0, 0, Some("a")),
+        (0, 1, Some("b")),
+        (0, 2, Some("c")),
+        (0, 3, Some("d")),
+        (0, 4, None),
+    ];
+    assert_found(&rt, &names, Space::Func, &functions);
+    // nothing is named between the locals and the globals
+    assert_found(&rt, &names, Space::Types, &[(0, 0, None), (0, 1, None)]);
     Ok(())
 }
 

@@ -55,7 +55,7 @@ fn printed(
 ) -> Result<String, Fail> {
     let mut builder = NamesBuilder::new(alloc);
     read_names(alloc, &mut builder, Cursor::new(0, section))?;
-    let names = builder.finish();
+    let names = builder.finish(alloc)?;
     let identifiers = Identifiers {
         names: &names,
         invents,

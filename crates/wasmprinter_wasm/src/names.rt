@@ -30,6 +30,6 @@ impl<'a> Module<'a> {
                 read_names(alloc, &mut builder, custom.section.cursor())?;
             }
         }
-        Ok(builder.finish())
+        Ok(builder.finish(alloc)?)
     }
 }

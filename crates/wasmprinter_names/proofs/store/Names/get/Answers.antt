@@ -1,6 +1,6 @@
 use Rattle.std.proofs.Common.{rules}
-use Rattle.wasmprinter_names.proofs.Adding.{name_at-get}
+use Rattle.wasmprinter_names.proofs.Adding.{name_at-lookup}
 use Rattle.wasmprinter_names.proofs.store.Names.get.Goals as goal
 
 pub returns : goal.returns
-returns c = search (rules, name_at-get c.self.inside.names c.args.place)
+returns c = search (rules, name_at-lookup c.self.inside.entries.items c.args.place)

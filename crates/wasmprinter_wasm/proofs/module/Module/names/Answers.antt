@@ -4,7 +4,9 @@ use Rattle.std.proofs.Math.ListN.{drop_of_length-le}
 use Rattle.wasmprinter_spec.specs.Placed.{CustomEntry, custom_entry}
 use Rattle.wasmprinter_spec.specs.Customs.{name_section}
 use Rattle.wasmprinter_spec.specs.ModuleNames.{name_entries}
+use Rattle.wasmprinter_spec.specs.Names.Section.{Entry}
 use Rattle.wasmprinter_entries.specs.Places.{place_view}
+use Rattle.wasmprinter_names.specs.Holds.{Holds}
 use Rattle.wasmprinter_wasm.proofs.Naming.{Naming, naming_none, naming_other, naming_read, naming_nothing, naming_done}
 use Rattle.wasmprinter_wasm.proofs.module.Module.names.Goals.{then-is_name_section+in_ok-read_names, else-is_name_section}
 use Rattle.wasmprinter_wasm.proofs.module.Module.names.Goals as goal
@@ -46,4 +48,12 @@ pub returns-clause-names : goal.returns-clause-names
 returns-clause-names c =
     let past : length c.args.self.now.customs ≤ c.loop-custom.custom-index = omega (arith, c.loop-custom-test.false, ap length c.customs-custom-items.ensures) in
     let none : drop c.loop-custom.custom-index c.args.self.now.customs ≡ [] = drop_of_length-le c.args.self.now.customs past in
-    c.finish.ensures (name_entries c.args.self.now.customs) (naming_done c.args.self.now.customs c.loop-custom.custom-index c.loop-custom.builder none c.loop-custom.invariant)
+    c.in_ok-finish.ensures.names (name_entries c.args.self.now.customs) (naming_done c.args.self.now.customs c.loop-custom.custom-index c.loop-custom.builder none c.loop-custom.invariant)
+
+pub returns-in_err-finish-clause-needed : goal.returns-in_err-finish-clause-needed
+returns-in_err-finish-clause-needed c nameless =
+    let past : length c.args.self.now.customs ≤ c.loop-custom.custom-index = omega (arith, c.loop-custom-test.false, ap length c.customs-custom-items.ensures) in
+    let none : drop c.loop-custom.custom-index c.args.self.now.customs ≡ [] = drop_of_length-le c.args.self.now.customs past in
+    let kept = naming_done c.args.self.now.customs c.loop-custom.custom-index c.loop-custom.builder none c.loop-custom.invariant in
+    let ok = c.in_err-finish.ensures.needed (subst (λ (es : List Entry). Holds es c.loop-custom.builder) nameless kept) in
+    absurd cc
