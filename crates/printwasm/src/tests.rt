@@ -7,16 +7,7 @@ use std::io::Write;
 use std::process::ExitCode;
 use std::test::Fail;
 use std::{env, fs, io};
-
-/// Before each section of a module.
-const PREAMBLE: [u8; 8] = [0x00, 0x61, 0x73, 0x6d, 0x01, 0x00, 0x00, 0x00];
-
-/// A function of one i32 that gives it back, exported as f.
-const IDENTITY: [u8; 35] = [
-    0x00, 0x61, 0x73, 0x6d, 0x01, 0x00, 0x00, 0x00, 0x01, 0x06, 0x01, 0x60, 0x01, 0x7f, 0x01, 0x7f,
-    0x03, 0x02, 0x01, 0x00, 0x07, 0x05, 0x01, 0x01, 0x66, 0x00, 0x00, 0x0a, 0x06, 0x01, 0x04, 0x00,
-    0x20, 0x00, 0x0b,
-];
+use wasmprinter_samples::{IDENTITY, PREAMBLE};
 
 /// A function of 50001 locals of i32, whose body begins at byte 22.
 const MANY_LOCALS: [u8; 28] = [
@@ -36,7 +27,7 @@ struct Outcome {
 }
 
 /// These words, each with memory of its own.
-fn owned(rt: &HostRuntime, words: &[&str]) -> Result<Vec<String>, Fail> {
+fn strings_of(rt: &HostRuntime, words: &[&str]) -> Result<Vec<String>, Fail> {
     let mut owned = Vec::new(rt.alloc());
     for word in words {
         owned.push(String::from_str(rt.alloc(), word)?)?;
@@ -47,7 +38,7 @@ fn owned(rt: &HostRuntime, words: &[&str]) -> Result<Vec<String>, Fail> {
 /// The program over these words.
 fn run_with(rt: &HostRuntime, words: &[&str]) -> Result<Outcome, Fail> {
     let alloc = rt.alloc();
-    let owned = owned(rt, words)?;
+    let owned = strings_of(rt, words)?;
     let mut out = Vec::new(alloc);
     let mut err = Vec::new(alloc);
     let status = run(rt, &ByDisplay, alloc, &owned, &mut out, &mut err);
@@ -65,9 +56,9 @@ fn run_over(rt: &HostRuntime, name: &str, bytes: &[u8]) -> Result<Outcome, Fail>
 #[test]
 fn prints_the_empty_module(rt: HostRuntime) -> Result<(), Fail> {
     let printed = run_over(&rt, "empty.wasm", &PREAMBLE)?;
-    assert!(rt; printed.status == 0);
-    assert!(rt; printed.out.as_slice() == b"(module)\n".as_slice());
-    assert!(rt; printed.err.len() == 0);
+    assert_eq!(rt; printed.status, 0);
+    assert_eq!(rt; printed.out.as_slice(), b"(module)\n".as_slice());
+    assert_eq!(rt; printed.err.len(), 0);
     Ok(())
 }
 
@@ -80,9 +71,9 @@ fn prints_a_function(rt: HostRuntime) -> Result<(), Fail> {
         local.get 0\n  \
         )\n)\n";
     let printed = run_over(&rt, "identity.wasm", &IDENTITY)?;
-    assert!(rt; printed.status == 0);
-    assert!(rt; printed.out.as_slice() == text.as_bytes());
-    assert!(rt; printed.err.len() == 0);
+    assert_eq!(rt; printed.status, 0);
+    assert_eq!(rt; printed.out.as_slice(), text.as_bytes());
+    assert_eq!(rt; printed.err.len(), 0);
     Ok(())
 }
 
@@ -111,9 +102,9 @@ fn prints_by_its_options(rt: HostRuntime) -> Result<(), Fail> {
     ];
     for words in orders {
         let printed = run_with(&rt, words)?;
-        assert!(rt; printed.status == 0);
-        assert!(rt; printed.out.as_slice() == WITH_OPTIONS.as_bytes());
-        assert!(rt; printed.err.len() == 0);
+        assert_eq!(rt; printed.status, 0);
+        assert_eq!(rt; printed.out.as_slice(), WITH_OPTIONS.as_bytes());
+        assert_eq!(rt; printed.err.len(), 0);
     }
     fs::remove_file(&rt, file)?;
     Ok(())
@@ -206,9 +197,9 @@ fn prints_in_colors_by_other_options(rt: HostRuntime) -> Result<(), Fail> {
     ];
     for words in orders {
         let printed = run_with(&rt, words)?;
-        assert!(rt; printed.status == 0);
-        assert!(rt; printed.out.as_slice() == OUTLINE_COLORED.as_bytes());
-        assert!(rt; printed.err.len() == 0);
+        assert_eq!(rt; printed.status, 0);
+        assert_eq!(rt; printed.out.as_slice(), OUTLINE_COLORED.as_bytes());
+        assert_eq!(rt; printed.err.len(), 0);
     }
     fs::remove_file(&rt, file)?;
     Ok(())
@@ -220,9 +211,9 @@ fn prints_by_one_option(rt: HostRuntime) -> Result<(), Fail> {
     fs::write(&rt, file, &IDENTITY)?;
     for (option, text) in BY_ONE_OPTION {
         let printed = run_with(&rt, &[option, file])?;
-        assert!(rt; printed.status == 0);
-        assert!(rt; printed.out.as_slice() == text.as_bytes());
-        assert!(rt; printed.err.len() == 0);
+        assert_eq!(rt; printed.status, 0);
+        assert_eq!(rt; printed.out.as_slice(), text.as_bytes());
+        assert_eq!(rt; printed.err.len(), 0);
     }
     fs::remove_file(&rt, file)?;
     Ok(())
@@ -232,20 +223,23 @@ fn prints_by_one_option(rt: HostRuntime) -> Result<(), Fail> {
 fn refuses_a_module_that_is_cut(rt: HostRuntime) -> Result<(), Fail> {
     // the preamble is blamed where it begins
     let refused = run_over(&rt, "cut.wasm", &PREAMBLE[..7])?;
-    assert!(rt; refused.status == 1);
-    assert!(rt; refused.out.len() == 0);
-    assert!(rt; refused.err.as_slice() == b"error: malformed module at byte 0x0\n".as_slice());
+    assert_eq!(rt; refused.status, 1);
+    assert_eq!(rt; refused.out.len(), 0);
+    assert_eq!(rt;
+        refused.err.as_slice(),
+        b"error: malformed module at byte 0x0\n".as_slice()
+    );
     Ok(())
 }
 
 #[test]
 fn refuses_too_many_locals(rt: HostRuntime) -> Result<(), Fail> {
     let refused = run_over(&rt, "locals.wasm", &MANY_LOCALS)?;
-    assert!(rt; refused.status == 1);
-    assert!(rt; refused.out.len() == 0);
-    assert!(rt;
-        refused.err.as_slice()
-            == b"error: function at byte 0x16 has more than 50000 locals\n".as_slice()
+    assert_eq!(rt; refused.status, 1);
+    assert_eq!(rt; refused.out.len(), 0);
+    assert_eq!(rt;
+        refused.err.as_slice(),
+        b"error: function at byte 0x16 has more than 50000 locals\n".as_slice()
     );
     Ok(())
 }
@@ -263,17 +257,17 @@ fn refuses_what_cannot_be_folded_in_colors_or_without(rt: HostRuntime) -> Result
     let orders: [&[&str]; 2] = [&["--fold", file], &["--color", "--fold", file]];
     for words in orders {
         let refused = run_with(&rt, words)?;
-        assert!(rt; refused.status == 1);
-        assert!(rt; refused.out.len() == 0);
-        assert!(rt;
-            refused.err.as_slice()
-                == b"error: legacy exception operator at byte 0x17 can't be folded\n".as_slice()
+        assert_eq!(rt; refused.status, 1);
+        assert_eq!(rt; refused.out.len(), 0);
+        assert_eq!(rt;
+            refused.err.as_slice(),
+            b"error: legacy exception operator at byte 0x17 can't be folded\n".as_slice()
         );
     }
     // a skeleton holds no bodies
     let printed = run_with(&rt, &["--fold", "--skeleton", file])?;
-    assert!(rt; printed.status == 0);
-    assert!(rt; printed.err.len() == 0);
+    assert_eq!(rt; printed.status, 0);
+    assert_eq!(rt; printed.err.len(), 0);
     fs::remove_file(&rt, file)?;
     Ok(())
 }
@@ -285,9 +279,12 @@ fn refuses_an_unknown_subsection(rt: HostRuntime) -> Result<(), Fail> {
         "dylink.wasm",
         b"\0asm\x01\0\0\0\0\x0b\x08dylink.0\x09\0",
     )?;
-    assert!(rt; refused.status == 1);
-    assert!(rt; refused.out.len() == 0);
-    assert!(rt; refused.err.as_slice() == b"error: unknown dylink.0 subsection 9\n".as_slice());
+    assert_eq!(rt; refused.status, 1);
+    assert_eq!(rt; refused.out.len(), 0);
+    assert_eq!(rt;
+        refused.err.as_slice(),
+        b"error: unknown dylink.0 subsection 9\n".as_slice()
+    );
     Ok(())
 }
 
@@ -295,9 +292,12 @@ fn refuses_an_unknown_subsection(rt: HostRuntime) -> Result<(), Fail> {
 fn refuses_a_component(rt: HostRuntime) -> Result<(), Fail> {
     let component = [0x00, 0x61, 0x73, 0x6d, 0x0d, 0x00, 0x01, 0x00];
     let refused = run_over(&rt, "component.wasm", &component)?;
-    assert!(rt; refused.status == 1);
-    assert!(rt; refused.out.len() == 0);
-    assert!(rt; refused.err.as_slice() == b"error: components are not supported\n".as_slice());
+    assert_eq!(rt; refused.status, 1);
+    assert_eq!(rt; refused.out.len(), 0);
+    assert_eq!(rt;
+        refused.err.as_slice(),
+        b"error: components are not supported\n".as_slice()
+    );
     Ok(())
 }
 
@@ -307,19 +307,22 @@ fn reads_the_file_of_that_very_name(rt: HostRuntime) -> Result<(), Fail> {
     let other = run_over(&rt, "named.wasm ", &IDENTITY[..9])?;
     let printed = run_with(&rt, &["named.wasm"])?;
     fs::remove_file(&rt, "named.wasm")?;
-    assert!(rt; other.status == 1);
-    assert!(rt; other.out.len() == 0);
-    assert!(rt; printed.status == 0);
-    assert!(rt; printed.out.as_slice() == b"(module)\n".as_slice());
+    assert_eq!(rt; other.status, 1);
+    assert_eq!(rt; other.out.len(), 0);
+    assert_eq!(rt; printed.status, 0);
+    assert_eq!(rt; printed.out.as_slice(), b"(module)\n".as_slice());
     Ok(())
 }
 
 #[test]
 fn refuses_a_file_that_is_missing(rt: HostRuntime) -> Result<(), Fail> {
     let refused = run_with(&rt, &["no such file"])?;
-    assert!(rt; refused.status == 1);
-    assert!(rt; refused.out.len() == 0);
-    assert!(rt; refused.err.as_slice() == b"error: the file can't be read\n".as_slice());
+    assert_eq!(rt; refused.status, 1);
+    assert_eq!(rt; refused.out.len(), 0);
+    assert_eq!(rt;
+        refused.err.as_slice(),
+        b"error: the file can't be read\n".as_slice()
+    );
     Ok(())
 }
 
@@ -339,9 +342,9 @@ fn tells_its_usage(rt: HostRuntime) -> Result<(), Fail> {
     ];
     for words in misuses {
         let misused = run_with(&rt, words)?;
-        assert!(rt; misused.status == 2);
-        assert!(rt; misused.out.len() == 0);
-        assert!(rt; misused.err.as_slice() == USAGE.as_bytes());
+        assert_eq!(rt; misused.status, 2);
+        assert_eq!(rt; misused.out.len(), 0);
+        assert_eq!(rt; misused.err.as_slice(), USAGE.as_bytes());
     }
     Ok(())
 }
@@ -380,15 +383,15 @@ impl Write for Narrow {
 
 #[test]
 fn tells_that_the_text_could_not_be_written(rt: HostRuntime) -> Result<(), Fail> {
-    let words = owned(&rt, &["narrow.wasm"])?;
+    let words = strings_of(&rt, &["narrow.wasm"])?;
     fs::write(&rt, "narrow.wasm", &PREAMBLE)?;
     for room in [0, 5] {
         let mut out = Narrow::new(&rt, room);
         let mut err = Vec::new(rt.alloc());
         let status = run(&rt, &ByDisplay, rt.alloc(), &words, &mut out, &mut err);
-        assert!(rt; status == 1);
-        assert!(rt; out.taken.as_slice() == &b"(module)\n"[..room]);
-        assert!(rt; err.as_slice() == b"error: the printer failed\n".as_slice());
+        assert_eq!(rt; status, 1);
+        assert_eq!(rt; out.taken.as_slice(), &b"(module)\n"[..room]);
+        assert_eq!(rt; err.as_slice(), b"error: the printer failed\n".as_slice());
     }
     fs::remove_file(&rt, "narrow.wasm")?;
     Ok(())
@@ -399,12 +402,15 @@ fn keeps_its_status_where_errors_can_not_be_told(rt: HostRuntime) -> Result<(), 
     let cases: [(&[&str], u8); 2] = [(&["no such file"], 1), (&[], 2)];
     for (words, status) in cases {
         for room in [0, 5] {
-            let words = owned(&rt, words)?;
+            let words = strings_of(&rt, words)?;
             let mut out = Vec::new(rt.alloc());
             let mut err = Narrow::new(&rt, room);
-            assert!(rt; run(&rt, &ByDisplay, rt.alloc(), &words, &mut out, &mut err) == status);
-            assert!(rt; out.len() == 0);
-            assert!(rt; err.taken.len() == room);
+            assert_eq!(rt;
+                run(&rt, &ByDisplay, rt.alloc(), &words, &mut out, &mut err),
+                status
+            );
+            assert_eq!(rt; out.len(), 0);
+            assert_eq!(rt; err.taken.len(), room);
         }
     }
     Ok(())
@@ -426,13 +432,13 @@ fn starts_with_all_words_but_its_name(rt: HostRuntime) -> Result<(), Fail> {
         (&["printwasm", "a", "b", "c", "d", "e", "f", "g"], 2, USAGE),
     ];
     for (words, status, told) in starts {
-        let args = Ok(owned(&rt, words)?.into_iter());
+        let args = Ok(strings_of(&rt, words)?.into_iter());
         let mut out = Vec::new(rt.alloc());
         let mut err = Vec::new(rt.alloc());
         let code = start(&rt, &ByDisplay, rt.alloc(), args, &mut out, &mut err);
-        assert!(rt; code == ExitCode::from(status));
-        assert!(rt; out.len() == 0);
-        assert!(rt; err.as_slice() == told.as_bytes());
+        assert_eq!(rt; code, ExitCode::from(status));
+        assert_eq!(rt; out.len(), 0);
+        assert_eq!(rt; err.as_slice(), told.as_bytes());
     }
     Ok(())
 }
@@ -443,9 +449,9 @@ fn tells_that_its_words_can_not_be_held(rt: HostRuntime) -> Result<(), Fail> {
     let mut out = Vec::new(rt.alloc());
     let mut err = Vec::new(rt.alloc());
     let code = start(&rt, &ByDisplay, rt.alloc(), args, &mut out, &mut err);
-    assert!(rt; code == ExitCode::from(1));
-    assert!(rt; out.len() == 0);
-    assert!(rt; err.as_slice() == b"error: out of memory\n".as_slice());
+    assert_eq!(rt; code, ExitCode::from(1));
+    assert_eq!(rt; out.len(), 0);
+    assert_eq!(rt; err.as_slice(), b"error: out of memory\n".as_slice());
     Ok(())
 }
 
@@ -455,9 +461,9 @@ fn tells_why_the_system_gives_no_words(rt: HostRuntime) -> Result<(), Fail> {
     let mut out = Vec::new(rt.alloc());
     let mut err = Vec::new(rt.alloc());
     let code = start(&rt, &ByDisplay, rt.alloc(), args, &mut out, &mut err);
-    assert!(rt; code == ExitCode::from(1));
-    assert!(rt; out.len() == 0);
-    assert!(rt; err.as_slice() == b"error: no words\n".as_slice());
+    assert_eq!(rt; code, ExitCode::from(1));
+    assert_eq!(rt; out.len(), 0);
+    assert_eq!(rt; err.as_slice(), b"error: no words\n".as_slice());
     Ok(())
 }
 
@@ -483,7 +489,7 @@ fn prints_a_large_file_to_its_end(rt: HostRuntime) -> Result<(), Fail> {
         wasm.extend_from_slice(&[0x02, 0x00, 0x0b])?;
     }
     let printed = run_over(&rt, "large.wasm", &wasm)?;
-    assert!(rt; printed.status == 0);
+    assert_eq!(rt; printed.status, 0);
     assert!(rt;
         printed
             .out
@@ -517,7 +523,7 @@ impl Write for Late {
 
 #[test]
 fn writes_nothing_behind_a_failed_write(rt: HostRuntime) -> Result<(), Fail> {
-    let words = owned(&rt, &["late.wasm"])?;
+    let words = strings_of(&rt, &["late.wasm"])?;
     fs::write(&rt, "late.wasm", &PREAMBLE)?;
     let mut out = Late {
         taken: Vec::new(rt.alloc()),
@@ -526,9 +532,9 @@ fn writes_nothing_behind_a_failed_write(rt: HostRuntime) -> Result<(), Fail> {
     let mut err = Vec::new(rt.alloc());
     let status = run(&rt, &ByDisplay, rt.alloc(), &words, &mut out, &mut err);
     fs::remove_file(&rt, "late.wasm")?;
-    assert!(rt; status == 1);
+    assert_eq!(rt; status, 1);
     assert!(rt; out.is_late);
-    assert!(rt; out.taken.len() == 0);
-    assert!(rt; err.as_slice() == b"error: the printer failed\n".as_slice());
+    assert_eq!(rt; out.taken.len(), 0);
+    assert_eq!(rt; err.as_slice(), b"error: the printer failed\n".as_slice());
     Ok(())
 }
