@@ -6,6 +6,7 @@ use std::alloc::Global;
 use std::test::Fail;
 use wasmprinter::{Config, Error};
 use wasmprinter_samples::PREAMBLE;
+use wasmprinter_samples::sections::{DATA, FUNCTION, GLOBAL, TYPE, add_custom, add_section};
 
 /// The text of a module, folded and in colours.
 fn text_in_colors(alloc: Global, wasm: &[u8]) -> Result<Vec<u8>, Error> {

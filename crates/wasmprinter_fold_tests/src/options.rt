@@ -1,6 +1,6 @@
 //! Folded operators together with the other options, in each list of operators that a module has; and the lines of folded texts.
 
-use crate::modules::folded;
+use crate::modules::folded_text;
 use std::alloc::{AllocError, Global};
 use std::test::Fail;
 use wasmprinter::{Config, OffsetsAndLines};

@@ -1,0 +1,26 @@
+-- Names by their places, in a list.
+use Rattle.std.specs.Prelude.{◌≡◌, ℕ, List, length, Option}
+use Rattle.std.specs.declared.cmp.Ordering.TheVariants.{Less, Greater}
+use Rattle.std.specs.List.{AllWithin}
+use Rattle.std.specs.List.Sorted.{IsStrictlySortedBy}
+use Rattle.std.specs.Map.{keys_of, lookup}
+use Rattle.std.specs.BTreeMap.{is_at}
+use Rattle.wasmprinter_names.specs.Views.{place_cmp}
+use Rattle.wasmprinter_names.specs.declared.store.Place.{Place}
+use Rattle.wasmprinter_names.specs.declared.store.StoredName.{StoredName}
+
+-- each place is below those behind it
+abbrev pub Ascends : List (Place × StoredName) → Type 0
+Ascends entries = IsStrictlySortedBy place_cmp (keys_of entries)
+
+-- the name at a place
+abbrev pub stored_at : List (Place × StoredName) → Place → Option StoredName
+stored_at entries place = lookup (is_at (place_cmp place)) entries
+
+-- the entries in front of a position have lower places than this one
+abbrev pub AllAreBefore : List (Place × StoredName) → ℕ → Place → Type 0
+AllAreBefore entries i place = AllWithin (λ e. place_cmp e.0 place ≡ Less) entries 0 i
+
+-- those from a position on have higher places
+abbrev pub AllAreBehind : List (Place × StoredName) → ℕ → Place → Type 0
+AllAreBehind entries i place = AllWithin (λ e. place_cmp e.0 place ≡ Greater) entries i (length entries)
