@@ -7,7 +7,7 @@ use Rattle.wasmprinter_spec.specs.Options.{Options}
 use Rattle.wasmprinter.specs.Printed.{HasTextBy}
 use Rattle.wasmprinter.specs.Coloured.{HasColouredTextBy}
 use Rattle.wasmprinter.specs.OfFile.{Reading, IsRefusedBy}
-use Rattle.printwasm.specs.Words.{Choice, named_file, chosen}
+use Rattle.printwasm.specs.Words.{Choice, named_file, choice_of}
 
 -- what a write of a text, if it is told, may answer, and what it makes of the sink
 abbrev pub Writing : Type 0 → Type 1
@@ -68,7 +68,7 @@ pub record HasOutcome {W V : Type 0} (gives : List ℕ → Reading) (takes : Wri
   pub bound : status ≤ 2
   pub silent : status ≡ 2 → new_out ≡ out
   pub misused : status ≡ 2 → Tells tells err new_err (Some usage_line)
-  pub printed : status ≡ 0 → (file : List ℕ) × (named_file words ≡ Some file) × WritesText (chosen words) (gives file) takes out new_out (Ok tt)
+  pub printed : status ≡ 0 → (file : List ℕ) × (named_file words ≡ Some file) × WritesText (choice_of words) (gives file) takes out new_out (Ok tt)
   pub quiet : status ≡ 0 → new_err ≡ err
-  pub refused : status ≡ 1 → (file : List ℕ) × (error : Error) × (named_file words ≡ Some file) × FailsToWrite (chosen words) (gives file) takes out new_out error
+  pub refused : status ≡ 1 → (file : List ℕ) × (error : Error) × (named_file words ≡ Some file) × FailsToWrite (choice_of words) (gives file) takes out new_out error
       × TellsError tells err new_err renders error

@@ -53,8 +53,8 @@ pub record Choice : Type 0 where
   pub coloured : Bool
 
 -- what the options choose, wherever and however often they stand
-abbrev pub chosen : List (List ℕ) → Choice
-chosen words = record {
+abbrev pub choice_of : List (List ℕ) → Choice
+choice_of words = record {
   options = record defaults {
     offsets = has words offsets_option;
     skeleton = has words skeleton_option;

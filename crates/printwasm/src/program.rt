@@ -3,7 +3,7 @@ ghost use Rattle.std.specs.Prelude.{◌≡◌, ℕ, ◌⊎◌, List, ◌∷◌, 
 ghost use Rattle.std.specs.Iterator.{IsFinite};
 ghost use Rattle.std.specs.Process.{exit_status};
 ghost use Rattle.std.specs.declared.io.Error.{Error as IoError};
-ghost use Rattle.printwasm.specs.Words.{AreWordsOf, WantsWords, is_option, is_known, named_file, has, chosen};
+ghost use Rattle.printwasm.specs.Words.{AreWordsOf, WantsWords, is_option, is_known, named_file, has, choice_of};
 ghost use Rattle.printwasm.specs.Outcome.{IsTextBy, GivesText, GivesNoText, WritesText, FailsToWrite, TellsError, HasOutcome};
 ghost use Rattle.wasmprinter.specs.Outcome.{HasTextCause, IsTrueOfText};
 
@@ -171,7 +171,7 @@ fn has(words: &[String], option: &str) -> bool
 
 /// What the words choose.
 fn choice_of(words: &[String]) -> Choice
-    ensures { result ≡ chosen (map string_bytes words.now) }
+    ensures { result ≡ choice_of (map string_bytes words.now) }
 {
     let mut config = Config::new();
     config

@@ -36,7 +36,7 @@ struct Outcome {
 }
 
 /// These words, each with memory of its own.
-fn owned(rt: &HostRuntime, words: &[&str]) -> Result<Vec<String>, Fail> {
+fn strings_of(rt: &HostRuntime, words: &[&str]) -> Result<Vec<String>, Fail> {
     let mut owned = Vec::new(rt.alloc());
     for word in words {
         owned.push(String::from_str(rt.alloc(), word)?)?;
@@ -47,7 +47,7 @@ fn owned(rt: &HostRuntime, words: &[&str]) -> Result<Vec<String>, Fail> {
 /// The program over these words.
 fn run_with(rt: &HostRuntime, words: &[&str]) -> Result<Outcome, Fail> {
     let alloc = rt.alloc();
-    let owned = owned(rt, words)?;
+    let owned = strings_of(rt, words)?;
     let mut out = Vec::new(alloc);
     let mut err = Vec::new(alloc);
     let status = run(rt, &ByDisplay, alloc, &owned, &mut out, &mut err);
@@ -392,7 +392,7 @@ impl Write for Narrow {
 
 #[test]
 fn tells_that_the_text_could_not_be_written(rt: HostRuntime) -> Result<(), Fail> {
-    let words = owned(&rt, &["narrow.wasm"])?;
+    let words = strings_of(&rt, &["narrow.wasm"])?;
     fs::write(&rt, "narrow.wasm", &PREAMBLE)?;
     for room in [0, 5] {
         let mut out = Narrow::new(&rt, room);
@@ -411,7 +411,7 @@ fn keeps_its_status_where_errors_can_not_be_told(rt: HostRuntime) -> Result<(), 
     let cases: [(&[&str], u8); 2] = [(&["no such file"], 1), (&[], 2)];
     for (words, status) in cases {
         for room in [0, 5] {
-            let words = owned(&rt, words)?;
+            let words = strings_of(&rt, words)?;
             let mut out = Vec::new(rt.alloc());
             let mut err = Narrow::new(&rt, room);
             assert_eq!(rt;
@@ -441,7 +441,7 @@ fn starts_with_all_words_but_its_name(rt: HostRuntime) -> Result<(), Fail> {
         (&["printwasm", "a", "b", "c", "d", "e", "f", "g"], 2, USAGE),
     ];
     for (words, status, told) in starts {
-        let args = Ok(owned(&rt, words)?.into_iter());
+        let args = Ok(strings_of(&rt, words)?.into_iter());
         let mut out = Vec::new(rt.alloc());
         let mut err = Vec::new(rt.alloc());
         let code = start(&rt, &ByDisplay, rt.alloc(), args, &mut out, &mut err);
@@ -532,7 +532,7 @@ impl Write for Late {
 
 #[test]
 fn writes_nothing_behind_a_failed_write(rt: HostRuntime) -> Result<(), Fail> {
-    let words = owned(&rt, &["late.wasm"])?;
+    let words = strings_of(&rt, &["late.wasm"])?;
     fs::write(&rt, "late.wasm", &PREAMBLE)?;
     let mut out = Late {
         taken: Vec::new(rt.alloc()),

@@ -2,7 +2,7 @@
 use Rattle.std.specs.Prelude.{◌≡◌, ℕ, ◌+◌, List, [], ◌∷◌, ◌++◌, ◌||◌, map, codes, Bool, true, false, Option, Some, None, refl}
 use Rattle.std.specs.List.{AllByRecursion}
 use Rattle.std.proofs.Common.{sym, ap, ap₂, ◌∙◌, subst}
-use Rattle.wasmprinter_spec.specs.Call.{Call, Text, Newline, Line, Start, Claim, cut_call, atoms}
+use Rattle.wasmprinter_spec.specs.Call.{Call, Text, Newline, Line, Start, Claim, calls_of_bytes, atoms}
 use Rattle.wasmprinter_spec.specs.Kinds.{Kind, TypeSection, ImportSection, FunctionSection, TableSection, MemorySection, TagSection, GlobalSection, ExportSection, StartSection, ElementSection, CodeSection, DataSection}
 use Rattle.wasmprinter_spec.specs.Placed.{CustomEntry, PlacedModule}
 use Rattle.wasmprinter_spec.specs.Names.{Names}
@@ -15,7 +15,7 @@ use Rattle.wasmprinter_spec.specs.Layout.Identifiers.{leading_mark_pieces}
 use Rattle.wasmprinter_spec.specs.Layout.Customs.{Part, Shown, Stops, Laid, laid_parts, custom_part, same_place, parts_at}
 use Rattle.wasmprinter_print.specs.PrintsLaws.{all_calls-append}
 use Rattle.wasmprinter_sections.specs.Sections.{fields_of, first_scope, section_parts}
-use Rattle.wasmprinter.specs.Printed.{unclaimed, IsUnclaimed}
+use Rattle.wasmprinter.specs.Printed.{no_claims, IsUnclaimed}
 
 -- ---- of two lists
 
@@ -37,14 +37,14 @@ texts_unclaimed : (s : List ℕ) → AllByRecursion IsUnclaimed (map (λ b. Text
 texts_unclaimed [] = tt
 texts_unclaimed (b ∷ bs) = (tt, texts_unclaimed bs)
 
-cut_unclaimed : (c : Call) → IsUnclaimed c → AllByRecursion IsUnclaimed (cut_call c)
+cut_unclaimed : (c : Call) → IsUnclaimed c → AllByRecursion IsUnclaimed (calls_of_bytes c)
 cut_unclaimed (Text s) h = texts_unclaimed s
 cut_unclaimed Newline h = (tt, tt)
 cut_unclaimed (Line place) h = (tt, tt)
 cut_unclaimed (Start style) h = (tt, tt)
 cut_unclaimed (Claim name place bytes answer) h = (h, tt)
 
-uncut_unclaimed : (c : Call) → AllByRecursion IsUnclaimed (cut_call c) → IsUnclaimed c
+uncut_unclaimed : (c : Call) → AllByRecursion IsUnclaimed (calls_of_bytes c) → IsUnclaimed c
 uncut_unclaimed (Text s) h = tt
 uncut_unclaimed Newline h = tt
 uncut_unclaimed (Line place) h = tt
@@ -53,12 +53,12 @@ uncut_unclaimed (Claim name place bytes answer) h = h.0
 
 atoms_unclaimed : (cs : List Call) → AllByRecursion IsUnclaimed cs → AllByRecursion IsUnclaimed (atoms cs)
 atoms_unclaimed [] h = tt
-atoms_unclaimed (c ∷ cs) h = all_both IsUnclaimed (cut_call c) (atoms cs) (cut_unclaimed c h.0) (atoms_unclaimed cs h.1)
+atoms_unclaimed (c ∷ cs) h = all_both IsUnclaimed (calls_of_bytes c) (atoms cs) (cut_unclaimed c h.0) (atoms_unclaimed cs h.1)
 
 whole_unclaimed : (cs : List Call) → AllByRecursion IsUnclaimed (atoms cs) → AllByRecursion IsUnclaimed cs
 whole_unclaimed [] h = tt
 whole_unclaimed (c ∷ cs) h =
-    (uncut_unclaimed c (all_front IsUnclaimed (cut_call c) (atoms cs) h), whole_unclaimed cs (all_behind IsUnclaimed (cut_call c) (atoms cs) h))
+    (uncut_unclaimed c (all_front IsUnclaimed (calls_of_bytes c) (atoms cs) h), whole_unclaimed cs (all_behind IsUnclaimed (calls_of_bytes c) (atoms cs) h))
 
 pub alike_unclaimed : (k l : List Call) → atoms k ≡ atoms l → AllByRecursion IsUnclaimed k → AllByRecursion IsUnclaimed l
 alike_unclaimed k l e h = whole_unclaimed l (subst (λ (cs : List Call). AllByRecursion IsUnclaimed cs) e (atoms_unclaimed k h))
@@ -94,12 +94,12 @@ module _ (o : Options) where
 
   -- those at one place
   place_same : (answers : Answers) (place : Option Kind) (n : ℕ) (cs : List CustomEntry) → AllByRecursion IsUnclaimedPart (parts_at o.skeleton answers place n cs) →
-      parts_at o.skeleton answers place n cs ≡ parts_at o.skeleton unclaimed place n cs
+      parts_at o.skeleton answers place n cs ≡ parts_at o.skeleton no_claims place n cs
   place_same answers place n [] h = refl
   place_same answers place n (c ∷ cs) h = by (same_place c.behind place) (λ others. place_same answers place (n + 1) cs others) refl
     where
-      by : (t : Bool) → (AllByRecursion IsUnclaimedPart (parts_at o.skeleton answers place (n + 1) cs) → parts_at o.skeleton answers place (n + 1) cs ≡ parts_at o.skeleton unclaimed place (n + 1) cs) →
-          same_place c.behind place ≡ t → parts_at o.skeleton answers place n (c ∷ cs) ≡ parts_at o.skeleton unclaimed place n (c ∷ cs)
+      by : (t : Bool) → (AllByRecursion IsUnclaimedPart (parts_at o.skeleton answers place (n + 1) cs) → parts_at o.skeleton answers place (n + 1) cs ≡ parts_at o.skeleton no_claims place (n + 1) cs) →
+          same_place c.behind place ≡ t → parts_at o.skeleton answers place n (c ∷ cs) ≡ parts_at o.skeleton no_claims place n (c ∷ cs)
       by true others e =
           let parts : AllByRecursion IsUnclaimedPart (custom_part o.skeleton (answers n) c ∷ parts_at o.skeleton answers place (n + 1) cs) = rw e at h in
           rw (e, answered_no (answers n) c parts.0, others parts.1) refl
@@ -118,13 +118,13 @@ module _ (o : Options) where
 
   -- all of a module
   module _ (answers : Answers) (names : Names) (m : PlacedModule) where
-    customs_same : (place : Option Kind) → IsSameIf (parts_at o.skeleton answers place 0 m.customs) (parts_at o.skeleton unclaimed place 0 m.customs)
+    customs_same : (place : Option Kind) → IsSameIf (parts_at o.skeleton answers place 0 m.customs) (parts_at o.skeleton no_claims place 0 m.customs)
     customs_same place h = place_same answers place 0 m.customs h
 
-    section_same : (k : Kind) → IsSameIf (section_parts o (first_scope o names m) m answers k) (section_parts o (first_scope o names m) m unclaimed k)
+    section_same : (k : Kind) → IsSameIf (section_parts o (first_scope o names m) m answers k) (section_parts o (first_scope o names m) m no_claims k)
     section_same k = field_same (Shown (fields_of o (first_scope o names m) m k)) (customs_same (Some k))
 
-    parts_same : IsSameIf (module_parts o answers names m) (module_parts o unclaimed names m)
+    parts_same : IsSameIf (module_parts o answers names m) (module_parts o no_claims names m)
     parts_same =
         both_same (both_same (both_same (both_same (both_same (both_same (both_same (both_same (both_same (both_same (both_same (both_same (customs_same None)
         (section_same TypeSection)) (section_same ImportSection)) (customs_same (Some FunctionSection))) (section_same TableSection)) (section_same MemorySection))
@@ -147,8 +147,8 @@ module _ (o : Options) where
 
 -- the layout is that of a module of which no custom section is claimed, and as little of it is refused
 pub record IsSame (o : Options) (answers : Answers) (m : PlacedModule) : Type 0 where
-  pub layout : layout o answers m ≡ layout o unclaimed m
-  pub refusal : refusal o unclaimed m ≡ None
+  pub layout : layout o answers m ≡ layout o no_claims m
+  pub refusal : refusal o no_claims m ≡ None
 
 -- no claim was answered yes
 pub unclaimed_layout : (o : Options) (answers : Answers) (m : PlacedModule) → refusal o answers m ≡ None → AllByRecursion IsUnclaimed (layout o answers m) → IsSame o answers m
@@ -156,7 +156,7 @@ unfolding layout module_pieces module_pieces_with
 unclaimed_layout o answers m e h =
     let names : Names = module_names o.invents m in
     let laid : Laid = laid_parts (module_parts o answers names m) in
-    let same : module_parts o answers names m ≡ module_parts o unclaimed names m =
+    let same : module_parts o answers names m ≡ module_parts o no_claims names m =
     parts_same o answers names m (parts_unclaimed o (module_parts o answers names m) e (whole_unclaimed_in o names m.size laid e h)) in
     record {
       layout = ap (λ (ps : List Part). all_calls o (module_pieces_of o names m.size (laid_parts ps).pieces (laid_parts ps).refused)) same;

@@ -1,7 +1,7 @@
 -- The text of a module in colours.
 use Rattle.std.specs.Prelude.{◌≡◌, ℕ, List, [], ◌∷◌, ◌++◌, true, false, map, Some, None, Ok, refl}
 use Rattle.std.proofs.Common.{sym, ap, ◌∙◌, append_assoc, append-nil}
-use Rattle.wasmprinter_spec.specs.Call.{Call, Text, Newline, Line, Start, Claim, cut_call, atoms}
+use Rattle.wasmprinter_spec.specs.Call.{Call, Text, Newline, Line, Start, Claim, calls_of_bytes, atoms}
 use Rattle.wasmprinter_spec.specs.Colour.{uncolour}
 use Rattle.wasmprinter_spec.specs.Meaning.{Meaning}
 use Rattle.wasmprinter_spec.specs.Coloured.{coloured_bytes, coloured_text}
@@ -12,7 +12,7 @@ use Rattle.wasmprinter_writers.specs.ColourCalls.{Painting, PaintsBySequences, W
 use Rattle.wasmprinter_writers.proofs.Runs.{coloured_run}
 use Rattle.wasmprinter_reading.proofs.Main.{prints_plain_text}
 use Rattle.wasmprinter_colours.proofs.Texts.{coloured_text_keeps}
-use Rattle.wasmprinter.specs.Printed.{Printed, in_colours, unclaimed, IsUnclaimed}
+use Rattle.wasmprinter.specs.Printed.{Printed, in_colours, no_claims, IsUnclaimed}
 use Rattle.wasmprinter.specs.Coloured.{HasColouredTextBy}
 use Rattle.wasmprinter.proofs.Claims.{IsSame}
 use Rattle.wasmprinter.proofs.Paints.{refusal-paints}
@@ -28,7 +28,7 @@ bytes_coloured : (s : List ℕ) → coloured_text (map (λ b. Text (b ∷ [])) s
 bytes_coloured [] = refl
 bytes_coloured (b ∷ bs) = ap (λ t. b ∷ t) (bytes_coloured bs)
 
-cut_coloured : (c : Call) → coloured_text (cut_call c) ≡ coloured_bytes c
+cut_coloured : (c : Call) → coloured_text (calls_of_bytes c) ≡ coloured_bytes c
 cut_coloured (Text s) = bytes_coloured s
 cut_coloured Newline = refl
 cut_coloured (Line place) = refl
@@ -38,7 +38,7 @@ cut_coloured (Claim name place bytes answer) = refl
 coloured_text-atoms : (cs : List Call) → coloured_text (atoms cs) ≡ coloured_text cs
 coloured_text-atoms [] = refl
 coloured_text-atoms (c ∷ cs) =
-    coloured_text-append (cut_call c) (atoms cs) ∙ ap (λ t. t ++ coloured_text (atoms cs)) (cut_coloured c) ∙ ap (λ t. coloured_bytes c ++ t) (coloured_text-atoms cs)
+    coloured_text-append (calls_of_bytes c) (atoms cs) ∙ ap (λ t. t ++ coloured_text (atoms cs)) (cut_coloured c) ∙ ap (λ t. coloured_bytes c ++ t) (coloured_text-atoms cs)
 
 alike_coloured : (k l : List Call) → atoms k ≡ atoms l → coloured_text k ≡ coloured_text l
 alike_coloured k l e = sym (coloured_text-atoms k) ∙ ap coloured_text e ∙ coloured_text-atoms l
@@ -64,12 +64,12 @@ printed_in_colours {P} {T} {U} writer_of inner_of contents o bytes old new empty
     let by : Options = in_colours o true in
     let own : IsSame by v.answers v.placed =
     unclaimed_printed m true o (λ s c t h. takes_no_section takes paints (writer_of s) c (writer_of t) h) bytes old new v in
-    let laid : List Call = layout by unclaimed v.placed in
+    let laid : List Call = layout by no_claims v.placed in
     let text : List ℕ = contents (inner_of (writer_of new)) in
     let handed : text ≡ coloured_text v.calls =
     coloured_run writer_of inner_of (λ u. Some (contents u)) old new v.calls v.run ∙ ap (λ t. t ++ coloured_text v.calls) empty in
     let is : text ≡ coloured_text laid = handed ∙ alike_coloured v.calls laid (v.alike ∙ ap atoms own.layout) in
-    let accepted : refusal (in_colours o false) unclaimed v.placed ≡ None = refusal-paints o false true unclaimed v.placed ∙ own.refusal in
+    let accepted : refusal (in_colours o false) no_claims v.placed ≡ None = refusal-paints o false true no_claims v.placed ∙ own.refusal in
     record {
       placed = v.placed;
       spelled = v.spelled;
@@ -79,5 +79,5 @@ printed_in_colours {P} {T} {U} writer_of inner_of contents o bytes old new empty
       is = is;
       bare = λ blank.
           module_text o bytes v.placed v.spelled v.within v.foldable accepted (uncolour text)
-          (ap uncolour is ∙ coloured_text_keeps prints_plain_text bytes v.placed by unclaimed v.spelled blank);
+          (ap uncolour is ∙ coloured_text_keeps prints_plain_text bytes v.placed by no_claims v.spelled blank);
     }

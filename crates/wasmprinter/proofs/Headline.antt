@@ -17,7 +17,7 @@ use Rattle.wasmprinter_lexical.proofs.Alike.{alike_texts}
 use Rattle.wasmprinter_reading.proofs.Main.{reads_back, prints_plain_text}
 use Rattle.wasmprinter_reading.proofs.Hints.Kept.{hints_stay}
 use Rattle.wasmprinter_colours.proofs.Texts.{paints_add_colours, colours_stand_in_texts}
-use Rattle.wasmprinter.specs.Printed.{Printed, in_colours, unclaimed}
+use Rattle.wasmprinter.specs.Printed.{Printed, in_colours, no_claims}
 use Rattle.wasmprinter.proofs.Claims.{alike_unclaimed, unclaimed_layout}
 use Rattle.wasmprinter.proofs.Paints.{refusal-paints}
 
@@ -49,9 +49,9 @@ printed m colours o bytes placed answers spelled within foldable accepted made =
       uncoloured = uncoloured;
       reads = λ indexed whole blank asked.
           let own = unclaimed_layout by answers placed accepted (alike_unclaimed made.calls (layout by answers placed) made.alike asked) in
-          ap read (ap uncolour (same ∙ ap text_of own.layout) ∙ paints_add_colours prints_plain_text bytes placed by unclaimed spelled blank)
-          ∙ reads_back bytes placed plainly unclaimed spelled indexed within.tables whole refl blank (λ n. refl) (foldable_in o false placed foldable)
-          (refusal-paints o false colours unclaimed placed ∙ own.refusal);
+          ap read (ap uncolour (same ∙ ap text_of own.layout) ∙ paints_add_colours prints_plain_text bytes placed by no_claims spelled blank)
+          ∙ reads_back bytes placed plainly no_claims spelled indexed within.tables whole refl blank (λ n. refl) (foldable_in o false placed foldable)
+          (refusal-paints o false colours no_claims placed ∙ own.refusal);
       hints = λ hs whole blank given.
           ap text_hints (uncoloured blank)
           ∙ hints_stay bytes placed plainly answers hs spelled whole refl blank (foldable_in o false placed foldable) (refusal-paints o false colours answers placed ∙ accepted) given;

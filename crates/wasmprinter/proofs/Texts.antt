@@ -18,7 +18,7 @@ use Rattle.wasmprinter_reading.proofs.Main.{reads_back, prints_plain_text}
 use Rattle.wasmprinter_spec.specs.Read.{read}
 use Rattle.wasmprinter_reading.proofs.Hints.Kept.{hints_stay}
 use Rattle.wasmprinter_spec.specs.Text.Hints.{text_hints}
-use Rattle.wasmprinter.specs.Printed.{Printed, HasTextBy, HasText, in_colours, unclaimed, IsUnclaimed}
+use Rattle.wasmprinter.specs.Printed.{Printed, HasTextBy, HasText, in_colours, no_claims, IsUnclaimed}
 use Rattle.wasmprinter.proofs.Claims.{IsSame, alike_unclaimed, unclaimed_layout}
 use Rattle.wasmprinter.proofs.Headline.{foldable_in}
 
@@ -60,8 +60,8 @@ unclaimed_printed m colours o never bytes old new v =
 
 -- what was printed is, without colours, the layout of which nothing is claimed
 pub record IsPlainly (o : Options) (calls : List Call) (placed : PlacedModule) : Type 0 where
-  pub accepted : refusal (in_colours o false) unclaimed placed ≡ None
-  pub alike : atoms calls ≡ atoms (layout (in_colours o false) unclaimed placed)
+  pub accepted : refusal (in_colours o false) no_claims placed ≡ None
+  pub alike : atoms calls ≡ atoms (layout (in_colours o false) no_claims placed)
 
 -- what was printed to a printer that claims nothing and can't write colours
 pub plainly_printed : {P : Type 0} (m : Meaning P) (o : Options) → ((s : P) (c : Call) (t : P) → m.after s c t → IsUnclaimed c) → (bytes : List ℕ) (old new : P) →
@@ -72,7 +72,7 @@ plainly_printed m o never bytes old new v =
 
 -- the text of the layout of which nothing is claimed is that of the module
 abbrev pub module_text : (o : Options) (bytes : List ℕ) (placed : PlacedModule) → Spells bytes placed → IsWithinLimits placed → IsFoldable o placed →
-    refusal (in_colours o false) unclaimed placed ≡ None → (text : List ℕ) → text ≡ text_of (layout (in_colours o false) unclaimed placed) → HasTextBy o bytes text
+    refusal (in_colours o false) no_claims placed ≡ None → (text : List ℕ) → text ≡ text_of (layout (in_colours o false) no_claims placed) → HasTextBy o bytes text
 module_text o bytes placed spelled within foldable accepted text is =
     let by : Options = in_colours o false in
     let can_fold : IsFoldable by placed = foldable_in o false placed foldable in
@@ -83,10 +83,10 @@ module_text o bytes placed spelled within foldable accepted text is =
       foldable = foldable;
       accepted = accepted;
       is = is;
-      plain = λ blank. subst IsPlainText (sym is) (prints_plain_text bytes placed by unclaimed spelled refl blank);
+      plain = λ blank. subst IsPlainText (sym is) (prints_plain_text bytes placed by no_claims spelled refl blank);
       reads = λ indexed whole blank.
-          ap read is ∙ reads_back bytes placed by unclaimed spelled indexed within.tables whole refl blank (λ n. refl) can_fold accepted;
-      hints = λ hs whole blank given. ap text_hints is ∙ hints_stay bytes placed by unclaimed hs spelled whole refl blank can_fold accepted given;
+          ap read is ∙ reads_back bytes placed by no_claims spelled indexed within.tables whole refl blank (λ n. refl) can_fold accepted;
+      hints = λ hs whole blank given. ap text_hints is ∙ hints_stay bytes placed by no_claims hs spelled whole refl blank can_fold accepted given;
     }
 
 -- what was printed to a writer that was empty is its text
@@ -96,7 +96,7 @@ printed_text m o view grows never bytes old new empty v =
     let handed : view new ≡ text_of v.calls = run_text m view grows old new v.calls v.run ∙ ap (λ t. t ++ text_of v.calls) empty in
     let own : IsPlainly o v.calls v.placed = plainly_printed m o never bytes old new v in
     module_text o bytes v.placed v.spelled v.within v.foldable own.accepted (view new)
-    (handed ∙ alike_texts v.calls (layout (in_colours o false) unclaimed v.placed) own.alike)
+    (handed ∙ alike_texts v.calls (layout (in_colours o false) no_claims v.placed) own.alike)
 
 two_blanks : IsBlank defaults.indent
 two_blanks = (inl refl, (inl refl, tt))

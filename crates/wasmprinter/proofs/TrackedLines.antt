@@ -9,14 +9,14 @@ use Rattle.wasmprinter_spec.specs.Layout.{layout}
 use Rattle.wasmprinter_spec.specs.Lines.{TextLine, lines_of, joined_lines, line_places, hint_places, HasFunctionLines}
 use Rattle.wasmprinter_lexical.proofs.Alike.{alike_texts}
 use Rattle.wasmprinter_tracker.specs.declared.lines.LineStart.{LineStart}
-use Rattle.wasmprinter_tracker.specs.Cuts.{cut}
+use Rattle.wasmprinter_tracker.specs.Cuts.{lines_at_starts}
 use Rattle.wasmprinter_tracker.specs.Tracked.{Tracked, without_lines}
 use Rattle.wasmprinter_tracker.specs.Tracking.{tracked_meaning, BeginsWith, Tracks}
 use Rattle.wasmprinter_tracker.proofs.LineLaws.{alike_lines}
 use Rattle.wasmprinter_tracker.proofs.Runs.{run_tracks, run_keeps, broken_keeps}
 use Rattle.wasmprinter_places.proofs.Starts.{lines_join}
 use Rattle.wasmprinter_places.proofs.FunctionLines.{function_lines}
-use Rattle.wasmprinter.specs.Printed.{Printed, in_colours, unclaimed, IsUnclaimed}
+use Rattle.wasmprinter.specs.Printed.{Printed, in_colours, no_claims, IsUnclaimed}
 use Rattle.wasmprinter.specs.Outcome.{Leaves, LeavesBeginning, IsTrueOfText}
 use Rattle.wasmprinter.specs.Lined.{HasLinesBy}
 use Rattle.wasmprinter.proofs.Texts.{IsPlainly, plainly_printed, module_text}
@@ -35,7 +35,7 @@ pub printed_lines : (o : Options) (bytes base : List ℕ) (t : Tracked) → t.lo
 printed_lines o bytes base t kept v =
     let by : Options = in_colours o false in
     let own : IsPlainly o v.calls v.placed = plainly_printed tracked_meaning o claims_never bytes (without_lines base) t v in
-    let laid : List Call = layout by unclaimed v.placed in
+    let laid : List Call = layout by no_claims v.placed in
     let tracks : Tracks base v.calls t = run_tracks base v.calls t v.run in
     let same : text_of v.calls ≡ text_of laid = alike_texts v.calls laid own.alike in
     let are : t.lines ≡ lines_of laid = tracks.lines kept ∙ alike_lines v.calls laid own.alike in
@@ -44,10 +44,10 @@ printed_lines o bytes base t kept v =
       printed = module_text o bytes v.placed v.spelled v.within v.foldable own.accepted (text_of v.calls) same;
       appended = tracks.text;
       are = are;
-      joined = ap joined_lines are ∙ lines_join by unclaimed v.placed ∙ sym same;
+      joined = ap joined_lines are ∙ lines_join by no_claims v.placed ∙ sym same;
       functions = λ whole flat i f e.
           subst (λ (ls : List TextLine). HasFunctionLines (hint_places v.placed) (line_places ls) f) (sym are)
-          (function_lines bytes v.placed by unclaimed v.spelled whole flat own.accepted i f e);
+          (function_lines bytes v.placed by no_claims v.spelled whole flat own.accepted i f e);
     }
 
 -- what was never touched begins with itself
@@ -107,9 +107,9 @@ module _ (o : Options) (bytes base text : List ℕ) (old t : Tracked) (is_old : 
 
   -- the lines that begin at these places are the module's
   pub finished_lines : {T A : Type 0} (starts_of : T → List LineStart) (x : Result T A) → Printed tracked_meaning false o bytes old t →
-      OnOk x (t.lost ≡ false) → IfOk x (λ starts. cut (starts_of starts) t.text ≡ t.lines) → IfOk x (λ starts. HasLinesBy o bytes base text (cut (starts_of starts) text))
+      OnOk x (t.lost ≡ false) → IfOk x (λ starts. lines_at_starts (starts_of starts) t.text ≡ t.lines) → IfOk x (λ starts. HasLinesBy o bytes base text (lines_at_starts (starts_of starts) text))
   finished_lines starts_of (Ok starts) v kept lines =
       let whole : HasLinesBy o bytes base t.text t.lines = printed_lines o bytes base t kept (subst (λ (s : Tracked). Printed tracked_meaning false o bytes s t) is_old v) in
-      subst (λ (x : List ℕ). HasLinesBy o bytes base x (cut (starts_of starts) x)) (sym is_text)
+      subst (λ (x : List ℕ). HasLinesBy o bytes base x (lines_at_starts (starts_of starts) x)) (sym is_text)
       (subst (λ (ls : List TextLine). HasLinesBy o bytes base t.text ls) (sym lines) whole)
   finished_lines starts_of (Err e) v kept lines = tt

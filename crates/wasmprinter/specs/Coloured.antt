@@ -8,7 +8,7 @@ use Rattle.wasmprinter_spec.specs.Options.{Options, IsBlank}
 use Rattle.wasmprinter_spec.specs.Layout.{layout, refusal}
 use Rattle.wasmprinter_spec.specs.Coloured.{coloured_text}
 use Rattle.wasmprinter_spec.specs.Folding.Refusals.{IsFoldable}
-use Rattle.wasmprinter.specs.Printed.{HasTextBy, in_colours, unclaimed}
+use Rattle.wasmprinter.specs.Printed.{HasTextBy, in_colours, no_claims}
 
 -- The bytes are the text, with the sequences of each style, in the texts of folded operators or outside, of the layout of the module that is spelled,
 -- of which no custom section is claimed and no `dylink.0` section is refused. Where the indent is blank, what stays of them when the sequences are deleted is the module's text.
@@ -17,6 +17,6 @@ pub record HasColouredTextBy (o : Options) (bytes text : List ℕ) : Type 0 wher
   pub spelled : Spells bytes placed
   pub within : IsWithinLimits placed
   pub foldable : IsFoldable o placed
-  pub accepted : refusal (in_colours o true) unclaimed placed ≡ None
-  pub is : text ≡ coloured_text (layout (in_colours o true) unclaimed placed)
+  pub accepted : refusal (in_colours o true) no_claims placed ≡ None
+  pub is : text ≡ coloured_text (layout (in_colours o true) no_claims placed)
   pub bare : IsBlank o.indent → HasTextBy o bytes (uncolour text)

@@ -19,8 +19,8 @@ use Rattle.wasmprinter_spec.specs.Text.Hints.{text_hints}
 use Rattle.wasmprinter_spec.specs.Read.{read}
 
 -- no custom section is claimed
-abbrev pub unclaimed : Answers
-unclaimed = λ n. false
+abbrev pub no_claims : Answers
+no_claims = λ n. false
 
 -- the printer didn't take a custom section itself
 abbrev pub IsUnclaimed : Call → Type 0
@@ -63,8 +63,8 @@ pub record HasTextBy (o : Options) (bytes text : List ℕ) : Type 0 where
   pub spelled : Spells bytes placed
   pub within : IsWithinLimits placed
   pub foldable : IsFoldable o placed
-  pub accepted : refusal (in_colours o false) unclaimed placed ≡ None
-  pub is : text ≡ text_of (layout (in_colours o false) unclaimed placed)
+  pub accepted : refusal (in_colours o false) no_claims placed ≡ None
+  pub is : text ≡ text_of (layout (in_colours o false) no_claims placed)
   pub plain : IsBlank o.indent → IsPlainText text
   pub reads : IsIndexed (module_of placed) → o.skeleton ≡ false → IsBlank o.indent → read text ≡ Some (module_of placed)
   pub hints : (hs : List OperatorHint) → o.skeleton ≡ false → IsBlank o.indent → module_hints placed ≡ Some hs → text_hints text ≡ Some hs
@@ -76,8 +76,8 @@ pub record HasText (bytes text : List ℕ) : Type 0 where
   pub placed : PlacedModule
   pub spelled : Spells bytes placed
   pub within : IsWithinLimits placed
-  pub accepted : refusal defaults unclaimed placed ≡ None
-  pub is : text ≡ text_of (layout defaults unclaimed placed)
+  pub accepted : refusal defaults no_claims placed ≡ None
+  pub is : text ≡ text_of (layout defaults no_claims placed)
   pub plain : IsPlainText text
   pub reads : IsIndexed (module_of placed) → read text ≡ Some (module_of placed)
   pub hints : (hs : List OperatorHint) → module_hints placed ≡ Some hs → text_hints text ≡ Some hs

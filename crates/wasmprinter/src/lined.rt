@@ -15,7 +15,7 @@ use wasmprinter_tracker::{LineStart, OffsetsAndLines, Tracker};
 
 impl Config {
     /// Appends the text of a module to `storage`, and says where its lines begin.
-    pub(crate) fn tracked(
+    pub(crate) fn print_with_starts(
         &self,
         alloc: Global,
         wasm: &[u8],
@@ -59,7 +59,7 @@ impl Config {
         ensures refused { IfErr result (IsTrueOfText self.now wasm.now) }
         ensures component { IsErrOf result Error.Component ↔ IsComponent wasm.now }
     {
-        let starts = self.tracked(alloc, wasm, storage)?;
+        let starts = self.print_with_starts(alloc, wasm, storage)?;
         Ok(OffsetsAndLines::new(storage.as_str(), starts))
     }
 }

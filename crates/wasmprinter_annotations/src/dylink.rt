@@ -11,7 +11,7 @@ ghost use Rattle.wasmprinter_customs.specs.Contents.{content_view};
 use crate::flags::write_flags;
 use crate::quoted::{LINE_NESTING, SECTION_NESTING, gap_strings};
 use std::io;
-use wasmprinter_customs::{Content, Dylink, ExportInfo, ImportInfo, ItemsIn, MemInfo, Names};
+use wasmprinter_customs::{Content, Dylink, DylinkNames, ExportInfo, ImportInfo, ItemsIn, MemInfo};
 use wasmprinter_lines::lines::{break_line, close};
 use wasmprinter_lines::options::PrintOptions;
 use wasmprinter_print::Print;
@@ -61,7 +61,7 @@ fn write_names<P: Print>(
     options: &PrintOptions,
     keyword: &str,
     place: u64,
-    names: &Names<'_>,
+    names: &DylinkNames<'_>,
 ) -> io::Result<()>
     ensures { Prints P.meaning options.now p.old p.new result (names_pieces keyword.now place names.now) }
 {

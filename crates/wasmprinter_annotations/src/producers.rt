@@ -7,7 +7,7 @@ ghost use Rattle.wasmprinter_print.specs.Prints.{Prints};
 
 use crate::quoted::{LINE_NESTING, SECTION_NESTING};
 use std::io;
-use wasmprinter_customs::{Field, Producers, Value};
+use wasmprinter_customs::{Producers, ProducersField, Value};
 use wasmprinter_lines::lines::{break_line, close};
 use wasmprinter_lines::options::PrintOptions;
 use wasmprinter_print::Print;
@@ -35,7 +35,11 @@ fn write_value<P: Print>(
 }
 
 /// Writes the values of a field.
-fn write_field<P: Print>(p: &mut P, options: &PrintOptions, field: &Field<'_>) -> io::Result<()>
+fn write_field<P: Print>(
+    p: &mut P,
+    options: &PrintOptions,
+    field: &ProducersField<'_>,
+) -> io::Result<()>
     ensures { Prints P.meaning options.now p.old p.new result (values_pieces field.now.name field.now.values) }
 {
     for value in field.values() {

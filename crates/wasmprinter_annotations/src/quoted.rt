@@ -4,7 +4,7 @@ ghost use Rattle.wasmprinter_spec.specs.Layout.Customs.{gap_quoted, gap_quoted_l
 ghost use Rattle.wasmprinter_print.specs.Prints.{Prints};
 
 use std::io;
-use wasmprinter_customs::Names;
+use wasmprinter_customs::DylinkNames;
 use wasmprinter_print::Print;
 use wasmprinter_words::strings::write_string;
 use wasmprinter_words::words::gap;
@@ -24,7 +24,7 @@ fn gap_string<P: Print>(p: &mut P, s: &str) -> io::Result<()>
 }
 
 /// Writes names in quotes, a blank before each.
-pub(crate) fn gap_strings<P: Print>(p: &mut P, names: &Names<'_>) -> io::Result<()>
+pub(crate) fn gap_strings<P: Print>(p: &mut P, names: &DylinkNames<'_>) -> io::Result<()>
     ensures { (o : Options) → Prints P.meaning o p.old p.new result (gap_quoted_list names.now) }
 {
     for name in names.iter() {

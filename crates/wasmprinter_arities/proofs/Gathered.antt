@@ -5,35 +5,35 @@ use Rattle.std.proofs.lemmas.List.{at_drop_more}
 use Rattle.wasmprinter_spec.specs.Grammar.{Placed}
 use Rattle.wasmprinter_spec.specs.Types.{ExternType}
 use Rattle.wasmprinter_spec.specs.Placed.{Import}
-use Rattle.wasmprinter_spec.specs.Module.{without_places, imported, selected_first}
+use Rattle.wasmprinter_spec.specs.Module.{without_places, imported_types, with_first_if_any}
 
 -- what is imported by the imports from one on
 abbrev pub imported_from : (ExternType → Option ℕ) → List (Placed Import) → ℕ → List ℕ
-imported_from f is i = imported f (without_places (drop i is))
+imported_from f is i = imported_types f (without_places (drop i is))
 
 -- these are what the imports before one import
 abbrev pub Gathers : (ExternType → Option ℕ) → List (Placed Import) → List ℕ → ℕ → Type 0
-Gathers f is xs i = xs ++ imported_from f is i ≡ imported f (without_places is)
+Gathers f is xs i = xs ++ imported_from f is i ≡ imported_types f (without_places is)
 
 module _ (f : ExternType → Option ℕ) (is : List (Placed Import)) (i : ℕ) where
   -- all were passed
-  pub gathered : (xs : List ℕ) → length is ≤ i → Gathers f is xs i → xs ≡ imported f (without_places is)
-  gathered xs le all = sym (append-nil xs) ∙ ap (λ (ys : List (Placed Import)). xs ++ imported f (without_places ys)) (sym (drop_of_length-le is le)) ∙ all
+  pub gathered : (xs : List ℕ) → length is ≤ i → Gathers f is xs i → xs ≡ imported_types f (without_places is)
+  gathered xs le all = sym (append-nil xs) ∙ ap (λ (ys : List (Placed Import)). xs ++ imported_types f (without_places ys)) (sym (drop_of_length-le is le)) ∙ all
 
   module _ (x d : Placed Import) (lt : i < length is) (same : x ≡ get_or is i d) where
-    next : imported_from f is i ≡ selected_first (f x.value.type) (imported_from f is (i + 1))
+    next : imported_from f is i ≡ with_first_if_any (f x.value.type) (imported_from f is (i + 1))
     next =
-        at_drop_more (λ (ys : List (Placed Import)). imported f (without_places ys)) is i d lt
-        ∙ ap (λ (y : Placed Import). selected_first (f y.value.type) (imported_from f is (i + 1))) (sym same)
+        at_drop_more (λ (ys : List (Placed Import)). imported_types f (without_places ys)) is i d lt
+        ∙ ap (λ (y : Placed Import). with_first_if_any (f y.value.type) (imported_from f is (i + 1))) (sym same)
 
     -- the next is one of them
     pub gathers_one : (t : ExternType) (n : ℕ) (xs : List ℕ) → t ≡ x.value.type → f t ≡ Some n → Gathers f is xs i → Gathers f is (xs ++ n ∷ []) (i + 1)
     gathers_one t n xs e s all =
         append_assoc xs (n ∷ []) (imported_from f is (i + 1))
-        ∙ ap (λ (o : Option ℕ). xs ++ selected_first o (imported_from f is (i + 1))) (sym s ∙ ap f e)
+        ∙ ap (λ (o : Option ℕ). xs ++ with_first_if_any o (imported_from f is (i + 1))) (sym s ∙ ap f e)
         ∙ ap (λ (ys : List ℕ). xs ++ ys) (sym next) ∙ all
 
     -- it is of another kind
     pub gathers_other : (t : ExternType) (xs : List ℕ) → t ≡ x.value.type → f t ≡ None → Gathers f is xs i → Gathers f is xs (i + 1)
     gathers_other t xs e s all =
-        ap (λ (o : Option ℕ). xs ++ selected_first o (imported_from f is (i + 1))) (sym s ∙ ap f e) ∙ ap (λ (ys : List ℕ). xs ++ ys) (sym next) ∙ all
+        ap (λ (o : Option ℕ). xs ++ with_first_if_any o (imported_from f is (i + 1))) (sym s ∙ ap f e) ∙ ap (λ (ys : List ℕ). xs ++ ys) (sym next) ∙ all

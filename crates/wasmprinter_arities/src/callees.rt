@@ -23,15 +23,15 @@ pub struct Callees<'m, 'a> {
 impl<'m, 'a> Model for Callees<'m, 'a> {
     ghost use Rattle.std.specs.Prelude.{◌≡◌};
     ghost use Rattle.wasmprinter_spec.specs.Placed.{PlacedModule};
-    ghost use Rattle.wasmprinter_spec.specs.Module.{without_places, imported, func_import, tag_import};
+    ghost use Rattle.wasmprinter_spec.specs.Module.{without_places, imported_types, func_import, tag_import};
 
     ghost Value = { PlacedModule };
 
     ghost view = { λ c. c.module.now };
 
     ghost invariant = { λ c.
-        (c.functions.items ≡ imported func_import (without_places c.module.now.imports))
-        × (c.tags.items ≡ imported tag_import (without_places c.module.now.imports)) };
+        (c.functions.items ≡ imported_types func_import (without_places c.module.now.imports))
+        × (c.tags.items ≡ imported_types tag_import (without_places c.module.now.imports)) };
 }
 
 impl<'m, 'a> Callees<'m, 'a> {

@@ -8,7 +8,7 @@ ghost use Rattle.wasmprinter_ops.specs.Immediates.{immediates_view};
 ghost use Rattle.wasmprinter_arities.specs.Counted.{counts_view, known_view};
 
 use crate::callees::Callees;
-use crate::counts::{Counts, NOTHING, counts_of_call, one_more, taking};
+use crate::counts::{Counts, NOTHING, counts_of_call, one_more, takes_and_gives};
 use crate::labels::LabelCounts;
 use crate::named::{
     block_gives_in, cast_label_in, count_in, field_count_named, function_named, index_in,
@@ -36,22 +36,22 @@ fn counts_by_arity(
     let last_label = || labels.find_if_any(own, last_label_in(immediates));
     let cast_label = || labels.find_if_any(own, cast_label_in(immediates));
     match arity {
-        Arity::Fixed(takes, gives) => Some(taking(takes, gives)),
+        Arity::Fixed(takes, gives) => Some(takes_and_gives(takes, gives)),
         Arity::OfCall => call(),
-        Arity::OfReturnCall => call().map(|of| taking(of.takes, 0)),
-        Arity::OfIndirectCall => indirect().map(|of| taking(one_more(of.takes), of.gives)),
-        Arity::OfReturnIndirectCall => indirect().map(|of| taking(one_more(of.takes), 0)),
-        Arity::OfThrow => tag().map(|of| taking(of.takes, 0)),
-        Arity::OfReturn => own.map(|n| taking(n, 0)),
-        Arity::OfBranch => label().map(|v| taking(v, 0)),
-        Arity::OfBranchIf => label().map(|v| taking(one_more(v), v)),
-        Arity::OfBranchTable => last_label().map(|v| taking(one_more(v), 0)),
-        Arity::OfBranchOnNull => label().map(|v| taking(one_more(v), one_more(v))),
-        Arity::OfBranchOnNonNull => label().map(|v| taking(v, v.saturating_sub(1))),
-        Arity::OfBranchOnCast => cast_label().map(|v| taking(v, v)),
-        Arity::OfBlock => block_gives_in(callees, immediates).map(|n| taking(0, n)),
-        Arity::OfStruct => field_count_named(callees, immediates).map(|n| taking(n, 1)),
-        Arity::OfCount => count_in(immediates).map(|n| taking(n, 1)),
+        Arity::OfReturnCall => call().map(|of| takes_and_gives(of.takes, 0)),
+        Arity::OfIndirectCall => indirect().map(|of| takes_and_gives(one_more(of.takes), of.gives)),
+        Arity::OfReturnIndirectCall => indirect().map(|of| takes_and_gives(one_more(of.takes), 0)),
+        Arity::OfThrow => tag().map(|of| takes_and_gives(of.takes, 0)),
+        Arity::OfReturn => own.map(|n| takes_and_gives(n, 0)),
+        Arity::OfBranch => label().map(|v| takes_and_gives(v, 0)),
+        Arity::OfBranchIf => label().map(|v| takes_and_gives(one_more(v), v)),
+        Arity::OfBranchTable => last_label().map(|v| takes_and_gives(one_more(v), 0)),
+        Arity::OfBranchOnNull => label().map(|v| takes_and_gives(one_more(v), one_more(v))),
+        Arity::OfBranchOnNonNull => label().map(|v| takes_and_gives(v, v.saturating_sub(1))),
+        Arity::OfBranchOnCast => cast_label().map(|v| takes_and_gives(v, v)),
+        Arity::OfBlock => block_gives_in(callees, immediates).map(|n| takes_and_gives(0, n)),
+        Arity::OfStruct => field_count_named(callees, immediates).map(|n| takes_and_gives(n, 1)),
+        Arity::OfCount => count_in(immediates).map(|n| takes_and_gives(n, 1)),
     }
 }
 

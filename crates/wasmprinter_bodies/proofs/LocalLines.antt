@@ -11,7 +11,7 @@ use Rattle.wasmprinter_spec.specs.Module.{locals_of}
 use Rattle.wasmprinter_spec.specs.Piece.{Piece, Break}
 use Rattle.wasmprinter_spec.specs.Layout.Functions.{locals_place, local_line, local_pieces}
 use Rattle.wasmprinter_spec.specs.Layout.Groups.{has_break}
-use Rattle.wasmprinter_spec.specs.Layout.Variables.{grouped}
+use Rattle.wasmprinter_spec.specs.Layout.Variables.{variable_groups}
 use Rattle.wasmprinter_text.specs.declared.types.variables.Before.TheVariants as before
 use Rattle.wasmprinter_text.specs.Variables.{end_pieces, walk_pieces}
 use Rattle.wasmprinter_text.proofs.Walks.{walk-line}
@@ -112,7 +112,7 @@ module _ (names : Names) (f count : ℕ) where
   -- no line of locals
   pub locals-none : (es : List (Placed LocalEntry)) → locals_place es ≡ None → local_pieces names f count es ≡ []
   unfolding local_pieces local_line
-  locals-none es h = ap (λ ts. local_line names (locals_place es) (grouped (names.locals f) count ts)) (declares-none es h)
+  locals-none es h = ap (λ ts. local_line names (locals_place es) (variable_groups (names.locals f) count ts)) (declares-none es h)
 
   -- the line of locals, written out
   pub locals-some : (es : List (Placed LocalEntry)) (place : ℕ) → locals_place es ≡ Some place →
@@ -120,7 +120,7 @@ module _ (names : Names) (f count : ℕ) where
   unfolding local_pieces
   locals-some es place h =
       let d = declares-some es place h in
-      ap₂ (λ p ts. local_line names p (grouped (names.locals f) count ts)) h d.types
+      ap₂ (λ p ts. local_line names p (variable_groups (names.locals f) count ts)) h d.types
       ∙ sym (walk-line names (Some place) (names.locals f) count d.first d.others)
       ∙ sym (ap (λ ts. Break (Some place) 2 ∷ walk_pieces names (codes "local") (names.locals f) before.Line count ts) d.types)
 

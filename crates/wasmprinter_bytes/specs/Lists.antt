@@ -8,12 +8,12 @@ use Rattle.wasmprinter_error.specs.declared.error.Error.{Error}
 use Rattle.wasmprinter_error.specs.Reasons.{Reasons, HasReason}
 
 -- a count, and so many values
-abbrev pub counted_at : {A : Type 0} → (Input → Option (A × Input)) → Input → Option ((ℕ × List A) × Input)
-counted_at parse at = u32.parse at >>= λ n. items_at parse n.0 n.1 >>= λ xs. Some ((n.0, xs.0), xs.1)
+abbrev pub count_and_items_at : {A : Type 0} → (Input → Option (A × Input)) → Input → Option ((ℕ × List A) × Input)
+count_and_items_at parse at = u32.parse at >>= λ n. items_at parse n.0 n.1 >>= λ xs. Some ((n.0, xs.0), xs.1)
 
 -- the values alone: `(vec g).parse` is `vec_at g.parse`
 abbrev pub vec_at : {A : Type 0} → (Input → Option (A × Input)) → Input → Option (List A × Input)
-vec_at parse at = counted_at parse at >>= λ x. Some (x.0.1, x.1)
+vec_at parse at = count_and_items_at parse at >>= λ x. Some (x.0.1, x.1)
 
 -- a count above zero stands there
 pub record CountsItems (at : Input) : Type 0 where

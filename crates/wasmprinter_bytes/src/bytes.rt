@@ -58,7 +58,7 @@ fn negative(byte: u8) -> i64
 }
 
 /// Seven bits with others above them.
-fn joined(low: u8, high: u64) -> u64
+fn with_low_bits(low: u8, high: u64) -> u64
     requires seven { low < 128 }
     requires above { high < 2 ^ 57 }
     ensures { result ≡ low + 128 * high }
@@ -67,7 +67,7 @@ fn joined(low: u8, high: u64) -> u64
 }
 
 /// Seven bits with others above them, the highest of which is the sign.
-fn joined_signed(low: u8, high: i64) -> i64
+fn with_low_bits_signed(low: u8, high: i64) -> i64
     requires seven { low < 128 }
     requires above { neg_ℤ (pos (2 ^ 56)) ≤ℤ high }
     requires below { high <ℤ pos (2 ^ 56) }
@@ -222,7 +222,7 @@ impl<'a> Cursor<'a> {
             }
         } else if bits > BITS {
             let high = self.unsigned(bits - BITS)?;
-            Ok(joined(byte - MORE, high))
+            Ok(with_low_bits(byte - MORE, high))
         } else {
             Err(Malformed { place })
         }
@@ -254,7 +254,7 @@ impl<'a> Cursor<'a> {
             }
         } else if bits > BITS {
             let high = self.signed(bits - BITS)?;
-            Ok(joined_signed(byte - MORE, high))
+            Ok(with_low_bits_signed(byte - MORE, high))
         } else {
             Err(Malformed { place })
         }

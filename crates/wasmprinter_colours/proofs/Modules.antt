@@ -9,7 +9,7 @@ use Rattle.wasmprinter_spec.specs.Names.{Names}
 use Rattle.wasmprinter_spec.specs.ModuleNames.{module_names}
 use Rattle.wasmprinter_spec.specs.Indexed.{parameter_count}
 use Rattle.wasmprinter_spec.specs.Placed.{Import, Body, PlacedFunction, PlacedModule}
-use Rattle.wasmprinter_spec.specs.Module.{imported, func_import, table_import, memory_import, global_import, tag_import, without_places}
+use Rattle.wasmprinter_spec.specs.Module.{imported_types, func_import, table_import, memory_import, global_import, tag_import, without_places}
 use Rattle.wasmprinter_spec.specs.Options.{Options, Answers}
 use Rattle.wasmprinter_spec.specs.Piece.{Piece}
 use Rattle.wasmprinter_spec.specs.Folding.Arities.{Signatures, signatures_within}
@@ -107,14 +107,14 @@ module_parts_so o answers names m =
     and_then same_part (same_parts (customs (Some TypeSection)))
     and_then shown (imports_same x y s no_numbers m.imports) (same_parts (customs (Some ImportSection)))
     and_then same_parts (customs (Some FunctionSection))
-    and_then shown (numbered_so _ _ (table_so x y d s) (length (imported table_import is)) m.tables) (same_parts (customs (Some TableSection)))
-    and_then shown (numbered_so _ _ (memory_same x y s) (length (imported memory_import is)) m.memories) (same_parts (customs (Some MemorySection)))
-    and_then shown (numbered_so _ _ (tag_same x y s) (length (imported tag_import is)) m.tags) (same_parts (customs (Some TagSection)))
-    and_then shown (numbered_so _ _ (global_so x y d s) (length (imported global_import is)) m.globals) (same_parts (customs (Some GlobalSection)))
+    and_then shown (numbered_so _ _ (table_so x y d s) (length (imported_types table_import is)) m.tables) (same_parts (customs (Some TableSection)))
+    and_then shown (numbered_so _ _ (memory_same x y s) (length (imported_types memory_import is)) m.memories) (same_parts (customs (Some MemorySection)))
+    and_then shown (numbered_so _ _ (tag_same x y s) (length (imported_types tag_import is)) m.tags) (same_parts (customs (Some TagSection)))
+    and_then shown (numbered_so _ _ (global_so x y d s) (length (imported_types global_import is)) m.globals) (same_parts (customs (Some GlobalSection)))
     and_then shown (numbered_so _ _ (λ i e. export_same x y s e) 0 m.exports) (same_parts (customs (Some ExportSection)))
     and_then shown (start_same x y s m.start) (same_parts (customs (Some StartSection)))
     and_then shown (numbered_so _ _ (element_so x y d s o.skeleton) 0 m.elements) (same_parts (customs (Some ElementSection)))
-    and_then shown (functions_so x y d o s (hints_of m.customs) (length (imported func_import is)) m.functions) (same_parts (customs (Some CodeSection)))
+    and_then shown (functions_so x y d o s (hints_of m.customs) (length (imported_types func_import is)) m.functions) (same_parts (customs (Some CodeSection)))
     and_then shown (numbered_so _ _ (data_so x y d (late_scope o names m) o.skeleton) 0 m.datas) (same_parts (customs (Some DataSection)))
 
 -- ---- the module

@@ -11,7 +11,7 @@ use Rattle.wasmprinter_spec.specs.Layout.Operators.{Form, Setting, before_word, 
 use Rattle.wasmprinter_spec.specs.Layout.Folded.{items, head_place, head_calls, head_text, head_hint, comment_end, node_hint, node_pieces, folded_pieces, if_folded, folded_list}
 use Rattle.wasmprinter_spec.specs.Layout.Expressions.{constant_by}
 use Rattle.wasmprinter_spec.specs.Layout.Functions.{body_by}
-use Rattle.wasmprinter_spec.specs.Folding.Code.{Code, code_of}
+use Rattle.wasmprinter_spec.specs.Folding.Code.{NestedCode, nested_code_of}
 use Rattle.wasmprinter_spec.specs.Folding.Tree.{Nodes, Nil, Snoc, is_nil, tree}
 use Rattle.wasmprinter_colours.proofs.Painted.{Painted, none, node, same_all, both, behind}
 
@@ -38,9 +38,9 @@ nodes_so o false form first nesting f = same_all (node_pieces o false form first
 
 -- ---- lists of operators
 
-code_so : (paints : Bool) (s : Setting) (c : Option Code) →
-    Painted (if_folded (option_map (λ (code : Code). node_pieces defaults paints s.form true s.nesting (tree code)) c))
-    (if_folded (option_map (λ (code : Code). node_pieces defaults false s.form true s.nesting (tree code)) c))
+code_so : (paints : Bool) (s : Setting) (c : Option NestedCode) →
+    Painted (if_folded (option_map (λ (code : NestedCode). node_pieces defaults paints s.form true s.nesting (tree code)) c))
+    (if_folded (option_map (λ (code : NestedCode). node_pieces defaults false s.form true s.nesting (tree code)) c))
 code_so paints s None = none
 code_so paints s (Some code) = nodes_so defaults paints s.form true s.nesting (tree code)
 
@@ -51,7 +51,7 @@ bare f = record f { paints = false }
 list_so : (f : Folding) (own : Option ℕ) (s : Setting) (hs : List (Placed Hint)) (os : List (Placed Operator)) →
     Painted (folded_list f own s hs os) (folded_list (bare f) own s hs os)
 unfolding folded_pieces
-list_so f own s hs os = code_so f.paints s (code_of (items s (f.signatures own) hs 0 [] [] os))
+list_so f own s hs os = code_so f.paints s (nested_code_of (items s (f.signatures own) hs 0 [] [] os))
 
 -- Two ways to lay out operators, of which the second is the first without colours.
 pub data Bared : Option Folding → Option Folding → Type 0 where

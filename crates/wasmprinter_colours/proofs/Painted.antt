@@ -6,8 +6,8 @@ use Rattle.wasmprinter_spec.specs.Colour.{uncolour}
 use Rattle.wasmprinter_spec.specs.Plain.{IsPlainText}
 use Rattle.wasmprinter_spec.specs.Options.{Options}
 use Rattle.wasmprinter_spec.specs.Piece.{Piece, OpenPlain, calls, all_calls}
-use Rattle.wasmprinter_spec.specs.Layout.Groups.{breaks, has_break, close, group_gap, line_group_gap, numbered}
-use Rattle.wasmprinter_spec.specs.Layout.Folded.{painted}
+use Rattle.wasmprinter_spec.specs.Layout.Groups.{breaks, has_break, close, group_gap, line_group_gap, numbered_pieces}
+use Rattle.wasmprinter_spec.specs.Layout.Folded.{painted_text}
 use Rattle.wasmprinter_lexical.proofs.Pieces.{text_of-append}
 use Rattle.wasmprinter_writers.proofs.Uncoloured.{colours_keep_text}
 
@@ -54,8 +54,8 @@ pub in_line_group_gap : {ps qs : List Piece} (w : List ℕ) → Painted ps qs �
 unfolding line_group_gap
 in_line_group_gap w h = same (both h (same none))
 
-pub numbered_so : {A : Type 0} (f g : ℕ → A → List Piece) → ((i : ℕ) (x : A) → Painted (f i x) (g i x)) → (i : ℕ) (xs : List A) → Painted (numbered f i xs) (numbered g i xs)
-unfolding numbered
+pub numbered_so : {A : Type 0} (f g : ℕ → A → List Piece) → ((i : ℕ) (x : A) → Painted (f i x) (g i x)) → (i : ℕ) (xs : List A) → Painted (numbered_pieces f i xs) (numbered_pieces g i xs)
+unfolding numbered_pieces
 numbered_so f g each i [] = none
 numbered_so f g each i (x ∷ xs) = both (each i x) (numbered_so f g each (i + 1) xs)
 
@@ -66,20 +66,20 @@ coloured_text-append [] ds = refl
 coloured_text-append (c ∷ cs) ds =
     ap (λ (t : List ℕ). coloured_bytes c ++ t) (coloured_text-append cs ds) ∙ sym (append_assoc (coloured_bytes c) (coloured_text cs) (coloured_text ds))
 
-painted-append : (b : Bool) (cs ds : List Call) → painted b (cs ++ ds) ≡ painted b cs ++ painted b ds
-painted-append true cs ds = coloured_text-append cs ds
-painted-append false cs ds = text_of-append cs ds
+painted_text-append : (b : Bool) (cs ds : List Call) → painted_text b (cs ++ ds) ≡ painted_text b cs ++ painted_text b ds
+painted_text-append true cs ds = coloured_text-append cs ds
+painted_text-append false cs ds = text_of-append cs ds
 
-painted-text : (b : Bool) (s : List ℕ) (cs : List Call) → painted b (Text s ∷ cs) ≡ s ++ painted b cs
-painted-text true s cs = refl
-painted-text false s cs = refl
+painted_text-text : (b : Bool) (s : List ℕ) (cs : List Call) → painted_text b (Text s ∷ cs) ≡ s ++ painted_text b cs
+painted_text-text true s cs = refl
+painted_text-text false s cs = refl
 
 -- the calls with their styles, or their text alone
 abbrev own_calls : Bool → List Call → List Call
 own_calls true cs = cs
 own_calls false cs = Text (text_of cs) ∷ []
 
-coloured-own : (b : Bool) (cs : List Call) → coloured_text (own_calls b cs) ≡ painted b cs
+coloured-own : (b : Bool) (cs : List Call) → coloured_text (own_calls b cs) ≡ painted_text b cs
 coloured-own true cs = refl
 coloured-own false cs = append-nil (text_of cs)
 
@@ -91,7 +91,7 @@ plain-own false cs = append-nil (text_of cs)
 -- or without, and without them that of the second.
 record Colours (b : Bool) (o : Options) (ps qs : List Piece) : Type 0 where
   calls : List Call
-  coloured : coloured_text calls ≡ painted b (all_calls o ps)
+  coloured : coloured_text calls ≡ painted_text b (all_calls o ps)
   plain : text_of calls ≡ text_of (all_calls o qs)
 
 colours_then : (b : Bool) (o : Options) (p : Piece) {ps qs : List Piece} → Colours b o ps qs → Colours b o (p ∷ ps) (p ∷ qs)
@@ -100,7 +100,7 @@ colours_then b o p {ps} {qs} h = record {
   coloured =
       coloured_text-append (own_calls b (calls o p)) h.calls
       ∙ ap₂ (λ (s t : List ℕ). s ++ t) (coloured-own b (calls o p)) h.coloured
-      ∙ sym (painted-append b (calls o p) (all_calls o ps));
+      ∙ sym (painted_text-append b (calls o p) (all_calls o ps));
   plain =
       text_of-append (own_calls b (calls o p)) h.calls
       ∙ ap₂ (λ (s t : List ℕ). s ++ t) (plain-own b (calls o p)) h.plain
@@ -113,14 +113,14 @@ colours_node b o cs {ps} {qs} h = record {
   calls = Text (codes "(") ∷ (cs ++ h.calls);
   coloured =
       ap (λ (t : List ℕ). codes "(" ++ t) (coloured_text-append cs h.calls ∙ ap (λ (t : List ℕ). coloured_text cs ++ t) h.coloured)
-      ∙ sym (painted-text b (codes "(" ++ coloured_text cs) (all_calls o ps));
+      ∙ sym (painted_text-text b (codes "(" ++ coloured_text cs) (all_calls o ps));
   plain = ap (λ (t : List ℕ). codes "(" ++ t) (text_of-append cs h.calls ∙ ap (λ (t : List ℕ). text_of cs ++ t) h.plain);
 }
 
 colours_of : (b : Bool) (o : Options) {ps qs : List Piece} → Painted ps qs → Colours b o ps qs
 colours_of b o none = record { calls = []; coloured = empty b; plain = refl }
   where
-    empty : (b : Bool) → [] ≡ painted b []
+    empty : (b : Bool) → [] ≡ painted_text b []
     empty true = refl
     empty false = refl
 colours_of b o (same {p = p} h) = colours_then b o p (colours_of b o h)
@@ -128,7 +128,7 @@ colours_of b o (node cs h) = colours_node b o cs (colours_of b o h)
 
 -- Where the second text is plain, it is what stays of the first when the sequences are deleted.
 pub uncoloured : (b : Bool) (o : Options) (ps qs : List Piece) → Painted ps qs → IsPlainText (text_of (all_calls o qs)) →
-    uncolour (painted b (all_calls o ps)) ≡ text_of (all_calls o qs)
+    uncolour (painted_text b (all_calls o ps)) ≡ text_of (all_calls o qs)
 uncoloured b o ps qs h plain =
     let c : Colours b o ps qs = colours_of b o h in
     ap uncolour (sym c.coloured) ∙ colours_keep_text c.calls (subst IsPlainText (sym c.plain) plain) ∙ c.plain

@@ -7,7 +7,7 @@ use Rattle.wasmprinter_spec.specs.Coloured.{bare_call}
 use Rattle.wasmprinter_spec.specs.Plain.{IsPlainText}
 use Rattle.wasmprinter_spec.specs.Options.{Options, Answers}
 use Rattle.wasmprinter_spec.specs.Piece.{Piece, Begin, Feed, Break, Gap, Open, OpenGap, OpenPlain, OpenBare, OpenTypeGap, OpenNote, OpenNoteGap, OpenRun, Shut, Word, TypeWord, TypeWordGap, GapTypeWord, Number, Constant, Literals, GapLiterals, Float, NumberRemark, BeginName, EndStyle, Quoted, QuotedBytes, Identifier, NameNote, Remark, Ending, PlainEnding, HintNote, Claimed, calls, all_calls}
-use Rattle.wasmprinter_spec.specs.Layout.Folded.{painted}
+use Rattle.wasmprinter_spec.specs.Layout.Folded.{painted_text}
 use Rattle.wasmprinter_spec.specs.Layout.{module_pieces, layout}
 use Rattle.wasmprinter_spec.specs.Laws.{PrintsPlainText, PaintsAddColours, ColoursStandInTexts, ColouredTextKeeps}
 use Rattle.wasmprinter_colours.specs.PlainLaws.{PaintsAddColoursTo, ColouredTextKeepsTo}
@@ -59,7 +59,7 @@ same_all_calls o (p ∷ ps) = ap₂ (λ (a b : List Call). a ++ b) (same_calls o
 
 -- with the sequences of every style, or those in the text alone
 text_so : (b : Bool) (m : PlacedModule) (o : Options) (answers : Answers) → IsPlainText (text_of (layout (unpainted o) answers m)) →
-    uncolour (painted b (layout o answers m)) ≡ text_of (layout (unpainted o) answers m)
+    uncolour (painted_text b (layout o answers m)) ≡ text_of (layout (unpainted o) answers m)
 unfolding layout
 text_so b m o answers plain =
     let ps : List Piece = module_pieces o answers m in

@@ -1,7 +1,7 @@
 -- A subsection of a known id is passed by.
 use Rattle.std.proofs.Common.{◌≡◌, ◌≢◌, ◌∷◌, ◌<◌, [], length, Some, None, ap, subst, ◌∙◌}
 use Rattle.wasmprinter_spec.specs.Grammar.{Input}
-use Rattle.wasmprinter_spec.specs.Customs.Dylink.{Subsection, subsection, judged, other_of}
+use Rattle.wasmprinter_spec.specs.Customs.Dylink.{Subsection, subsection, judgement_of, other_of}
 use Rattle.wasmprinter_customs.specs.Sound.{subsections_in, IsWhole}
 use Rattle.wasmprinter_customs.specs.Judgements.{found_view, HasKnownId}
 use Rattle.wasmprinter_customs.specs.declared.dylink.Found.{Found}
@@ -19,8 +19,8 @@ module _ (at after : Input) (some : at.bytes ≢ []) (found : Found) (s : Subsec
   pub known_shrinks : length after.bytes < length at.bytes
   known_shrinks = shrinks at (s, after) read
 
-  pub known_outcome : outcome (judged after) ≡ outcome (judged at)
+  pub known_outcome : outcome (judgement_of after) ≡ outcome (judgement_of at)
   known_outcome = outcome_goes_on at some (s, after) read id_known
 
-  pub known_whole : IsWhole (judged at) → IsWhole (judged after) × (subsections_in (judged at) ≡ s ∷ subsections_in (judged after))
+  pub known_whole : IsWhole (judgement_of at) → IsWhole (judgement_of after) × (subsections_in (judgement_of at) ≡ s ∷ subsections_in (judgement_of after))
   known_whole w = whole_goes_on at some (s, after) read id_known w

@@ -5,7 +5,7 @@ use Rattle.std.proofs.lemmas.Bool.{eqb-true, eqb-false, eq-eqb, ne_eqb}
 use Rattle.std.proofs.lemmas.List.{length-append, nil_from_length}
 use Rattle.wasmprinter_spec.specs.Grammar.{Input}
 use Rattle.wasmprinter_spec.specs.Lenient.{Lenient, one, give, read_behind, unless_ended, repeat_at, continue_with}
-use Rattle.wasmprinter_spec.specs.Customs.Dylink.{Subsection, subsection, Judged, Whole, Unknown, Faulty, other_of, first_some, first_other, judged_by, judged}
+use Rattle.wasmprinter_spec.specs.Customs.Dylink.{Subsection, subsection, Judged, Whole, Unknown, Faulty, other_of, first_some, first_other, judgement_by, judgement_of}
 use Rattle.wasmprinter_customs.specs.Sound.{subsections_in, IsWhole}
 
 -- what is read in one turn
@@ -60,7 +60,7 @@ enough (suc n) (suc m) at le more = by (length at.bytes == 0) refl (λ x e. enou
 -- ---- the first subsection, and then the others
 
 abbrev judged_read : List Subsection × Option Input → Judged
-judged_read r = judged_by r.0 (first_other r.0) r.1
+judged_read r = judgement_by r.0 (first_other r.0) r.1
 
 -- a subsection, perhaps of an unknown id, in front of others
 abbrev decided : Subsection → Option ℕ → Judged → Judged
@@ -73,7 +73,7 @@ abbrev judged_from : (Input → Judged) → Option (Subsection × Input) → Jud
 judged_from k None = Faulty
 judged_from k (Some x) = decided x.0 (other_of x.0.value) (k x.1)
 
-decided_by : (s : Subsection) (ss : List Subsection) (here behind : Option ℕ) (end : Option Input) → judged_by (s ∷ ss) (first_some here behind) end ≡ decided s here (judged_by ss behind end)
+decided_by : (s : Subsection) (ss : List Subsection) (here behind : Option ℕ) (end : Option Input) → judgement_by (s ∷ ss) (first_some here behind) end ≡ decided s here (judgement_by ss behind end)
 decided_by s ss (Some id) behind end = refl
 decided_by s ss None (Some id) end = refl
 decided_by s ss None None (Some at) = refl
@@ -83,7 +83,7 @@ judged_on : (k : Input → List Subsection × Option Input) (r : Option (Subsect
 judged_on k None = refl
 judged_on k (Some x) = decided_by x.0 (k x.1).0 (other_of x.0.value) (first_other (k x.1).0) (k x.1).1
 
-judged_some : (at : Input) → length at.bytes ≢ 0 → judged at ≡ judged_from judged (subsection.parse at)
+judged_some : (at : Input) → length at.bytes ≢ 0 → judgement_of at ≡ judged_from judgement_of (subsection.parse at)
 judged_some at some =
     let all : Input → List Subsection × Option Input = λ mid. repeat_at turn (length mid.bytes) mid in
     let n : ℕ = length at.bytes - 1 in
@@ -93,7 +93,7 @@ judged_some at some =
     ∙ on_same (λ mid. repeat_at turn n mid) all (subsection.parse at) (λ x e. enough n (length x.1.bytes) x.1 (omega (arith, more, shrinks at x e)) (omega arith)) in
     ap judged_read read ∙ judged_on all (subsection.parse at)
 
-pub judged_none : (at : Input) → at.bytes ≡ [] → judged at ≡ Whole []
+pub judged_none : (at : Input) → at.bytes ≡ [] → judgement_of at ≡ Whole []
 judged_none at none = ap judged_read (ended (length at.bytes) at (ap length none))
 
 -- ---- a loop over them
@@ -108,26 +108,26 @@ module _ (at : Input) (some : at.bytes ≢ []) where
   longer : length at.bytes ≢ 0
   longer e = some (nil_from_length at.bytes e)
 
-  pub fault_decides : subsection.parse at ≡ None → judged at ≡ Faulty
-  fault_decides e = judged_some at longer ∙ ap (judged_from judged) e
+  pub fault_decides : subsection.parse at ≡ None → judgement_of at ≡ Faulty
+  fault_decides e = judged_some at longer ∙ ap (judged_from judgement_of) e
 
   module _ (x : Subsection × Input) (read : subsection.parse at ≡ Some x) where
-    judged_front : judged at ≡ decided x.0 (other_of x.0.value) (judged x.1)
-    judged_front = judged_some at longer ∙ ap (judged_from judged) read
+    judged_front : judgement_of at ≡ decided x.0 (other_of x.0.value) (judgement_of x.1)
+    judged_front = judged_some at longer ∙ ap (judged_from judgement_of) read
 
-    pub other_decides : (id : ℕ) → other_of x.0.value ≡ Some id → judged at ≡ Unknown id
-    other_decides id e = judged_front ∙ ap (λ o. decided x.0 o (judged x.1)) e
+    pub other_decides : (id : ℕ) → other_of x.0.value ≡ Some id → judgement_of at ≡ Unknown id
+    other_decides id e = judged_front ∙ ap (λ o. decided x.0 o (judgement_of x.1)) e
 
-    judged_known : other_of x.0.value ≡ None → judged at ≡ decided x.0 None (judged x.1)
-    judged_known e = judged_front ∙ ap (λ o. decided x.0 o (judged x.1)) e
+    judged_known : other_of x.0.value ≡ None → judgement_of at ≡ decided x.0 None (judgement_of x.1)
+    judged_known e = judged_front ∙ ap (λ o. decided x.0 o (judgement_of x.1)) e
 
     outcome_by : (others : Judged) → outcome others ≡ outcome (decided x.0 None others)
     outcome_by (Whole ss) = refl
     outcome_by (Unknown id) = refl
     outcome_by Faulty = refl
 
-    pub outcome_goes_on : other_of x.0.value ≡ None → outcome (judged x.1) ≡ outcome (judged at)
-    outcome_goes_on e = outcome_by (judged x.1) ∙ ap outcome (sym (judged_known e))
+    pub outcome_goes_on : other_of x.0.value ≡ None → outcome (judgement_of x.1) ≡ outcome (judgement_of at)
+    outcome_goes_on e = outcome_by (judgement_of x.1) ∙ ap outcome (sym (judged_known e))
 
     whole_by : (others : Judged) → IsWhole (decided x.0 None others) → IsWhole others × (subsections_in (decided x.0 None others) ≡ x.0 ∷ subsections_in others)
     whole_by (Whole ss) w = (tt, refl)
@@ -135,16 +135,16 @@ module _ (at : Input) (some : at.bytes ≢ []) where
     whole_by Faulty w = absurd w
 
     -- a section without a fault goes on without one
-    pub whole_goes_on : other_of x.0.value ≡ None → IsWhole (judged at) → IsWhole (judged x.1) × (subsections_in (judged at) ≡ x.0 ∷ subsections_in (judged x.1))
+    pub whole_goes_on : other_of x.0.value ≡ None → IsWhole (judgement_of at) → IsWhole (judgement_of x.1) × (subsections_in (judgement_of at) ≡ x.0 ∷ subsections_in (judgement_of x.1))
     whole_goes_on e w =
-        let known : judged at ≡ decided x.0 None (judged x.1) = judged_known e in
-        let p = whole_by (judged x.1) (subst IsWhole known w) in
+        let known : judgement_of at ≡ decided x.0 None (judgement_of x.1) = judged_known e in
+        let p = whole_by (judgement_of x.1) (subst IsWhole known w) in
         (p.0, ap subsections_in known ∙ p.1)
 
-    pub other_not_whole : (id : ℕ) → other_of x.0.value ≡ Some id → IsWhole (judged at) → ⊥
+    pub other_not_whole : (id : ℕ) → other_of x.0.value ≡ Some id → IsWhole (judgement_of at) → ⊥
     other_not_whole id e w = subst IsWhole (other_decides id e) w
 
-  pub fault_not_whole : subsection.parse at ≡ None → IsWhole (judged at) → ⊥
+  pub fault_not_whole : subsection.parse at ≡ None → IsWhole (judgement_of at) → ⊥
   fault_not_whole e w = subst IsWhole (fault_decides e) w
 
 -- ---- what the outcome says

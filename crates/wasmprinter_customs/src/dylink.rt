@@ -1,6 +1,6 @@
 //! The section `dylink.0` (tool conventions, "Dynamic Linking"): subsections, each an id, a size and so many bytes.
 ghost use Rattle.std.specs.Prelude.{◌≡◌, IfOk};
-ghost use Rattle.wasmprinter_spec.specs.Customs.Dylink.{mem_info, export_info, import_info, known, is_known, subsection, judged};
+ghost use Rattle.wasmprinter_spec.specs.Customs.Dylink.{mem_info, export_info, import_info, content_by_id, is_known, subsection, judgement_of};
 ghost use Rattle.wasmprinter_bytes.specs.Reads.{Reads};
 ghost use Rattle.wasmprinter_customs.specs.Contents.{content_view};
 ghost use Rattle.wasmprinter_customs.specs.Flags.{bits_of};
@@ -8,7 +8,7 @@ ghost use Rattle.wasmprinter_customs.specs.Judgements.{found_view, HasKnownId, j
 
 use crate::flags::SymbolFlags;
 use crate::items::{ItemsIn, ReadFrom};
-use crate::names::Names;
+use crate::names::DylinkNames;
 use bitflags::Flags;
 use std::marker::Model;
 use wasmprinter_bytes::bytes::Cursor;
@@ -202,13 +202,13 @@ pub enum Content<'a> {
     /// What the module wants of memory and of the table.
     MemInfo(MemInfo),
     /// The names of the libraries that it needs.
-    Needed(Names<'a>),
+    Needed(DylinkNames<'a>),
     /// Exports and their flags.
     Exports(ItemsIn<ExportInfo<'a>>),
     /// Imports and their flags.
     Imports(ItemsIn<ImportInfo<'a>>),
     /// Paths at which libraries are looked for.
-    RuntimePath(Names<'a>),
+    RuntimePath(DylinkNames<'a>),
 }
 
 /// A subsection with the place of its id.
@@ -240,14 +240,14 @@ fn is_known(id: u8) -> bool
 impl<'a> Content<'a> {
     /// Reads what a subsection of a known id holds.
     fn read(id: u8, cursor: &mut Cursor<'a>) -> Result<Self, Malformed>
-        ensures { Reads content_view (known id).parse cursor.old result cursor.new }
+        ensures { Reads content_view (content_by_id id).parse cursor.old result cursor.new }
     {
         match id {
             MEM_INFO => Ok(Content::MemInfo(MemInfo::read(cursor)?)),
-            NEEDED => Ok(Content::Needed(Names::read(cursor)?)),
+            NEEDED => Ok(Content::Needed(DylinkNames::read(cursor)?)),
             EXPORT_INFO => Ok(Content::Exports(ItemsIn::read(cursor)?)),
             IMPORT_INFO => Ok(Content::Imports(ItemsIn::read(cursor)?)),
-            _ => Ok(Content::RuntimePath(Names::read(cursor)?)),
+            _ => Ok(Content::RuntimePath(DylinkNames::read(cursor)?)),
         }
     }
 }
@@ -306,14 +306,14 @@ pub struct Dylink<'a> {
 
 impl<'a> Model for Dylink<'a> {
     ghost use Rattle.std.specs.Prelude.{List};
-    ghost use Rattle.wasmprinter_spec.specs.Customs.Dylink.{Subsection as SubsectionValue, judged};
+    ghost use Rattle.wasmprinter_spec.specs.Customs.Dylink.{Subsection as SubsectionValue, judgement_of};
     ghost use Rattle.wasmprinter_customs.specs.Sound.{subsections_in, IsWhole};
 
     ghost Value = { List SubsectionValue };
 
-    ghost view = { λ d. subsections_in (judged d.cursor) };
+    ghost view = { λ d. subsections_in (judgement_of d.cursor) };
 
-    ghost invariant = { λ d. IsWhole (judged d.cursor) };
+    ghost invariant = { λ d. IsWhole (judgement_of d.cursor) };
 }
 
 impl<'a> Dylink<'a> {
@@ -361,7 +361,7 @@ pub(crate) enum Judgement<'a> {
 impl<'a> Judgement<'a> {
     /// Judges what a section holds behind its name.
     pub(crate) fn of(section: Cursor<'a>) -> Self
-        ensures { judgement_view result ≡ judged section.entry }
+        ensures { judgement_view result ≡ judgement_of section.entry }
     {
         let mut cursor = section.fork();
         'subsections: while !cursor.is_empty() {

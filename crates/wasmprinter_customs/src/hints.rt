@@ -1,6 +1,6 @@
 //! Branch hints (Code Metadata): for functions, which operators are likely to branch.
 ghost use Rattle.std.specs.Prelude.{◌≡◌, ◌+◌, ◌<◌, ◌^◌, [], length, codes, bytes_eq};
-ghost use Rattle.wasmprinter_spec.specs.Grammar.{placed};
+ghost use Rattle.wasmprinter_spec.specs.Grammar.{value_with_place};
 ghost use Rattle.wasmprinter_spec.specs.Customs.Hints.{hint as hint_grammar, flag, function_hints, hint_section, hints_given};
 ghost use Rattle.wasmprinter_spec.specs.Customs.Hints.{next_hints, hints_behind, next_hint, hint_behind};
 ghost use Rattle.wasmprinter_spec.specs.FirstByte.{only};
@@ -75,7 +75,7 @@ fn flag_of(byte: u8) -> Option<bool>
 }
 
 impl Spelled for Hint {
-    ghost parse = { (placed hint_grammar).parse };
+    ghost parse = { (value_with_place hint_grammar).parse };
 
     fn read(cursor: &mut Cursor) -> Result<Hint, Malformed> {
         let place = cursor.place();
@@ -232,7 +232,7 @@ impl<'a> Hints<'a> {
     }
 
     /// The hints that a section gives: none where it has a fault. Its bytes behind the name begin at the place.
-    pub fn given(place: u64, bytes: &'a [u8]) -> Self
+    pub fn of_section(place: u64, bytes: &'a [u8]) -> Self
         requires { place + length bytes.now < 2 ^ 64 }
         ensures { result ≡ hints_given (record { place = place; value = bytes.now }) }
     {

@@ -15,6 +15,6 @@ pub use dylink::{Content, Dylink, ExportInfo, ImportInfo, MemInfo, Subsection};
 pub use flags::{FlagWords, SymbolFlags};
 pub use hints::{FunctionHints, Hint, Hints, is_hint_section};
 pub use items::{ItemsIn, ReadFrom, Source};
-pub use names::Names;
-pub use producers::{Field, Producers, Value, Values};
+pub use names::DylinkNames;
+pub use producers::{Producers, ProducersField, Value, Values};
 pub use role::{CustomRole, custom_role};

@@ -35,11 +35,11 @@ impl<'a> ReadFrom for Name<'a> {
 
 /// Names, one after the other.
 #[derive(Drop)]
-pub struct Names<'a> {
+pub struct DylinkNames<'a> {
     names: ItemsIn<Name<'a>>,
 }
 
-impl<'a> Model for Names<'a> {
+impl<'a> Model for DylinkNames<'a> {
     ghost use Rattle.std.specs.Prelude.{ℕ, List};
 
     ghost Value = { List (List ℕ) };
@@ -47,26 +47,26 @@ impl<'a> Model for Names<'a> {
     ghost view = { λ n. n.names };
 }
 
-impl<'a> Names<'a> {
+impl<'a> DylinkNames<'a> {
     /// Reads a count and so many names.
     pub(crate) fn read(cursor: &mut Cursor<'a>) -> Result<Self, Malformed>
         ensures { Reads (λ n. n) (vec name).parse cursor.old result cursor.new }
     {
         let names = ItemsIn::read(cursor)?;
-        Ok(Names { names })
+        Ok(DylinkNames { names })
     }
 
     /// The names in order.
-    pub fn iter(&self) -> Names<'a>
+    pub fn iter(&self) -> DylinkNames<'a>
         ensures { result ≡ self.now }
     {
-        Names {
+        DylinkNames {
             names: self.names.iter(),
         }
     }
 }
 
-impl<'a> Iterator for Names<'a> {
+impl<'a> Iterator for DylinkNames<'a> {
     ghost use Rattle.std.specs.Iterator.{YieldsFirstBy, item_count};
 
     type Item = &'a str;

@@ -1,6 +1,6 @@
 //! The section `producers` (tool conventions, "Producers Section"): fields, each with the names and versions of its values.
 ghost use Rattle.std.specs.Prelude.{◌≡◌, option_map};
-ghost use Rattle.wasmprinter_spec.specs.Grammar.{placed};
+ghost use Rattle.wasmprinter_spec.specs.Grammar.{value_with_place};
 ghost use Rattle.wasmprinter_spec.specs.Customs.Producers.{value as value_grammar, field as field_grammar, producers, are_runs};
 
 use crate::items::{ItemsIn, ReadFrom};
@@ -29,7 +29,7 @@ impl<'a> Model for Value<'a> {
 impl<'a> ReadFrom for Value<'a> {
     type Source = Cursor<'a>;
 
-    ghost parse = { (placed value_grammar).parse };
+    ghost parse = { (value_with_place value_grammar).parse };
 
     fn read(cursor: &mut Cursor<'a>) -> Result<Value<'a>, Malformed> {
         let place = cursor.place();
@@ -71,12 +71,12 @@ pub type Values<'a> = ItemsIn<Value<'a>>;
 
 /// A field: a name and values.
 #[derive(Drop)]
-pub struct Field<'a> {
+pub struct ProducersField<'a> {
     name: &'a str,
     values: Values<'a>,
 }
 
-impl<'a> Model for Field<'a> {
+impl<'a> Model for ProducersField<'a> {
     ghost use Rattle.wasmprinter_spec.specs.Customs.Producers.{Field as FieldValue};
 
     ghost Value = { FieldValue };
@@ -84,19 +84,19 @@ impl<'a> Model for Field<'a> {
     ghost view = { λ f. record { name = f.name.now; values = f.values } };
 }
 
-impl<'a> ReadFrom for Field<'a> {
+impl<'a> ReadFrom for ProducersField<'a> {
     type Source = Cursor<'a>;
 
     ghost parse = { field_grammar.parse };
 
-    fn read(cursor: &mut Cursor<'a>) -> Result<Field<'a>, Malformed> {
+    fn read(cursor: &mut Cursor<'a>) -> Result<ProducersField<'a>, Malformed> {
         let name = cursor.name()?;
         let values = Values::read(cursor)?;
-        Ok(Field { name, values })
+        Ok(ProducersField { name, values })
     }
 }
 
-impl<'a> Field<'a> {
+impl<'a> ProducersField<'a> {
     /// Its name.
     pub fn name(&self) -> &'a str
         ensures { result.now ≡ self.now.name }
@@ -113,7 +113,7 @@ impl<'a> Field<'a> {
 }
 
 /// The fields of a section, one after the other.
-pub type Producers<'a> = ItemsIn<Field<'a>>;
+pub type Producers<'a> = ItemsIn<ProducersField<'a>>;
 
 /// Reads the fields that are all of a section.
 pub(crate) fn read_producers<'a>(section: Cursor<'a>) -> Option<Producers<'a>>

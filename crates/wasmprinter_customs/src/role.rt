@@ -3,7 +3,7 @@ ghost use Rattle.std.specs.Prelude.{◌≡◌, ◌+◌, ◌<◌, ◌^◌, length
 ghost use Rattle.wasmprinter_spec.specs.Placed.{custom_of};
 ghost use Rattle.wasmprinter_spec.specs.Customs.{role_of, producers_role, dylink_role};
 ghost use Rattle.wasmprinter_spec.specs.Customs.Producers.{producers};
-ghost use Rattle.wasmprinter_spec.specs.Customs.Dylink.{judged};
+ghost use Rattle.wasmprinter_spec.specs.Customs.Dylink.{judgement_of};
 ghost use Rattle.wasmprinter_customs.specs.Roles.{role_view};
 
 use crate::dylink::{Dylink, Judgement};
@@ -50,7 +50,7 @@ fn producers_role(section: Cursor) -> CustomRole
 
 /// The role of a section `dylink.0`.
 fn dylink_role(section: Cursor) -> CustomRole
-    ensures { role_view result ≡ dylink_role (judged section.entry) }
+    ensures { role_view result ≡ dylink_role (judgement_of section.entry) }
 {
     match Judgement::of(section) {
         Judgement::Whole(subsections) => CustomRole::Dylink(subsections),

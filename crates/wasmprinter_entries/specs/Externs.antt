@@ -4,7 +4,7 @@ use Rattle.wasmprinter_spec.specs.Grammar.{Placed}
 use Rattle.wasmprinter_spec.specs.Types.{limits_of, memory_type_of, table_type_of, global_type_of, FuncKind, TableKind, MemoryKind, GlobalKind, TagKind, FuncExtern, TableExtern, MemoryExtern, GlobalExtern, TagExtern}
 use Rattle.wasmprinter_spec.specs.Types.{Limits as DefinedLimits, MemoryType as DefinedMemory, TableType as DefinedTable, GlobalType as DefinedGlobal, ExternKind as DefinedKind, ExternType as DefinedExtern}
 use Rattle.wasmprinter_spec.specs.Placed.{Import}
-use Rattle.wasmprinter_spec.specs.Module.{without_places, imported, func_import, table_import, memory_import, global_import, tag_import}
+use Rattle.wasmprinter_spec.specs.Module.{without_places, imported_types, func_import, table_import, memory_import, global_import, tag_import}
 use Rattle.wasmprinter_ops.specs.ValTypes.{ref_view, type_view}
 use Rattle.wasmprinter_entries.specs.declared.limits.Limits.{Limits}
 use Rattle.wasmprinter_entries.specs.declared.memories.MemoryType.{MemoryType}
@@ -67,8 +67,8 @@ kind_of_type (TagExtern i) = TagKind
 
 -- how many imports are of a kind
 abbrev pub imported_count : DefinedKind → List (Placed Import) → ℕ
-imported_count FuncKind is = length (imported func_import (without_places is))
-imported_count TableKind is = length (imported table_import (without_places is))
-imported_count MemoryKind is = length (imported memory_import (without_places is))
-imported_count GlobalKind is = length (imported global_import (without_places is))
-imported_count TagKind is = length (imported tag_import (without_places is))
+imported_count FuncKind is = length (imported_types func_import (without_places is))
+imported_count TableKind is = length (imported_types table_import (without_places is))
+imported_count MemoryKind is = length (imported_types memory_import (without_places is))
+imported_count GlobalKind is = length (imported_types global_import (without_places is))
+imported_count TagKind is = length (imported_types tag_import (without_places is))

@@ -1,7 +1,7 @@
 -- Why a module that is not malformed may be refused: a function has more locals than are allowed, there are more functions, a table has an
 -- initialiser without operators, or a growth was refused, which comes only where something is to be kept.
 use Rattle.std.specs.Prelude.{◌≡◌, ℕ, ◌+◌, ◌<◌, ◌⊎◌, List, [], ◌∷◌, ◌++◌, length, Option, Some}
-use Rattle.wasmprinter_spec.specs.Grammar.{Input, Placed, placed}
+use Rattle.wasmprinter_spec.specs.Grammar.{Input, Placed, value_with_place}
 use Rattle.wasmprinter_spec.specs.Name.{u32, vec}
 use Rattle.wasmprinter_spec.specs.Types.{TableType}
 use Rattle.wasmprinter_spec.specs.Operator.{Operator}
@@ -19,7 +19,7 @@ pub record HasManyLocals (at : Input) (place : ℕ) : Type 0 where
   pub parts : at.bytes ≡ before ++ (text ++ behind)
   pub starts : place ≡ at.place + length before
   pub locals : List (Placed LocalEntry)
-  pub spelled : (vec (placed local_entry)).spells place text locals
+  pub spelled : (vec (value_with_place local_entry)).spells place text locals
   pub many : most_locals < local_count locals
 
 -- among the bytes begins a section of the kind, an id and a size, with the count

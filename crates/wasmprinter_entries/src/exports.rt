@@ -1,6 +1,6 @@
 //! The export section (section 5.5, "Export Section").
 ghost use Rattle.std.specs.Prelude.{◌≡◌, option_map};
-ghost use Rattle.wasmprinter_spec.specs.Grammar.{placed};
+ghost use Rattle.wasmprinter_spec.specs.Grammar.{value_with_place};
 ghost use Rattle.wasmprinter_spec.specs.Binary.Exports.{export, extern_kind, extern_kind_of};
 ghost use Rattle.wasmprinter_spec.specs.Sections.{ExportSection};
 ghost use Rattle.wasmprinter_bytes.specs.Reads.{Reads, IsWithin, end_of};
@@ -76,7 +76,7 @@ impl<'a> Model for Export<'a> {
 }
 
 impl<'a> SpelledIn<'a> for Export<'a> {
-    ghost parse = { (placed export).parse };
+    ghost parse = { (value_with_place export).parse };
 
     fn read(cursor: &mut Cursor<'a>) -> Result<Export<'a>, Malformed> {
         let place = cursor.place();

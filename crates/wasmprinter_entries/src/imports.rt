@@ -1,6 +1,6 @@
 //! The import section (section 5.5, "Import Section"), with the types of what is imported (section 5.3, "External Types").
 ghost use Rattle.std.specs.Prelude.{◌≡◌, ◌↔◌, IsTrue, IfOk};
-ghost use Rattle.wasmprinter_spec.specs.Grammar.{placed};
+ghost use Rattle.wasmprinter_spec.specs.Grammar.{value_with_place};
 ghost use Rattle.wasmprinter_spec.specs.Binary.Imports.{extern_type as extern_type_grammar, import as import_grammar};
 ghost use Rattle.wasmprinter_spec.specs.Sections.{ImportSection};
 ghost use Rattle.wasmprinter_bytes.specs.Reads.{Reads, IsWithin, end_of};
@@ -89,7 +89,7 @@ impl<'a> Model for Import<'a> {
 }
 
 impl<'a> SpelledIn<'a> for Import<'a> {
-    ghost parse = { (placed import_grammar).parse };
+    ghost parse = { (value_with_place import_grammar).parse };
 
     fn read(cursor: &mut Cursor<'a>) -> Result<Import<'a>, Malformed> {
         let place = cursor.place();

@@ -1,7 +1,7 @@
 //! The memory section (section 5.5, "Memory Section"), with types of memories (section 5.3, "Memory
 //! Types").
 ghost use Rattle.std.specs.Prelude.{◌≡◌, ◌<◌, IfOk};
-ghost use Rattle.wasmprinter_spec.specs.Grammar.{placed};
+ghost use Rattle.wasmprinter_spec.specs.Grammar.{value_with_place};
 ghost use Rattle.wasmprinter_spec.specs.Binary.Memories.{page as page_grammar, memory_type as memory_type_grammar};
 ghost use Rattle.wasmprinter_spec.specs.Sections.{MemorySection};
 ghost use Rattle.wasmprinter_bytes.specs.Reads.{Reads, IsWithin, end_of};
@@ -103,7 +103,7 @@ impl MemoryType {
 }
 
 impl<'a> SpelledIn<'a> for Memory {
-    ghost parse = { (placed memory_type_grammar).parse };
+    ghost parse = { (value_with_place memory_type_grammar).parse };
 
     fn read(cursor: &mut Cursor<'a>) -> Result<Memory, Malformed> {
         let place = cursor.place();

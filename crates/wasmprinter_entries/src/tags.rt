@@ -1,6 +1,6 @@
 //! The tag section (section 5.5, "Tag Section").
 ghost use Rattle.std.specs.Prelude.{◌≡◌};
-ghost use Rattle.wasmprinter_spec.specs.Grammar.{placed};
+ghost use Rattle.wasmprinter_spec.specs.Grammar.{value_with_place};
 ghost use Rattle.wasmprinter_spec.specs.Binary.Tags.{tag as tag_grammar};
 ghost use Rattle.wasmprinter_spec.specs.Sections.{TagSection};
 ghost use Rattle.wasmprinter_bytes.specs.Reads.{Reads, IsWithin, end_of};
@@ -43,7 +43,7 @@ pub(crate) fn read_tag_type(cursor: &mut Cursor) -> Result<u32, Malformed>
 }
 
 impl<'a> SpelledIn<'a> for Tag {
-    ghost parse = { (placed tag_grammar).parse };
+    ghost parse = { (value_with_place tag_grammar).parse };
 
     fn read(cursor: &mut Cursor<'a>) -> Result<Tag, Malformed> {
         let place = cursor.place();

@@ -1,6 +1,6 @@
 //! The type section (section 5.5, "Type Section"): groups of types.
 ghost use Rattle.std.specs.Prelude.{◌≡◌, ◌+◌, ◌++◌, ◌<◌, ◌^◌, [], length, true, IfOk, OnOk, OnErr, option_map};
-ghost use Rattle.wasmprinter_spec.specs.Grammar.{placed};
+ghost use Rattle.wasmprinter_spec.specs.Grammar.{value_with_place};
 ghost use Rattle.wasmprinter_spec.specs.Types.{all_types, signature_at, fields_at};
 ghost use Rattle.wasmprinter_spec.specs.Binary.Types.{group as group_grammar};
 ghost use Rattle.wasmprinter_spec.specs.Module.{groups_of};
@@ -39,7 +39,7 @@ impl<'a> Model for TypeGroup<'a> {
 }
 
 impl<'a> SpelledIn<'a> for TypeGroup<'a> {
-    ghost parse = { (placed group_grammar).parse };
+    ghost parse = { (value_with_place group_grammar).parse };
 
     fn read(cursor: &mut Cursor<'a>) -> Result<TypeGroup<'a>, Malformed> {
         let start = cursor.fork();
@@ -100,7 +100,10 @@ fn add_types<'a>(types: &mut Vec<SubType<'a>>, group: &TypeGroup<'a>) -> Result<
 }
 
 /// The types of all groups, by their indices.
-fn flattened<'a>(alloc: Global, groups: &[TypeGroup<'a>]) -> Result<Vec<SubType<'a>>, AllocError>
+fn types_of_groups<'a>(
+    alloc: Global,
+    groups: &[TypeGroup<'a>],
+) -> Result<Vec<SubType<'a>>, AllocError>
     ensures ok { IfOk result (λ v. v.items ≡ all_types (groups_of groups.now)) }
     ensures memory { OnErr result (0 < length groups.now) }
 {
@@ -155,7 +158,7 @@ impl<'a> Types<'a> {
     {
         let groups = read_list(alloc, cursor)?;
         expect_end(cursor)?;
-        let types = flattened(alloc, &groups)?;
+        let types = types_of_groups(alloc, &groups)?;
         Ok(Types { groups, types })
     }
 

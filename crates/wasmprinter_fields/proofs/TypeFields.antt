@@ -10,37 +10,37 @@ use Rattle.wasmprinter_spec.specs.Names.{Names}
 use Rattle.wasmprinter_spec.specs.Placed.{TypeGroup}
 use Rattle.wasmprinter_spec.specs.Module.{groups_of}
 use Rattle.wasmprinter_spec.specs.Piece.{Piece, Open}
-use Rattle.wasmprinter_spec.specs.Layout.Groups.{has_break, close, group, numbered}
+use Rattle.wasmprinter_spec.specs.Layout.Groups.{has_break, close, group, numbered_pieces}
 use Rattle.wasmprinter_spec.specs.Layout.Types.{member_pieces, group_pieces_by, type_group_pieces, type_section_pieces}
 use Rattle.wasmprinter_fields.specs.TypeLines.{listed_pieces}
 
 -- ---- the types of a group
 
 -- no type is left
-pub types-none : (f : ℕ → SubType → List Piece) (i : ℕ) (ts : List SubType) → ts ≡ [] → numbered f i ts ≡ []
-unfolding numbered
-types-none f i ts e = ap (numbered f i) e
+pub types-none : (f : ℕ → SubType → List Piece) (i : ℕ) (ts : List SubType) → ts ≡ [] → numbered_pieces f i ts ≡ []
+unfolding numbered_pieces
+types-none f i ts e = ap (numbered_pieces f i) e
 
 -- the next type, and the others
-pub types-next : (f : ℕ → SubType → List Piece) (i : ℕ) (ts rest : List SubType) (t : SubType) → ts ≡ t ∷ rest → numbered f i ts ≡ f i t ++ numbered f (i + 1) rest
-unfolding numbered
-types-next f i ts rest t e = ap (numbered f i) e
+pub types-next : (f : ℕ → SubType → List Piece) (i : ℕ) (ts rest : List SubType) (t : SubType) → ts ≡ t ∷ rest → numbered_pieces f i ts ≡ f i t ++ numbered_pieces f (i + 1) rest
+unfolding numbered_pieces
+types-next f i ts rest t e = ap (numbered_pieces f i) e
 
 -- each type of a written group begins a line
-members-break : (names : Names) (place i : ℕ) (ts : List SubType) → has_break (numbered (member_pieces names place) i ts) ≡ not (length ts == 0)
-unfolding numbered member_pieces
+members-break : (names : Names) (place i : ℕ) (ts : List SubType) → has_break (numbered_pieces (member_pieces names place) i ts) ≡ not (length ts == 0)
+unfolding numbered_pieces member_pieces
 members-break names place i [] = refl
 members-break names place i (t ∷ ts) = sym (ap not (eqb-suc-zero (length ts)))
 
 -- a written group
 pub group-written : (names : Names) (written : Bool) (place i : ℕ) (ts : List SubType) → written ≡ true →
-    group_pieces_by names written place i ts ≡ Open (codes "rec") ∷ (numbered (listed_pieces names written place) i ts ++ close None 1 (not (length ts == 0)))
+    group_pieces_by names written place i ts ≡ Open (codes "rec") ∷ (numbered_pieces (listed_pieces names written place) i ts ++ close None 1 (not (length ts == 0)))
 unfolding group
-group-written names true place i ts e = ap (λ b. Open (codes "rec") ∷ (numbered (member_pieces names place) i ts ++ close None 1 b)) (members-break names place i ts)
+group-written names true place i ts e = ap (λ b. Open (codes "rec") ∷ (numbered_pieces (member_pieces names place) i ts ++ close None 1 b)) (members-break names place i ts)
 group-written names false place i ts e = absurd cc
 
 -- a type by itself
-pub group-bare : (names : Names) (written : Bool) (place i : ℕ) (ts : List SubType) → written ≡ false → group_pieces_by names written place i ts ≡ numbered (listed_pieces names written place) i ts
+pub group-bare : (names : Names) (written : Bool) (place i : ℕ) (ts : List SubType) → written ≡ false → group_pieces_by names written place i ts ≡ numbered_pieces (listed_pieces names written place) i ts
 group-bare names true place i ts e = absurd cc
 group-bare names false place i ts e = refl
 

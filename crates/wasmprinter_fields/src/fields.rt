@@ -1,6 +1,6 @@
 //! Fields of one kind (section 6.6 of the WebAssembly Core Specification), each on a line of its own.
 ghost use Rattle.std.specs.Prelude.{◌≡◌, ◌+◌, ◌<◌, ◌^◌, length, IfOk};
-ghost use Rattle.wasmprinter_spec.specs.Layout.Groups.{has_break, numbered};
+ghost use Rattle.wasmprinter_spec.specs.Layout.Groups.{has_break, numbered_pieces};
 ghost use Rattle.wasmprinter_print.specs.Prints.{PrintsOrStops};
 ghost use Rattle.wasmprinter_scope.specs.Scopes.{scope_view, folds_in};
 ghost use Rattle.wasmprinter_fields.specs.Parts.{field_line};
@@ -83,7 +83,7 @@ pub fn write_each<P: Print, F: Field>(
 ) -> Result<(), Error>
     requires { first + length fields.now < 2 ^ 64 }
     ensures pieces { PrintsOrStops P.meaning options.now p.old p.new (folds_in (scope_view scope.old)) result
-        (numbered (field_line F.keyword F.line_place (F.parts options.now (scope_view scope.old))) first fields.now) }
+        (numbered_pieces (field_line F.keyword F.line_place (F.parts options.now (scope_view scope.old))) first fields.now) }
     ensures scope { scope_view scope.new ≡ scope_view scope.old }
 {
     for (index, field) in fields.iter().enumerate() {

@@ -4,7 +4,7 @@ ghost use Rattle.std.specs.Prelude.{None, Some, not, true, codes, length};
 ghost use Rattle.wasmprinter_spec.specs.Types.{all_types};
 ghost use Rattle.wasmprinter_spec.specs.Module.{groups_of};
 ghost use Rattle.wasmprinter_spec.specs.Piece.{Open};
-ghost use Rattle.wasmprinter_spec.specs.Layout.Groups.{close, numbered};
+ghost use Rattle.wasmprinter_spec.specs.Layout.Groups.{close, numbered_pieces};
 ghost use Rattle.wasmprinter_spec.specs.Layout.Types.{member_pieces, group_pieces_by, type_group_pieces, type_section_pieces};
 ghost use Rattle.wasmprinter_print.specs.Prints.{Prints};
 ghost use Rattle.wasmprinter_labels.specs.Scan.{names_of};
@@ -69,7 +69,7 @@ fn write_types<P: Print>(
 ) -> io::Result<()>
     requires { first + length group.now.value.types < 2 ^ 64 }
     ensures { Prints P.meaning options.now p.old p.new result
-        (numbered (listed_pieces (names_of scope.now.labels) group.now.value.written group.now.place) first group.now.value.types) }
+        (numbered_pieces (listed_pieces (names_of scope.now.labels) group.now.value.written group.now.place) first group.now.value.types) }
 {
     let mut number = first;
     for sub_type in group.types() {
@@ -109,7 +109,7 @@ fn write_rec<P: Print>(
     requires { first + length group.now.value.types < 2 ^ 64 }
     ensures { Prints P.meaning options.now p.old p.new result
         (Open (codes "rec")
-        ∷ (numbered (listed_pieces (names_of scope.now.labels) group.now.value.written group.now.place) first group.now.value.types
+        ∷ (numbered_pieces (listed_pieces (names_of scope.now.labels) group.now.value.written group.now.place) first group.now.value.types
         ++ close None 1 (not (length group.now.value.types == 0)))) }
 {
     open(p, "rec")?;

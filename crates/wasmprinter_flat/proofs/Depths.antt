@@ -2,7 +2,7 @@
 use Rattle.std.specs.Prelude.{◌≡◌, ℕ, suc, ◌-◌, ◌≤◌, List, [], ◌∷◌, length}
 use Rattle.std.proofs.Common.{arith}
 use Rattle.wasmprinter_spec.specs.Row.{Role, Plain, Opens, OpensIf, OpensTry, Turns, Catches, CatchesAll, Delegates, Ends}
-use Rattle.wasmprinter_spec.specs.Labels.{Label, labels_after, count_after, outside}
+use Rattle.wasmprinter_spec.specs.Labels.{Label, labels_after, count_after, labels_outside}
 
 -- an operator opens one block at most
 pub after-length : (r : Role) (x : Label) (xs : List Label) → length (labels_after r x xs) ≤ suc (length xs)
@@ -30,19 +30,19 @@ after-count Delegates n = omega arith
 after-count Ends n = omega arith
 
 -- `delegate` means no label of its own block
-pub outside-own : (xs : List Label) → length (outside Delegates xs) ≡ length xs - 1
-outside-own [] = omega arith
-outside-own (y ∷ ys) = omega arith
+pub labels_outside-own : (xs : List Label) → length (labels_outside Delegates xs) ≡ length xs - 1
+labels_outside-own [] = omega arith
+labels_outside-own (y ∷ ys) = omega arith
 
 -- no operator means more labels than are open
-pub outside-length : (r : Role) (xs : List Label) → length (outside r xs) ≤ length xs
-outside-length Plain xs = omega arith
-outside-length Opens xs = omega arith
-outside-length OpensIf xs = omega arith
-outside-length OpensTry xs = omega arith
-outside-length Turns xs = omega arith
-outside-length Catches xs = omega arith
-outside-length CatchesAll xs = omega arith
-outside-length Delegates [] = omega arith
-outside-length Delegates (y ∷ ys) = omega arith
-outside-length Ends xs = omega arith
+pub labels_outside-length : (r : Role) (xs : List Label) → length (labels_outside r xs) ≤ length xs
+labels_outside-length Plain xs = omega arith
+labels_outside-length Opens xs = omega arith
+labels_outside-length OpensIf xs = omega arith
+labels_outside-length OpensTry xs = omega arith
+labels_outside-length Turns xs = omega arith
+labels_outside-length Catches xs = omega arith
+labels_outside-length CatchesAll xs = omega arith
+labels_outside-length Delegates [] = omega arith
+labels_outside-length Delegates (y ∷ ys) = omega arith
+labels_outside-length Ends xs = omega arith

@@ -4,7 +4,7 @@ use Rattle.wasmprinter_spec.specs.Grammar.{◌>>=◌}
 use Rattle.wasmprinter_spec.specs.Row.{Space, Types, Func, Table, Memory, Tag, Global, Elem, Data, Local, Label}
 use Rattle.wasmprinter_spec.specs.Names.{Names, Naming, name_in, names_by, in_function}
 use Rattle.wasmprinter_spec.specs.Names.Section.{is_indirect}
-use Rattle.wasmprinter_names.specs.Shown.{shown}
+use Rattle.wasmprinter_names.specs.Shown.{names_of_identifiers}
 use Rattle.wasmprinter_names.specs.Spaces.{id_of, outer_of}
 use Rattle.wasmprinter_names.specs.Views.{name_at}
 use Rattle.wasmprinter_names.specs.declared.identifiers.Identifiers.{Identifiers}
@@ -25,7 +25,7 @@ item-by invents named f Data n = refl
 item-by invents named f Local n = refl
 item-by invents named f Label n = refl
 
-module _ (x : Identifiers) (names : Names) (same : shown x ≡ names) (f : ℕ) (space : Space) (n : ℕ) where
+module _ (x : Identifiers) (names : Names) (same : names_of_identifiers x ≡ names) (f : ℕ) (space : Space) (n : ℕ) where
   -- what the space is named by
   pub item-named : (named : NamedSpace) → Some (id_of named) ≡ operand_subsection space →
       name_in x.invents (name_at x.names.now) (id_of named) (outer_of named f) n ≡ in_function names f space n

@@ -4,7 +4,7 @@ use Rattle.wasmprinter_spec.specs.Types.{FuncType}
 use Rattle.wasmprinter_spec.specs.Row.{Space, Local, Shape}
 use Rattle.wasmprinter_spec.specs.Names.{Names, subsection_of}
 use Rattle.wasmprinter_spec.specs.Names.Section.{local_subsection}
-use Rattle.wasmprinter_spec.specs.Labels.{Label, outside, inside}
+use Rattle.wasmprinter_spec.specs.Labels.{Label, labels_outside, labels_inside}
 use Rattle.wasmprinter_spec.specs.Operator.{Immediates}
 use Rattle.wasmprinter_spec.specs.Piece.{Piece}
 use Rattle.wasmprinter_spec.specs.Layout.Operators.{Setting, immediate_pieces}
@@ -22,12 +22,12 @@ abbrev pub setting_in : {S : Type 0} → (S → ℕ → Option FuncType) → Con
 setting_in signature_at c = setting_view signature_at c.setting.now (names_in c)
 
 -- the labels that the operator may mean
-abbrev pub around : {S : Type 0} → Context S → List Label
-around c = outside (role_view c.role) c.labels.now.labels
+abbrev pub labels_around : {S : Type 0} → Context S → List Label
+labels_around c = labels_outside (role_view c.role) c.labels.now.labels
 
 -- the labels further in than these
-abbrev pub within : {S : Type 0} → Context S → List Label
-within c = inside (role_view c.role) c.labels.now.labels
+abbrev pub labels_within : {S : Type 0} → Context S → List Label
+labels_within c = labels_inside (role_view c.role) c.labels.now.labels
 
 -- the label of the block that the operator opens, if it opens one
 abbrev pub own_in : {S : Type 0} → Context S → Label
@@ -35,7 +35,7 @@ own_in c = own_label c.labels.now
 
 -- immediates by their shape
 abbrev pub pieces_in : {S : Type 0} → (S → ℕ → Option FuncType) → Context S → Shape → Immediates → List Piece
-pieces_in signature_at c shape i = immediate_pieces (setting_in signature_at c) (within c) (around c) (own_in c) shape i
+pieces_in signature_at c shape i = immediate_pieces (setting_in signature_at c) (labels_within c) (labels_around c) (own_in c) shape i
 
 -- the subsection of names for what an operator means by an index of the space, with locals among them: labels go by another rule
 abbrev pub operand_subsection : Space → Option ℕ

@@ -8,7 +8,7 @@ use Rattle.wasmprinter_spec.specs.Customs.Hints.{Hint}
 use Rattle.wasmprinter_spec.specs.Piece.{Piece, Word}
 use Rattle.wasmprinter_spec.specs.Row.{Role}
 use Rattle.wasmprinter_spec.specs.Table.{word_of, role_of, shape_of}
-use Rattle.wasmprinter_spec.specs.Labels.{Label, outside, inside}
+use Rattle.wasmprinter_spec.specs.Labels.{Label, labels_outside, labels_inside}
 use Rattle.wasmprinter_spec.specs.Layout.Operators as layout
 use Rattle.wasmprinter_flat.specs.declared.operators.Form.{Form}
 use Rattle.wasmprinter_flat.specs.declared.operators.Form.TheVariants as forms
@@ -38,4 +38,4 @@ over_lines signature nesting names function body hints os =
 abbrev pub word_pieces : layout.Setting → Label → List Label → Operator → List Piece
 word_pieces s own xs o =
     let role : Role = role_of o.opcode in
-    Word (word_of o.opcode) ∷ layout.pieces_by s (inside role xs) (outside role xs) own (shape_of o.opcode) o.immediates
+    Word (word_of o.opcode) ∷ layout.pieces_by s (labels_inside role xs) (labels_outside role xs) own (shape_of o.opcode) o.immediates

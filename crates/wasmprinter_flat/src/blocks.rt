@@ -10,7 +10,7 @@ ghost use Rattle.wasmprinter_spec.specs.Layout.Operators.{catch_pieces, catches_
 ghost use Rattle.wasmprinter_print.specs.Prints.{Prints};
 ghost use Rattle.wasmprinter_names.specs.Shown.{identifier_view};
 ghost use Rattle.wasmprinter_ops.specs.Blocks.{block_type_view, catch_view, catches_view};
-ghost use Rattle.wasmprinter_flat.specs.Contexts.{setting_in, around, within};
+ghost use Rattle.wasmprinter_flat.specs.Contexts.{setting_in, labels_around, labels_within};
 ghost use Rattle.wasmprinter_flat.specs.Settings.{form_view};
 
 use crate::context::Context;
@@ -95,7 +95,7 @@ fn write_tag_and_label<P: Print, S: Signatures>(
 ) -> io::Result<()>
     ensures { (o : Options) → Prints P.meaning o p.old p.new result
         (Gap ∷ (named_index (setting_in S.signature_at context.now) row.Tag tag
-        ++ label_pieces (within context.now) (around context.now) label)) }
+        ++ label_pieces (labels_within context.now) (labels_around context.now) label)) }
 {
     write_operand(p, context, Space::Tag, tag)?;
     write_label(p, context, label)
@@ -112,7 +112,7 @@ fn write_tagged<P: Print, S: Signatures>(
 ) -> io::Result<()>
     ensures { (o : Options) → Prints P.meaning o p.old p.new result
         (line_group keyword.now (Gap ∷ (named_index (setting_in S.signature_at context.now) row.Tag tag
-        ++ label_pieces (within context.now) (around context.now) label))) }
+        ++ label_pieces (labels_within context.now) (labels_around context.now) label))) }
 {
     open(p, keyword)?;
     write_tag_and_label(p, context, tag, label)?;
@@ -128,7 +128,7 @@ fn write_untagged<P: Print, S: Signatures>(
     label: u32,
 ) -> io::Result<()>
     ensures { (o : Options) → Prints P.meaning o p.old p.new result
-        (line_group keyword.now (label_pieces (within context.now) (around context.now) label)) }
+        (line_group keyword.now (label_pieces (labels_within context.now) (labels_around context.now) label)) }
 {
     open(p, keyword)?;
     write_label(p, context, label)?;
@@ -143,7 +143,7 @@ fn write_catch<P: Print, S: Signatures>(
     clause: Catch,
 ) -> io::Result<()>
     ensures { (o : Options) → Prints P.meaning o p.old p.new result
-        (catch_pieces (setting_in S.signature_at context.now) (within context.now) (around context.now) (catch_view clause)) }
+        (catch_pieces (setting_in S.signature_at context.now) (labels_within context.now) (labels_around context.now) (catch_view clause)) }
 {
     match clause {
         Catch::One(tag, label) => write_tagged(p, context, "catch", tag, label),
@@ -160,7 +160,7 @@ fn write_clause<P: Print, S: Signatures>(
     clause: Catch,
 ) -> io::Result<()>
     ensures { (o : Options) → Prints P.meaning o p.old p.new result
-        (Gap ∷ catch_pieces (setting_in S.signature_at context.now) (within context.now) (around context.now) (catch_view clause)) }
+        (Gap ∷ catch_pieces (setting_in S.signature_at context.now) (labels_within context.now) (labels_around context.now) (catch_view clause)) }
 {
     gap(p)?;
     write_catch(p, context, clause)
@@ -173,7 +173,7 @@ pub(crate) fn write_catches<P: Print, S: Signatures>(
     clauses: &Catches<'_>,
 ) -> io::Result<()>
     ensures { (o : Options) → Prints P.meaning o p.old p.new result
-        (catches_pieces (setting_in S.signature_at context.now) (within context.now) (around context.now) (catches_view clauses.now)) }
+        (catches_pieces (setting_in S.signature_at context.now) (labels_within context.now) (labels_around context.now) (catches_view clauses.now)) }
 {
     for clause in clauses.iter() {
         write_clause(p, context, clause)?;

@@ -12,7 +12,7 @@ use wasmprinter_print::Print;
 use wasmprinter_words::words::gap;
 
 /// Writes a blank and a float of 32 bits.
-pub(crate) fn write_f32<P: Print>(p: &mut P, bits: u32) -> io::Result<()>
+pub(crate) fn write_f32_immediate<P: Print>(p: &mut P, bits: u32) -> io::Result<()>
     ensures { (o : Options) → Prints P.meaning o p.old p.new result
         (Gap ∷ (Float single bits ∷ [])) }
 {
@@ -21,7 +21,7 @@ pub(crate) fn write_f32<P: Print>(p: &mut P, bits: u32) -> io::Result<()>
 }
 
 /// Writes a blank and a float of 64 bits.
-pub(crate) fn write_f64<P: Print>(p: &mut P, bits: u64) -> io::Result<()>
+pub(crate) fn write_f64_immediate<P: Print>(p: &mut P, bits: u64) -> io::Result<()>
     ensures { (o : Options) → Prints P.meaning o p.old p.new result
         (Gap ∷ (Float double bits ∷ [])) }
 {

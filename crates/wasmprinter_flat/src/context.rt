@@ -1,12 +1,12 @@
 //! What an operator's immediates are printed by, and the identifiers of indices (section 6.3 of the WebAssembly Core Specification,
 //! "Identifiers").
 ghost use Rattle.std.specs.Prelude.{◌≡◌, ◌+◌, ◌<◌, ◌^◌, suc, List, length, option_map};
-ghost use Rattle.wasmprinter_spec.specs.Labels.{Label, outside};
+ghost use Rattle.wasmprinter_spec.specs.Labels.{Label, labels_outside};
 ghost use Rattle.wasmprinter_spec.specs.Names.{in_function};
-ghost use Rattle.wasmprinter_names.specs.Shown.{identifier_view, shown};
+ghost use Rattle.wasmprinter_names.specs.Shown.{identifier_view, names_of_identifiers};
 ghost use Rattle.wasmprinter_names.specs.Spaces.{id_of};
 ghost use Rattle.wasmprinter_ops.specs.Shapes.{role_view, space_view};
-ghost use Rattle.wasmprinter_flat.specs.Contexts.{names_in, around, operand_subsection};
+ghost use Rattle.wasmprinter_flat.specs.Contexts.{names_in, labels_around, operand_subsection};
 
 use crate::operators::Setting;
 use wasmprinter_labels::OpenLabels;
@@ -45,7 +45,7 @@ fn named_space(space: Space) -> Option<NamedSpace>
 
 /// How many blocks are open whose labels an operator may mean: for `delegate` those outside its own.
 fn depth_outside(role: Role, depth: u64) -> u64
-    ensures { (labels : List Label) → depth ≡ length labels → result ≡ length (outside (role_view role) labels) }
+    ensures { (labels : List Label) → depth ≡ length labels → result ≡ length (labels_outside (role_view role) labels) }
 {
     match role {
         Role::Delegates => depth.saturating_sub(1),
@@ -56,7 +56,7 @@ fn depth_outside(role: Role, depth: u64) -> u64
 impl<'n, 'a, S: Signatures> Context<'_, '_, 'n, 'a, S> {
     /// The identifiers of the module.
     pub(crate) fn identifiers(&self) -> Identifiers<'n, 'a>
-        ensures { shown result ≡ names_in self.now }
+        ensures { names_of_identifiers result ≡ names_in self.now }
     {
         self.labels.identifiers()
     }
@@ -85,7 +85,7 @@ impl<'n, 'a, S: Signatures> Context<'_, '_, 'n, 'a, S> {
     /// The number of the block that the operator opens, if it opens one. Blocks are counted from 1.
     pub(crate) fn block(&self) -> u64
         requires { length self.now.labels.now.labels + 1 < 2 ^ 64 }
-        ensures { result ≡ suc (length (around self.now)) }
+        ensures { result ≡ suc (length (labels_around self.now)) }
     {
         depth_outside(self.role, self.labels.depth()) + 1
     }

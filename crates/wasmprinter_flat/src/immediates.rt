@@ -11,11 +11,11 @@ ghost use Rattle.wasmprinter_ops.specs.Blocks.{block_type_view, catches_view};
 ghost use Rattle.wasmprinter_ops.specs.Immediates.{immediates_view, HasShape};
 ghost use Rattle.wasmprinter_ops.specs.Shapes.{space_view, shape_view};
 ghost use Rattle.wasmprinter_ops.specs.ValTypes.{heap_view};
-ghost use Rattle.wasmprinter_flat.specs.Contexts.{setting_in, around, within, own_in, pieces_in};
+ghost use Rattle.wasmprinter_flat.specs.Contexts.{setting_in, labels_around, labels_within, own_in, pieces_in};
 ghost use Rattle.wasmprinter_flat.specs.Settings.{form_view};
 
 use crate::blocks::{write_block_type, write_catches, write_ending};
-use crate::constants::{write_f32, write_f64};
+use crate::constants::{write_f32_immediate, write_f64_immediate};
 use crate::context::Context;
 use crate::indices::{
     write_call, write_copy, write_default_index, write_field, write_index_and_count, write_operand,
@@ -46,7 +46,7 @@ fn write_block<P: Print, S: Signatures>(
     ensures { (o : Options) → Prints P.meaning o p.old p.new result
         (leading_mark_pieces (own_in context.now)
         ++ (block_pieces (setting_in S.signature_at context.now) (block_type_view block_type)
-        ++ ending_pieces (form_view context.now.setting.now.form) (own_in context.now) (suc (length (around context.now))))) }
+        ++ ending_pieces (form_view context.now.setting.now.form) (own_in context.now) (suc (length (labels_around context.now))))) }
 {
     let own = context.labels.own();
     write_leading_mark(p, own)?;
@@ -65,8 +65,8 @@ fn write_try_table<P: Print, S: Signatures>(
     ensures { (o : Options) → Prints P.meaning o p.old p.new result
         (leading_mark_pieces (own_in context.now)
         ++ (block_pieces (setting_in S.signature_at context.now) (block_type_view block_type)
-        ++ (catches_pieces (setting_in S.signature_at context.now) (within context.now) (around context.now) (catches_view clauses.now)
-        ++ ending_pieces (form_view context.now.setting.now.form) (own_in context.now) (suc (length (around context.now)))))) }
+        ++ (catches_pieces (setting_in S.signature_at context.now) (labels_within context.now) (labels_around context.now) (catches_view clauses.now)
+        ++ ending_pieces (form_view context.now.setting.now.form) (own_in context.now) (suc (length (labels_around context.now)))))) }
 {
     let own = context.labels.own();
     write_leading_mark(p, own)?;
@@ -84,7 +84,7 @@ fn write_index_of<P: Print, S: Signatures>(
     index: u32,
 ) -> io::Result<()>
     ensures { (o : Options) → Prints P.meaning o p.old p.new result
-        (operand_pieces (setting_in S.signature_at context.now) (within context.now) (around context.now) (space_view space) index) }
+        (operand_pieces (setting_in S.signature_at context.now) (labels_within context.now) (labels_around context.now) (space_view space) index) }
 {
     match space {
         Space::Label => write_label(p, context, index),
@@ -93,7 +93,7 @@ fn write_index_of<P: Print, S: Signatures>(
 }
 
 /// Writes an index by its shape.
-fn write_index<P: Print, S: Signatures>(
+fn write_index_by_shape<P: Print, S: Signatures>(
     p: &mut P,
     context: &Context<'_, '_, '_, '_, S>,
     shape: Shape,
@@ -155,7 +155,7 @@ fn write_heap_by<P: Print, S: Signatures>(
 }
 
 /// Writes sixteen bytes by their shape: as a vector, or as lanes.
-fn write_bytes<P: Print>(p: &mut P, shape: Shape, bytes: &[u8]) -> io::Result<()>
+fn write_sixteen_bytes<P: Print>(p: &mut P, shape: Shape, bytes: &[u8]) -> io::Result<()>
     requires { HasShape (shape_view shape) (Bytes bytes.now) }
     ensures { (o : Options) (s : layout.Setting) (inner xs : List Label) (own : Label) →
         Prints P.meaning o p.old p.new result
@@ -222,7 +222,7 @@ pub(crate) fn write_immediates<P: Print, S: Signatures>(
         Immediates::TryTable(block_type, clauses) => {
             write_try_table(p, context, *block_type, clauses)
         }
-        Immediates::Index(index) => write_index(p, context, shape, *index),
+        Immediates::Index(index) => write_index_by_shape(p, context, shape, *index),
         Immediates::Indices(first, second) => write_indices(p, context, shape, *first, *second),
         Immediates::BrTable(targets, default) => write_labels(p, context, targets, *default),
         Immediates::Types(types) => write_select(p, &context.identifiers(), types),
@@ -237,8 +237,8 @@ pub(crate) fn write_immediates<P: Print, S: Signatures>(
         Immediates::Lane(lane) => write_lane(p, *lane),
         Immediates::I32(n) => constant(p, i64::from(*n)),
         Immediates::I64(n) => constant(p, *n),
-        Immediates::F32(bits) => write_f32(p, *bits),
-        Immediates::F64(bits) => write_f64(p, *bits),
-        Immediates::Bytes(bytes) => write_bytes(p, shape, bytes),
+        Immediates::F32(bits) => write_f32_immediate(p, *bits),
+        Immediates::F64(bits) => write_f64_immediate(p, *bits),
+        Immediates::Bytes(bytes) => write_sixteen_bytes(p, shape, bytes),
     }
 }

@@ -6,7 +6,7 @@ ghost use Rattle.wasmprinter_spec.specs.Piece.{Gap, Word, Number, Remark};
 ghost use Rattle.wasmprinter_spec.specs.Layout.Operators.{label_name_pieces, label_pieces, labels_pieces};
 ghost use Rattle.wasmprinter_print.specs.Prints.{Prints};
 ghost use Rattle.wasmprinter_names.specs.Shown.{identifier_view};
-ghost use Rattle.wasmprinter_flat.specs.Contexts.{around, within};
+ghost use Rattle.wasmprinter_flat.specs.Contexts.{labels_around, labels_within};
 
 use crate::context::Context;
 use std::io;
@@ -59,7 +59,7 @@ pub(crate) fn write_label<P: Print, S: Signatures>(
     label: u32,
 ) -> io::Result<()>
     ensures { (o : Options) → Prints P.meaning o p.old p.new result
-        (label_pieces (within context.now) (around context.now) label) }
+        (label_pieces (labels_within context.now) (labels_around context.now) label) }
 {
     match context.labels.find(context.role, label) {
         Meant::ByName(identifier) => write_by_name(p, identifier, label),
@@ -77,7 +77,7 @@ pub(crate) fn write_labels<P: Print, S: Signatures>(
     default: u32,
 ) -> io::Result<()>
     ensures { (o : Options) → Prints P.meaning o p.old p.new result
-        (labels_pieces (within context.now) (around context.now) targets.now default) }
+        (labels_pieces (labels_within context.now) (labels_around context.now) targets.now default) }
 {
     for target in targets.iter() {
         write_label(p, context, target)?;

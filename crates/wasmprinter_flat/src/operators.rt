@@ -14,7 +14,7 @@ ghost use Rattle.wasmprinter_spec.specs.Layout.Operators.{operator_pieces, hint_
 ghost use Rattle.wasmprinter_print.specs.Prints.{Prints};
 ghost use Rattle.wasmprinter_ops.specs.Shapes.{role_view};
 ghost use Rattle.wasmprinter_labels.specs.Scan.{names_of, own_label};
-ghost use Rattle.wasmprinter_flat.specs.Contexts.{setting_in, around, within, own_in};
+ghost use Rattle.wasmprinter_flat.specs.Contexts.{setting_in, labels_around, labels_within, own_in};
 ghost use Rattle.wasmprinter_flat.specs.Settings.{form_view, setting_view, over_lines, word_pieces};
 
 use crate::context::Context;
@@ -114,7 +114,7 @@ fn write_behind<P: Print, S: Signatures>(
 ) -> io::Result<()>
     requires { length context.now.labels.now.labels + 1 < 2 ^ 64 }
     ensures { (o : Options) → Prints P.meaning o p.old p.new result
-        (pieces_by (setting_in S.signature_at context.now) (within context.now) (around context.now) (own_in context.now)
+        (pieces_by (setting_in S.signature_at context.now) (labels_within context.now) (labels_around context.now) (own_in context.now)
         (shape_of operator.now.opcode) operator.now.immediates) }
 {
     match operator.opcode.shape() {

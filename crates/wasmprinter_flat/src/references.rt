@@ -7,10 +7,10 @@ ghost use Rattle.wasmprinter_spec.specs.Layout.Groups.{line_group_gap};
 ghost use Rattle.wasmprinter_spec.specs.Layout.Operators.{label_pieces, select_pieces};
 ghost use Rattle.wasmprinter_spec.specs.Layout.ValTypes.{heap_pieces, ref_pieces, val_pieces};
 ghost use Rattle.wasmprinter_print.specs.Prints.{Prints};
-ghost use Rattle.wasmprinter_names.specs.Shown.{shown};
+ghost use Rattle.wasmprinter_names.specs.Shown.{names_of_identifiers};
 ghost use Rattle.wasmprinter_ops.specs.Operands.{source_type, target_type};
 ghost use Rattle.wasmprinter_ops.specs.ValTypes.{heap_view, ref_view, type_view, types_view};
-ghost use Rattle.wasmprinter_flat.specs.Contexts.{names_in, around, within};
+ghost use Rattle.wasmprinter_flat.specs.Contexts.{names_in, labels_around, labels_within};
 ghost use Rattle.wasmprinter_flat.specs.Only.{only};
 
 use crate::context::Context;
@@ -32,7 +32,7 @@ pub(crate) fn write_result<P: Print>(
     value_type: ValType,
 ) -> io::Result<()>
     ensures { (o : Options) → Prints P.meaning o p.old p.new result
-        (Gap ∷ line_group_gap (codes "result") (val_pieces (shown identifiers.now) (type_view value_type))) }
+        (Gap ∷ line_group_gap (codes "result") (val_pieces (names_of_identifiers identifiers.now) (type_view value_type))) }
 {
     gap(p)?;
     open_gap(p, "result")?;
@@ -58,7 +58,7 @@ pub(crate) fn write_select<P: Print>(
     types: &ValTypes<'_>,
 ) -> io::Result<()>
     ensures { (o : Options) → Prints P.meaning o p.old p.new result
-        (select_pieces (shown identifiers.now) (types_view types.now)) }
+        (select_pieces (names_of_identifiers identifiers.now) (types_view types.now)) }
 {
     match only_type(types) {
         Some(value_type) => write_result(p, identifiers, value_type),
@@ -73,7 +73,7 @@ pub(crate) fn write_heap<P: Print>(
     heap: HeapType,
 ) -> io::Result<()>
     ensures { (o : Options) → Prints P.meaning o p.old p.new result
-        (Gap ∷ heap_pieces (shown identifiers.now) (heap_view heap)) }
+        (Gap ∷ heap_pieces (names_of_identifiers identifiers.now) (heap_view heap)) }
 {
     gap(p)?;
     write_heap_type(p, identifiers, heap)
@@ -86,7 +86,7 @@ pub(crate) fn write_ref<P: Print>(
     ref_type: RefType,
 ) -> io::Result<()>
     ensures { (o : Options) → Prints P.meaning o p.old p.new result
-        (Gap ∷ ref_pieces (shown identifiers.now) (ref_view ref_type)) }
+        (Gap ∷ ref_pieces (names_of_identifiers identifiers.now) (ref_view ref_type)) }
 {
     gap(p)?;
     write_ref_type(p, identifiers, ref_type)
@@ -100,7 +100,7 @@ fn write_refs<P: Print>(
     target: RefType,
 ) -> io::Result<()>
     ensures { (o : Options) → Prints P.meaning o p.old p.new result
-        (Gap ∷ (ref_pieces (shown identifiers.now) (ref_view source) ++ (Gap ∷ ref_pieces (shown identifiers.now) (ref_view target)))) }
+        (Gap ∷ (ref_pieces (names_of_identifiers identifiers.now) (ref_view source) ++ (Gap ∷ ref_pieces (names_of_identifiers identifiers.now) (ref_view target)))) }
 {
     write_ref(p, identifiers, source)?;
     write_ref(p, identifiers, target)
@@ -116,7 +116,7 @@ pub(crate) fn write_cast<P: Print, S: Signatures>(
     target: HeapType,
 ) -> io::Result<()>
     ensures { (o : Options) → Prints P.meaning o p.old p.new result
-        (label_pieces (within context.now) (around context.now) label
+        (label_pieces (labels_within context.now) (labels_around context.now) label
         ++ (Gap ∷ (ref_pieces (names_in context.now) (source_type flags source)
         ++ (Gap ∷ ref_pieces (names_in context.now) (target_type flags target))))) }
 {

@@ -36,7 +36,7 @@ fn write_fraction<P: Print>(p: &mut P, format: Format, fraction: u64) -> io::Res
     ensures { Emits P.meaning p.old p.new result
         (Text (fraction_digits (width_of format) fraction) ∷ []) }
 {
-    write_digits_behind(p, format.digit_count(), format.filled(fraction))
+    write_digits_behind(p, format.digit_count(), format.filled_fraction(fraction))
 }
 
 /// Writes the digits of a fraction behind a point, and nothing where there are none.
@@ -84,7 +84,7 @@ fn write_subnormal<P: Print>(p: &mut P, format: Format, fraction: u64) -> io::Re
         (Text (subnormal_text (width_of format) fraction) ∷ []) }
 {
     text(p, "0x1.")?;
-    write_fraction(p, format, format.shifted(fraction))?;
+    write_fraction(p, format, format.shifted_fraction(fraction))?;
     write_exponent(p, 1, format.bias() + u64::from(format.shift(fraction)))
 }
 

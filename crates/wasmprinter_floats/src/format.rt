@@ -80,7 +80,7 @@ impl Format {
     }
 
     /// A fraction, filled up to whole hexadecimal digits at its end.
-    pub fn filled(self, fraction: u64) -> u64
+    pub fn filled_fraction(self, fraction: u64) -> u64
         requires { fraction < 2 ^ (width_of self).fraction }
         ensures is { result ≡ filled_fraction (width_of self) fraction }
         ensures below { result < 16 ^ digit_count (width_of self) }
@@ -99,7 +99,7 @@ impl Format {
     }
 
     /// What then stands behind that 1.
-    pub fn shifted(self, fraction: u64) -> u64
+    pub fn shifted_fraction(self, fraction: u64) -> u64
         requires some { 0 < fraction }
         requires below { fraction < 2 ^ (width_of self).fraction }
         ensures is { result ≡ shifted_fraction (width_of self) fraction }

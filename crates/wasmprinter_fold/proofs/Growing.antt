@@ -2,12 +2,13 @@
 use Rattle.std.proofs.Common.{◌≡◌, ℕ, List, refl, sym, ◌∙◌, ap, subst, Option, Result, OnOk, ◌⊎◌, ⊎_elim}
 use Rattle.wasmprinter_spec.specs.Row as row
 use Rattle.wasmprinter_spec.specs.Row.{Role}
-use Rattle.wasmprinter_spec.specs.Folding.Arities.{Counts, label_counts_after}
+use Rattle.wasmprinter_spec.specs.Labels.{labels_after}
+use Rattle.wasmprinter_spec.specs.Folding.Arities.{Counts}
 use Rattle.wasmprinter_spec.specs.Folding.Tree.{NodesOf}
 use Rattle.wasmprinter_ops.specs.declared.opcode.Role.{Role as OpsRole}
 use Rattle.wasmprinter_ops.specs.declared.opcode.Role.TheVariants as ops
 use Rattle.wasmprinter_ops.specs.Shapes.{role_view}
-use Rattle.wasmprinter_nodes.specs.declared.Label.{Label}
+use Rattle.wasmprinter_nodes.specs.declared.NodeText.{NodeText}
 use Rattle.wasmprinter_nodes.specs.declared.Node.{Node}
 use Rattle.wasmprinter_nodes.specs.declared.builder.Builder.{Builder}
 use Rattle.wasmprinter_nodes.specs.Building.{Open, Top, InBlock, InThen, InElse, StateOf, Step, Ends, start, state_at, step}
@@ -17,11 +18,11 @@ use Rattle.wasmprinter_nodes.specs.Frames.{State, Stands}
 use Rattle.wasmprinter_nodes.specs.Postorder.{IsPostorder, forest_of}
 use Rattle.wasmprinter_nodes.proofs.Maps.{step-map}
 use Rattle.wasmprinter_nodes.proofs.AllHeads.{all_step, AllState-weaker, map_state-same}
-use Rattle.wasmprinter_node_text.specs.Shown.{Shown, shown_in, IsIn, AreIn}
+use Rattle.wasmprinter_node_text.specs.Shown.{Shown, shown_of_head, IsIn, AreIn}
 use Rattle.wasmprinter_node_text.specs.Buffers.{Grows}
 use Rattle.wasmprinter_fold.specs.declared.tree.GrowingTree.{GrowingTree}
 use Rattle.wasmprinter_fold.specs.Growing.{ShowsIn, Steps, shown_step}
-use Rattle.wasmprinter_node_text.proofs.LabelLaws.{in_grown, shown_grown}
+use Rattle.wasmprinter_node_text.proofs.NodeTexts.{in_grown, shown_grown}
 
 -- what is printed stays the same where the buffer grows
 pub shows-more : (old new : List ℕ) (b : Builder) (s : StateOf Shown) → Grows old new → ShowsIn old b s → ShowsIn new b s
@@ -30,19 +31,19 @@ shows-more old new b s g h = record {
   stands = h.stands;
   inside = AllState-weaker (IsIn old) (IsIn new) (λ l. in_grown old new l g) h.state h.inside;
   shows =
-      map_state-same (shown_in new) (shown_in old) h.state
-      (AllState-weaker (IsIn old) (λ l. shown_in new l ≡ shown_in old l) (λ l. shown_grown old new l g) h.state h.inside)
+      map_state-same (shown_of_head new) (shown_of_head old) h.state
+      (AllState-weaker (IsIn old) (λ l. shown_of_head new l ≡ shown_of_head old l) (λ l. shown_grown old new l g) h.state h.inside)
       ∙ h.shows;
 }
 
 -- one step more
-pub shows-step : (buffer : List ℕ) (b c : Builder) (x : Step Label) (y : Step Shown) (s : StateOf Shown) →
-    AllStep (IsIn buffer) x → map_step (shown_in buffer) x ≡ y → ((t : State) → Stands b t → Stands c (step t x)) → ShowsIn buffer b s → ShowsIn buffer c (step s y)
+pub shows-step : (buffer : List ℕ) (b c : Builder) (x : Step NodeText) (y : Step Shown) (s : StateOf Shown) →
+    AllStep (IsIn buffer) x → map_step (shown_of_head buffer) x ≡ y → ((t : State) → Stands b t → Stands c (step t x)) → ShowsIn buffer b s → ShowsIn buffer c (step s y)
 shows-step buffer b c x y s i e f h = record {
   state = step h.state x;
   stands = f h.state h.stands;
   inside = all_step (IsIn buffer) h.state x h.inside i;
-  shows = step-map (shown_in buffer) h.state x ∙ rw (h.shows, e) refl;
+  shows = step-map (shown_of_head buffer) h.state x ∙ rw (h.shows, e) refl;
 }
 
 -- no nodes
@@ -61,13 +62,13 @@ only_top v (InElse o b d x y q) e = absurd cc
 pub record Whole (buffer : List ℕ) (nodes : List Node) (f : NodesOf Shown) : Type 0 where
   pub row : IsPostorder nodes
   pub inside : AreIn buffer (forest_of nodes)
-  pub shows : map_nodes (shown_in buffer) (forest_of nodes) ≡ f
+  pub shows : map_nodes (shown_of_head buffer) (forest_of nodes) ≡ f
 
 pub whole : (buffer : List ℕ) (b : Builder) (nodes : List Node) (f : NodesOf Shown) →
     ((s : State) → Stands b s → IsPostorder nodes) → ((s : State) → Stands b s → s.outer ≡ Top → forest_of nodes ≡ s.groups) →
     ShowsIn buffer b (state_at Top f) → Whole buffer nodes f
 whole buffer b nodes f p q h =
-    let e = q h.state h.stands (only_top (shown_in buffer) h.state.outer (ap (λ (s : StateOf Shown). s.outer) h.shows)) in
+    let e = q h.state h.stands (only_top (shown_of_head buffer) h.state.outer (ap (λ (s : StateOf Shown). s.outer) h.shows)) in
     record {
       row = p h.state h.stands;
       inside = rw e h.inside.1;
@@ -95,5 +96,5 @@ ends_role r s x then otherwise counts h e =
     (λ q. by_role row.Ends s x then otherwise counts (ap role_view (sym q) ∙ e)) h) h) h) h
 
 -- the same counts of labels
-pub same_counts : (a b : Role) (x y : Option ℕ) (k l : List (Option ℕ)) → a ≡ b → x ≡ y → k ≡ l → label_counts_after a x k ≡ label_counts_after b y l
+pub same_counts : (a b : Role) (x y : Option ℕ) (k l : List (Option ℕ)) → a ≡ b → x ≡ y → k ≡ l → labels_after a x k ≡ labels_after b y l
 same_counts a b x y k l p q r = rw (p, q, r) refl

@@ -8,14 +8,14 @@ use Rattle.wasmprinter_spec.specs.Customs.Hints.{Hint}
 use Rattle.wasmprinter_spec.specs.Layout.Operators.{Setting}
 use Rattle.wasmprinter_spec.specs.Layout.Folded.{items, folded_list}
 use Rattle.wasmprinter_spec.specs.Folding.Arities.{signatures_within}
-use Rattle.wasmprinter_spec.specs.Folding.Code.{code_of}
+use Rattle.wasmprinter_spec.specs.Folding.Code.{nested_code_of}
 use Rattle.wasmprinter_spec.specs.Folding.Tree.{NodesOf}
 use Rattle.wasmprinter_nodes.specs.declared.Node.{Node}
 use Rattle.wasmprinter_nodes.specs.Building.{Top}
 use Rattle.wasmprinter_nodes.specs.Frames.{State, Stands}
 use Rattle.wasmprinter_nodes.specs.Mapping.{map_nodes}
 use Rattle.wasmprinter_nodes.specs.Postorder.{IsPostorder, forest_of}
-use Rattle.wasmprinter_node_text.specs.Shown.{Shown, shown_in, AreIn, row_pieces}
+use Rattle.wasmprinter_node_text.specs.Shown.{Shown, shown_of_head, AreIn, row_pieces}
 use Rattle.wasmprinter_fold.specs.declared.tree.GrowingTree.{GrowingTree}
 use Rattle.wasmprinter_fold.specs.Growing.{IsGrown}
 use Rattle.wasmprinter_fold.specs.Views.{FolderView, folding_view}
@@ -24,24 +24,24 @@ use Rattle.wasmprinter_fold.proofs.Walks.{folded-pieces, no-pieces}
 
 module _ (paints : Bool) (m : PlacedModule) (v : FolderView) (is : record { paints = paints; operators_of = m } ≡ v) (own : Option ℕ) (s : Setting) (hints : List (Placed Hint)) (os : List (Placed Operator)) where
   -- nothing is written of a list that isn't folded
-  pub nothing_of : (t : GrowingTree) (r : Bool) → r ≡ false → IsGrown paints t r (code_of (items s (signatures_within m own) hints 0 [] [] os)) →
+  pub nothing_of : (t : GrowingTree) (r : Bool) → r ≡ false → IsGrown paints t r (nested_code_of (items s (signatures_within m own) hints 0 [] [] os)) →
       folded_list (folding_view v) own s hints os ≡ []
   nothing_of t true e h = absurd cc
   nothing_of t false e h =
       ap (λ (f : FolderView). folded_list (folding_view f) own s hints os) (sym is) ∙ no-pieces paints s (signatures_within m own) hints os h
 
-  module _ (t : GrowingTree) (r : Bool) (e : r ≡ true) (grown : IsGrown paints t r (code_of (items s (signatures_within m own) hints 0 [] [] os))) (text : List ℕ) (buffer : text ≡ t.texts.bytes) (nodes : List Node) (rows : (u : State) → Stands t.builder u → IsPostorder nodes) (closed : (u : State) → Stands t.builder u → u.outer ≡ Top → forest_of nodes ≡ u.groups) where
-    there : IsGrown paints t true (code_of (items s (signatures_within m own) hints 0 [] [] os))
-    there = subst (λ (b : Bool). IsGrown paints t b (code_of (items s (signatures_within m own) hints 0 [] [] os))) e grown
+  module _ (t : GrowingTree) (r : Bool) (e : r ≡ true) (grown : IsGrown paints t r (nested_code_of (items s (signatures_within m own) hints 0 [] [] os))) (text : List ℕ) (buffer : text ≡ t.texts.bytes) (nodes : List Node) (rows : (u : State) → Stands t.builder u → IsPostorder nodes) (closed : (u : State) → Stands t.builder u → u.outer ≡ Top → forest_of nodes ≡ u.groups) where
+    there : IsGrown paints t true (nested_code_of (items s (signatures_within m own) hints 0 [] [] os))
+    there = subst (λ (b : Bool). IsGrown paints t b (nested_code_of (items s (signatures_within m own) hints 0 [] [] os))) e grown
 
     -- the texts of its nodes lie in the buffer
     pub texts_there : AreIn text (forest_of nodes)
     texts_there = subst (λ (b : List ℕ). AreIn b (forest_of nodes)) (sym buffer) (whole t.texts.bytes t.builder nodes _ rows closed there.2).inside
 
     -- what is written of its nodes is its layout
-    pub layout_of : row_pieces s.form true s.nesting (map_nodes (shown_in text) (forest_of nodes)) ≡ folded_list (folding_view v) own s hints os
+    pub layout_of : row_pieces s.form true s.nesting (map_nodes (shown_of_head text) (forest_of nodes)) ≡ folded_list (folding_view v) own s hints os
     layout_of =
-        ap (λ (b : List ℕ). row_pieces s.form true s.nesting (map_nodes (shown_in b) (forest_of nodes))) buffer
+        ap (λ (b : List ℕ). row_pieces s.form true s.nesting (map_nodes (shown_of_head b) (forest_of nodes))) buffer
         ∙ (ap (λ (f : NodesOf Shown). row_pieces s.form true s.nesting f) (whole t.texts.bytes t.builder nodes _ rows closed there.2).shows
         ∙ (sym (folded-pieces paints s (signatures_within m own) hints os there.0 there.1)
         ∙ ap (λ (f : FolderView). folded_list (folding_view f) own s hints os) is))

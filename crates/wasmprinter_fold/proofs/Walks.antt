@@ -14,10 +14,10 @@ use Rattle.wasmprinter_spec.specs.Options.{defaults}
 use Rattle.wasmprinter_spec.specs.Customs.Hints.{Hint, next_hint, hint_behind}
 use Rattle.wasmprinter_spec.specs.Layout.Operators.{Setting}
 use Rattle.wasmprinter_spec.specs.Layout.Folded.{item, items, folded_pieces, if_folded}
-use Rattle.wasmprinter_spec.specs.Folding.Arities.{Signatures, Counts, counts_of, label_of_block, label_counts_after}
-use Rattle.wasmprinter_spec.specs.Folding.Code.{Item, Code, code_of, role as item_role, is_try, AreWithoutTry, flat, IsFit}
+use Rattle.wasmprinter_spec.specs.Folding.Arities.{Signatures, Counts, counts_of, label_of_block}
+use Rattle.wasmprinter_spec.specs.Folding.Code.{Item, NestedCode, nested_code_of, role as item_role, is_try, AreWithoutTry, flat, IsFit}
 use Rattle.wasmprinter_spec.specs.Folding.Tree.{tree}
-use Rattle.wasmprinter_spec.proofs.FoldingCode.{code_of-tree, code_of-nested, code_of-nests}
+use Rattle.wasmprinter_spec.proofs.FoldingCode.{nested_code_of-tree, nested_code_of-nested, nested_code_of-nests}
 use Rattle.wasmprinter_spec.proofs.FoldingItems.{roles-items}
 use Rattle.wasmprinter_ops.specs.Operators.{placed_view, pairs}
 use Rattle.wasmprinter_ops.proofs.Pairs.{first-pair, no-pair}
@@ -71,7 +71,7 @@ items-of : (s : Setting) (t : Signatures) (hs : List (Placed Hint)) (n : ℕ) (x
     items s t hs n xs ls os
     ≡ item s t (next_hint (o.place - s.body) hs) (s.names.labels s.function n (length xs)) xs ls o
     ∷ items s t (hint_behind (o.place - s.body) hs) (count_after (role_at o) n) (labels_after (role_at o) (s.names.labels s.function n (length xs)) xs)
-    (label_counts_after (role_at o) (label_of_block t o.value) ls) rest
+    (labels_after (role_at o) (label_of_block t o.value) ls) rest
 unfolding items
 items-of s t hs n xs ls os rest o e = ap (λ os. items s t hs n xs ls os) e
 
@@ -137,15 +137,15 @@ module _ {paints : Bool} {s : Setting} {t : Signatures} {from : Scan} {hints : L
 
   -- an operator of the older `try`: the list has no tree
   pub refuses : (rest : List (Placed Operator)) (x : ℕ × Operator) → pairs os ≡ x ∷ pairs rest → is_try (role_of x.1.opcode) ≡ true →
-      code_of (items s t hints 0 [] [] all) ≡ None
-  refuses rest x e h = by_code (code_of (items s t hints 0 [] [] all)) refl
+      nested_code_of (items s t hints 0 [] [] all) ≡ None
+  refuses rest x e h = by_code (nested_code_of (items s t hints 0 [] [] all)) refl
     where
       -- where it had one, no operator would be of the older `try`
-      by_code : (c : Option Code) → code_of (items s t hints 0 [] [] all) ≡ c → c ≡ None
+      by_code : (c : Option NestedCode) → nested_code_of (items s t hints 0 [] [] all) ≡ c → c ≡ None
       by_code None q = refl
       by_code (Some code) q =
           let w : AreWithoutTry (roles all) =
-          subst AreWithoutTry (roles-items s t all hints 0 [] []) (code_of-nests (items s t hints 0 [] [] all) code q).1 in
+          subst AreWithoutTry (roles-items s t all hints 0 [] []) (nested_code_of-nests (items s t hints 0 [] [] all) code q).1 in
           let v : AreWithoutTry (roles (placed_view x ∷ rest)) =
           subst (λ (y : List (Placed Operator)). AreWithoutTry (roles y)) (first-pair os rest x e) (p.none_behind w) in
           absurd (cc (sym h ∙ v.0))
@@ -154,7 +154,7 @@ module _ {paints : Bool} {s : Setting} {t : Signatures} {from : Scan} {hints : L
   pub goes_on : (rest : List (Placed Operator)) (x : ℕ × Operator) (role : Role) (k : Scan) (behind : List (Placed Hint)) (n : GrowingTree) (hint : Option Bool) →
       pairs os ≡ x ∷ pairs rest → role ≡ role_of x.1.opcode → is_try role ≡ false → k ≡ behind_operator role l → behind ≡ hint_behind (x.0 - s.body) left →
       hint ≡ option_map (λ h. h.value.taken) (next_hint (x.0 - s.body) left) → n.texts.paints ≡ g.texts.paints →
-      n.labels ≡ label_counts_after (role_of x.1.opcode) (label_of_block t x.1) g.labels →
+      n.labels ≡ labels_after (role_of x.1.opcode) (label_of_block t x.1) g.labels →
       Steps g n (operator_step g.texts.paints (record s { names = names_of l }) l x.0 hint x.1 (counts_of t g.labels x.1)) →
       Progress paints s t from hints all rest behind k n
   goes_on rest x role k behind n hint e r y b h q w c f =
@@ -163,7 +163,7 @@ module _ {paints : Bool} {s : Setting} {t : Signatures} {from : Scan} {hints : L
       let next : Option (Placed Hint) = next_hint (x.0 - s.body) left in
       let after : List (Placed Hint) = hint_behind (x.0 - s.body) left in
       let r' : Role = role_of x.1.opcode in
-      let counted : List (Option ℕ) = label_counts_after r' (label_of_block t x.1) g.labels in
+      let counted : List (Option ℕ) = labels_after r' (label_of_block t x.1) g.labels in
       let u : StateOf Shown = step p.state (step_of v r' (item s t next (own_label l) l.labels g.labels o)) in
       rw (b, r, h) (record {
         state = u;
@@ -187,15 +187,15 @@ module _ {paints : Bool} {s : Setting} {t : Signatures} {from : Scan} {hints : L
       })
 
   -- no operator is left
-  pub all_folded : Nests Sequence (roles all) → pairs os ≡ [] → IsGrown paints g true (code_of (items s t hints 0 [] [] all))
+  pub all_folded : Nests Sequence (roles all) → pairs os ≡ [] → IsGrown paints g true (nested_code_of (items s t hints 0 [] [] all))
   all_folded n e =
       let xs : List Item = items s t hints 0 [] [] all in
       let v = shown_head paints in
       let w : AreWithoutTry (roles all) = p.none_before (subst (λ (y : List (Placed Operator)). AreWithoutTry (roles y)) (sym (no-pair os e)) tt) in
       let same : map item_role xs ≡ roles all = roles-items s t all hints 0 [] [] in
-      let c : (code : Code) × (code_of xs ≡ Some code) =
-      code_of-nested xs (subst (λ (rs : List Role). Nests Sequence rs) (sym same) n) (subst AreWithoutTry (sym same) w) in
-      let d : (flat c.0 ≡ xs) × IsFit c.0 = code_of-tree xs c.0 c.1 in
+      let c : (code : NestedCode) × (nested_code_of xs ≡ Some code) =
+      nested_code_of-nested xs (subst (λ (rs : List Role). Nests Sequence rs) (sym same) n) (subst AreWithoutTry (sym same) w) in
+      let d : (flat c.0 ≡ xs) × IsFit c.0 = nested_code_of-tree xs c.0 c.1 in
       let state : p.state ≡ state_at Top (map_nodes v (tree c.0)) =
       ap (λ (is : List Item). run_all p.state (steps v is)) (sym (items-nil s t left l.count l.labels g.labels os (no-pair os e)))
       ∙ (p.leads ∙ (ap (λ (is : List Item). run_all start (steps v is)) (sym d.0) ∙ run-tree v c.0 d.1)) in
@@ -204,14 +204,14 @@ module _ {paints : Bool} {s : Setting} {t : Signatures} {from : Scan} {hints : L
 -- ---- what is printed
 
 -- the layout of a list that is folded
-pub folded-pieces : (paints : Bool) (s : Setting) (t : Signatures) (hints : List (Placed Hint)) (os : List (Placed Operator)) (code : Code) →
-    code_of (items s t hints 0 [] [] os) ≡ Some code →
+pub folded-pieces : (paints : Bool) (s : Setting) (t : Signatures) (hints : List (Placed Hint)) (os : List (Placed Operator)) (code : NestedCode) →
+    nested_code_of (items s t hints 0 [] [] os) ≡ Some code →
     if_folded (folded_pieces defaults paints s t hints os) ≡ row_pieces s.form true s.nesting (map_nodes (shown_head paints) (tree code))
 unfolding folded_pieces
 folded-pieces paints s t hints os code e = rw (e) (rows_shown paints s.form true s.nesting (tree code))
 
 -- that of another
 pub no-pieces : (paints : Bool) (s : Setting) (t : Signatures) (hints : List (Placed Hint)) (os : List (Placed Operator)) →
-    code_of (items s t hints 0 [] [] os) ≡ None → if_folded (folded_pieces defaults paints s t hints os) ≡ []
+    nested_code_of (items s t hints 0 [] [] os) ≡ None → if_folded (folded_pieces defaults paints s t hints os) ≡ []
 unfolding folded_pieces
 no-pieces paints s t hints os e = rw (e) refl

@@ -8,7 +8,7 @@ use Rattle.wasmprinter_spec.specs.Row as row
 use Rattle.wasmprinter_spec.specs.Row.{Role}
 use Rattle.wasmprinter_spec.specs.Table.{role_of}
 use Rattle.wasmprinter_spec.specs.Folding.Arities.{Counts}
-use Rattle.wasmprinter_spec.specs.Folding.Code.{Code}
+use Rattle.wasmprinter_spec.specs.Folding.Code.{NestedCode}
 use Rattle.wasmprinter_spec.specs.Folding.Tree.{tree}
 use Rattle.wasmprinter_spec.specs.Layout.Operators.{Setting}
 use Rattle.wasmprinter_labels.specs.Scan.{Scan, own_label}
@@ -18,7 +18,7 @@ use Rattle.wasmprinter_nodes.specs.Building.{Top, StateOf, Step, Plain, Opens, O
 use Rattle.wasmprinter_nodes.specs.Mapping.{map_nodes, map_state}
 use Rattle.wasmprinter_nodes.specs.Frames.{State, Stands}
 use Rattle.wasmprinter_nodes.specs.Heads.{AllState}
-use Rattle.wasmprinter_node_text.specs.Shown.{Shown, shown, shown_head, shown_in, IsIn}
+use Rattle.wasmprinter_node_text.specs.Shown.{Shown, shown_of_calls, shown_head, shown_of_head, IsIn}
 use Rattle.wasmprinter_fold.specs.declared.tree.GrowingTree.{GrowingTree}
 
 -- The builder holds open blocks and nodes whose texts lie in the buffer, and this is what is printed of them.
@@ -26,7 +26,7 @@ pub record ShowsIn (buffer : List ℕ) (b : Builder) (s : StateOf Shown) : Type 
   pub state : State
   pub stands : Stands b state
   pub inside : AllState (IsIn buffer) state
-  pub shows : map_state (shown_in buffer) state ≡ s
+  pub shows : map_state (shown_of_head buffer) state ≡ s
 
 abbrev pub Shows : GrowingTree → StateOf Shown → Type 0
 Shows t s = ShowsIn t.texts.bytes t.builder s
@@ -37,11 +37,11 @@ Steps old new x = (s : StateOf Shown) → Shows old s → Shows new (step s x)
 
 -- what is printed of an operator, where these labels are open in front of it
 abbrev pub shown_operator : Bool → Setting → Scan → ℕ → Option Bool → Operator → Shown
-shown_operator paints s l place hint o = shown place hint paints (all_calls defaults (word_pieces s (own_label l) l.labels o))
+shown_operator paints s l place hint o = shown_of_calls place hint paints (all_calls defaults (word_pieces s (own_label l) l.labels o))
 
 -- what is printed of a case of an `if`
 abbrev pub shown_keyword : Bool → ℕ → List ℕ → Shown
-shown_keyword paints place keyword = shown place None paints (Text keyword ∷ [])
+shown_keyword paints place keyword = shown_of_calls place None paints (Text keyword ∷ [])
 
 -- a step by its role: by what is printed of the operator, of a `then` and of an `else`, and by the numbers of its operands and results
 abbrev pub shown_step : Role → Shown → Shown → Shown → Counts → Step Shown
@@ -57,6 +57,6 @@ operator_step paints s l place hint o counts =
     shown_step (role_of o.opcode) (shown_operator paints s l place hint o) (shown_keyword paints place (codes "then")) (shown_keyword paints place (codes "else")) counts
 
 -- the tree is that of the code, if there is code
-abbrev pub IsGrown : Bool → GrowingTree → Bool → Option Code → Type 0
-IsGrown paints t true c = (code : Code) × (c ≡ Some code) × Shows t (state_at Top (map_nodes (shown_head paints) (tree code)))
+abbrev pub IsGrown : Bool → GrowingTree → Bool → Option NestedCode → Type 0
+IsGrown paints t true c = (code : NestedCode) × (c ≡ Some code) × Shows t (state_at Top (map_nodes (shown_head paints) (tree code)))
 IsGrown paints t false c = c ≡ None

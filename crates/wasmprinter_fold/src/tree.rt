@@ -2,8 +2,9 @@
 ghost use Rattle.std.specs.Prelude.{◌≡◌, ◌+◌, ◌-◌, ◌<◌, ◌^◌, [], length, option_map, codes, IfOk, OnOk};
 ghost use Rattle.wasmprinter_spec.specs.Table.{role_of};
 ghost use Rattle.wasmprinter_spec.specs.Customs.Hints.{next_hint, hint_behind};
-ghost use Rattle.wasmprinter_spec.specs.Folding.Arities.{signatures_within, counts_of, label_of_block, label_counts_after};
-ghost use Rattle.wasmprinter_spec.specs.Folding.Code.{code_of};
+ghost use Rattle.wasmprinter_spec.specs.Labels.{labels_after};
+ghost use Rattle.wasmprinter_spec.specs.Folding.Arities.{signatures_within, counts_of, label_of_block};
+ghost use Rattle.wasmprinter_spec.specs.Folding.Code.{nested_code_of};
 ghost use Rattle.wasmprinter_spec.specs.Layout.Folded.{items};
 ghost use Rattle.wasmprinter_nodes.specs.Building.{StateOf, Plain, Opens, OpensIf, Turns, Ends, start};
 ghost use Rattle.wasmprinter_ops.specs.Shapes.{role_view};
@@ -36,7 +37,7 @@ pub struct GrowingTree {
     pub texts: Texts,
     /// The nodes, and the blocks that are open.
     pub builder: Builder,
-    /// How many operands the label of each open block takes.
+    /// How many operands the head of each open block takes.
     pub labels: LabelCounts,
 }
 
@@ -93,10 +94,10 @@ impl GrowingTree {
             (shown_operator self.old.texts.paints (setting_view S.signature_at setting.now (names_of labels.now)) labels.now place hint operator.now)
             counts.takes counts.gives)) }
     {
-        let label = self
+        let head = self
             .texts
             .write_operator(setting, labels, operator, place, hint)?;
-        self.builder.plain(label, counts.takes, counts.gives)
+        self.builder.plain(head, counts.takes, counts.gives)
     }
 
     /// A block more, which is open.
@@ -117,10 +118,10 @@ impl GrowingTree {
             (shown_operator self.old.texts.paints (setting_view S.signature_at setting.now (names_of labels.now)) labels.now place hint operator.now)
             counts.gives)) }
     {
-        let label = self
+        let head = self
             .texts
             .write_operator(setting, labels, operator, place, hint)?;
-        self.builder.open(label, counts.gives)
+        self.builder.open(head, counts.gives)
     }
 
     /// An `if` more, whose first case is open.
@@ -141,11 +142,11 @@ impl GrowingTree {
             (shown_operator self.old.texts.paints (setting_view S.signature_at setting.now (names_of labels.now)) labels.now place hint operator.now)
             (shown_keyword self.old.texts.paints place (codes "then")) counts.gives)) }
     {
-        let label = self
+        let head = self
             .texts
             .write_operator(setting, labels, operator, place, hint)?;
         let then = self.texts.write_keyword("then", place)?;
-        self.builder.open_if(label, then, counts.gives)
+        self.builder.open_if(head, then, counts.gives)
     }
 
     /// An `else`: the second case of the innermost `if` is open.
@@ -156,8 +157,8 @@ impl GrowingTree {
         ensures steps { OnOk result (Steps self.old self.new (Turns
             (shown_keyword self.old.texts.paints place (codes "else")))) }
     {
-        let label = self.texts.write_keyword("else", place)?;
-        self.builder.turn(label)
+        let head = self.texts.write_keyword("else", place)?;
+        self.builder.turn(head)
     }
 
     /// An `end`: the innermost block is closed.
@@ -213,7 +214,7 @@ impl GrowingTree {
         requires room { length labels.now.labels + 1 < 2 ^ 64 }
         requires shows { (s : StateOf Shown) × Shows self.old s }
         ensures paints { self.new.texts.paints ≡ self.old.texts.paints }
-        ensures labels { OnOk result (self.new.labels ≡ label_counts_after (role_of operator.now.opcode)
+        ensures labels { OnOk result (self.new.labels ≡ labels_after (role_of operator.now.opcode)
             (label_of_block (signatures_within callees.now own) operator.now) self.old.labels) }
         ensures steps { OnOk result (Steps self.old self.new (operator_step self.old.texts.paints
             (setting_view S.signature_at setting.now (names_of labels.now)) labels.now place hint operator.now
@@ -243,7 +244,7 @@ impl GrowingTree {
         ensures paints { self.new.texts.paints ≡ self.old.texts.paints }
         ensures named { labels.new.named ≡ labels.old.named }
         ensures invents { labels.new.invents ≡ labels.old.invents }
-        ensures grown { IfOk result (λ folded. IsGrown self.old.texts.paints self.new folded (code_of (items
+        ensures grown { IfOk result (λ folded. IsGrown self.old.texts.paints self.new folded (nested_code_of (items
             (setting_view S.signature_at setting.now (names_of labels.old)) (signatures_within callees.now own) hints.entry 0 [] [] expression.now.items))) }
     {
         self.clear();

@@ -2,7 +2,7 @@
 //! and in front of an operator that takes one operand.
 
 use crate::arity_rows::{AGGREGATES, CONTROL, NUMBERS};
-use crate::modules::{add_code, folded};
+use crate::modules::{add_code, folded_text};
 use crate::vector_rows::{ATOMICS, VECTORS};
 use std::alloc::{AllocError, Global};
 use std::test::Fail;
@@ -134,7 +134,7 @@ fn judge(alloc: Global, table: &'static str) -> Result<(u32, Option<String>), Fa
     let mut count: u32 = 0;
     for line in table.lines() {
         let row = row_of(alloc, line)?;
-        let text = folded(alloc, &module_of(alloc, &row.bytes)?)?;
+        let text = folded_text(alloc, &module_of(alloc, &row.bytes)?)?;
         if text != expected_of(alloc, &row)? {
             return Ok((count, Some(text)));
         }

@@ -1,6 +1,6 @@
 //! Folded bodies: blocks, the arms of an `if`, and what branches take.
 
-use crate::modules::{NO_PARAMS, around, folded, with_body};
+use crate::modules::{NO_PARAMS, around, folded_text, with_body};
 use std::test::Fail;
 use wasmprinter_samples::expect_text;
 
@@ -175,7 +175,7 @@ const BLOCKS: [(&[u8], &str); 17] = [
 fn prints_blocks_with_their_contents(rt: HostRuntime) -> Result<(), Fail> {
     let alloc = rt.alloc();
     for (operators, lines) in BLOCKS {
-        let text = folded(alloc, &with_body(alloc, &NO_PARAMS, operators)?)?;
+        let text = folded_text(alloc, &with_body(alloc, &NO_PARAMS, operators)?)?;
         expect_text(text.as_str(), around(alloc, lines)?.as_str())?;
     }
     Ok(())
@@ -258,7 +258,7 @@ const OF_TYPES: [(&[u8], &str); 6] = [
 fn counts_parameters_and_results_of_block_types(rt: HostRuntime) -> Result<(), Fail> {
     let alloc = rt.alloc();
     for (operators, lines) in OF_TYPES {
-        let text = folded(alloc, &with_body(alloc, &TYPES, operators)?)?;
+        let text = folded_text(alloc, &with_body(alloc, &TYPES, operators)?)?;
         let mut expected = String::from_str(
             alloc,
             "(module\n  (type (;0;) (func))\n  (type (;1;) (func (param i32) (result i64 i64)))\n",

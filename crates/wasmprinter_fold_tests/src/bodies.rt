@@ -1,6 +1,6 @@
 //! Folded bodies: which nodes an operator takes as its operands.
 
-use crate::modules::{NO_PARAMS, add_code, around, folded, with_body};
+use crate::modules::{NO_PARAMS, add_code, around, folded_text, with_body};
 use std::test::Fail;
 use wasmprinter_samples::sections::{FUNCTION, IMPORT, TAG, TYPE, add_section};
 use wasmprinter_samples::{PREAMBLE, expect_text};
@@ -136,7 +136,7 @@ const BODIES: [(&[u8], &str); 15] = [
 fn takes_the_shortest_run_of_operands(rt: HostRuntime) -> Result<(), Fail> {
     let alloc = rt.alloc();
     for (operators, lines) in BODIES {
-        let text = folded(alloc, &with_body(alloc, &NO_PARAMS, operators)?)?;
+        let text = folded_text(alloc, &with_body(alloc, &NO_PARAMS, operators)?)?;
         expect_text(text.as_str(), around(alloc, lines)?.as_str())?;
     }
     Ok(())
@@ -208,7 +208,7 @@ fn counts_results_up_to_the_greatest_number(rt: HostRuntime) -> Result<(), Fail>
         add_section(&mut wasm, TYPE, &ARRAY_AND_PAIR)?;
         add_section(&mut wasm, FUNCTION, &[0x01, 0x01])?;
         add_code(&mut wasm, operators)?;
-        let text = folded(alloc, &wasm)?;
+        let text = folded_text(alloc, &wasm)?;
         let mut expected = String::from_str(
             alloc,
             "(module\n  (type (;0;) (array i32))\n  (type (;1;) (func (result i32 i32)))\n",
@@ -244,7 +244,7 @@ fn knows_operands_of_types(rt: HostRuntime) -> Result<(), Fail> {
             0x12, 0x09, 0x08, 0x09, // return_call and throw of what isn't there
         ],
     )?;
-    let text = folded(alloc, &wasm)?;
+    let text = folded_text(alloc, &wasm)?;
     expect_text(
         text.as_str(),
         r#"(module
@@ -280,7 +280,7 @@ fn takes_nothing_where_the_type_is_of_another_kind(rt: HostRuntime) -> Result<()
             0x41, 0x00, 0x0d, 0x00, 0x0f, 0x0e, 0x00, 0x00, 0xd5, 0x00, 0xd6, 0x00, 0x10, 0x00,
         ],
     )?;
-    let text = folded(alloc, &wasm)?;
+    let text = folded_text(alloc, &wasm)?;
     expect_text(
         text.as_str(),
         r#"(module
@@ -334,7 +334,7 @@ fn folds_beside_imports_of_each_kind(rt: HostRuntime) -> Result<(), Fail> {
     )?;
     add_section(&mut wasm, FUNCTION, &[0x01, 0x00])?;
     add_code(&mut wasm, &[0x10, 0x00, 0x08, 0x00])?;
-    let text = folded(alloc, &wasm)?;
+    let text = folded_text(alloc, &wasm)?;
     expect_text(text.as_str(), AMONG_IMPORTS)?;
     Ok(())
 }

@@ -125,8 +125,8 @@ fn stops_at_the_call_that_fails_and_answers_its_error(rt: HostRuntime) -> Result
     let mut whole = Recorder::new(alloc);
     print_to(&config, alloc, &IDENTITY, &mut whole)?;
     let mut seen: usize = 0;
-    for call in 1..=whole.made() {
-        let mut recorder = Recorder::refusing(alloc, call, ErrorKind::BrokenPipe);
+    for call in 1..=whole.call_count() {
+        let mut recorder = Recorder::with_refusal(alloc, call, ErrorKind::BrokenPipe);
         let refused = print_to(&config, alloc, &IDENTITY, &mut recorder);
         assert!(rt;
             matches!(refused, Err(Error::Printer(e)) if e.kind() == ErrorKind::BrokenPipe),
@@ -161,7 +161,7 @@ fn folds_beside_a_section_that_is_taken(rt: HostRuntime) -> Result<(), Fail> {
     let alloc = rt.alloc();
     let mut wasm = with_body(alloc, &NO_PARAMS, &[0x41, 0x00, 0x1a])?;
     add_custom(alloc, &mut wasm, "a", &[0x01])?;
-    let mut recorder = Recorder::taking(alloc, "a");
+    let mut recorder = Recorder::with_section_taken(alloc, "a");
     let mut config = Config::new();
     config.fold_instructions(true);
     print_to(&config, alloc, &wasm, &mut recorder)?;

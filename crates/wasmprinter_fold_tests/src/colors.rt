@@ -8,7 +8,7 @@ use wasmprinter::{Config, Error};
 use wasmprinter_samples::PREAMBLE;
 
 /// The text of a module, folded and in colours.
-fn colored(alloc: Global, wasm: &[u8]) -> Result<Vec<u8>, Error> {
+fn text_in_colors(alloc: Global, wasm: &[u8]) -> Result<Vec<u8>, Error> {
     let mut config = Config::new();
     config.fold_instructions(true);
     config.print_to_ansi(alloc, wasm)
@@ -70,7 +70,7 @@ const BODIES: [(&[u8], &str); 8] = [
 fn colors_nodes_as_operators(rt: HostRuntime) -> Result<(), Fail> {
     let alloc = rt.alloc();
     for (operators, lines) in BODIES {
-        let text = colored(alloc, &with_body(alloc, &NO_PARAMS, operators)?)?;
+        let text = text_in_colors(alloc, &with_body(alloc, &NO_PARAMS, operators)?)?;
         let mut expected = String::from_str(alloc, HEADER)?;
         expected.push_str(lines)?;
         expected.push_str("  )\n)\n")?;
@@ -92,7 +92,7 @@ fn colors_no_hint(rt: HostRuntime) -> Result<(), Fail> {
         &[0x01, 0x00, 0x01, 0x01, 0x01, 0x01],
     )?;
     add_code(&mut wasm, &[0x04, 0x40, 0x0b])?;
-    let text = colored(alloc, &wasm)?;
+    let text = text_in_colors(alloc, &wasm)?;
     assert!(rt; text.starts_with(HEADER.as_bytes()));
     assert!(rt;
         text.ends_with(
@@ -121,7 +121,7 @@ fn colors_expressions(rt: HostRuntime) -> Result<(), Fail> {
             0x02, 0x00, 0x41, 0x02, 0x0b, 0x00, 0x00, 0x41, 0x03, 0x45, 0x0b, 0x00,
         ],
     )?;
-    let text = colored(alloc, &wasm)?;
+    let text = text_in_colors(alloc, &wasm)?;
     let expected = "(\x1b[0m\x1b[1m\x1b[38;5;11mmodule\x1b[0m
   (\x1b[0m\x1b[1m\x1b[38;5;11mglobal \x1b[0m\x1b[0m\x1b[35m(;0;)\x1b[0m \x1b[0m\x1b[1m\x1b[38;5;10mi32\x1b[0m \
 (block (\x1b[0m\x1b[1m\x1b[38;5;11mresult \x1b[0m\x1b[0m\x1b[1m\x1b[38;5;10mi32\x1b[0m) \

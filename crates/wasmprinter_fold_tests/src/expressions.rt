@@ -1,6 +1,6 @@
 //! Folded constant expressions: nodes stand on the line of their field, parted by blanks, and a label's comment is a block comment.
 
-use crate::modules::{NO_PARAMS, add_code, around_field, folded, with_section};
+use crate::modules::{NO_PARAMS, add_code, around_field, folded_text, with_section};
 use std::test::Fail;
 use wasmprinter_samples::sections::{
     DATA, ELEMENT, FUNCTION, GLOBAL, TABLE, TAG, TYPE, add_section,
@@ -66,7 +66,7 @@ const GLOBALS: [(&[u8], &str); 11] = [
 fn prints_initialisers_on_one_line(rt: HostRuntime) -> Result<(), Fail> {
     let alloc = rt.alloc();
     for (globals, field) in GLOBALS {
-        let text = folded(alloc, &with_section(alloc, GLOBAL, globals)?)?;
+        let text = folded_text(alloc, &with_section(alloc, GLOBAL, globals)?)?;
         expect_text(text.as_str(), around_field(alloc, field)?.as_str())?;
     }
     Ok(())
@@ -134,7 +134,7 @@ const SHORT_FORMS: [(u8, &[u8], &str); 9] = [
 fn folds_expressions_but_of_one_operator(rt: HostRuntime) -> Result<(), Fail> {
     let alloc = rt.alloc();
     for (id, content, field) in SHORT_FORMS {
-        let text = folded(alloc, &with_section(alloc, id, content)?)?;
+        let text = folded_text(alloc, &with_section(alloc, id, content)?)?;
         expect_text(text.as_str(), around_field(alloc, field)?.as_str())?;
     }
     Ok(())
@@ -162,7 +162,7 @@ fn knows_types_of_what_stands_behind(rt: HostRuntime) -> Result<(), Fail> {
     )?;
     add_section(&mut wasm, TAG, &[0x01, 0x00, 0x00])?;
     add_code(&mut wasm, &[])?;
-    let text = folded(alloc, &wasm)?;
+    let text = folded_text(alloc, &wasm)?;
     expect_text(
         text.as_str(),
         r#"(module
@@ -186,7 +186,7 @@ fn keeps_to_the_line_behind_an_expression(rt: HostRuntime) -> Result<(), Fail> {
     add_section(&mut wasm, FUNCTION, &[0x01, 0x00])?;
     add_section(&mut wasm, GLOBAL, &[0x01, 0x7f, 0x00, 0x41, 0x01, 0x0b])?;
     add_code(&mut wasm, &[0x23, 0x00, 0x24, 0x00])?;
-    let text = folded(alloc, &wasm)?;
+    let text = folded_text(alloc, &wasm)?;
     expect_text(
         text.as_str(),
         r#"(module

@@ -1,6 +1,8 @@
 //! What is kept grows where it has to: several imports, blocks in blocks, long texts, lists of many operators, hints of later functions.
 
-use crate::modules::{NO_PARAMS, add_code, around, around_field, folded, with_body, with_section};
+use crate::modules::{
+    NO_PARAMS, add_code, around, around_field, folded_text, with_body, with_section,
+};
 use std::test::Fail;
 use wasmprinter_samples::sections::{
     CODE, DATA, ELEMENT, FUNCTION, IMPORT, TYPE, add_custom, add_section,
@@ -51,7 +53,7 @@ const NESTED: [(&[u8], &str); 2] = [
 fn folds_blocks_in_blocks(rt: HostRuntime) -> Result<(), Fail> {
     let alloc = rt.alloc();
     for (operators, lines) in NESTED {
-        let text = folded(alloc, &with_body(alloc, &NO_PARAMS, operators)?)?;
+        let text = folded_text(alloc, &with_body(alloc, &NO_PARAMS, operators)?)?;
         expect_text(text.as_str(), around(alloc, lines)?.as_str())?;
     }
     Ok(())
@@ -105,7 +107,7 @@ fn folds_beside_several_imports(rt: HostRuntime) -> Result<(), Fail> {
     add_section(&mut wasm, IMPORT, &FOUR_IMPORTS)?;
     add_section(&mut wasm, FUNCTION, &[0x01, 0x03])?;
     add_code(&mut wasm, &USING_IMPORTS)?;
-    expect_text(folded(alloc, &wasm)?.as_str(), FOUR_IMPORTS_TEXT)?;
+    expect_text(folded_text(alloc, &wasm)?.as_str(), FOUR_IMPORTS_TEXT)?;
     Ok(())
 }
 
@@ -124,7 +126,7 @@ fn folds_a_long_table_of_branches(rt: HostRuntime) -> Result<(), Fail> {
     let mut wasm = with_section(alloc, TYPE, &NO_PARAMS)?;
     add_section(&mut wasm, FUNCTION, &[0x01, 0x00])?;
     add_section(&mut wasm, CODE, &code)?;
-    let text = folded(alloc, &wasm)?;
+    let text = folded_text(alloc, &wasm)?;
     expect_text(text.as_str(), around(alloc, lines.as_str())?.as_str())?;
     Ok(())
 }
@@ -146,7 +148,7 @@ fn folds_a_hint_of_a_later_function(rt: HostRuntime) -> Result<(), Fail> {
             0x07, 0x00, 0x41, 0x00, 0x04, 0x40, 0x0b, 0x0b, // i32.const and if
         ],
     )?;
-    let text = folded(alloc, &wasm)?;
+    let text = folded_text(alloc, &wasm)?;
     expect_text(
         text.as_str(),
         r#"(module
@@ -190,7 +192,7 @@ const LONG: [(u8, &[u8], &str); 2] = [
 fn folds_long_expressions(rt: HostRuntime) -> Result<(), Fail> {
     let alloc = rt.alloc();
     for (id, content, field) in LONG {
-        let text = folded(alloc, &with_section(alloc, id, content)?)?;
+        let text = folded_text(alloc, &with_section(alloc, id, content)?)?;
         expect_text(text.as_str(), around_field(alloc, field)?.as_str())?;
     }
     Ok(())

@@ -1,7 +1,7 @@
 //! Branch hints of folded operators (Code Metadata): each stands on a line of its own, in front of the node of its operator; and those of
 //! operators that have no node of their own, or whose node a hint can't stand in front of, which are refused.
 
-use crate::modules::{add_code, folded, refusal_of_lines};
+use crate::modules::{add_code, folded_text, refusal_of_lines};
 use std::alloc::{AllocError, Global};
 use std::test::Fail;
 use wasmprinter::{Config, Error};
@@ -12,7 +12,7 @@ use wasmprinter_samples::{PREAMBLE, expect_text};
 const HINTS: &str = "metadata.code.branch_hint";
 
 /// A module with a function of one parameter and these operators, and a hint section with this data, which begins at byte 0x2f.
-fn hinted(alloc: Global, data: &[u8], operators: &[u8]) -> Result<Vec<u8>, AllocError> {
+fn module_with_hints(alloc: Global, data: &[u8], operators: &[u8]) -> Result<Vec<u8>, AllocError> {
     let mut wasm = Vec::from_slice(alloc, &PREAMBLE)?;
     add_section(&mut wasm, TYPE, &[0x01, 0x60, 0x01, 0x7f, 0x00])?;
     add_section(&mut wasm, FUNCTION, &[0x01, 0x00])?;
@@ -75,7 +75,7 @@ const ROWS: [(&[u8], &str); 5] = [
 fn prints_hints_in_front_of_nodes(rt: HostRuntime) -> Result<(), Fail> {
     let alloc = rt.alloc();
     for (data, lines) in ROWS {
-        let text = folded(alloc, &hinted(alloc, data, &TESTED)?)?;
+        let text = folded_text(alloc, &module_with_hints(alloc, data, &TESTED)?)?;
         let mut expected = String::from_str(
             alloc,
             "(module\n  (type (;0;) (func (param i32)))\n  (func (;0;) (type 0) (param i32)\n",
@@ -91,7 +91,7 @@ fn prints_hints_in_front_of_nodes(rt: HostRuntime) -> Result<(), Fail> {
 #[test]
 fn places_hints_as_nodes(rt: HostRuntime) -> Result<(), Fail> {
     let alloc = rt.alloc();
-    let wasm = hinted(alloc, &[0x01, 0x00, 0x01, 0x03, 0x01, 0x01], &TESTED)?;
+    let wasm = module_with_hints(alloc, &[0x01, 0x00, 0x01, 0x03, 0x01, 0x01], &TESTED)?;
     let mut config = Config::new();
     config.fold_instructions(true).print_offsets(true);
     let text = config.print_to_string(alloc, &wasm)?;
@@ -115,14 +115,14 @@ fn places_hints_as_nodes(rt: HostRuntime) -> Result<(), Fail> {
 #[test]
 fn prints_hints_of_operands(rt: HostRuntime) -> Result<(), Fail> {
     let alloc = rt.alloc();
-    let wasm = hinted(
+    let wasm = module_with_hints(
         alloc,
         &[0x01, 0x00, 0x02, 0x07, 0x01, 0x01, 0x09, 0x01, 0x00],
         &[
             0x02, 0x7f, 0x41, 0x01, 0x20, 0x00, 0x0d, 0x00, 0x45, 0x0b, 0x1a,
         ],
     )?;
-    let text = folded(alloc, &wasm)?;
+    let text = folded_text(alloc, &wasm)?;
     expect_text(
         text.as_str(),
         r#"(module
@@ -155,14 +155,14 @@ fn refuses_hints_of_blocks_and_of_their_ends(rt: HostRuntime) -> Result<(), Fail
     for offset in [1, 3, 4, 6, 7, 10, 15, 16] {
         // behind the count of functions, the function and the count of its hints
         let data = [0x01, 0x00, 0x01, offset, 0x01, 0x01];
-        let refused = folded(alloc, &hinted(alloc, &data, &EACH_KIND)?);
+        let refused = folded_text(alloc, &module_with_hints(alloc, &data, &EACH_KIND)?);
         assert!(rt;
             matches!(refused, Err(Error::FoldHint { place: 0x32 })),
             "at {offset}"
         );
         // behind one of the constant, which is printed
         let data = [0x01, 0x00, 0x02, 0x0b, 0x01, 0x01, offset, 0x01, 0x01];
-        let second = folded(alloc, &hinted(alloc, &data, &EACH_KIND)?);
+        let second = folded_text(alloc, &module_with_hints(alloc, &data, &EACH_KIND)?);
         if offset < 0x0b {
             assert!(rt; second.is_ok(), "at {offset}");
         } else {
@@ -174,7 +174,7 @@ fn refuses_hints_of_blocks_and_of_their_ends(rt: HostRuntime) -> Result<(), Fail
     }
     for offset in [11, 13, 17] {
         let data = [0x01, 0x00, 0x01, offset, 0x01, 0x01];
-        let printed = folded(alloc, &hinted(alloc, &data, &EACH_KIND)?);
+        let printed = folded_text(alloc, &module_with_hints(alloc, &data, &EACH_KIND)?);
         assert!(rt; printed.is_ok(), "at {offset}");
     }
     Ok(())
@@ -194,7 +194,7 @@ const BLOCK_HINTED: [u8; 61] = [
 #[test]
 fn tells_where_the_hint_stands(rt: HostRuntime) -> Result<(), Fail> {
     let alloc = rt.alloc();
-    let refused = folded(alloc, &BLOCK_HINTED);
+    let refused = folded_text(alloc, &BLOCK_HINTED);
     assert!(rt; matches!(refused, Err(Error::FoldHint { place: 49 })));
     let mut storage = String::from_str(alloc, "old")?;
     let mut config = Config::new();

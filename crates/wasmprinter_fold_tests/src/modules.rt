@@ -34,7 +34,7 @@ pub fn with_section(alloc: Global, id: u8, content: &[u8]) -> Result<Vec<u8>, Al
 }
 
 /// The text of a module, folded.
-pub fn folded(alloc: Global, wasm: &[u8]) -> Result<String, Error> {
+pub fn folded_text(alloc: Global, wasm: &[u8]) -> Result<String, Error> {
     let mut config = Config::new();
     config.fold_instructions(true);
     config.print_to_string(alloc, wasm)

@@ -1,7 +1,7 @@
 //! Folded operators with names: a line begins behind a node without children whose text holds two semicolons, which could begin a comment,
 //! also where these stand in a name.
 
-use crate::modules::{add_code, folded};
+use crate::modules::{add_code, folded_text};
 use std::test::Fail;
 use wasmprinter_samples::sections::{
     DATA, ELEMENT, FUNCTION, GLOBAL, TYPE, add_custom, add_section,
@@ -29,7 +29,7 @@ fn begins_a_line_behind_a_name_with_semicolons(rt: HostRuntime) -> Result<(), Fa
     )?;
     add_section(&mut wasm, DATA, &[0x01, 0x00, 0x23, 0x00, 0x0b, 0x00])?;
     add_custom(alloc, &mut wasm, "name", &OF_GLOBALS)?;
-    let text = folded(alloc, &wasm)?;
+    let text = folded_text(alloc, &wasm)?;
     expect_text(
         text.as_str(),
         r#"(module
@@ -79,7 +79,7 @@ fn prints_names_of_labels_and_locals(rt: HostRuntime) -> Result<(), Fail> {
     add_section(&mut wasm, FUNCTION, &[0x01, 0x00])?;
     add_code(&mut wasm, &NAMED_OPERATORS)?;
     add_custom(alloc, &mut wasm, "name", &OF_A_BODY)?;
-    let text = folded(alloc, &wasm)?;
+    let text = folded_text(alloc, &wasm)?;
     expect_text(
         text.as_str(),
         r##"(module
@@ -137,7 +137,7 @@ fn prints_names_of_labels_in_expressions(rt: HostRuntime) -> Result<(), Fail> {
         "name",
         &[0x03, 0x06, 0x01, 0x00, 0x01, 0x00, 0x01, 0x78],
     )?;
-    let text = folded(alloc, &wasm)?;
+    let text = folded_text(alloc, &wasm)?;
     expect_text(
         text.as_str(),
         r#"(module
@@ -176,7 +176,7 @@ fn prints_names_of_labels_in_a_predicate(rt: HostRuntime) -> Result<(), Fail> {
             0x03, 0x09, 0x01, 0x00, 0x02, 0x00, 0x01, 0x61, 0x01, 0x01, 0x61,
         ],
     )?;
-    let text = folded(alloc, &wasm)?;
+    let text = folded_text(alloc, &wasm)?;
     expect_text(
         text.as_str(),
         r#"(module

@@ -90,7 +90,7 @@ fn folds_each_list_and_takes_it_back(rt: HostRuntime) -> Result<(), Fail> {
 /// A module that holds nothing to fold is printed as it is flat.
 #[test]
 fn folds_an_empty_module(rt: HostRuntime) -> Result<(), Fail> {
-    let text = folded(rt.alloc(), &PREAMBLE)?;
+    let text = folded_text(rt.alloc(), &PREAMBLE)?;
     expect_text(text.as_str(), EMPTY_TEXT)?;
     Ok(())
 }
@@ -240,7 +240,7 @@ fn folds_by_all_options_at_once(rt: HostRuntime) -> Result<(), Fail> {
 #[test]
 fn folds_behind_locals(rt: HostRuntime) -> Result<(), Fail> {
     let alloc = rt.alloc();
-    let text = folded(alloc, &EVERYTHING)?;
+    let text = folded_text(alloc, &EVERYTHING)?;
     expect_text(
         text.as_str(),
         r#"(module

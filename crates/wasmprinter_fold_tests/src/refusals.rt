@@ -1,6 +1,6 @@
 //! Legacy exception operators, which can't be folded, in each list of operators; and lists that aren't printed, in which they stay.
 
-use crate::modules::{folded, refusal_of_lines, with_section};
+use crate::modules::{folded_text, refusal_of_lines, with_section};
 use std::alloc::{AllocError, Global};
 use std::test::Fail;
 use wasmprinter::{Config, Error};
@@ -93,7 +93,7 @@ fn refuses_legacy_operators_in_initialisers_and_offsets(rt: HostRuntime) -> Resu
     for (id, content, place) in PRINTED_IN_A_SKELETON {
         let wasm = with_section(alloc, id, content)?;
         assert!(rt;
-            is_refused_at(folded(alloc, &wasm), place),
+            is_refused_at(folded_text(alloc, &wasm), place),
             "in section {id}"
         );
         let outline = config.print_to_string(alloc, &wasm);
@@ -122,7 +122,7 @@ fn with_legacy_item(alloc: Global) -> Result<Vec<u8>, AllocError> {
 fn refuses_legacy_operators_in_items(rt: HostRuntime) -> Result<(), Fail> {
     let alloc = rt.alloc();
     let wasm = with_legacy_item(alloc)?;
-    assert!(rt; is_refused_at(folded(alloc, &wasm), 14));
+    assert!(rt; is_refused_at(folded_text(alloc, &wasm), 14));
     let mut config = Config::new();
     config.fold_instructions(true).print_skeleton(true);
     let outline = config.print_to_string(alloc, &wasm)?;

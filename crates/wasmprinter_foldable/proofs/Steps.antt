@@ -16,22 +16,22 @@ use Rattle.wasmprinter_spec.specs.Customs.Hints.{Hint, FunctionHints, next_hint,
 use Rattle.wasmprinter_spec.specs.Placed.{Custom, CustomEntry, Global, PlacedFunction, PlacedModule}
 use Rattle.wasmprinter_spec.specs.Options.{Options}
 use Rattle.wasmprinter_spec.specs.Folding.Code.{is_try}
-use Rattle.wasmprinter_spec.specs.Folding.Refusals.{Operators, init_list, element_lists, data_lists, constant_lists, legacy_places_in, misplaced, misplaced_in, misplaced_from}
+use Rattle.wasmprinter_spec.specs.Folding.Refusals.{Operators, init_list, element_lists, data_lists, constant_lists, legacy_places_in, place_if_misplaced, misplaced_hints_in, misplaced_hints_from}
 use Rattle.wasmprinter_segments.specs.Segments.{constants_of}
 use Rattle.wasmprinter_ops.specs.Operators.{pairs}
 use Rattle.wasmprinter_ops.proofs.Pairs.{first-pair, no-pair}
-use Rattle.wasmprinter_foldable.specs.Refused.{refused_at}
+use Rattle.wasmprinter_foldable.specs.Refused.{error_of_first}
 
 -- ---- lists of places
 
 -- a list whose front has a place: the error is that of the front
-pub front_refused : (f : ℕ → Error) (all front rest : List ℕ) (e : Error) → all ≡ front ++ rest → refused_at f front ≡ Err e → refused_at f all ≡ Err e
+pub front_refused : (f : ℕ → Error) (all front rest : List ℕ) (e : Error) → all ≡ front ++ rest → error_of_first f front ≡ Err e → error_of_first f all ≡ Err e
 front_refused f all [] rest e is r = cc
 front_refused f all (x ∷ xs) rest e is r = rw is r
 
 -- a list whose front has none: what is behind it counts
-pub front_passed : (f : ℕ → Error) (all front rest : List ℕ) → all ≡ front ++ rest → refused_at f front ≡ Ok tt → refused_at f rest ≡ refused_at f all
-front_passed f all [] rest is r = ap (refused_at f) (sym is)
+pub front_passed : (f : ℕ → Error) (all front rest : List ℕ) → all ≡ front ++ rest → error_of_first f front ≡ Ok tt → error_of_first f rest ≡ error_of_first f all
+front_passed f all [] rest is r = ap (error_of_first f) (sym is)
 front_passed f all (x ∷ xs) rest is r = cc
 
 -- the error that is handed on
@@ -52,12 +52,12 @@ legacy_none os e = ap legacy_places_in (no-pair os e)
 
 -- the next operator with its hint, and the others
 pub misplaced_next : (body : ℕ) (hs : List (Placed Hint)) (os rest : Operators) (place : ℕ) (o : Operator) → pairs os ≡ (place, o) ∷ pairs rest →
-    misplaced_in body hs os ≡ misplaced (role_of o.opcode) (next_hint (place - body) hs) ++ misplaced_in body (hint_behind (place - body) hs) rest
-misplaced_next body hs os rest place o e = ap (misplaced_in body hs) (first-pair os rest (place, o) e)
+    misplaced_hints_in body hs os ≡ place_if_misplaced (role_of o.opcode) (next_hint (place - body) hs) ++ misplaced_hints_in body (hint_behind (place - body) hs) rest
+misplaced_next body hs os rest place o e = ap (misplaced_hints_in body hs) (first-pair os rest (place, o) e)
 
 -- no operator is left
-pub misplaced_none : (body : ℕ) (hs : List (Placed Hint)) (os : Operators) → pairs os ≡ [] → misplaced_in body hs os ≡ []
-misplaced_none body hs os e = ap (misplaced_in body hs) (no-pair os e)
+pub misplaced_none : (body : ℕ) (hs : List (Placed Hint)) (os : Operators) → pairs os ≡ [] → misplaced_hints_in body hs os ≡ []
+misplaced_none body hs os e = ap (misplaced_hints_in body hs) (no-pair os e)
 
 -- ---- functions one by one
 
@@ -73,13 +73,13 @@ bodies_next i fs f e = ap (λ (gs : List PlacedFunction). flat_map legacy_places
 
 -- the same of hints, where the functions are numbered from k on
 pub hints_next : (es : List FunctionHints) (k i : ℕ) (fs : List PlacedFunction) (f : PlacedFunction) → slice_get fs i ≡ Some f →
-    misplaced_from es (k + i) (drop i fs)
-    ≡ misplaced_in f.body.place (next_hints (k + i) es) f.body.value.operators
-    ++ misplaced_from (hints_behind (k + i) es) (k + (i + 1)) (drop (i + 1) fs)
+    misplaced_hints_from es (k + i) (drop i fs)
+    ≡ misplaced_hints_in f.body.place (next_hints (k + i) es) f.body.value.operators
+    ++ misplaced_hints_from (hints_behind (k + i) es) (k + (i + 1)) (drop (i + 1) fs)
 hints_next es k i fs f e =
     let number : (k + i) + 1 ≡ k + (i + 1) = omega (arith) in
-    ap (misplaced_from es (k + i)) (function_next i fs f e)
-    ∙ ap (λ n. misplaced_in f.body.place (next_hints (k + i) es) f.body.value.operators ++ misplaced_from (hints_behind (k + i) es) n (drop (i + 1) fs)) number
+    ap (misplaced_hints_from es (k + i)) (function_next i fs f e)
+    ∙ ap (λ n. misplaced_hints_in f.body.place (next_hints (k + i) es) f.body.value.operators ++ misplaced_hints_from (hints_behind (k + i) es) n (drop (i + 1) fs)) number
 
 -- ---- sections that give hints
 
@@ -112,12 +112,12 @@ pub unhinted : (customs : List CustomEntry) → is_some (last_named (codes "meta
 unhinted customs none = none_given (last_named (codes "metadata.code.branch_hint") None customs) none
 
 -- a body that is given none has none out of place
-body_hintless : (body : ℕ) (os : Operators) → misplaced_in body [] os ≡ []
+body_hintless : (body : ℕ) (os : Operators) → misplaced_hints_in body [] os ≡ []
 body_hintless body [] = refl
 body_hintless body (o ∷ os) = body_hintless body os
 
 -- nor do functions
-pub hintless : (k : ℕ) (fs : List PlacedFunction) → misplaced_from [] k fs ≡ []
+pub hintless : (k : ℕ) (fs : List PlacedFunction) → misplaced_hints_from [] k fs ≡ []
 hintless k [] = refl
 hintless k (f ∷ fs) = rw (body_hintless f.body.place f.body.value.operators) (hintless (k + 1) fs)
 

@@ -8,9 +8,9 @@ use Rattle.wasmprinter_spec.specs.Options.{Options}
 use Rattle.wasmprinter_spec.specs.Folding.Refusals.{legacy_places, misplaced_hints}
 
 -- the error of the first place, if there is one
-abbrev pub refused_at : (ℕ → Error) → List ℕ → Result (Unit {0}) Error
-refused_at error [] = Ok tt
-refused_at error (place ∷ places) = Err (error place)
+abbrev pub error_of_first : (ℕ → Error) → List ℕ → Result (Unit {0}) Error
+error_of_first error [] = Ok tt
+error_of_first error (place ∷ places) = Err (error place)
 
 -- The error has its reason: at its place stands what can't be folded. Errors that have none aren't answered.
 abbrev pub HasFoldReason : Options → PlacedModule → Error → Type 0

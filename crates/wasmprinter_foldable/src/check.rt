@@ -4,7 +4,7 @@ ghost use Rattle.std.specs.List.{flat_map};
 ghost use Rattle.std.specs.Result.{IfErr};
 ghost use Rattle.wasmprinter_error.specs.declared.error.Error.TheVariants.{FoldLegacy, FoldHint};
 ghost use Rattle.wasmprinter_spec.specs.Folding.Refusals.{legacy_places_in, legacy_places, constant_lists, misplaced_hints};
-ghost use Rattle.wasmprinter_foldable.specs.Refused.{refused_at, HasFoldReason};
+ghost use Rattle.wasmprinter_foldable.specs.Refused.{error_of_first, HasFoldReason};
 
 use crate::hints::check_hints;
 use crate::lists::{check_bodies, check_each};
@@ -15,7 +15,7 @@ use wasmprinter_wasm::Module;
 /// Refuses the first operator of the older `try` in constant expressions.
 #[tactic(auto, using(crate::proofs::Steps::constants_parts, crate::proofs::Steps::front_refused, crate::proofs::Steps::front_passed))]
 fn check_constants(options: &PrintOptions, module: &Module<'_>) -> Result<(), Error>
-    ensures { result ≡ refused_at FoldLegacy (flat_map legacy_places_in (constant_lists options.now module.now)) }
+    ensures { result ≡ error_of_first FoldLegacy (flat_map legacy_places_in (constant_lists options.now module.now)) }
 {
     let skeleton = options.skeleton;
     check_each(module.tables(), skeleton)?;
@@ -26,7 +26,7 @@ fn check_constants(options: &PrintOptions, module: &Module<'_>) -> Result<(), Er
 
 /// Refuses the first operator of the older `try`.
 fn check_legacy(options: &PrintOptions, module: &Module<'_>) -> Result<(), Error>
-    ensures { result ≡ refused_at FoldLegacy (legacy_places options.now module.now) }
+    ensures { result ≡ error_of_first FoldLegacy (legacy_places options.now module.now) }
 {
     check_constants(options, module)?;
     if options.skeleton {
@@ -37,7 +37,7 @@ fn check_legacy(options: &PrintOptions, module: &Module<'_>) -> Result<(), Error
 
 /// Refuses the first hint on an operator that can't have one.
 fn check_printed_hints(options: &PrintOptions, module: &Module<'_>) -> Result<(), Error>
-    ensures { result ≡ refused_at FoldHint (misplaced_hints options.now module.now) }
+    ensures { result ≡ error_of_first FoldHint (misplaced_hints options.now module.now) }
 {
     if options.skeleton {
         return Ok(());

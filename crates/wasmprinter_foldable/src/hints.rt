@@ -3,10 +3,10 @@ ghost use Rattle.std.specs.Prelude.{◌≡◌, None, is_some, codes};
 ghost use Rattle.wasmprinter_error.specs.declared.error.Error.TheVariants.{FoldHint};
 ghost use Rattle.wasmprinter_spec.specs.Types.{FuncKind};
 ghost use Rattle.wasmprinter_spec.specs.Customs.Hints.{last_named, hints_of};
-ghost use Rattle.wasmprinter_spec.specs.Folding.Refusals.{is_hintless, misplaced, misplaced_in, misplaced_from};
+ghost use Rattle.wasmprinter_spec.specs.Folding.Refusals.{is_hintless, place_if_misplaced, misplaced_hints_in, misplaced_hints_from};
 ghost use Rattle.wasmprinter_entries.specs.Externs.{imported_count};
 ghost use Rattle.wasmprinter_ops.specs.Shapes.{role_view};
-ghost use Rattle.wasmprinter_foldable.specs.Refused.{refused_at};
+ghost use Rattle.wasmprinter_foldable.specs.Refused.{error_of_first};
 
 use wasmprinter_customs::{FunctionHints, Hint, Hints, is_hint_section};
 use wasmprinter_error::Error;
@@ -27,7 +27,7 @@ pub fn hints_of<'a>(customs: &[CustomEntry<'a>]) -> Hints<'a>
         Some(section) => {
             let content = section.cursor();
             prove!(content.end() <= u64::MAX);
-            Hints::given(content.place(), content.rest())
+            Hints::of_section(content.place(), content.rest())
         }
         None => Hints::none(),
     }
@@ -59,7 +59,7 @@ fn is_hintless(role: Role) -> bool
 
 /// Refuses the hint of an operator that can't have one.
 fn check_hint(role: Role, hint: Option<Hint>) -> Result<(), Error>
-    ensures { result ≡ refused_at FoldHint (misplaced (role_view role) hint) }
+    ensures { result ≡ error_of_first FoldHint (place_if_misplaced (role_view role) hint) }
 {
     match hint {
         Some(hint) if is_hintless(role) => Err(Error::FoldHint {
@@ -72,7 +72,7 @@ fn check_hint(role: Role, hint: Option<Hint>) -> Result<(), Error>
 /// Refuses the first hint of a body on an operator that can't have one.
 #[tactic(auto, using(crate::proofs::Steps::misplaced_none))]
 fn check_body(hints: FunctionHints<'_>, body: &Body<'_>) -> Result<(), Error>
-    ensures { result ≡ refused_at FoldHint (misplaced_in body.now.place hints.entry body.now.value.operators) }
+    ensures { result ≡ error_of_first FoldHint (misplaced_hints_in body.now.place hints.entry body.now.value.operators) }
 {
     let mut hints = hints;
     for (place, operator) in body.operators() {
@@ -85,8 +85,8 @@ fn check_body(hints: FunctionHints<'_>, body: &Body<'_>) -> Result<(), Error>
 /// Refuses the first hint of a module on an operator that can't have one: `FoldHint` with the place of the hint. Functions are numbered
 /// behind the imported ones.
 pub(crate) fn check_hints(module: &Module<'_>) -> Result<(), Error>
-    ensures { result ≡ refused_at FoldHint
-        (misplaced_from (hints_of module.now.customs) (imported_count FuncKind module.now.imports) module.now.functions) }
+    ensures { result ≡ error_of_first FoldHint
+        (misplaced_hints_from (hints_of module.now.customs) (imported_count FuncKind module.now.imports) module.now.functions) }
 {
     if !has_hints(module.customs()) {
         return Ok(());

@@ -4,7 +4,7 @@ ghost use Rattle.wasmprinter_error.specs.declared.error.Error.TheVariants.{FoldL
 ghost use Rattle.wasmprinter_spec.specs.Folding.Code.{is_try};
 ghost use Rattle.wasmprinter_spec.specs.Folding.Refusals.{legacy_places_in};
 ghost use Rattle.wasmprinter_ops.specs.Shapes.{role_view};
-ghost use Rattle.wasmprinter_foldable.specs.Refused.{refused_at};
+ghost use Rattle.wasmprinter_foldable.specs.Refused.{error_of_first};
 
 use wasmprinter_error::Error;
 use wasmprinter_ops::expression::Expression;
@@ -12,7 +12,7 @@ use wasmprinter_ops::expression::Expression;
 /// Refuses the first operator of the older `try`: `FoldLegacy` with its place.
 #[tactic(auto, using(crate::proofs::Steps::legacy_none))]
 pub(crate) fn check_expression(expression: &Expression<'_>) -> Result<(), Error>
-    ensures { result ≡ refused_at FoldLegacy (legacy_places_in expression.now.items) }
+    ensures { result ≡ error_of_first FoldLegacy (legacy_places_in expression.now.items) }
 {
     for (place, operator) in expression.operators() {
         if operator.opcode.role().is_of_try() {

@@ -4,7 +4,7 @@ ghost use Rattle.std.specs.List.{flat_map};
 ghost use Rattle.wasmprinter_error.specs.declared.error.Error.TheVariants.{FoldLegacy};
 ghost use Rattle.wasmprinter_spec.specs.Folding.Refusals.{legacy_places_in, init_list, element_lists, offset_list, item_lists, data_lists};
 ghost use Rattle.wasmprinter_segments.specs.Segments.{element_mode_view, element_items_view};
-ghost use Rattle.wasmprinter_foldable.specs.Refused.{refused_at};
+ghost use Rattle.wasmprinter_foldable.specs.Refused.{error_of_first};
 
 use crate::legacy::check_expression;
 use wasmprinter_error::Error;
@@ -21,7 +21,7 @@ pub(crate) trait Holder {
 
     /// Refuses the first operator of the older `try` in them.
     fn check_legacy(&self, skeleton: bool) -> Result<(), Error>
-        ensures { result ≡ refused_at FoldLegacy (flat_map legacy_places_in (lists skeleton self.now)) };
+        ensures { result ≡ error_of_first FoldLegacy (flat_map legacy_places_in (lists skeleton self.now)) };
 }
 
 impl<'a> Holder for Expression<'a> {
@@ -64,7 +64,7 @@ impl<'a> Holder for Data<'a> {
 
 /// Refuses the first operator of the older `try` in an offset.
 fn check_offset(mode: &ElementMode<'_>) -> Result<(), Error>
-    ensures { result ≡ refused_at FoldLegacy (flat_map legacy_places_in (offset_list (element_mode_view mode.now))) }
+    ensures { result ≡ error_of_first FoldLegacy (flat_map legacy_places_in (offset_list (element_mode_view mode.now))) }
 {
     match mode {
         ElementMode::Passive | ElementMode::Declared => Ok(()),
@@ -75,7 +75,7 @@ fn check_offset(mode: &ElementMode<'_>) -> Result<(), Error>
 /// Refuses the first operator of the older `try` in items that are expressions.
 #[tactic(auto, using(crate::proofs::Steps::items_single))]
 fn check_items(items: &ElementItems<'_>) -> Result<(), Error>
-    ensures { result ≡ refused_at FoldLegacy (flat_map legacy_places_in (item_lists (element_items_view items.now))) }
+    ensures { result ≡ error_of_first FoldLegacy (flat_map legacy_places_in (item_lists (element_items_view items.now))) }
 {
     match items {
         ElementItems::Functions(_) => Ok(()),
@@ -97,7 +97,7 @@ impl<'a> Holder for Element<'a> {
 
 /// Refuses the first operator of the older `try` in lists that are printed of what a slice holds: `FoldLegacy` with its place.
 pub(crate) fn check_each<T: Holder>(items: &[T], skeleton: bool) -> Result<(), Error>
-    ensures { result ≡ refused_at FoldLegacy (flat_map legacy_places_in (flat_map (T.lists skeleton) items.now)) }
+    ensures { result ≡ error_of_first FoldLegacy (flat_map legacy_places_in (flat_map (T.lists skeleton) items.now)) }
 {
     for item in items {
         item.check_legacy(skeleton)?;
@@ -107,7 +107,7 @@ pub(crate) fn check_each<T: Holder>(items: &[T], skeleton: bool) -> Result<(), E
 
 /// Refuses the first operator of the older `try` in the bodies of functions: `FoldLegacy` with its place.
 pub(crate) fn check_bodies(module: &Module<'_>) -> Result<(), Error>
-    ensures { result ≡ refused_at FoldLegacy (flat_map legacy_places_in (map (λ f. f.body.value.operators) module.now.functions)) }
+    ensures { result ≡ error_of_first FoldLegacy (flat_map legacy_places_in (map (λ f. f.body.value.operators) module.now.functions)) }
 {
     for index in 0..module.function_count() {
         check_expression(module.function(index).body().expression())?;

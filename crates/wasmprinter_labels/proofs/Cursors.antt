@@ -11,7 +11,7 @@ use Rattle.wasmprinter_spec.specs.Names.Section.{label_subsection}
 use Rattle.wasmprinter_names.specs.Views.{NamedItem, name_view, name_at}
 use Rattle.wasmprinter_names.specs.Labels.{NamedLabel, labels_in, label_at, IsBefore, Ascend, AreOfLabels}
 use Rattle.wasmprinter_names.specs.LabelViews.{label_view}
-use Rattle.wasmprinter_labels.specs.Stack.{unnamed}
+use Rattle.wasmprinter_labels.specs.Stack.{unnamed_label}
 use Rattle.wasmprinter_labels.specs.Inside.{IsAhead, IsCursor, label_of}
 use Rattle.wasmprinter_labels.specs.declared.numbers.NumberedLabel.{NumberedLabel}
 
@@ -124,7 +124,7 @@ name_in (x ∷ named) f n = by (nat_eq x.subsection label_subsection) (name_in n
 
 -- the identifier by the label that is next
 abbrev pub own_by : Bool → ℕ → Option Named → Option Named
-own_by invents d None = unnamed invents d
+own_by invents d None = unnamed_label invents d
 own_by invents d (Some y) = Some y
 
 module _ (named : List NamedItem) (xs : List NumberedLabel) (invents : Bool) (f n k d : ℕ) (lists : map view xs ≡ labels_in named) (a : Ascend (labels_in named)) (of_labels : AreOfLabels named)
@@ -135,7 +135,7 @@ module _ (named : List NamedItem) (xs : List NumberedLabel) (invents : Bool) (f 
   own_is : (o : Option Named) → name_at named label_subsection f n ≡ o → label_named invents n d (o >>= λ y. y.given) ≡ own_by invents d o
   own_is None e = by invents
     where
-      by : (b : Bool) → label_named b n d None ≡ unnamed b d
+      by : (b : Bool) → label_named b n d None ≡ unnamed_label b d
       by true = refl
       by false = refl
   own_is (Some y) e = of_labels f n y e invents d
@@ -153,7 +153,7 @@ module _ (named : List NamedItem) (xs : List NumberedLabel) (invents : Bool) (f 
   own_some zs same x e = own_of zs same (Some x) e
 
   pub own_none : (zs : List NumberedLabel) → zs ≡ xs → label_of zs k f n ≡ None
-      → label_named invents n d (name_at named label_subsection f n >>= λ y. y.given) ≡ unnamed invents d
+      → label_named invents n d (name_at named label_subsection f n >>= λ y. y.given) ≡ unnamed_label invents d
   own_none zs same e = own_of zs same None e
 
 -- the cursor behind the block

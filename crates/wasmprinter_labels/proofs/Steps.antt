@@ -7,7 +7,7 @@ use Rattle.wasmprinter_spec.specs.Labels.{Label, same_name}
 use Rattle.wasmprinter_names.specs.Views.{NamedItem, name_view}
 use Rattle.wasmprinter_labels.specs.Found.{found_named, found_among}
 use Rattle.wasmprinter_labels.specs.Scan.{Scan, behind_opening, behind_closing}
-use Rattle.wasmprinter_labels.specs.Stack.{Block, Stack, depths, AreBelow, Descend, closed_at, StandsAt, unnamed, labels_from}
+use Rattle.wasmprinter_labels.specs.Stack.{Block, Stack, depths, AreBelow, Descend, without_block_at, StandsAt, unnamed_label, labels_from}
 use Rattle.wasmprinter_labels.specs.Numbers.{given_of, AreNumbered}
 use Rattle.wasmprinter_labels.specs.Inside.{label_of, IsOf, IsKept}
 use Rattle.wasmprinter_labels.specs.declared.numbers.NumberedLabel.{NumberedLabel}
@@ -45,7 +45,7 @@ module _ (named : List NamedItem) (xs zs : List NumberedLabel) (invents : Bool) 
     scan_unnamed =
         ap (scan named invents f (suc n)) (labels_unnamed invents s.blocks d k.below ∙ ap (λ (x : Label). x ∷ labels_from invents s.blocks d) (sym
         (own_none named xs invents f n next (length (labels_from invents s.blocks d)) k.lists k.ascend k.of_labels k.cursor zs same e
-        ∙ ap (unnamed invents) (labels_length invents s.blocks d))))
+        ∙ ap (unnamed_label invents) (labels_length invents s.blocks d))))
 
   -- ---- one with a name
 
@@ -87,7 +87,7 @@ module _ (named : List NamedItem) (xs zs : List NumberedLabel) (invents : Bool) 
 -- ---- an operator that closes a block
 
 pub kept_closed : (named : List NamedItem) (xs : List NumberedLabel) (next f n d e : ℕ) (s : Stack) → IsKept named xs next f n e s → e ≡ suc d → Descend (depths s.blocks)
-    → IsKept named xs next f n d (record { blocks = closed_at d s.blocks; limit = s.limit })
+    → IsKept named xs next f n d (record { blocks = without_block_at d s.blocks; limit = s.limit })
 kept_closed named xs next f n d e s k is descend = record {
   lists = k.lists;
   ascend = k.ascend;
@@ -102,7 +102,7 @@ kept_closed named xs next f n d e s k is descend = record {
 }
 
 pub scan_closed : (named : List NamedItem) (invents : Bool) (f n d e : ℕ) (bs : List Block) → e ≡ suc d
-    → scan named invents f n (labels_from invents (closed_at d bs) d) ≡ behind_closing (scan named invents f n (labels_from invents bs e))
+    → scan named invents f n (labels_from invents (without_block_at d bs) d) ≡ behind_closing (scan named invents f n (labels_from invents bs e))
 scan_closed named invents f n d e bs is = ap (λ m. behind_closing (scan named invents f n (labels_from invents bs m))) (sym is)
 
 -- ---- given names
@@ -134,7 +134,7 @@ named_at invents (suc d) l e bs b hidden s descend below lt is h =
     found_at_name invents l d bs b hidden (record { front = s.front; rest = s.rest; is = s.is; depth = refl; hides = s.hides }) descend below (omega (arith, s.depth, is, lt)) h
 
 pub found_other : (invents : Bool) (d l e : ℕ) (bs : List Block) → AllByRecursion (λ b. b.depth ≢ e) bs → l < d → e ≡ d - 1 - l
-    → found_among [] (labels_from invents bs d) l ≡ unnamed_found (unnamed invents e) (d - l)
+    → found_among [] (labels_from invents bs d) l ≡ unnamed_found (unnamed_label invents e) (d - l)
 found_other invents zero l e bs h lt is = absurd (omega (arith, lt))
 found_other invents (suc d) l e bs h lt is = found_unnamed invents l d e bs h (omega (arith, is, lt))
 

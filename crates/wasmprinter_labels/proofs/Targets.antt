@@ -5,7 +5,7 @@ use Rattle.std.specs.Prelude.{Bool, true, false, ◌||◌, nat_eq, Option, Some,
 use Rattle.std.specs.List.{AllByRecursion, list_any}
 use Rattle.wasmprinter_spec.specs.Labels.{Label, Named, same_name, hides, is_hidden, Around, Own, Nothing, behind, target}
 use Rattle.wasmprinter_labels.specs.Found.{Found, ByName, ByNumber, ToBlock, ToNothing, found_named, found_by, found_among}
-use Rattle.wasmprinter_labels.specs.Stack.{Block, depths, AreBelow, Descend, closed_at, StandsAt, unnamed, label_here, labels_from}
+use Rattle.wasmprinter_labels.specs.Stack.{Block, depths, AreBelow, Descend, without_block_at, StandsAt, unnamed_label, label_here, labels_from}
 
 nat_eq-is : (a b : ℕ) → a ≡ b → nat_eq a b ≡ true
 nat_eq-is a b h = by (nat_eq a b) refl
@@ -23,21 +23,21 @@ nat_eq-not a b h = by (nat_eq a b) refl
 
 pub labels_length : (invents : Bool) (bs : List Block) (d : ℕ) → length (labels_from invents bs d) ≡ d
 labels_length invents bs zero = refl
-labels_length invents bs (suc d) = ap suc (labels_length invents (closed_at d bs) d)
+labels_length invents bs (suc d) = ap suc (labels_length invents (without_block_at d bs) d)
 
 -- ---- a block more
 
 pub labels_named : (invents : Bool) (b : Block) (bs : List Block) (d : ℕ) → b.depth ≡ d → labels_from invents (b ∷ bs) (suc d) ≡ Some b.name ∷ labels_from invents bs d
 labels_named invents b bs d e = rw (nat_eq-is b.depth d e) refl
 
-here_none : (invents : Bool) (bs : List Block) (d : ℕ) → AreBelow d (depths bs) → (label_here invents d bs ≡ unnamed invents d) × (closed_at d bs ≡ bs)
+here_none : (invents : Bool) (bs : List Block) (d : ℕ) → AreBelow d (depths bs) → (label_here invents d bs ≡ unnamed_label invents d) × (without_block_at d bs ≡ bs)
 here_none invents [] d h = (refl, refl)
 here_none invents (b ∷ bs) d h = rw (nat_eq-not b.depth d (λ e. absurd (omega (arith, h.0, e)))) (refl, refl)
 
-pub labels_unnamed : (invents : Bool) (bs : List Block) (d : ℕ) → AreBelow d (depths bs) → labels_from invents bs (suc d) ≡ unnamed invents d ∷ labels_from invents bs d
+pub labels_unnamed : (invents : Bool) (bs : List Block) (d : ℕ) → AreBelow d (depths bs) → labels_from invents bs (suc d) ≡ unnamed_label invents d ∷ labels_from invents bs d
 labels_unnamed invents bs d h =
     let p = here_none invents bs d h in
-    ap (λ (x : Label). x ∷ labels_from invents (closed_at d bs) d) p.0 ∙ ap (λ (cs : List Block). unnamed invents d ∷ labels_from invents cs d) p.1
+    ap (λ (x : Label). x ∷ labels_from invents (without_block_at d bs) d) p.0 ∙ ap (λ (cs : List Block). unnamed_label invents d ∷ labels_from invents cs d) p.1
 
 -- ---- a block less
 
@@ -54,11 +54,11 @@ at_end : (d : ℕ) (b : Block) (bs : List Block) → AreBelow (suc d) (depths (b
 at_end d b bs h s true e = subst (λ n. AreBelow n (depths bs)) (eqb-true b.depth d e) s.0
 at_end d b bs h s false e = let differ : b.depth ≢ d = eqb-false b.depth d e in let lt : b.depth < d = omega (arith, h.0, differ) in (lt, below_weaker b.depth d (depths bs) (omega (arith, lt)) s.0)
 
-pub below_closed : (d : ℕ) (bs : List Block) → AreBelow (suc d) (depths bs) → Descend (depths bs) → AreBelow d (depths (closed_at d bs))
+pub below_closed : (d : ℕ) (bs : List Block) → AreBelow (suc d) (depths bs) → Descend (depths bs) → AreBelow d (depths (without_block_at d bs))
 below_closed d [] h s = tt
 below_closed d (b ∷ bs) h s = at_end d b bs h s (nat_eq b.depth d) refl
 
-pub length_closed : (d : ℕ) (bs : List Block) → length (closed_at d bs) ≤ length bs
+pub length_closed : (d : ℕ) (bs : List Block) → length (without_block_at d bs) ≤ length bs
 length_closed d [] = omega arith
 length_closed d (b ∷ bs) = by (nat_eq b.depth d)
   where
@@ -66,7 +66,7 @@ length_closed d (b ∷ bs) = by (nat_eq b.depth d)
     by true = omega arith
     by false = omega arith
 
-pub all_closed : (P : Block → Type 0) (d : ℕ) (bs : List Block) → AllByRecursion P bs → AllByRecursion P (closed_at d bs)
+pub all_closed : (P : Block → Type 0) (d : ℕ) (bs : List Block) → AllByRecursion P bs → AllByRecursion P (without_block_at d bs)
 all_closed P d [] h = h
 all_closed P d (b ∷ bs) h = by (nat_eq b.depth d)
   where
@@ -90,7 +90,7 @@ record MeansNamed (l : ℕ) (xs : List Label) (n : Named) (front : List Block) :
   is : target l xs ≡ Around (Some n) further
   hidden : is_hidden n further ≡ list_any (same_given n) front
 
-unnamed_hides : (n : Named) (invents : Bool) (d : ℕ) → hides n (unnamed invents d) ≡ false
+unnamed_hides : (n : Named) (invents : Bool) (d : ℕ) → hides n (unnamed_label invents d) ≡ false
 unnamed_hides n true d = refl
 unnamed_hides n false d = refl
 
@@ -111,7 +111,7 @@ further_unnamed : (invents : Bool) (l d : ℕ) (front : List Block) (n : Named) 
     → MeansNamed l (labels_from invents bs (suc d)) n front → MeansNamed (suc l) (labels_from invents bs (suc (suc d))) n front
 further_unnamed invents l d front n bs h m =
     subst (λ (ls : List Label). MeansNamed (suc l) ls n front) (sym (labels_unnamed invents bs (suc d) h))
-    (further_in l (unnamed invents (suc d)) (labels_from invents bs (suc d)) n front front (ap (λ (b : Bool). b || list_any (same_given n) front) (unnamed_hides n invents (suc d))) m)
+    (further_in l (unnamed_label invents (suc d)) (labels_from invents bs (suc d)) n front front (ap (λ (b : Bool). b || list_any (same_given n) front) (unnamed_hides n invents (suc d))) m)
 
 further_named : (invents : Bool) (l d : ℕ) (front : List Block) (n : Named) (x : Block) (bs : List Block) → x.depth ≡ suc d
     → MeansNamed l (labels_from invents bs (suc d)) n front → MeansNamed (suc l) (labels_from invents (x ∷ bs) (suc (suc d))) n (x ∷ front)
@@ -143,17 +143,17 @@ means_named invents (suc l) (suc d) (x ∷ front) rest b s h e =
         let below : AreBelow (suc d) (depths (x ∷ front ++ b ∷ rest)) = (lt, below_weaker x.depth (suc d) (depths (front ++ b ∷ rest)) (omega (arith, lt)) s.0) in
         further_unnamed invents l d (x ∷ front) b.name (x ∷ front ++ b ∷ rest) below (more below)
 
-here_other : (invents : Bool) (d : ℕ) (bs : List Block) → AllByRecursion (λ b. b.depth ≢ d) bs → label_here invents d bs ≡ unnamed invents d
+here_other : (invents : Bool) (d : ℕ) (bs : List Block) → AllByRecursion (λ b. b.depth ≢ d) bs → label_here invents d bs ≡ unnamed_label invents d
 here_other invents d [] h = refl
 here_other invents d (b ∷ bs) h = rw (nat_eq-not b.depth d h.0) refl
 
-means_unnamed : (invents : Bool) (l d e : ℕ) (bs : List Block) → AllByRecursion (λ b. b.depth ≢ e) bs → e + l ≡ d → Means l (labels_from invents bs (suc d)) (unnamed invents e)
+means_unnamed : (invents : Bool) (l d e : ℕ) (bs : List Block) → AllByRecursion (λ b. b.depth ≢ e) bs → e + l ≡ d → Means l (labels_from invents bs (suc d)) (unnamed_label invents e)
 means_unnamed invents zero d e bs h is =
     let same : e ≡ d = omega (arith, is) in
-    record { further = []; is = ap (λ (x : Label). Around x []) (here_other invents d bs (subst (λ n. AllByRecursion (λ (b : Block). b.depth ≢ n) bs) same h) ∙ ap (unnamed invents) (sym same)) }
+    record { further = []; is = ap (λ (x : Label). Around x []) (here_other invents d bs (subst (λ n. AllByRecursion (λ (b : Block). b.depth ≢ n) bs) same h) ∙ ap (unnamed_label invents) (sym same)) }
 means_unnamed invents (suc l) zero e bs h is = absurd (omega (arith, is))
 means_unnamed invents (suc l) (suc d) e bs h is =
-    let m = means_unnamed invents l d e (closed_at (suc d) bs) (all_closed (λ (b : Block). b.depth ≢ e) (suc d) bs h) (omega (arith, is)) in
+    let m = means_unnamed invents l d e (without_block_at (suc d) bs) (all_closed (λ (b : Block). b.depth ≢ e) (suc d) bs h) (omega (arith, is)) in
     record { further = label_here invents (suc d) bs ∷ m.further; is = ap (behind (label_here invents (suc d) bs)) m.is }
 
 -- ---- what is found
@@ -206,11 +206,11 @@ unnamed_found None n = ToBlock n
 unnamed_found (Some y) n = ByName y
 
 pub found_unnamed : (invents : Bool) (l d e : ℕ) (bs : List Block) → AllByRecursion (λ b. b.depth ≢ e) bs → e + l ≡ d
-    → found_among [] (labels_from invents bs (suc d)) l ≡ unnamed_found (unnamed invents e) (suc d - l)
+    → found_among [] (labels_from invents bs (suc d)) l ≡ unnamed_found (unnamed_label invents e) (suc d - l)
 found_unnamed invents l d e bs h is =
     let m = means_unnamed invents l d e bs h is in
     ap (found_by [] (length (labels_from invents bs (suc d))) l) m.is ∙ by invents m.further
   where
-    by : (b : Bool) (further : List Label) → found_by [] (length (labels_from invents bs (suc d))) l (Around (unnamed b e) further) ≡ unnamed_found (unnamed b e) (suc d - l)
+    by : (b : Bool) (further : List Label) → found_by [] (length (labels_from invents bs (suc d))) l (Around (unnamed_label b e) further) ≡ unnamed_found (unnamed_label b e) (suc d - l)
     by true further = ap (found_named (made_up e)) (or_false (is_hidden (made_up e) further) ∙ none_hides (made_up e) further refl)
     by false further = ap (λ n. ToBlock (n - l)) (labels_length invents bs (suc d))

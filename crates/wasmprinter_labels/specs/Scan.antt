@@ -1,7 +1,7 @@
 -- What is known of the labels between two operators of an expression.
 use Rattle.std.specs.Prelude.{ℕ, suc, List, [], ◌∷◌, length, Bool}
 use Rattle.wasmprinter_spec.specs.Row.{Role}
-use Rattle.wasmprinter_spec.specs.Labels.{Label, labels_after, count_after, outside, inside}
+use Rattle.wasmprinter_spec.specs.Labels.{Label, labels_after, count_after, labels_outside, labels_inside}
 use Rattle.wasmprinter_spec.specs.Names.{Names, names_by}
 use Rattle.wasmprinter_names.specs.Views.{NamedItem, name_at}
 use Rattle.wasmprinter_names.specs.declared.identifiers.Identifiers.{Identifiers}
@@ -60,4 +60,4 @@ behind_operator role s = record {
 
 -- what a label means in an operator of the role
 abbrev pub found_at : Role → Scan → ℕ → Found
-found_at role s l = found_among (inside role s.labels) (outside role s.labels) l
+found_at role s l = found_among (labels_inside role s.labels) (labels_outside role s.labels) l

@@ -33,9 +33,9 @@ Pops old true new = (b : Block) × (old.blocks ≡ b ∷ new.blocks) × (new.lim
 Pops old false new = (old.blocks ≡ []) × (new ≡ old)
 
 -- without the block at a depth, if it is the innermost
-abbrev pub closed_at : ℕ → List Block → List Block
-closed_at d [] = []
-closed_at d (b ∷ bs) = if b.depth == d then bs else b ∷ bs
+abbrev pub without_block_at : ℕ → List Block → List Block
+without_block_at d [] = []
+without_block_at d (b ∷ bs) = if b.depth == d then bs else b ∷ bs
 
 -- the block at a depth, and whether one further in has its number
 pub record StandsAt (bs : List Block) (d : ℕ) (b : Block) (hidden : Bool) : Type 0 where
@@ -48,14 +48,14 @@ pub record StandsAt (bs : List Block) (d : ℕ) (b : Block) (hidden : Bool) : Ty
 -- ---- labels
 
 -- the label at a depth, if the block isn't one of these
-abbrev pub unnamed : Bool → ℕ → Label
-unnamed invents d = label_named invents 0 d None
+abbrev pub unnamed_label : Bool → ℕ → Label
+unnamed_label invents d = label_named invents 0 d None
 
 abbrev pub label_here : Bool → ℕ → List Block → Label
-label_here invents d [] = unnamed invents d
-label_here invents d (b ∷ bs) = if b.depth == d then Some b.name else unnamed invents d
+label_here invents d [] = unnamed_label invents d
+label_here invents d (b ∷ bs) = if b.depth == d then Some b.name else unnamed_label invents d
 
 -- the labels of so many open blocks, by those that have names
 abbrev pub labels_from : Bool → List Block → ℕ → List Label
 labels_from invents bs zero = []
-labels_from invents bs (suc d) = label_here invents d bs ∷ labels_from invents (closed_at d bs) d
+labels_from invents bs (suc d) = label_here invents d bs ∷ labels_from invents (without_block_at d bs) d

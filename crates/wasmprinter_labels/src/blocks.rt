@@ -1,7 +1,7 @@
 //! Open blocks whose labels have names, and which of them no block further in hides.
 ghost use Rattle.std.specs.Prelude.{◌≡◌, ◌<◌, ◌∷◌, [], length, IfOk, IsOk, replicate, None};
 ghost use Rattle.wasmprinter_names.specs.Views.{name_view};
-ghost use Rattle.wasmprinter_labels.specs.Stack.{depths, AreBelow, Descend, Pops, closed_at};
+ghost use Rattle.wasmprinter_labels.specs.Stack.{depths, AreBelow, Descend, Pops, without_block_at};
 
 use std::alloc::{AllocError, Global};
 use std::marker::Model;
@@ -123,7 +123,7 @@ impl<'n> NamedBlocks<'n> {
 
     /// Takes the innermost block away if it is at this depth.
     pub(crate) fn close(&mut self, depth: u64)
-        ensures closed { self.new ≡ record { blocks = closed_at depth self.old.blocks; limit = self.old.limit } }
+        ensures closed { self.new ≡ record { blocks = without_block_at depth self.old.blocks; limit = self.old.limit } }
         ensures descend { Descend (depths self.old.blocks) }
     {
         if self.blocks.last().is_some_and(|block| block.depth == depth) {

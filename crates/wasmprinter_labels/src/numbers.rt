@@ -32,7 +32,7 @@ fn number<'n>(
 }
 
 /// Numbers labels by their given names.
-pub(crate) fn numbered<'n>(
+pub(crate) fn numbered_labels<'n>(
     alloc: Global,
     labels: &[LabelName<'n>],
 ) -> Result<Vec<NumberedLabel<'n>>, AllocError>

@@ -6,12 +6,12 @@ ghost use Rattle.wasmprinter_names.specs.Views.{name_at};
 ghost use Rattle.wasmprinter_names.specs.Shown.{identifier_view};
 ghost use Rattle.wasmprinter_labels.specs.Found.{found_among};
 ghost use Rattle.wasmprinter_labels.specs.Scan.{own_label, at_start, at_start_again, behind_opening, behind_closing, behind_operator, found_at};
-ghost use Rattle.wasmprinter_labels.specs.Stack.{unnamed};
+ghost use Rattle.wasmprinter_labels.specs.Stack.{unnamed_label};
 ghost use Rattle.wasmprinter_labels.specs.Inside.{label_of};
 ghost use Rattle.wasmprinter_labels.specs.Views.{found_view};
 
 use crate::blocks::{NameAt, NamedBlocks};
-use crate::numbers::{NumberedLabel, numbered};
+use crate::numbers::{NumberedLabel, numbered_labels};
 use std::alloc::{AllocError, Global};
 use std::marker::Model;
 use wasmprinter_names::{Identifier, Identifiers, Space};
@@ -79,8 +79,8 @@ fn label_of<'n>(
 }
 
 /// The identifier of a label without a name, by how many blocks are around its block.
-fn unnamed<'n>(invents: bool, depth: u64) -> Option<Identifier<'n>>
-    ensures { option_map identifier_view result ≡ unnamed invents depth }
+fn unnamed_identifier<'n>(invents: bool, depth: u64) -> Option<Identifier<'n>>
+    ensures { option_map identifier_view result ≡ unnamed_label invents depth }
 {
     invents.then_some(Identifier::Invented {
         space: Space::Label,
@@ -98,7 +98,7 @@ impl<'n, 'a> OpenLabels<'n, 'a> {
         ensures start { IfOk result (λ labels. labels ≡ at_start identifiers.entry 0) }
         ensures needed { ((f n : ℕ) → name_at identifiers.entry.names.now label_subsection f n ≡ None) → IsOk result }
     {
-        let labels = numbered(alloc, &identifiers.names.labels(alloc)?)?;
+        let labels = numbered_labels(alloc, &identifiers.names.labels(alloc)?)?;
         let named = NamedBlocks::new(alloc, labels.len())?;
         Ok(OpenLabels {
             identifiers,
@@ -145,7 +145,7 @@ impl<'n, 'a> OpenLabels<'n, 'a> {
     {
         match label_of(&self.labels, self.next, self.function, self.opened) {
             Some(next) => Some(Identifier::Given(next.label.name)),
-            None => unnamed(self.identifiers.invents, self.depth),
+            None => unnamed_identifier(self.identifiers.invents, self.depth),
         }
     }
 
@@ -201,7 +201,7 @@ impl<'n, 'a> OpenLabels<'n, 'a> {
         match self.named.find(depth) {
             NameAt::Shown(name) => Meant::ByName(Identifier::Given(name)),
             NameAt::Hidden => Meant::ByNumber,
-            NameAt::Unnamed => match unnamed(self.identifiers.invents, depth) {
+            NameAt::Unnamed => match unnamed_identifier(self.identifiers.invents, depth) {
                 Some(identifier) => Meant::ByName(identifier),
                 None => Meant::ToBlock(self.depth - label),
             },

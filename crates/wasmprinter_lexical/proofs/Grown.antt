@@ -2,7 +2,7 @@
 use Rattle.std.proofs.Common.{◌≡◌, List, [], ◌∷◌, ◌++◌, refl, sym, ap, ◌∙◌, append_assoc, append-nil, Some, bytes_eq, codes, cond, Bool, true, false}
 use Rattle.wasmprinter_spec.specs.Token as token
 use Rattle.wasmprinter_spec.specs.Token.{Token}
-use Rattle.wasmprinter_spec.specs.Forest.{Forest, End, Word, Name, String, Reserved, Group, Note, place, grow, the_one, onto, flat, cut, row_customs}
+use Rattle.wasmprinter_spec.specs.Forest.{Forest, End, Word, Name, String, Reserved, Group, Note, place, grow, the_one, onto, flat, without_annotations, row_customs}
 
 pub onto-End : (f : Forest) → onto f End ≡ f
 onto-End End = refl
@@ -57,14 +57,14 @@ onto_assoc (Reserved f) g h = ap Reserved (onto_assoc f g h)
 onto_assoc (Group a f) g h = ap (Group a) (onto_assoc f g h)
 onto_assoc (Note id a f) g h = ap (Note id a) (onto_assoc f g h)
 
-pub cut-onto : (f g : Forest) → cut (onto f g) ≡ onto (cut f) (cut g)
-cut-onto End g = refl
-cut-onto (Word s f) g = ap (Word s) (cut-onto f g)
-cut-onto (Name s f) g = ap (Name s) (cut-onto f g)
-cut-onto (String s f) g = ap (String s) (cut-onto f g)
-cut-onto (Reserved f) g = ap Reserved (cut-onto f g)
-cut-onto (Group a f) g = ap (Group (cut a)) (cut-onto f g)
-cut-onto (Note id a f) g = cut-onto f g
+pub without_annotations-onto : (f g : Forest) → without_annotations (onto f g) ≡ onto (without_annotations f) (without_annotations g)
+without_annotations-onto End g = refl
+without_annotations-onto (Word s f) g = ap (Word s) (without_annotations-onto f g)
+without_annotations-onto (Name s f) g = ap (Name s) (without_annotations-onto f g)
+without_annotations-onto (String s f) g = ap (String s) (without_annotations-onto f g)
+without_annotations-onto (Reserved f) g = ap Reserved (without_annotations-onto f g)
+without_annotations-onto (Group a f) g = ap (Group (without_annotations a)) (without_annotations-onto f g)
+without_annotations-onto (Note id a f) g = without_annotations-onto f g
 
 pub row_customs-onto : (f g : Forest) → row_customs (onto f g) ≡ row_customs f ++ row_customs g
 row_customs-onto End g = refl

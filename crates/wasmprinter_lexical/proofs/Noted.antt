@@ -1,7 +1,7 @@
 -- Annotations that count for nothing. `Noted f g`: f is g with an annotation `name` behind some of its identifiers.
 use Rattle.std.proofs.Common.{◌≡◌, cond, List, ◌∷◌, ◌++◌, ℕ, Bool, true, false, bytes_eq, codes, map, refl, sym, ap, ap₂, ◌∙◌}
 use Rattle.std.proofs.lemmas.List.{map-append}
-use Rattle.wasmprinter_spec.specs.Forest.{Forest, End, Word, Name, String, Reserved, Group, Note, onto, cut, row_customs, customs}
+use Rattle.wasmprinter_spec.specs.Forest.{Forest, End, Word, Name, String, Reserved, Group, Note, onto, without_annotations, row_customs, customs}
 
 pub data Noted : Forest → Forest → Type 0 where
   no_items : Noted End End
@@ -33,24 +33,24 @@ noted-onto (a_group k n) m = a_group k (noted-onto n m)
 noted-onto (a_note k n) m = a_note k (noted-onto n m)
 
 -- without annotations they are one
-pub noted-cut : {f g : Forest} → Noted f g → cut f ≡ cut g
-noted-cut no_items = refl
-noted-cut (a_word {s} n) = ap (Word s) (noted-cut n)
-noted-cut (a_name {s} n) = ap (Name s) (noted-cut n)
-noted-cut (a_noted_name {s} n) = ap (Name s) (noted-cut n)
-noted-cut (a_string {s} n) = ap (String s) (noted-cut n)
-noted-cut (a_reserved n) = ap Reserved (noted-cut n)
-noted-cut (a_group k n) = ap₂ Group (noted-cut k) (noted-cut n)
-noted-cut (a_note k n) = noted-cut n
+pub noted-without_annotations : {f g : Forest} → Noted f g → without_annotations f ≡ without_annotations g
+noted-without_annotations no_items = refl
+noted-without_annotations (a_word {s} n) = ap (Word s) (noted-without_annotations n)
+noted-without_annotations (a_name {s} n) = ap (Name s) (noted-without_annotations n)
+noted-without_annotations (a_noted_name {s} n) = ap (Name s) (noted-without_annotations n)
+noted-without_annotations (a_string {s} n) = ap (String s) (noted-without_annotations n)
+noted-without_annotations (a_reserved n) = ap Reserved (noted-without_annotations n)
+noted-without_annotations (a_group k n) = ap₂ Group (noted-without_annotations k) (noted-without_annotations n)
+noted-without_annotations (a_note k n) = noted-without_annotations n
 
 -- ---- custom sections
 
 -- what the custom sections among the items of a row hold, and those among the items of its groups
 abbrev pub raw_row : Forest → List Forest
-raw_row f = map cut (row_customs f)
+raw_row f = map without_annotations (row_customs f)
 
 abbrev pub raw_groups : Forest → List Forest
-raw_groups f = map cut (customs f)
+raw_groups f = map without_annotations (customs f)
 
 noted-raw_row : {f g : Forest} → Noted f g → raw_row f ≡ raw_row g
 noted-raw_row no_items = refl
@@ -62,8 +62,8 @@ noted-raw_row (a_reserved n) = noted-raw_row n
 noted-raw_row (a_group k n) = noted-raw_row n
 noted-raw_row (a_note {id} {h} {i} {f} {g} k n) = by (bytes_eq id (codes "custom")) (noted-raw_row n)
   where
-    by : (t : Bool) → raw_row f ≡ raw_row g → map cut (cond t (h ∷ row_customs f) (row_customs f)) ≡ map cut (cond t (i ∷ row_customs g) (row_customs g))
-    by true e = ap₂ (λ x y. x ∷ y) (noted-cut k) e
+    by : (t : Bool) → raw_row f ≡ raw_row g → map without_annotations (cond t (h ∷ row_customs f) (row_customs f)) ≡ map without_annotations (cond t (i ∷ row_customs g) (row_customs g))
+    by true e = ap₂ (λ x y. x ∷ y) (noted-without_annotations k) e
     by false e = e
 
 -- the same custom sections
@@ -75,7 +75,7 @@ noted-raw_groups (a_noted_name n) = noted-raw_groups n
 noted-raw_groups (a_string n) = noted-raw_groups n
 noted-raw_groups (a_reserved n) = noted-raw_groups n
 noted-raw_groups (a_group {h} {i} {f} {g} k n) =
-    map-append cut (row_customs h) (customs f)
+    map-append without_annotations (row_customs h) (customs f)
     ∙ ap₂ (λ x y. x ++ y) (noted-raw_row k) (noted-raw_groups n)
-    ∙ sym (map-append cut (row_customs i) (customs g))
+    ∙ sym (map-append without_annotations (row_customs i) (customs g))
 noted-raw_groups (a_note k n) = noted-raw_groups n

@@ -11,7 +11,7 @@ use Rattle.wasmprinter_spec.specs.Options.{Options, IsBlank}
 use Rattle.wasmprinter_spec.specs.Float.{IsWidth, sign_bit}
 use Rattle.wasmprinter_spec.specs.Quoted.{is_run, char_text, quoted_text, quoted_bytes, identifier_text}
 use Rattle.wasmprinter_spec.specs.Token.{Clear, word, is_name, lex}
-use Rattle.wasmprinter_spec.specs.Piece.{Piece, Begin, Feed, Break, Gap, Open, OpenGap, OpenPlain, OpenBare, OpenTypeGap, OpenNote, OpenNoteGap, OpenRun, Shut, Word, TypeWord, TypeWordGap, GapTypeWord, Number, Constant, Literals, GapLiterals, Float, NumberRemark, BeginName, EndStyle, Quoted, QuotedBytes, Identifier, NameNote, Remark, Ending, PlainEnding, HintNote, Claimed, flag_byte, repeated, left_in, place_text, place_calls, most_indents, behind_blanks, word_tokens, calls, text, piece_tokens, all_calls, all_tokens}
+use Rattle.wasmprinter_spec.specs.Piece.{Piece, Begin, Feed, Break, Gap, Open, OpenGap, OpenPlain, OpenBare, OpenTypeGap, OpenNote, OpenNoteGap, OpenRun, Shut, Word, TypeWord, TypeWordGap, GapTypeWord, Number, Constant, Literals, GapLiterals, Float, NumberRemark, BeginName, EndStyle, Quoted, QuotedBytes, Identifier, NameNote, Remark, Ending, PlainEnding, HintNote, Claimed, flag_byte, repetition_of, left_in, place_text, place_calls, most_indents, behind_blanks, word_tokens, calls, text, piece_tokens, all_calls, all_tokens}
 use Rattle.wasmprinter_lexical.proofs.Runs.{is_quiet, ends_line, ending_lexes, is_word, are_words, all_quiet, all_blank, is_blank_class, delimited, begins_item, begins_item-word, left_lexes, word_lexes, open_lexes, blanks_lex, comment_lexes}
 use Rattle.wasmprinter_lexical.proofs.Numbers.{is_word-decimal, is_word-signed_decimal, all_quiet-decimal}
 use Rattle.wasmprinter_lexical.proofs.FloatPieces.{float_lexes}
@@ -152,10 +152,10 @@ all_blank-append (c ∷ cs) b h k =
     let parts : (is_blank_class (class c) ≡ true) × (all_blank cs ≡ true) = and_parts (is_blank_class (class c)) (all_blank cs) h in
     and_from (is_blank_class (class c)) (all_blank (cs ++ b)) parts.0 (all_blank-append cs b parts.1 k)
 
-pub all_blank-repeated : (n : ℕ) (bs : List ℕ) → all_blank bs ≡ true → all_blank (repeated n bs) ≡ true
-unfolding repeated
-all_blank-repeated zero bs h = refl
-all_blank-repeated (suc n) bs h = all_blank-append bs (repeated n bs) h (all_blank-repeated n bs h)
+pub all_blank-repetition_of : (n : ℕ) (bs : List ℕ) → all_blank bs ≡ true → all_blank (repetition_of n bs) ≡ true
+unfolding repetition_of
+all_blank-repetition_of zero bs h = refl
+all_blank-repetition_of (suc n) bs h = all_blank-append bs (repetition_of n bs) h (all_blank-repetition_of n bs h)
 
 all_blank-blanks : (n : ℕ) → all_blank (replicate n 32) ≡ true
 unfolding class
@@ -238,7 +238,7 @@ module _ (o : Options) (blank : all_blank o.indent ≡ true) where
   piece_lexes (Begin place) rest h d = refl
   piece_lexes Feed rest h d = refl
   piece_lexes (Break place nesting) rest h d =
-      indent_lexes o.offsets place (repeated (min nesting most_indents) o.indent) rest (all_blank-repeated (min nesting most_indents) o.indent blank)
+      indent_lexes o.offsets place (repetition_of (min nesting most_indents) o.indent) rest (all_blank-repetition_of (min nesting most_indents) o.indent blank)
   piece_lexes Gap rest h d = refl
   piece_lexes (Open w) rest h d =
       ap (λ t. lex Clear (40 ∷ (t ++ rest))) (append-nil w) ∙ open_lexes w rest h d

@@ -7,14 +7,14 @@ use Rattle.wasmprinter_spec.specs.Call.{Text, text_of}
 use Rattle.wasmprinter_spec.specs.Options.{Options, IsBlank}
 use Rattle.wasmprinter_spec.specs.Plain.{IsPlainText}
 use Rattle.wasmprinter_spec.specs.Quoted.{char_text, byte_text, is_plain, quoted_text, quoted_bytes, is_run, identifier_text}
-use Rattle.wasmprinter_spec.specs.Piece.{Piece, Begin, Feed, Break, Gap, Open, OpenGap, OpenPlain, OpenBare, OpenTypeGap, OpenNote, OpenNoteGap, OpenRun, Shut, Word, TypeWord, TypeWordGap, GapTypeWord, Number, Constant, Literals, GapLiterals, Float, NumberRemark, BeginName, EndStyle, Quoted, QuotedBytes, Identifier, NameNote, Remark, Ending, PlainEnding, HintNote, Claimed, flag_byte, behind_blanks, repeated, left_in, place_text, place_calls, most_indents, text, all_calls}
+use Rattle.wasmprinter_spec.specs.Piece.{Piece, Begin, Feed, Break, Gap, Open, OpenGap, OpenPlain, OpenBare, OpenTypeGap, OpenNote, OpenNoteGap, OpenRun, Shut, Word, TypeWord, TypeWordGap, GapTypeWord, Number, Constant, Literals, GapLiterals, Float, NumberRemark, BeginName, EndStyle, Quoted, QuotedBytes, Identifier, NameNote, Remark, Ending, PlainEnding, HintNote, Claimed, flag_byte, behind_blanks, repetition_of, left_in, place_text, place_calls, most_indents, text, all_calls}
 use Rattle.wasmprinter_lexical.proofs.Runs.{is_word, are_words}
 use Rattle.wasmprinter_lexical.proofs.Numbers.{is_word-decimal, is_word-signed_decimal}
 use Rattle.wasmprinter_lexical.proofs.FloatPieces.{printed_float}
 use Rattle.wasmprinter_lexical.proofs.Printed.{is_printed, all_printed, all_printed-append, all_printed-blank, printed_word, glyph_is_good, hex_digits_are_good, remark}
 use Rattle.wasmprinter_lexical.proofs.Identifiers.{run_is_printed}
 use Rattle.wasmprinter_lexical.proofs.Plain.{plain_text}
-use Rattle.wasmprinter_lexical.proofs.Pieces.{IsPiece, ArePieces, all_text, text_of-all_calls, text_of-append, all_blank-IsBlank, all_blank-repeated}
+use Rattle.wasmprinter_lexical.proofs.Pieces.{IsPiece, ArePieces, all_text, text_of-all_calls, text_of-append, all_blank-IsBlank, all_blank-repetition_of}
 
 -- ---- parts of texts
 
@@ -106,11 +106,11 @@ module _ (o : Options) (blank : IsBlank o.indent) where
   printed_piece (Begin place) h = refl
   printed_piece Feed h = refl
   printed_piece (Break place nesting) h =
-      ap all_printed (text_of-append (place_calls o.offsets place) (Text (repeated (min nesting most_indents) o.indent) ∷ []))
-      ∙ all_printed-append (text_of (place_calls o.offsets place)) (repeated (min nesting most_indents) o.indent ++ [])
+      ap all_printed (text_of-append (place_calls o.offsets place) (Text (repetition_of (min nesting most_indents) o.indent) ∷ []))
+      ∙ all_printed-append (text_of (place_calls o.offsets place)) (repetition_of (min nesting most_indents) o.indent ++ [])
       (printed_place_calls o.offsets place)
-      (printed_styled (repeated (min nesting most_indents) o.indent)
-      (all_printed-blank (repeated (min nesting most_indents) o.indent) (all_blank-repeated (min nesting most_indents) o.indent (all_blank-IsBlank o.indent blank))))
+      (printed_styled (repetition_of (min nesting most_indents) o.indent)
+      (all_printed-blank (repetition_of (min nesting most_indents) o.indent) (all_blank-repetition_of (min nesting most_indents) o.indent (all_blank-IsBlank o.indent blank))))
   printed_piece Gap h = refl
   printed_piece (Open w) h = printed_styled w (printed_word w h)
   printed_piece (OpenGap w) h = printed_styled (w ++ (32 ∷ [])) (all_printed-append w (32 ∷ []) (printed_word w h) refl)

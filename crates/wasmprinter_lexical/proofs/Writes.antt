@@ -13,12 +13,12 @@ use Rattle.wasmprinter_spec.specs.FloatText.{float_text}
 use Rattle.wasmprinter_spec.specs.Options.{Options, IsBlank}
 use Rattle.wasmprinter_spec.specs.Quoted.{is_run}
 use Rattle.wasmprinter_spec.specs.Token.{left, left_note, right, word, name, string, is_name, tokens}
-use Rattle.wasmprinter_spec.specs.Forest.{Forest, End, Word, Name, String, Group, Note, flat, onto, cut, forest, the_one, grow}
+use Rattle.wasmprinter_spec.specs.Forest.{Forest, End, Word, Name, String, Group, Note, flat, onto, without_annotations, forest, the_one, grow}
 use Rattle.wasmprinter_spec.specs.Piece as piece
 use Rattle.wasmprinter_spec.specs.Piece.{Piece, Begin, Feed, Break, Gap, Open, OpenGap, OpenPlain, OpenBare, OpenTypeGap, OpenNote, OpenNoteGap, OpenRun, Shut, TypeWord, TypeWordGap, GapTypeWord, Number, Constant, Literals, GapLiterals, Float, NumberRemark, BeginName, EndStyle, Quoted, QuotedBytes, Identifier, NameNote, Remark, Ending, PlainEnding, HintNote, Claimed, flag_byte, word_tokens, all_calls, all_tokens, piece_tokens}
 use Rattle.wasmprinter_spec.specs.Layout.Groups.{group, group_gap, line_group_gap, group_at, group_gap_at, line_group, close, has_break}
 use Rattle.wasmprinter_lexical.proofs.Runs.{is_word, are_words}
-use Rattle.wasmprinter_lexical.proofs.Grown.{flat-onto, one-flat, cut-onto}
+use Rattle.wasmprinter_lexical.proofs.Grown.{flat-onto, one-flat, without_annotations-onto}
 use Rattle.wasmprinter_lexical.proofs.Noted.{Noted, no_items, a_word, a_name, a_noted_name, a_string, a_group, a_note, noted-same, noted-onto}
 use Rattle.wasmprinter_lexical.proofs.Notes.{Beginning, InGroup, InNote, beginning_tokens, beginning, run_tokens}
 use Rattle.wasmprinter_lexical.proofs.Printed.{is_remark}
@@ -33,7 +33,7 @@ pub record WritesNoted (a : Edge) (ps : List Piece) (b : Edge) (f k : Forest) : 
   pub whole : Forest
   pub tokens : all_tokens printed ≡ flat whole
   pub noted : Noted whole k
-  pub without : cut k ≡ f
+  pub without : without_annotations k ≡ f
 
 -- pieces without an annotation that counts
 abbrev pub Writes : Edge → List Piece → Edge → Forest → Type 0
@@ -96,7 +96,7 @@ both_write {a = a} {k = k} {h = h} v w = record {
   are = ArePieces-append v.printed w.printed v.are w.are;
   whole = onto v.whole w.whole;
   tokens = all_tokens-append v.printed w.printed ∙ ap (λ t. t ++ all_tokens w.printed) v.tokens ∙ ap (λ t. flat v.whole ++ t) w.tokens ∙ sym (flat-onto v.whole w.whole);
-  without = cut-onto k h ∙ ap₂ onto v.without w.without;
+  without = without_annotations-onto k h ∙ ap₂ onto v.without w.without;
   noted = noted-onto v.noted w.noted;
 }
 
@@ -321,9 +321,9 @@ words_before-flat : (vs : List (List ℕ)) (f : Forest) → flat (words_before v
 words_before-flat [] f = refl
 words_before-flat (v ∷ vs) f = ap (λ t. word v ∷ t) (words_before-flat vs f)
 
-words_before-cut : (vs : List (List ℕ)) (f : Forest) → cut (words_before vs f) ≡ words_before vs (cut f)
-words_before-cut [] f = refl
-words_before-cut (v ∷ vs) f = ap (Word v) (words_before-cut vs f)
+words_before-without_annotations : (vs : List (List ℕ)) (f : Forest) → without_annotations (words_before vs f) ≡ words_before vs (without_annotations f)
+words_before-without_annotations [] f = refl
+words_before-without_annotations (v ∷ vs) f = ap (Word v) (words_before-without_annotations vs f)
 
 noted-words : {f k : Forest} (vs : List (List ℕ)) → Noted f k → Noted (words_before vs f) (words_before vs k)
 noted-words [] n = n
@@ -338,7 +338,7 @@ literals_writes {v = v} {vs = vs} {ps = ps} {k = k} h w = record {
   are = (h, w.are);
   whole = words_before (v ∷ vs) w.whole;
   tokens = ap (λ t. word_tokens (v ∷ vs) ++ t) w.tokens ∙ sym (words_before-flat (v ∷ vs) w.whole);
-  without = words_before-cut (v ∷ vs) k ∙ ap (words_before (v ∷ vs)) w.without;
+  without = words_before-without_annotations (v ∷ vs) k ∙ ap (words_before (v ∷ vs)) w.without;
   noted = noted-words (v ∷ vs) w.noted;
 }
 
@@ -351,7 +351,7 @@ gap_literals_writes {a = a} {vs = vs} {ps = ps} {k = k} e h w = record {
   are = (h, w.are);
   whole = words_before vs w.whole;
   tokens = ap (λ t. word_tokens vs ++ t) w.tokens ∙ sym (words_before-flat vs w.whole);
-  without = words_before-cut vs k ∙ ap (words_before vs) w.without;
+  without = words_before-without_annotations vs k ∙ ap (words_before vs) w.without;
   noted = noted-words vs w.noted;
 }
 
@@ -534,7 +534,7 @@ record IsOpening (p : Piece) (a : Edge) (around kept : Forest → Forest) : Type
   is : ArePieces (p ∷ [])
   opens : (f : Forest) → piece_tokens p ++ (flat f ++ (right ∷ [])) ≡ flat (around f)
   notes : {f k : Forest} → Noted f k → Noted (around f) (around k)
-  cuts : (k : Forest) → cut (around k) ≡ kept (cut k)
+  cuts : (k : Forest) → without_annotations (around k) ≡ kept (without_annotations k)
 
 abbrev group_of : List ℕ → Forest → Forest
 group_of v f = Group (Word v f) End
@@ -566,7 +566,7 @@ opened_items (InGroup f) g = Group (onto f g) End
 opened_items (InNote id) g = Note id g End
 
 abbrev opened_kept : Beginning → Forest → Forest
-opened_kept (InGroup f) g = Group (onto (cut f) g) End
+opened_kept (InGroup f) g = Group (onto (without_annotations f) g) End
 opened_kept (InNote id) g = End
 
 opened_flat : (x : Beginning) (f : Forest) → beginning_tokens x ++ (flat f ++ (right ∷ [])) ≡ flat (opened_items x f)
@@ -578,8 +578,8 @@ opened_noted : (x : Beginning) {f k : Forest} → Noted f k → Noted (opened_it
 opened_noted (InGroup g) n = a_group (noted-onto (noted-same g) n) no_items
 opened_noted (InNote id) n = a_note n no_items
 
-opened_cut : (x : Beginning) (k : Forest) → cut (opened_items x k) ≡ opened_kept x (cut k)
-opened_cut (InGroup g) k = ap (λ f. Group f End) (cut-onto g k)
+opened_cut : (x : Beginning) (k : Forest) → without_annotations (opened_items x k) ≡ opened_kept x (without_annotations k)
+opened_cut (InGroup g) k = ap (λ f. Group f End) (without_annotations-onto g k)
 opened_cut (InNote id) k = refl
 
 opening_run : (v : List ℕ) → is_run v ≡ true → IsOpening (OpenRun v) Bound (opened_items (beginning v)) (opened_kept (beginning v))

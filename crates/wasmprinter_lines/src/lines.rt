@@ -3,7 +3,7 @@ ghost use Rattle.std.specs.Prelude.{◌≤◌, [], ◌∷◌, ◌++◌, ◌||◌
 ghost use Rattle.std.specs.Fmt.{digits};
 ghost use Rattle.wasmprinter_spec.specs.Call.{Text};
 ghost use Rattle.wasmprinter_spec.specs.Options.{Options};
-ghost use Rattle.wasmprinter_spec.specs.Piece.{Begin, Feed, Break, most_indents, repeated, left_in, place_calls};
+ghost use Rattle.wasmprinter_spec.specs.Piece.{Begin, Feed, Break, most_indents, repetition_of, left_in, place_calls};
 ghost use Rattle.wasmprinter_spec.specs.Layout.Groups.{close};
 ghost use Rattle.wasmprinter_print.specs.Emits.{Emits};
 ghost use Rattle.wasmprinter_print.specs.Prints.{Prints};
@@ -25,7 +25,7 @@ const MOST_INDENTS: u64 = 50;
 
 /// Writes a text so many times.
 fn write_repeated<P: Print>(p: &mut P, s: &str, count: usize) -> io::Result<()>
-    ensures { Emits P.meaning p.old p.new result (Text (repeated count s.now) ∷ []) }
+    ensures { Emits P.meaning p.old p.new result (Text (repetition_of count s.now) ∷ []) }
 {
     for _ in 0..count {
         text(p, s)?;
@@ -67,7 +67,7 @@ fn write_place<P: Print>(p: &mut P, place: u64) -> io::Result<()>
 }
 
 /// Writes a place as a comment, or as many blanks where a line stands for no place.
-#[tactic(auto, unfolding(wasmprinter_spec::specs::Piece::place_text, wasmprinter_spec::specs::Piece::repeated))]
+#[tactic(auto, unfolding(wasmprinter_spec::specs::Piece::place_text, wasmprinter_spec::specs::Piece::repetition_of))]
 fn write_offset<P: Print>(p: &mut P, place: Option<u64>) -> io::Result<()>
     ensures { Emits P.meaning p.old p.new result (place_calls true place) }
 {
@@ -95,7 +95,7 @@ fn write_wanted_offset<P: Print>(
 /// Writes the text of so many levels of nesting.
 fn write_indent<P: Print>(p: &mut P, options: &PrintOptions, levels: usize) -> io::Result<()>
     requires { levels ≤ most_indents }
-    ensures { Emits P.meaning p.old p.new result (Text (repeated levels options.now.indent) ∷ []) }
+    ensures { Emits P.meaning p.old p.new result (Text (repetition_of levels options.now.indent) ∷ []) }
 {
     match options.indent_of(levels) {
         Some(indent) => text(p, indent),

@@ -49,7 +49,7 @@ impl Model for PrintOptions {
 impl PrintOptions {
     ghost use Rattle.std.specs.Prelude.{◌≡◌, ◌≤◌, string_bytes, IfSome};
     ghost use Rattle.wasmprinter_spec.specs.Options.{defaults};
-    ghost use Rattle.wasmprinter_spec.specs.Piece.{most_indents, repeated};
+    ghost use Rattle.wasmprinter_spec.specs.Piece.{most_indents, repetition_of};
 
     /// No places in front of lines, bodies in full, no identifiers made up, nothing folded, and an indent of two blanks. Takes no memory.
     pub fn new() -> PrintOptions
@@ -84,7 +84,7 @@ impl PrintOptions {
     /// The text of so many levels of nesting in one piece, where it is at hand.
     pub(crate) fn indent_of(&self, levels: usize) -> Option<&str>
         requires { levels ≤ most_indents }
-        ensures { IfSome result (λ t. t.now ≡ repeated levels self.now.indent) }
+        ensures { IfSome result (λ t. t.now ≡ repetition_of levels self.now.indent) }
     {
         match &self.indent {
             Indent::TwoBlanks => BLANKS.get(..2 * levels),

@@ -22,5 +22,5 @@ identifier_view (Given name) = name_view name
 identifier_view (Invented space number) = invented_name (id_of space) number
 
 -- the identifiers of a module
-abbrev pub shown : Identifiers → Names
-shown x = names_by x.invents (name_at x.names.now)
+abbrev pub names_of_identifiers : Identifiers → Names
+names_of_identifiers x = names_by x.invents (name_at x.names.now)

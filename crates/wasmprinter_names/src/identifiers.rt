@@ -28,7 +28,7 @@ pub struct Identifiers<'n, 'a> {
 }
 
 /// An identifier that is made up, where any are.
-fn invented<'n>(invents: bool, space: Space, number: u64) -> Option<Identifier<'n>>
+fn invented_identifier<'n>(invents: bool, space: Space, number: u64) -> Option<Identifier<'n>>
     ensures { option_map identifier_view result ≡ invented_view invents (id_of space) number }
 {
     invents.then_some(Identifier::Invented { space, number })
@@ -42,7 +42,7 @@ impl<'n> Identifiers<'n, '_> {
     {
         match self.names.name(space, outer, number) {
             Some(name) => Some(Identifier::Given(name)),
-            None => invented(self.invents, space, number),
+            None => invented_identifier(self.invents, space, number),
         }
     }
 

@@ -1,6 +1,6 @@
 pub mod RowLaws
 pub mod TaskLaws
 pub mod TextLaws
-pub mod LabelLaws
+pub mod NodeTexts
 pub mod Constants
 pub mod LoopLaws

@@ -7,16 +7,16 @@ use Rattle.wasmprinter_spec.specs.Layout.Groups.{has_break}
 use Rattle.wasmprinter_spec.specs.Layout.Operators.{Form}
 use Rattle.wasmprinter_print.specs.Emits.{Ending}
 use Rattle.wasmprinter_print.specs.Prints.{Written, Lacks}
-use Rattle.wasmprinter_nodes.specs.declared.Label.{Label}
-use Rattle.wasmprinter_node_text.specs.Shown.{shown_in, node_front}
+use Rattle.wasmprinter_nodes.specs.declared.NodeText.{NodeText}
+use Rattle.wasmprinter_node_text.specs.Shown.{shown_of_head, node_front}
 use Rattle.wasmprinter_lines.proofs.Groups.{has_break-append}
 
--- a node whose place is that of its label
-pub front_at : {P : Type 0} (m : Meaning P) (o : Options) {a t : P} {r : Ending} (form : Form) (leads leaf : Bool) (nesting : ℕ) (buffer : List ℕ) (l : Label) (place : ℕ) → place ≡ l.place →
-    Written m o a t r (node_front form leads leaf nesting (record { place = place; hint = l.hint; text = (shown_in buffer l).text; comment = l.comment }))
-    → Written m o a t r (node_front form leads leaf nesting (shown_in buffer l))
+-- a node whose place is that of its head
+pub front_at : {P : Type 0} (m : Meaning P) (o : Options) {a t : P} {r : Ending} (form : Form) (leads leaf : Bool) (nesting : ℕ) (buffer : List ℕ) (l : NodeText) (place : ℕ) → place ≡ l.place →
+    Written m o a t r (node_front form leads leaf nesting (record { place = place; hint = l.hint; text = (shown_of_head buffer l).text; comment = l.comment }))
+    → Written m o a t r (node_front form leads leaf nesting (shown_of_head buffer l))
 front_at m o {a} {t} {r} form leads leaf nesting buffer l place e v =
-    subst (λ (x : ℕ). Written m o a t r (node_front form leads leaf nesting (record { place = x; hint = l.hint; text = (shown_in buffer l).text; comment = l.comment }))) e v
+    subst (λ (x : ℕ). Written m o a t r (node_front form leads leaf nesting (record { place = x; hint = l.hint; text = (shown_of_head buffer l).text; comment = l.comment }))) e v
 
 -- what is lacking, in other words
 pub lacks_as : {P : Type 0} (m : Meaning P) (o : Options) (a s : P) (whole xs ys : List Piece) → xs ≡ ys → Lacks m o a s whole xs → Lacks m o a s whole ys

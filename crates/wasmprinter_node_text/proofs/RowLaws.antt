@@ -8,7 +8,7 @@ use Rattle.wasmprinter_spec.specs.Options.{defaults}
 use Rattle.wasmprinter_spec.specs.Piece.{Piece, Break, OpenPlain, Shut}
 use Rattle.wasmprinter_spec.specs.Layout.Operators.{Form, OverLines, InLine, before_word}
 use Rattle.wasmprinter_spec.specs.Layout.Groups.{has_break}
-use Rattle.wasmprinter_spec.specs.Layout.Folded.{head_place, head_hint, head_calls, head_text, painted, has_line_comment, comment_end, node_hint, node_pieces}
+use Rattle.wasmprinter_spec.specs.Layout.Folded.{head_place, head_hint, head_calls, head_text, painted_text, has_line_comment, comment_end, node_hint, node_pieces}
 use Rattle.wasmprinter_spec.specs.Folding.Tree.{NodesOf, Nodes, Nil, Snoc, is_nil}
 use Rattle.wasmprinter_nodes.specs.Mapping.{map_nodes}
 use Rattle.wasmprinter_node_text.specs.Shown.{Shown, shown_head, shown_hint, comment_break, node_front, begins_line, row_pieces}
@@ -56,7 +56,7 @@ rows_shown paints form first nesting (Snoc before head results held) =
     (comment_break (is_nil (map_nodes (shown_head paints) held)) (has_line_comment (head_text defaults head)) (head_place head) nesting)
     (node_pieces defaults paints form false (nesting + 1) held)
     (row_pieces form false (nesting + 1) (map_nodes (shown_head paints) held))
-    (OpenPlain (painted paints (head_calls defaults head)))
+    (OpenPlain (painted_text paints (head_calls defaults head)))
     (rows_shown paints form first nesting before)
     (rw nil (hint_same form (first && is_nil before) (head_place head) nesting (head_hint head)))
     (rw (nil, ← none_same (head_hint head)) refl)

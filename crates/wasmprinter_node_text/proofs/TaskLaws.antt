@@ -6,13 +6,13 @@ use Rattle.std.specs.Borrow.{Bor}
 use Rattle.wasmprinter_spec.specs.Piece.{Piece, Shut}
 use Rattle.wasmprinter_spec.specs.Layout.Operators.{Form}
 use Rattle.wasmprinter_spec.specs.Folding.Tree.{NodesOf, Nil, Snoc, is_nil, count}
-use Rattle.wasmprinter_nodes.specs.declared.Label.{Label}
+use Rattle.wasmprinter_nodes.specs.declared.NodeText.{NodeText}
 use Rattle.wasmprinter_nodes.specs.declared.Node.{Node}
 use Rattle.wasmprinter_nodes.specs.Mapping.{map_nodes}
 use Rattle.wasmprinter_nodes.specs.Postorder.{forest_of, IsPostorder}
 use Rattle.wasmprinter_nodes.specs.Rows.{IsLast}
 use Rattle.wasmprinter_nodes.proofs.Postorders.{length-row}
-use Rattle.wasmprinter_node_text.specs.Shown.{shown_in, IsIn, AreIn, node_front, row_pieces}
+use Rattle.wasmprinter_node_text.specs.Shown.{shown_of_head, IsIn, AreIn, node_front, row_pieces}
 use Rattle.wasmprinter_node_text.specs.Tasks.{pieces_of_row, task_front, task_rest, task_pieces, pieces_left, IsSoundRow, IsSound, AllSound, steps_of, steps_left}
 use Rattle.wasmprinter_node_text.specs.declared.tasks.Task.{Task}
 use Rattle.wasmprinter_node_text.specs.declared.tasks.Task.TheVariants as task
@@ -45,7 +45,7 @@ IsSound-last buffer bound (s ∷ a) t x = IsSound-last buffer bound a t x.1
 
 -- ---- rows
 
-none_by_count : (f : NodesOf Label) → eqb (count f) 0 ≡ is_nil f
+none_by_count : (f : NodesOf NodeText) → eqb (count f) 0 ≡ is_nil f
 none_by_count Nil = refl
 none_by_count (Snoc before h r held) = ne_eqb _ _ (λ e. omega (arith, e))
 
@@ -66,15 +66,15 @@ module _ (nodes before : List Node) (node : Node) (parts : List Node) (is : IsLa
   pieces_last : (form : Form) (nesting : ℕ) (buffer : List ℕ) (first : Bool) (depth : ℕ) →
       pieces_of_row form nesting buffer nodes first depth
       ≡ pieces_of_row form nesting buffer before first depth
-      ++ (node_front form (first && is_nil (forest_of before)) (is_nil (forest_of parts)) (nesting + depth) (shown_in buffer node.label)
+      ++ (node_front form (first && is_nil (forest_of before)) (is_nil (forest_of parts)) (nesting + depth) (shown_of_head buffer node.head)
       ++ (pieces_of_row form nesting buffer parts false (depth + 1) ++ (Shut ∷ [])))
   pieces_last form nesting buffer first depth =
       let deeper : (nesting + depth) + 1 ≡ nesting + (depth + 1) = omega arith in
-      ap (λ (f : NodesOf Label). row_pieces form first (nesting + depth) (map_nodes (shown_in buffer) f)) is.whole
-      ∙ row_last form first (nesting + depth) (map_nodes (shown_in buffer) (forest_of before)) (shown_in buffer node.label) node.results (map_nodes (shown_in buffer) (forest_of parts))
-      ∙ rw (nil_mapped (shown_in buffer) (forest_of before), nil_mapped (shown_in buffer) (forest_of parts), deeper) refl
+      ap (λ (f : NodesOf NodeText). row_pieces form first (nesting + depth) (map_nodes (shown_of_head buffer) f)) is.whole
+      ∙ row_last form first (nesting + depth) (map_nodes (shown_of_head buffer) (forest_of before)) (shown_of_head buffer node.head) node.results (map_nodes (shown_of_head buffer) (forest_of parts))
+      ∙ rw (nil_mapped (shown_of_head buffer) (forest_of before), nil_mapped (shown_of_head buffer) (forest_of parts), deeper) refl
 
-  texts_last : (buffer : List ℕ) → AreIn buffer (forest_of nodes) → AreIn buffer (forest_of before) × IsIn buffer node.label × AreIn buffer (forest_of parts)
+  texts_last : (buffer : List ℕ) → AreIn buffer (forest_of nodes) → AreIn buffer (forest_of before) × IsIn buffer node.head × AreIn buffer (forest_of parts)
   texts_last buffer h = subst (AreIn buffer) is.whole h
 
 -- what holds on success
@@ -97,7 +97,7 @@ module _ (new old : List Task) (nodes : Bor (List Node)) (first : Bool) (depth :
 
 -- the tasks of a row, by its last node: that of the row before it is put on top of the node's own
 module _ (new mid old : List Task) (nodes : List Node) (before : Bor (List Node)) (node : Node) (parts : Bor (List Node)) (first : Bool) (depth : ℕ) (leads : Bool)
-    (is : IsLast nodes before.now node parts.now) (e : mid ≡ old ++ task.One node.label parts leads depth ∷ []) where
+    (is : IsLast nodes before.now node parts.now) (e : mid ≡ old ++ task.One node.head parts leads depth ∷ []) where
   pub pieces_put : leads ≡ (first && eqb (length before.now) 0) →
       ((form : Form) (nesting : ℕ) (buffer : List ℕ) →
       pieces_left form nesting buffer new ≡ pieces_of_row form nesting buffer before.now first depth ++ pieces_left form nesting buffer mid) →
@@ -105,9 +105,9 @@ module _ (new mid old : List Task) (nodes : List Node) (before : Bor (List Node)
       pieces_left form nesting buffer new ≡ pieces_of_row form nesting buffer nodes first depth ++ pieces_left form nesting buffer old
   pieces_put le row form nesting buffer =
       let front = pieces_of_row form nesting buffer before.now first depth in
-      let own = task_pieces form nesting buffer (task.One node.label parts leads depth) in
+      let own = task_pieces form nesting buffer (task.One node.head parts leads depth) in
       row form nesting buffer
-      ∙ (ap (λ (l : List Piece). front ++ l) (ap (pieces_left form nesting buffer) e ∙ pieces_left-append form nesting buffer old (task.One node.label parts leads depth ∷ []))
+      ∙ (ap (λ (l : List Piece). front ++ l) (ap (pieces_left form nesting buffer) e ∙ pieces_left-append form nesting buffer old (task.One node.head parts leads depth ∷ []))
       ∙ (sym (append_assoc front own (pieces_left form nesting buffer old))
       ∙ ap (λ (l : List Piece). l ++ pieces_left form nesting buffer old) (sym (pieces_last nodes before.now node parts.now is form nesting buffer first depth ∙ rw (← le2) refl))))
     where
@@ -115,7 +115,7 @@ module _ (new mid old : List Task) (nodes : List Node) (before : Bor (List Node)
       le2 = le ∙ ap (λ b. first && b) (none_in_row before.now is.before_row)
 
   pub steps_put : steps_left new ≤ 4 * length before.now + 1 + steps_left mid → steps_left new ≤ 4 * length nodes + steps_left old
-  steps_put row = omega (arith, is.lengths, row, ap steps_left e, steps_left-append old (task.One node.label parts leads depth ∷ []))
+  steps_put row = omega (arith, is.lengths, row, ap steps_left e, steps_left-append old (task.One node.head parts leads depth ∷ []))
 
   pub sound_put : ((buffer : List ℕ) (bound : ℕ) → IsSoundRow buffer bound before.now depth → AllSound buffer bound mid → AllSound buffer bound new) →
       (buffer : List ℕ) (bound : ℕ) → IsSoundRow buffer bound nodes depth → AllSound buffer bound old → AllSound buffer bound new
@@ -125,25 +125,25 @@ module _ (new mid old : List Task) (nodes : List Node) (before : Bor (List Node)
       let lower : IsSoundRow buffer bound before.now depth = record { row = is.before_row; texts = texts.0; room = omega (arith, is.lengths, room) } in
       let inner : IsSoundRow buffer bound parts.now (depth + 1) = record { row = is.parts_row; texts = texts.2; room = omega (arith, is.lengths, room) } in
       put buffer bound lower
-      (subst (AllSound buffer bound) (sym e) (AllSound-append buffer bound old (task.One node.label parts leads depth ∷ []) h ((texts.1, inner), tt)))
+      (subst (AllSound buffer bound) (sym e) (AllSound-append buffer bound old (task.One node.head parts leads depth ∷ []) h ((texts.1, inner), tt)))
 
 -- the tasks of what a node holds: that of the row is put on top of the closing one
-module _ (new mid old : List Task) (label : Label) (held : Bor (List Node)) (leads : Bool) (depth : ℕ) (e : mid ≡ old ++ task.Close ∷ []) where
+module _ (new mid old : List Task) (head : NodeText) (held : Bor (List Node)) (leads : Bool) (depth : ℕ) (e : mid ≡ old ++ task.Close ∷ []) where
   pub pieces_one : ((form : Form) (nesting : ℕ) (buffer : List ℕ) →
       pieces_left form nesting buffer new ≡ pieces_of_row form nesting buffer held.now false (depth + 1) ++ pieces_left form nesting buffer mid) →
       (form : Form) (nesting : ℕ) (buffer : List ℕ) →
-      pieces_left form nesting buffer new ≡ task_rest form nesting buffer (task.One label held leads depth) ++ pieces_left form nesting buffer old
+      pieces_left form nesting buffer new ≡ task_rest form nesting buffer (task.One head held leads depth) ++ pieces_left form nesting buffer old
   pieces_one row form nesting buffer =
       let inner = pieces_of_row form nesting buffer held.now false (depth + 1) in
       row form nesting buffer
       ∙ (ap (λ (l : List Piece). inner ++ l) (ap (pieces_left form nesting buffer) e ∙ pieces_left-append form nesting buffer old (task.Close ∷ []))
       ∙ sym (append_assoc inner (Shut ∷ []) (pieces_left form nesting buffer old)))
 
-  pub steps_one : steps_left new ≤ 4 * length held.now + 1 + steps_left mid → steps_left new < steps_of (task.One label held leads depth) + steps_left old
+  pub steps_one : steps_left new ≤ 4 * length held.now + 1 + steps_left mid → steps_left new < steps_of (task.One head held leads depth) + steps_left old
   steps_one row = omega (arith, row, ap steps_left e, steps_left-append old (task.Close ∷ []))
 
   pub sound_one : ((buffer : List ℕ) (bound : ℕ) → IsSoundRow buffer bound held.now (depth + 1) → AllSound buffer bound mid → AllSound buffer bound new) →
-      (buffer : List ℕ) (bound : ℕ) → IsSound buffer bound (task.One label held leads depth) → AllSound buffer bound old → AllSound buffer bound new
+      (buffer : List ℕ) (bound : ℕ) → IsSound buffer bound (task.One head held leads depth) → AllSound buffer bound old → AllSound buffer bound new
   sound_one put buffer bound is h =
       put buffer bound is.1 (subst (AllSound buffer bound) (sym e) (AllSound-append buffer bound old (task.Close ∷ []) h (tt, tt)))
 

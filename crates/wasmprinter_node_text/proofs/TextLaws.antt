@@ -8,13 +8,13 @@ use Rattle.std.specs.Str.{IsAscii}
 use Rattle.std.specs.Prelude.{IsUtf8, Result, Ok, Err, Option}
 use Rattle.std.specs.Fmt.{digits}
 use Rattle.std.specs.declared.io.Error.{Error as IoError}
-use Rattle.wasmprinter_spec.specs.Call.{Call, Text, Newline, Line, Start, Claim, Style, Literal, Name, Keyword, TypeName, Comment, Reset, call_text, text_of, cut_call, atoms}
+use Rattle.wasmprinter_spec.specs.Call.{Call, Text, Newline, Line, Start, Claim, Style, Literal, Name, Keyword, TypeName, Comment, Reset, call_text, text_of, calls_of_bytes, atoms}
 use Rattle.wasmprinter_spec.specs.Coloured.{coloured_bytes, coloured_text}
 use Rattle.wasmprinter_spec.specs.Meaning.{Run}
-use Rattle.wasmprinter_spec.specs.Layout.Folded.{painted}
+use Rattle.wasmprinter_spec.specs.Layout.Folded.{painted_text}
 use Rattle.wasmprinter_print.specs.Emits.{Made, Through, ending}
 use Rattle.wasmprinter_node_text.specs.declared.semicolons.Semicolons.{Semicolons}
-use Rattle.wasmprinter_node_text.specs.Buffers.{View, see, see_all, with_text, with_sequences, after, IsTextual, texts_meaning, Grows}
+use Rattle.wasmprinter_node_text.specs.Buffers.{View, see, see_all, with_text, with_sequences, view_after, IsTextual, texts_meaning, Grows}
 
 -- ---- text of lists of calls
 
@@ -34,14 +34,14 @@ bytes_coloured : (s : List ℕ) → coloured_text (map (λ b. Text (b ∷ [])) s
 bytes_coloured [] = refl
 bytes_coloured (b ∷ bs) = ap (λ t. b ∷ t) (bytes_coloured bs)
 
-cut_text : (c : Call) → text_of (cut_call c) ≡ call_text c
+cut_text : (c : Call) → text_of (calls_of_bytes c) ≡ call_text c
 cut_text (Text s) = bytes_text s
 cut_text Newline = refl
 cut_text (Line place) = refl
 cut_text (Start style) = refl
 cut_text (Claim name place bytes answer) = refl
 
-cut_coloured : (c : Call) → coloured_text (cut_call c) ≡ coloured_bytes c
+cut_coloured : (c : Call) → coloured_text (calls_of_bytes c) ≡ coloured_bytes c
 cut_coloured (Text s) = bytes_coloured s
 cut_coloured Newline = refl
 cut_coloured (Line place) = refl
@@ -50,18 +50,18 @@ cut_coloured (Claim name place bytes answer) = refl
 
 text_of-atoms : (cs : List Call) → text_of (atoms cs) ≡ text_of cs
 text_of-atoms [] = refl
-text_of-atoms (c ∷ cs) = text_of-append (cut_call c) (atoms cs) ∙ ap₂ (λ x y. x ++ y) (cut_text c) (text_of-atoms cs)
+text_of-atoms (c ∷ cs) = text_of-append (calls_of_bytes c) (atoms cs) ∙ ap₂ (λ x y. x ++ y) (cut_text c) (text_of-atoms cs)
 
 coloured-atoms : (cs : List Call) → coloured_text (atoms cs) ≡ coloured_text cs
 coloured-atoms [] = refl
-coloured-atoms (c ∷ cs) = coloured-append (cut_call c) (atoms cs) ∙ ap₂ (λ x y. x ++ y) (cut_coloured c) (coloured-atoms cs)
+coloured-atoms (c ∷ cs) = coloured-append (calls_of_bytes c) (atoms cs) ∙ ap₂ (λ x y. x ++ y) (cut_coloured c) (coloured-atoms cs)
 
 -- Calls that differ only in how text is cut have one text,
 pub text_alike : (k l : List Call) → atoms k ≡ atoms l → text_of k ≡ text_of l
 text_alike k l e = sym (text_of-atoms k) ∙ ap text_of e ∙ text_of-atoms l
 
 -- also with the sequences of their styles.
-pub painted_alike : (paints : Bool) (k l : List Call) → atoms k ≡ atoms l → painted paints k ≡ painted paints l
+pub painted_alike : (paints : Bool) (k l : List Call) → atoms k ≡ atoms l → painted_text paints k ≡ painted_text paints l
 painted_alike true k l e = sym (coloured-atoms k) ∙ ap coloured_text e ∙ coloured-atoms l
 painted_alike false k l e = text_alike k l e
 
@@ -72,11 +72,11 @@ abbrev written : Bool → Call → List ℕ
 written true c = coloured_bytes c
 written false c = call_text c
 
-painted_first : (paints : Bool) (c : Call) (cs : List Call) → painted paints (c ∷ cs) ≡ written paints c ++ painted paints cs
+painted_first : (paints : Bool) (c : Call) (cs : List Call) → painted_text paints (c ∷ cs) ≡ written paints c ++ painted_text paints cs
 painted_first true c cs = refl
 painted_first false c cs = refl
 
-painted_none : (paints : Bool) → painted paints [] ≡ []
+painted_none : (paints : Bool) → painted_text paints [] ≡ []
 painted_none true = refl
 painted_none false = refl
 
@@ -108,21 +108,21 @@ start_seen : (paints : Bool) (v : View) (s : List ℕ) → (with_sequences paint
 start_seen true v s = refl
 start_seen false v s = refl
 
-after_bytes : (v : View) (c : Call) → (after v c).bytes ≡ v.bytes ++ written v.paints c
+after_bytes : (v : View) (c : Call) → (view_after v c).bytes ≡ v.bytes ++ written v.paints c
 after_bytes v (Text s) = ap (λ l. v.bytes ++ l) (sym (text_written v.paints s))
 after_bytes v Newline = ap (λ l. v.bytes ++ l) (sym (feed_written v.paints))
 after_bytes v (Line place) = sym (append-nil v.bytes) ∙ ap (λ l. v.bytes ++ l) (sym (line_written v.paints place))
 after_bytes v (Start style) = start_bytes v.paints v style
 after_bytes v (Claim name place bytes answer) = sym (append-nil v.bytes) ∙ ap (λ l. v.bytes ++ l) (sym (claim_written v.paints name place bytes answer))
 
-after_paints : (v : View) (c : Call) → (after v c).paints ≡ v.paints
+after_paints : (v : View) (c : Call) → (view_after v c).paints ≡ v.paints
 after_paints v (Text s) = refl
 after_paints v Newline = refl
 after_paints v (Line place) = refl
 after_paints v (Start style) = start_paints v.paints v (coloured_bytes (Start style))
 after_paints v (Claim name place bytes answer) = refl
 
-after_seen : (v : View) (c : Call) → (after v c).seen ≡ see_all v.seen (call_text c)
+after_seen : (v : View) (c : Call) → (view_after v c).seen ≡ see_all v.seen (call_text c)
 after_seen v (Text s) = refl
 after_seen v Newline = refl
 after_seen v (Line place) = refl
@@ -177,34 +177,34 @@ written_text false (Claim name place bytes answer) h = IsUtf8-nil
 
 -- what calls add to a buffer
 pub record Adds (old : View) (calls : List Call) (new : View) : Type 0 where
-  pub bytes : new.bytes ≡ old.bytes ++ painted old.paints calls
+  pub bytes : new.bytes ≡ old.bytes ++ painted_text old.paints calls
   pub paints : new.paints ≡ old.paints
   pub seen : new.seen ≡ see_all old.seen (text_of calls)
-  pub is_text : IsUtf8 (painted old.paints calls)
+  pub is_text : IsUtf8 (painted_text old.paints calls)
 
 adds_none : (s : View) → Adds s [] s
 adds_none s =
     let none = painted_none s.paints in
     record { bytes = sym (append-nil s.bytes) ∙ ap (λ l. s.bytes ++ l) (sym none); paints = refl; seen = refl; is_text = subst IsUtf8 (sym none) IsUtf8-nil }
 
-adds_first : (s t : View) (c : Call) (cs : List Call) → IsTextual c → Adds (after s c) cs t → Adds s (c ∷ cs) t
+adds_first : (s t : View) (c : Call) (cs : List Call) → IsTextual c → Adds (view_after s c) cs t → Adds s (c ∷ cs) t
 adds_first s t c cs is h =
-    let same : (after s c).paints ≡ s.paints = after_paints s c in
-    let rest : painted (after s c).paints cs ≡ painted s.paints cs = ap (λ b. painted b cs) same in
+    let same : (view_after s c).paints ≡ s.paints = after_paints s c in
+    let rest : painted_text (view_after s c).paints cs ≡ painted_text s.paints cs = ap (λ b. painted_text b cs) same in
     record {
       bytes =
-          h.bytes ∙ ap₂ (λ x y. x ++ y) (after_bytes s c) rest ∙ append_assoc s.bytes (written s.paints c) (painted s.paints cs)
+          h.bytes ∙ ap₂ (λ x y. x ++ y) (after_bytes s c) rest ∙ append_assoc s.bytes (written s.paints c) (painted_text s.paints cs)
           ∙ ap (λ l. s.bytes ++ l) (sym (painted_first s.paints c cs));
       paints = h.paints ∙ same;
       seen = h.seen ∙ ap (λ x. see_all x (text_of cs)) (after_seen s c) ∙ sym (see_all-append (call_text c) (text_of cs) s.seen);
       is_text =
           subst IsUtf8 (sym (painted_first s.paints c cs))
-          (IsUtf8-append (written s.paints c) (painted s.paints cs) (written_text s.paints c is) (subst IsUtf8 rest h.is_text));
+          (IsUtf8-append (written s.paints c) (painted_text s.paints cs) (written_text s.paints c is) (subst IsUtf8 rest h.is_text));
     }
 
 run_adds : (s : View) (calls : List Call) (t : View) → Run texts_meaning s calls t → Adds s calls t
 run_adds s [] t r = subst (λ (u : View). Adds s [] u) r (adds_none s)
-run_adds s (c ∷ cs) t r = adds_first s t c cs r.1.step.1 (run_adds (after s c) cs t (subst (λ (u : View). Run texts_meaning u cs t) r.1.step.0 r.2))
+run_adds s (c ∷ cs) t r = adds_first s t c cs r.1.step.1 (run_adds (view_after s c) cs t (subst (λ (u : View). Run texts_meaning u cs t) r.1.step.0 r.2))
 
 -- a layout whose calls were made
 pub made_adds : (s t : View) (layout : List Call) → Made texts_meaning s t Through layout → Adds s layout t
@@ -230,7 +230,7 @@ pub record Keeps (old new : View) : Type 0 where
   pub grows : Grows old.bytes new.bytes
 
 adds_keeps : (s t : View) (calls : List Call) → Adds s calls t → Keeps s t
-adds_keeps s t calls a = record { paints = a.paints; grows = record { more = painted s.paints calls; parts = a.bytes; is_text = a.is_text } }
+adds_keeps s t calls a = record { paints = a.paints; grows = record { more = painted_text s.paints calls; parts = a.bytes; is_text = a.is_text } }
 
 pub made_keeps : {T : Type 0} (s t : View) (layout : List Call) (r : Result T IoError) → Made texts_meaning s t (ending r) layout → Keeps s t
 made_keeps s t layout (Ok x) m = adds_keeps s t m.made.calls (run_adds s m.made.calls t m.made.run)

@@ -14,8 +14,8 @@ pub record View : Type 0 where
   pub seen : Semicolons
 
 -- nothing was read
-abbrev pub unseen : Semicolons
-unseen = record { last = false; double = false }
+abbrev pub no_semicolons : Semicolons
+no_semicolons = record { last = false; double = false }
 
 -- one byte more
 abbrev pub see : Semicolons → ℕ → Semicolons
@@ -27,8 +27,8 @@ see_all s [] = s
 see_all s (b ∷ bs) = see_all (see s b) bs
 
 -- a buffer in which the next text begins
-abbrev pub begun : View → View
-begun v = record { bytes = v.bytes; paints = v.paints; seen = unseen }
+abbrev pub with_text_begun : View → View
+with_text_begun v = record { bytes = v.bytes; paints = v.paints; seen = no_semicolons }
 
 -- a piece of text is added
 abbrev pub with_text : View → List ℕ → View
@@ -40,12 +40,12 @@ with_sequences true v s = record { bytes = v.bytes ++ s; paints = v.paints; seen
 with_sequences false v s = v
 
 -- what a call makes of a buffer
-abbrev pub after : View → Call → View
-after v (Text s) = with_text v s
-after v Newline = with_text v (10 ∷ [])
-after v (Line place) = v
-after v (Start style) = with_sequences v.paints v (coloured_bytes (Start style))
-after v (Claim name place bytes answer) = v
+abbrev pub view_after : View → Call → View
+view_after v (Text s) = with_text v s
+view_after v Newline = with_text v (10 ∷ [])
+view_after v (Line place) = v
+view_after v (Start style) = with_sequences v.paints v (coloured_bytes (Start style))
+view_after v (Claim name place bytes answer) = v
 
 -- what a call hands over is text, and no custom section is taken
 abbrev pub IsTextual : Call → Type 0
@@ -63,7 +63,7 @@ WantsMemory _ = ⊥
 -- the meaning of a buffer: a call that fails wants memory, and leaves it as it was
 abbrev pub texts_meaning : Meaning View
 texts_meaning = record {
-  after = λ old call new. (new ≡ after old call) × IsTextual call;
+  after = λ old call new. (new ≡ view_after old call) × IsTextual call;
   may_fail = λ old call. WantsMemory call;
   partly = λ old call error new. (error_kind error ≡ OutOfMemory) × (new ≡ old);
   faults = λ v. None;

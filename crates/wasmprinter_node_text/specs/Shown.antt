@@ -5,9 +5,9 @@ use Rattle.wasmprinter_spec.specs.Call.{Call, text_of}
 use Rattle.wasmprinter_spec.specs.Options.{defaults}
 use Rattle.wasmprinter_spec.specs.Piece.{Piece, Break, Word, OpenPlain, Shut, HintNote, text}
 use Rattle.wasmprinter_spec.specs.Layout.Operators.{Form, OverLines, InLine, before_word}
-use Rattle.wasmprinter_spec.specs.Layout.Folded.{head_place, head_hint, head_calls, painted, has_line_comment}
+use Rattle.wasmprinter_spec.specs.Layout.Folded.{head_place, head_hint, head_calls, painted_text, has_line_comment}
 use Rattle.wasmprinter_spec.specs.Folding.Tree.{Head, NodesOf, Nil, Snoc, is_nil}
-use Rattle.wasmprinter_nodes.specs.declared.Label.{Label}
+use Rattle.wasmprinter_nodes.specs.declared.NodeText.{NodeText}
 use Rattle.wasmprinter_nodes.specs.Heads.{AllNodes}
 
 -- its place, whether its branch is hinted as taken, its text, and whether that holds a comment up to the end of the line
@@ -18,21 +18,21 @@ pub record Shown : Type 0 where
   pub comment : Bool
 
 -- by its place, its hint, whether styles are in the text, and the calls of its text
-abbrev pub shown : ℕ → Option Bool → Bool → List Call → Shown
-shown place hint paints cs = record { place = place; hint = hint; text = painted paints cs; comment = has_line_comment (text_of cs) }
+abbrev pub shown_of_calls : ℕ → Option Bool → Bool → List Call → Shown
+shown_of_calls place hint paints cs = record { place = place; hint = hint; text = painted_text paints cs; comment = has_line_comment (text_of cs) }
 
 -- what is printed of a node with this head
 abbrev pub shown_head : Bool → Head → Shown
-shown_head paints h = shown (head_place h) (option_map (λ x. x.value.taken) (head_hint h)) paints (head_calls defaults h)
+shown_head paints h = shown_of_calls (head_place h) (option_map (λ x. x.value.taken) (head_hint h)) paints (head_calls defaults h)
 
--- what is printed of a node with this label, its text taken from the buffer of texts
-abbrev pub shown_in : List ℕ → Label → Shown
-shown_in buffer l = record { place = l.place; hint = l.hint; text = take (l.stop - l.start) (drop l.start buffer); comment = l.comment }
+-- what is printed of a node with this head, its text taken from the buffer of texts
+abbrev pub shown_of_head : List ℕ → NodeText → Shown
+shown_of_head buffer l = record { place = l.place; hint = l.hint; text = take (l.stop - l.start) (drop l.start buffer); comment = l.comment }
 
 -- ---- where the texts lie
 
--- the text of a label lies in the buffer, between whole characters
-pub record IsIn (buffer : List ℕ) (l : Label) : Type 0 where
+-- the text of a head lies in the buffer, between whole characters
+pub record IsIn (buffer : List ℕ) (l : NodeText) : Type 0 where
   pub before : List ℕ
   pub text : List ℕ
   pub after : List ℕ
@@ -42,8 +42,8 @@ pub record IsIn (buffer : List ℕ) (l : Label) : Type 0 where
   pub is_text : IsUtf8 text
   pub is_rest : IsUtf8 after
 
--- the same of the label of each node
-abbrev pub AreIn : List ℕ → NodesOf Label → Type 0
+-- the same of the head of each node
+abbrev pub AreIn : List ℕ → NodesOf NodeText → Type 0
 AreIn buffer f = AllNodes (IsIn buffer) f
 
 -- ---- the layout

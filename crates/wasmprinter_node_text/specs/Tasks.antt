@@ -6,25 +6,25 @@ use Rattle.wasmprinter_spec.specs.Folding.Tree.{is_nil}
 use Rattle.wasmprinter_nodes.specs.Mapping.{map_nodes}
 use Rattle.wasmprinter_nodes.specs.Postorder.{forest_of, IsPostorder}
 use Rattle.wasmprinter_nodes.specs.declared.Node.{Node}
-use Rattle.wasmprinter_node_text.specs.Shown.{shown_in, IsIn, AreIn, node_front, row_pieces}
+use Rattle.wasmprinter_node_text.specs.Shown.{shown_of_head, IsIn, AreIn, node_front, row_pieces}
 use Rattle.wasmprinter_node_text.specs.declared.tasks.Task.{Task}
 use Rattle.wasmprinter_node_text.specs.declared.tasks.Task.TheVariants as task
 
 module _ (form : Form) (nesting : ℕ) (buffer : List ℕ) where
   -- a row of nodes
   abbrev pub pieces_of_row : List Node → Bool → ℕ → List Piece
-  pieces_of_row nodes first depth = row_pieces form first (nesting + depth) (map_nodes (shown_in buffer) (forest_of nodes))
+  pieces_of_row nodes first depth = row_pieces form first (nesting + depth) (map_nodes (shown_of_head buffer) (forest_of nodes))
 
   -- what is written of a task when its turn comes
   abbrev pub task_front : Task → List Piece
   task_front (task.Row nodes first depth) = []
-  task_front (task.One label held leads depth) = node_front form leads (is_nil (forest_of held.now)) (nesting + depth) (shown_in buffer label)
+  task_front (task.One head held leads depth) = node_front form leads (is_nil (forest_of held.now)) (nesting + depth) (shown_of_head buffer head)
   task_front task.Close = Shut ∷ []
 
   -- and what then is left of it
   abbrev pub task_rest : Task → List Piece
   task_rest (task.Row nodes first depth) = pieces_of_row nodes.now first depth
-  task_rest (task.One label held leads depth) = pieces_of_row held.now false (depth + 1) ++ (Shut ∷ [])
+  task_rest (task.One head held leads depth) = pieces_of_row held.now false (depth + 1) ++ (Shut ∷ [])
   task_rest task.Close = []
 
   abbrev pub task_pieces : Task → List Piece
@@ -43,7 +43,7 @@ pub record IsSoundRow (buffer : List ℕ) (bound : ℕ) (nodes : List Node) (dep
 
 abbrev pub IsSound : List ℕ → ℕ → Task → Type 0
 IsSound buffer bound (task.Row nodes first depth) = IsSoundRow buffer bound nodes.now depth
-IsSound buffer bound (task.One label held leads depth) = IsIn buffer label × IsSoundRow buffer bound held.now (depth + 1)
+IsSound buffer bound (task.One head held leads depth) = IsIn buffer head × IsSoundRow buffer bound held.now (depth + 1)
 IsSound buffer bound task.Close = Unit {0}
 
 abbrev pub AllSound : List ℕ → ℕ → List Task → Type 0
@@ -53,7 +53,7 @@ AllSound buffer bound (t ∷ ts) = IsSound buffer bound t × AllSound buffer bou
 -- how many steps are left at most
 abbrev pub steps_of : Task → ℕ
 steps_of (task.Row nodes first depth) = suc (4 * length nodes.now)
-steps_of (task.One label held leads depth) = 4 * length held.now + 3
+steps_of (task.One head held leads depth) = 4 * length held.now + 3
 steps_of task.Close = 1
 
 abbrev pub steps_left : List Task → ℕ

@@ -9,7 +9,7 @@ ghost use Rattle.wasmprinter_print.specs.Prints.{Prints, PrintsOrStops};
 ghost use Rattle.wasmprinter_flat.specs.Settings.{form_view};
 ghost use Rattle.wasmprinter_nodes.specs.Mapping.{map_nodes};
 ghost use Rattle.wasmprinter_nodes.specs.Postorder.{IsPostorder, forest_of};
-ghost use Rattle.wasmprinter_node_text.specs.Shown.{shown_in, IsIn, AreIn, row_pieces, node_front, shown_hint, comment_break, begins_line as begins};
+ghost use Rattle.wasmprinter_node_text.specs.Shown.{shown_of_head, IsIn, AreIn, row_pieces, node_front, shown_hint, comment_break, begins_line as begins};
 ghost use Rattle.wasmprinter_node_text.specs.Tasks.{task_front, IsSound};
 
 use crate::tasks::{Task, put_rest};
@@ -19,7 +19,7 @@ use wasmprinter_error::Error;
 use wasmprinter_flat::operators::Form;
 use wasmprinter_lines::lines::break_line;
 use wasmprinter_lines::options::PrintOptions;
-use wasmprinter_nodes::{Label, Node};
+use wasmprinter_nodes::{Node, NodeText};
 use wasmprinter_print::Print;
 use wasmprinter_words::words::{gap, open_plain, shut, word};
 
@@ -29,12 +29,12 @@ const TAKEN_NOTE: &str = "(@metadata.code.branch_hint \"\\01\")";
 /// Says that a branch is hinted as not taken.
 const NOT_TAKEN_NOTE: &str = "(@metadata.code.branch_hint \"\\00\")";
 
-/// The text of a label.
-fn label_text<'t>(text: &'t str, label: &Label) -> &'t str
-    requires { IsIn text.now label.now }
-    ensures { result.now ≡ (shown_in text.now label.now).text }
+/// The text of a head.
+fn text_of_head<'t>(text: &'t str, head: &NodeText) -> &'t str
+    requires { IsIn text.now head.now }
+    ensures { result.now ≡ (shown_of_head text.now head.now).text }
 {
-    &text[label.start..label.stop]
+    &text[head.start..head.stop]
 }
 
 /// Where a node stands.
@@ -109,11 +109,11 @@ fn write_hint<P: Print>(
 }
 
 /// Writes the parenthesis and the text of a node.
-fn write_text<P: Print>(p: &mut P, text: &str, label: &Label) -> io::Result<()>
-    requires { IsIn text.now label.now }
-    ensures { (o : Options) → Prints P.meaning o p.old p.new result (OpenPlain (shown_in text.now label.now).text ∷ []) }
+fn write_text<P: Print>(p: &mut P, text: &str, head: &NodeText) -> io::Result<()>
+    requires { IsIn text.now head.now }
+    ensures { (o : Options) → Prints P.meaning o p.old p.new result (OpenPlain (shown_of_head text.now head.now).text ∷ []) }
 {
-    open_plain(p, label_text(text, label))
+    open_plain(p, text_of_head(text, head))
 }
 
 /// Ends the line behind a text with a comment up to the end of the line, where a parenthesis would follow.
@@ -148,18 +148,18 @@ fn write_node<P: Print>(
     leads: bool,
     leaf: bool,
     text: &str,
-    label: &Label,
+    head: &NodeText,
 ) -> io::Result<()>
-    requires inside { IsIn text.now label.now }
-    requires place { spot.place ≡ label.now.place }
+    requires inside { IsIn text.now head.now }
+    requires place { spot.place ≡ head.now.place }
     ensures { Prints P.meaning options.now p.old p.new result
-        (node_front (form_view spot.form) leads leaf (spot.nesting + spot.depth) (shown_in text.now label.now)) }
+        (node_front (form_view spot.form) leads leaf (spot.nesting + spot.depth) (shown_of_head text.now head.now)) }
 {
-    write_hint(p, options, spot, leads, label.hint)?;
-    let first = leads_unhinted(leads, label.hint);
+    write_hint(p, options, spot, leads, head.hint)?;
+    let first = leads_unhinted(leads, head.hint);
     write_before(p, options, spot, first)?;
-    write_text(p, text, label)?;
-    end_comment(p, options, spot, leaf, label.comment)
+    write_text(p, text, head)?;
+    end_comment(p, options, spot, leaf, head.comment)
 }
 
 /// Whether a line begins in a node before the nodes that it holds.
@@ -187,16 +187,16 @@ fn write_front<P: Print>(
 {
     match task {
         Task::Row(_, _, _) => Ok(false),
-        Task::One(label, held, leads, depth) => {
+        Task::One(head, held, leads, depth) => {
             let leaf = held.is_empty();
             let spot = Spot {
                 form,
-                place: label.place,
+                place: head.place,
                 nesting,
                 depth: *depth,
             };
-            write_node(p, options, spot, *leads, leaf, text, label)?;
-            Ok(begins_line(form, leaf, label.comment))
+            write_node(p, options, spot, *leads, leaf, text, head)?;
+            Ok(begins_line(form, leaf, head.comment))
         }
         Task::Close => {
             shut(p)?;
@@ -229,9 +229,9 @@ pub fn write_nodes<P: Print>(
     requires whole { IsPostorder nodes.now }
     requires texts { AreIn text.now (forest_of nodes.now) }
     ensures prints { PrintsOrStops P.meaning options.now p.old p.new true result
-        (row_pieces (form_view form) true nesting (map_nodes (shown_in text.now) (forest_of nodes.now))) }
+        (row_pieces (form_view form) true nesting (map_nodes (shown_of_head text.now) (forest_of nodes.now))) }
     ensures lines { IfOk result (λ lines. lines ≡ has_break
-        (row_pieces (form_view form) true nesting (map_nodes (shown_in text.now) (forest_of nodes.now)))) }
+        (row_pieces (form_view form) true nesting (map_nodes (shown_of_head text.now) (forest_of nodes.now)))) }
 {
     let mut lines = false;
     let mut tasks = Vec::new(alloc);

@@ -5,7 +5,7 @@ ghost use Rattle.wasmprinter_nodes.specs.Postorder.{IsPostorder};
 ghost use Rattle.wasmprinter_node_text.specs.Tasks.{pieces_of_row, pieces_left, task_rest, IsSound, IsSoundRow, AllSound, steps_left, steps_of};
 
 use std::alloc::AllocError;
-use wasmprinter_nodes::{Label, Node, last_group};
+use wasmprinter_nodes::{Node, NodeText, last_group};
 
 /// A task.
 #[derive(Clone, Copy, Debug, Drop)]
@@ -13,7 +13,7 @@ pub enum Task<'a> {
     /// A row of nodes, nested so much deeper: the first of their line or behind something.
     Row(&'a [Node], bool, u64),
     /// One node, with the nodes that it holds: the first of its line or behind something.
-    One(Label, &'a [Node], bool, u64),
+    One(NodeText, &'a [Node], bool, u64),
     /// The parenthesis that closes a node.
     Close,
 }
@@ -59,7 +59,7 @@ fn put_row<'a>(
     match last_group(nodes) {
         Some(last) => {
             let leads = leads(first, last.before);
-            tasks.push(Task::One(last.node.label, last.parts, leads, depth))?;
+            tasks.push(Task::One(last.node.head, last.parts, leads, depth))?;
             push_row(tasks, last.before, first, depth)
         }
         None => Ok(()),

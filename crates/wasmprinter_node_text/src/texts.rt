@@ -12,7 +12,7 @@ use std::io;
 use std::marker::Model;
 use wasmprinter_flat::operators::{Setting, write_word};
 use wasmprinter_labels::OpenLabels;
-use wasmprinter_nodes::Label;
+use wasmprinter_nodes::NodeText;
 use wasmprinter_ops::operator::Operator;
 use wasmprinter_print::Print;
 use wasmprinter_text::signature::Signatures;
@@ -45,12 +45,12 @@ impl Texts {
     ghost use Rattle.wasmprinter_print.specs.Emits.{Made, Through};
     ghost use Rattle.wasmprinter_labels.specs.Scan.{names_of, own_label};
     ghost use Rattle.wasmprinter_flat.specs.Settings.{setting_view, word_pieces};
-    ghost use Rattle.wasmprinter_node_text.specs.Shown.{shown, shown_in, IsIn};
-    ghost use Rattle.wasmprinter_node_text.specs.Buffers.{Grows, begun, with_text, with_sequences, unseen, texts_meaning};
+    ghost use Rattle.wasmprinter_node_text.specs.Shown.{shown_of_calls, shown_of_head, IsIn};
+    ghost use Rattle.wasmprinter_node_text.specs.Buffers.{Grows, with_text_begun, with_text, with_sequences, no_semicolons, texts_meaning};
 
     /// No text; with the sequences of styles, or without. Takes no memory.
     pub fn new(alloc: Global, paints: bool) -> Texts
-        ensures { result ≡ record { bytes = []; paints = paints; seen = unseen } }
+        ensures { result ≡ record { bytes = []; paints = paints; seen = no_semicolons } }
     {
         Texts {
             text: String::new(alloc),
@@ -61,7 +61,7 @@ impl Texts {
 
     /// Leaves all texts out. Their room stays.
     pub fn clear(&mut self)
-        ensures { self.new ≡ record { bytes = []; paints = self.old.paints; seen = unseen } }
+        ensures { self.new ≡ record { bytes = []; paints = self.old.paints; seen = no_semicolons } }
     {
         self.text.clear();
         self.seen = UNSEEN;
@@ -76,7 +76,7 @@ impl Texts {
 
     /// Begins the next text, and tells where.
     fn begin(&mut self) -> usize
-        ensures buffer { self.new ≡ begun self.old }
+        ensures buffer { self.new ≡ with_text_begun self.old }
         ensures start { result ≡ length self.old.bytes }
     {
         self.seen = UNSEEN;
@@ -93,11 +93,11 @@ impl Texts {
         Ok(())
     }
 
-    /// The label of the last text.
-    fn label(&self, start: usize, place: u64, hint: Option<bool>) -> Label
+    /// The head of the last text.
+    fn head(&self, start: usize, place: u64, hint: Option<bool>) -> NodeText
         ensures { result ≡ record { place = place; hint = hint; start = start; stop = length self.now.bytes; comment = self.now.seen.double } }
     {
-        Label {
+        NodeText {
             place,
             hint,
             start,
@@ -125,7 +125,7 @@ impl Texts {
         }
     }
 
-    /// Writes the text of an operator's node, its word and immediates, where these labels are open in front of it, and gives its label.
+    /// Writes the text of an operator's node, its word and immediates, where these labels are open in front of it, and gives its head.
     ///
     /// # Errors
     ///
@@ -137,33 +137,33 @@ impl Texts {
         operator: &Operator<'_>,
         place: u64,
         hint: Option<bool>,
-    ) -> Result<Label, AllocError>
+    ) -> Result<NodeText, AllocError>
         requires { length labels.now.labels + 1 < 2 ^ 64 }
         ensures paints { self.new.paints ≡ self.old.paints }
         ensures grows { Grows self.old.bytes self.new.bytes }
-        ensures inside { IfOk result (λ label. IsIn self.new.bytes label) }
-        ensures shows { IfOk result (λ label. shown_in self.new.bytes label ≡ shown place hint self.old.paints
+        ensures inside { IfOk result (λ head. IsIn self.new.bytes head) }
+        ensures shows { IfOk result (λ head. shown_of_head self.new.bytes head ≡ shown_of_calls place hint self.old.paints
             (all_calls defaults (word_pieces (setting_view S.signature_at setting.now (names_of labels.now)) (own_label labels.now) labels.now.labels operator.now))) }
     {
         let start = self.begin();
         self.push_operator(setting, labels, operator)?;
-        Ok(self.label(start, place, hint))
+        Ok(self.head(start, place, hint))
     }
 
-    /// Writes the text of a case of an `if`, its keyword, and gives its label.
+    /// Writes the text of a case of an `if`, its keyword, and gives its head.
     ///
     /// # Errors
     ///
     /// Where memory is refused. The texts are then as they were.
-    pub fn write_keyword(&mut self, keyword: &str, place: u64) -> Result<Label, AllocError>
+    pub fn write_keyword(&mut self, keyword: &str, place: u64) -> Result<NodeText, AllocError>
         ensures paints { self.new.paints ≡ self.old.paints }
         ensures grows { Grows self.old.bytes self.new.bytes }
-        ensures inside { IfOk result (λ label. IsIn self.new.bytes label) }
-        ensures shows { IfOk result (λ label. shown_in self.new.bytes label ≡ shown place None self.old.paints (Text keyword.now ∷ [])) }
+        ensures inside { IfOk result (λ head. IsIn self.new.bytes head) }
+        ensures shows { IfOk result (λ head. shown_of_head self.new.bytes head ≡ shown_of_calls place None self.old.paints (Text keyword.now ∷ [])) }
     {
         let start = self.begin();
         self.push_text(keyword)?;
-        Ok(self.label(start, place, None))
+        Ok(self.head(start, place, None))
     }
 
     /// Appends the sequences of a style, where they are wanted.

@@ -1,13 +1,13 @@
 -- What holds of all that stands first in nodes goes on to hold; and a map asks no more than what it gives for these.
 use Rattle.std.proofs.Common.{◌≡◌, ℕ, refl, subst}
-use Rattle.wasmprinter_spec.specs.Folding.Tree.{NodesOf, Nil, Snoc, joined, front, last, OperandsOf, Fit, Passed, Short, operands, with_operands}
-use Rattle.wasmprinter_spec.proofs.Folding.{AreLast, AreLast-operands}
-use Rattle.wasmprinter_nodes.specs.Building.{Open, Top, InBlock, InThen, InElse, StateOf, Step, Plain, Opens, OpensIf, Turns, Ends, turned, closed, step}
+use Rattle.wasmprinter_spec.specs.Folding.Tree.{NodesOf, Nil, Snoc, row_of_both, front, last, OperandsOf, Fit, Passed, Short, operand_search, with_operands}
+use Rattle.wasmprinter_spec.proofs.Folding.{AreLast, AreLast-operand_search}
+use Rattle.wasmprinter_nodes.specs.Building.{Open, Top, InBlock, InThen, InElse, StateOf, Step, Plain, Opens, OpensIf, Turns, Ends, state_after_else, state_after_end, step}
 use Rattle.wasmprinter_nodes.specs.Mapping.{map_nodes, map_open, map_state}
 use Rattle.wasmprinter_nodes.specs.Heads.{AllNodes, AllOpen, AllState, AllStep}
 
 module _ {H : Type 0} (P : H → Type 0) where
-  pub all_joined : (a b : NodesOf H) → AllNodes P (joined a b) → AllNodes P a × AllNodes P b
+  pub all_joined : (a b : NodesOf H) → AllNodes P (row_of_both a b) → AllNodes P a × AllNodes P b
   all_joined a Nil h = (h, tt)
   all_joined a (Snoc b x r held) h =
       let both = all_joined a b h.0 in
@@ -29,13 +29,13 @@ module _ {H : Type 0} (P : H → Type 0) where
   all_with_operands f x gives Passed e h p = (h, p, tt)
   all_with_operands f x gives Short e h p = (h, p, tt)
 
-  all_turned : (otherwise : H) (o : Open H) (f : NodesOf H) → AllOpen P o → AllNodes P f → P otherwise → AllState P (turned otherwise o f)
+  all_turned : (otherwise : H) (o : Open H) (f : NodesOf H) → AllOpen P o → AllNodes P f → P otherwise → AllState P (state_after_else otherwise o f)
   all_turned otherwise Top f h g p = (h, g)
   all_turned otherwise (InBlock o b x q) f h g p = (h, g)
   all_turned otherwise (InThen o b d x y q) f h g p = ((h.0, h.1, (h.2, h.4, g), h.3, p), tt)
   all_turned otherwise (InElse o b d x y q) f h g p = (h, g)
 
-  all_closed : (o : Open H) (f : NodesOf H) → AllOpen P o → AllNodes P f → AllState P (closed o f)
+  all_closed : (o : Open H) (f : NodesOf H) → AllOpen P o → AllNodes P f → AllState P (state_after_end o f)
   all_closed Top f h g = (h, g)
   all_closed (InBlock o b x q) f h g = (h.0, (h.1, h.2, g))
   all_closed (InThen o b d x y q) f h g = (h.0, (h.1, h.3, (h.2, h.4, g)))
@@ -43,7 +43,7 @@ module _ {H : Type 0} (P : H → Type 0) where
 
   pub all_step : (s : StateOf H) (t : Step H) → AllState P s → AllStep P t → AllState P (step s t)
   all_step s (Plain x takes gives) h p =
-      (h.0, all_with_operands s.groups x gives (operands takes s.groups) (AreLast-operands takes s.groups) h.1 p)
+      (h.0, all_with_operands s.groups x gives (operand_search takes s.groups) (AreLast-operand_search takes s.groups) h.1 p)
   all_step s (Opens x gives) h p = ((h.0, h.1, p), tt)
   all_step s (OpensIf x y gives) h p = ((h.0, all_front s.groups h.1, all_last s.groups h.1, p.0, p.1), tt)
   all_step s (Turns otherwise) h p = all_turned otherwise s.outer s.groups h.0 h.1 p

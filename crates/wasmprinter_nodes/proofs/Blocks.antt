@@ -2,69 +2,69 @@
 use Rattle.std.proofs.Common.{◌≡◌, ℕ, suc, ◌+◌, ◌-◌, ◌≤◌, List, [], ◌∷◌, ◌++◌, length, drop, refl, sym, ◌∙◌, ap, subst, ◌⊎◌, inl, inr, arith, append_assoc, length-append}
 use Rattle.std.proofs.lemmas.List.{same_from_push, drop_at, append-nil}
 use Rattle.wasmprinter_spec.specs.Folding.Arities.{greatest}
-use Rattle.wasmprinter_spec.specs.Folding.Tree.{NodesOf, Nil, Snoc, front, last, count, OperandsOf, Fit, Passed, Short, operands, with_operands}
-use Rattle.wasmprinter_spec.proofs.Folding.{joined-front-last, AreLast, AreLast-operands}
-use Rattle.wasmprinter_nodes.specs.declared.Label.{Label}
+use Rattle.wasmprinter_spec.specs.Folding.Tree.{NodesOf, Nil, Snoc, front, last, count, OperandsOf, Fit, Passed, Short, operand_search, with_operands}
+use Rattle.wasmprinter_spec.proofs.Folding.{row_of_both-front-last, AreLast, AreLast-operand_search}
+use Rattle.wasmprinter_nodes.specs.declared.NodeText.{NodeText}
 use Rattle.wasmprinter_nodes.specs.declared.Node.{Node}
 use Rattle.wasmprinter_nodes.specs.declared.builder.Frame.{Frame}
 use Rattle.wasmprinter_nodes.specs.declared.builder.Arm.{Arm}
 use Rattle.wasmprinter_nodes.specs.declared.builder.Arm.TheVariants as arm
 use Rattle.wasmprinter_nodes.specs.Postorder.{postorder, forest_of, IsPostorder}
 use Rattle.wasmprinter_nodes.specs.Rows.{outcome, IsPlace}
-use Rattle.wasmprinter_nodes.specs.Building.{Open, Top, InBlock, InThen, InElse, state_at, closed, turned}
+use Rattle.wasmprinter_nodes.specs.Building.{Open, Top, InBlock, InThen, InElse, state_at, state_after_end, state_after_else}
 use Rattle.wasmprinter_nodes.specs.Frames.{State, base, frame_behind, frames, StandsAt, with_node, with_if}
-use Rattle.wasmprinter_nodes.proofs.Postorders.{forest_of-postorder, length-postorder, postorder-joined, count-joined, IsPostorder-postorder}
+use Rattle.wasmprinter_nodes.proofs.Postorders.{forest_of-postorder, length-postorder, postorder-row_of_both, count-row_of_both, IsPostorder-postorder}
 
 -- ---- the innermost block
 
 -- its frame stands last
-abbrev pub IsTop : Open Label → List Frame → Frame → Type 0
+abbrev pub IsTop : Open NodeText → List Frame → Frame → Type 0
 IsTop Top rest t = ⊥
 IsTop (InBlock o b x q) rest t = (rest ≡ frames o) × (t ≡ frame_behind (base o ++ postorder b) [] arm.Block x q)
 IsTop (InThen o b d x y q) rest t = (rest ≡ frames o) × (t ≡ frame_behind (base o ++ postorder b) (postorder d) (arm.Then y) x q)
 IsTop (InElse o b d x y q) rest t = (rest ≡ frames o) × (t ≡ frame_behind (base o ++ postorder b) (postorder d) (arm.Else y) x q)
 
-is_top : (o : Open Label) (rest : List Frame) (t : Frame) → frames o ≡ rest ++ t ∷ [] → IsTop o rest t
+is_top : (o : Open NodeText) (rest : List Frame) (t : Frame) → frames o ≡ rest ++ t ∷ [] → IsTop o rest t
 is_top Top rest t e = absurd (omega (arith, ap length e, length-append rest (t ∷ [])))
 is_top (InBlock o b x q) rest t e = let p = same_from_push _ _ _ _ e in (sym p.0, sym p.1)
 is_top (InThen o b d x y q) rest t e = let p = same_from_push _ _ _ _ e in (sym p.0, sym p.1)
 is_top (InElse o b d x y q) rest t e = let p = same_from_push _ _ _ _ e in (sym p.0, sym p.1)
 
 -- where the nodes of the open part begin
-start-top : (o : Open Label) (rest : List Frame) (t : Frame) → IsTop o rest t → t.start ≡ length (base o)
+start-top : (o : Open NodeText) (rest : List Frame) (t : Frame) → IsTop o rest t → t.start ≡ length (base o)
 start-top Top rest t h = absurd h
 start-top (InBlock o b x q) rest t h =
     ap (λ (u : Frame). u.start) h.1 ∙ ap length (append-nil (base o ++ postorder b))
 start-top (InThen o b d x y q) rest t h = ap (λ (u : Frame). u.start) h.1
 start-top (InElse o b d x y q) rest t h = ap (λ (u : Frame). u.start) h.1
 
-pub start_some : (o : Open Label) (all rest : List Frame) (t : Frame) → all ≡ frames o → all ≡ rest ++ t ∷ [] → t.start ≡ length (base o)
+pub start_some : (o : Open NodeText) (all rest : List Frame) (t : Frame) → all ≡ frames o → all ≡ rest ++ t ∷ [] → t.start ≡ length (base o)
 start_some o all rest t e h = start-top o rest t (is_top o rest t (sym e ∙ h))
 
-length-frames : (o : Open Label) → length (frames o) ≡ 0 → length (base o) ≡ 0
+length-frames : (o : Open NodeText) → length (frames o) ≡ 0 → length (base o) ≡ 0
 length-frames Top e = refl
 length-frames (InBlock o b x q) e = absurd (omega (arith, e, length-append {A = Frame}))
 length-frames (InThen o b d x y q) e = absurd (omega (arith, e, length-append {A = Frame}))
 length-frames (InElse o b d x y q) e = absurd (omega (arith, e, length-append {A = Frame}))
 
-pub start_none : (o : Open Label) (all : List Frame) → all ≡ frames o → length all ≡ 0 → 0 ≡ length (base o)
+pub start_none : (o : Open NodeText) (all : List Frame) → all ≡ frames o → length all ≡ 0 → 0 ≡ length (base o)
 start_none o all e h = sym (length-frames o (sym (ap length e) ∙ h))
 
 -- ---- one node more
 
 -- a node that is put behind those that it holds
-wrapped : (before : List Node) (b parts : NodesOf Label) (x : Label) (r from : ℕ) (nodes : List Node)
+wrapped : (before : List Node) (b parts : NodesOf NodeText) (x : NodeText) (r from : ℕ) (nodes : List Node)
     → nodes ≡ (before ++ postorder b) ++ postorder parts → from ≡ length (before ++ postorder b)
     → with_node nodes x r from ≡ before ++ postorder (Snoc b x r parts)
 wrapped before b parts x r from nodes e at =
     let size : length nodes - from ≡ count parts =
     omega (arith, ap length e, length-append (before ++ postorder b) (postorder parts), length-postorder parts, at) in
-    let node : ℕ → Node = λ n. record { label = x; results = r; size = suc n } in
+    let node : ℕ → Node = λ n. record { head = x; results = r; size = suc n } in
     ap (λ (n : ℕ). nodes ++ node n ∷ []) size
     ∙ (ap (λ (l : List Node). l ++ node (count parts) ∷ []) e ∙ simp append_assoc)
 
 -- the nodes of the open part as a row of their own
-module _ (nodes before : List Node) (f : NodesOf Label) (e : nodes ≡ before ++ postorder f) where
+module _ (nodes before : List Node) (f : NodesOf NodeText) (e : nodes ≡ before ++ postorder f) where
   row_is : drop (length before) nodes ≡ postorder f
   row_is = ap (drop (length before)) e ∙ drop_at before (postorder f) (length before) refl
 
@@ -77,15 +77,15 @@ module _ (nodes before : List Node) (f : NodesOf Label) (e : nodes ≡ before ++
 -- ---- a plain operator
 
 -- wherever its operands begin
-placed : (nodes before : List Node) (f : NodesOf Label) (x : Label) (gives from results : ℕ) (o : OperandsOf Label)
+placed : (nodes before : List Node) (f : NodesOf NodeText) (x : NodeText) (gives from results : ℕ) (o : OperandsOf NodeText)
     → AreLast f o → nodes ≡ before ++ postorder f
     → IsPlace (length before) (length nodes) gives (outcome o) from results
     → with_node nodes x results from ≡ before ++ postorder (with_operands f x gives o)
 placed nodes before f x gives from results (Fit b run) h e p =
     let split : nodes ≡ (before ++ postorder b) ++ postorder run =
     e
-    ∙ (ap (λ (g : NodesOf Label). before ++ postorder g) h
-    ∙ (ap (λ (l : List Node). before ++ l) (postorder-joined b run)
+    ∙ (ap (λ (g : NodesOf NodeText). before ++ postorder g) h
+    ∙ (ap (λ (l : List Node). before ++ l) (postorder-row_of_both b run)
     ∙ sym (append_assoc before (postorder b) (postorder run)))) in
     let at : from ≡ length (before ++ postorder b) =
     omega (arith, p.0, length-append before (postorder b), length-postorder b) in
@@ -95,46 +95,46 @@ placed nodes before f x gives from results Passed h e p =
 placed nodes before f x gives from results Short h e p =
     rw p.1 (wrapped before f Nil x gives from nodes (e ∙ sym (append-nil (before ++ postorder f))) (p.0 ∙ ap length e))
 
-place_fits : (start len gives from results : ℕ) (f : NodesOf Label) (o : OperandsOf Label) → AreLast f o
+place_fits : (start len gives from results : ℕ) (f : NodesOf NodeText) (o : OperandsOf NodeText) → AreLast f o
     → start + count f ≡ len → IsPlace start len gives (outcome o) from results → from ≤ len
-place_fits start len gives from results f (Fit b run) h e p = omega (arith, p.0, e, ap count h, count-joined b run)
+place_fits start len gives from results f (Fit b run) h e p = omega (arith, p.0, e, ap count h, count-row_of_both b run)
 place_fits start len gives from results f Passed h e p = omega (arith, p.0)
 place_fits start len gives from results f Short h e p = omega (arith, p.0)
 
 module _ (nodes : List Node) (blocks : List Frame) (s : State) (h : StandsAt nodes blocks s)
     (start takes gives from results : ℕ) (begins : start ≡ length (base s.outer))
-    (p : IsPlace start (length nodes) gives (outcome (operands takes (forest_of (drop start nodes)))) from results) where
-  here : IsPlace (length (base s.outer)) (length nodes) gives (outcome (operands takes s.groups)) from results
+    (p : IsPlace start (length nodes) gives (outcome (operand_search takes (forest_of (drop start nodes)))) from results) where
+  here : IsPlace (length (base s.outer)) (length nodes) gives (outcome (operand_search takes s.groups)) from results
   here =
-      let P : ℕ → NodesOf Label → Type 0 = λ n g. IsPlace n (length nodes) gives (outcome (operands takes g)) from results in
+      let P : ℕ → NodesOf NodeText → Type 0 = λ n g. IsPlace n (length nodes) gives (outcome (operand_search takes g)) from results in
       let Q : ℕ → Type 0 = λ n. P n (forest_of (drop n nodes)) in
       subst (P (length (base s.outer))) (row_forest nodes (base s.outer) s.groups h.rows) (subst Q begins p)
 
   pub plain_fits : from ≤ length nodes
   plain_fits =
-      place_fits (length (base s.outer)) (length nodes) gives from results s.groups (operands takes s.groups) (AreLast-operands takes s.groups)
+      place_fits (length (base s.outer)) (length nodes) gives from results s.groups (operand_search takes s.groups) (AreLast-operand_search takes s.groups)
       (sym (ap length h.rows ∙ (length-append (base s.outer) (postorder s.groups) ∙ ap (λ (n : ℕ). length (base s.outer) + n) (length-postorder s.groups))))
       here
 
-  pub plain_stands : (x : Label) (new : List Node) → new ≡ with_node nodes x results from
-      → StandsAt new blocks (state_at s.outer (with_operands s.groups x gives (operands takes s.groups)))
+  pub plain_stands : (x : NodeText) (new : List Node) → new ≡ with_node nodes x results from
+      → StandsAt new blocks (state_at s.outer (with_operands s.groups x gives (operand_search takes s.groups)))
   plain_stands x new e =
       record {
         rows =
             e
-            ∙ placed nodes (base s.outer) s.groups x gives from results (operands takes s.groups) (AreLast-operands takes s.groups) h.rows here;
+            ∙ placed nodes (base s.outer) s.groups x gives from results (operand_search takes s.groups) (AreLast-operand_search takes s.groups) h.rows here;
         open_blocks = h.open_blocks;
       }
 
 -- ---- the beginning of a block
 
 pub opens_block : (nodes : List Node) (blocks : List Frame) (s : State) → StandsAt nodes blocks s
-    → (start gives : ℕ) (x : Label) → start ≡ length nodes → (new : List Frame)
-    → new ≡ blocks ++ record { arm = arm.Block; label = x; gives = gives; from = start; start = start } ∷ []
+    → (start gives : ℕ) (x : NodeText) → start ≡ length nodes → (new : List Frame)
+    → new ≡ blocks ++ record { arm = arm.Block; head = x; gives = gives; from = start; start = start } ∷ []
     → StandsAt nodes new (state_at (InBlock s.outer s.groups x gives) Nil)
 opens_block nodes blocks s h start gives x here new e =
     let all : List Node = base s.outer ++ postorder s.groups in
-    let frame : ℕ → ℕ → Frame = λ a b. record { arm = arm.Block; label = x; gives = gives; from = a; start = b } in
+    let frame : ℕ → ℕ → Frame = λ a b. record { arm = arm.Block; head = x; gives = gives; from = a; start = b } in
     record {
       rows = h.rows ∙ sym (append-nil all);
       open_blocks =
@@ -145,24 +145,24 @@ opens_block nodes blocks s h start gives x here new e =
     }
 
 pub opens_if : (nodes : List Node) (blocks : List Frame) (s : State) → StandsAt nodes blocks s
-    → (outer from start gives : ℕ) (x y : Label) → outer ≡ length (base s.outer)
+    → (outer from start gives : ℕ) (x y : NodeText) → outer ≡ length (base s.outer)
     → from ≡ outer + count (front (forest_of (drop outer nodes))) → start ≡ length nodes → (new : List Frame)
-    → new ≡ blocks ++ record { arm = arm.Then y; label = x; gives = gives; from = from; start = start } ∷ []
+    → new ≡ blocks ++ record { arm = arm.Then y; head = x; gives = gives; from = from; start = start } ∷ []
     → StandsAt nodes new (state_at (InThen s.outer (front s.groups) (last s.groups) x y gives) Nil)
 opens_if nodes blocks s h outer from start gives x y begins at here new e =
     let g = s.groups in
     let split : nodes ≡ (base s.outer ++ postorder (front g)) ++ postorder (last g) =
     h.rows
-    ∙ (ap (λ (f : NodesOf Label). base s.outer ++ postorder f) (sym (joined-front-last g))
-    ∙ (ap (λ (l : List Node). base s.outer ++ l) (postorder-joined (front g) (last g))
+    ∙ (ap (λ (f : NodesOf NodeText). base s.outer ++ postorder f) (sym (row_of_both-front-last g))
+    ∙ (ap (λ (l : List Node). base s.outer ++ l) (postorder-row_of_both (front g) (last g))
     ∙ sym (append_assoc (base s.outer) (postorder (front g)) (postorder (last g))))) in
     let Q : ℕ → Type 0 = λ n. from ≡ n + count (front (forest_of (drop n nodes))) in
     let at_base : from ≡ length (base s.outer) + count (front g) =
     subst Q begins at
-    ∙ ap (λ (f : NodesOf Label). length (base s.outer) + count (front f)) (row_forest nodes (base s.outer) g h.rows) in
+    ∙ ap (λ (f : NodesOf NodeText). length (base s.outer) + count (front f)) (row_forest nodes (base s.outer) g h.rows) in
     let at_front : from ≡ length (base s.outer ++ postorder (front g)) =
     omega (arith, at_base, length-append (base s.outer) (postorder (front g)), length-postorder (front g)) in
-    let frame : ℕ → ℕ → Frame = λ a b. record { arm = arm.Then y; label = x; gives = gives; from = a; start = b } in
+    let frame : ℕ → ℕ → Frame = λ a b. record { arm = arm.Then y; head = x; gives = gives; from = a; start = b } in
     record {
       rows = split ∙ sym (append-nil ((base s.outer ++ postorder (front g)) ++ postorder (last g)));
       open_blocks =
@@ -176,28 +176,28 @@ opens_if nodes blocks s h outer from start gives x y begins at here new e =
 
 pub record ClosesBlock (nodes : List Node) (rest : List Frame) (t : Frame) (s : State) : Type 0 where
   pub fits : t.from ≤ length nodes
-  pub stands : (new : List Node) → new ≡ with_node nodes t.label t.gives t.from → StandsAt new rest s
+  pub stands : (new : List Node) → new ≡ with_node nodes t.head t.gives t.from → StandsAt new rest s
 
-pub record ClosesIf (nodes : List Node) (rest : List Frame) (t : Frame) (case : Label) (s : State) : Type 0 where
+pub record ClosesIf (nodes : List Node) (rest : List Frame) (t : Frame) (case : NodeText) (s : State) : Type 0 where
   pub fits : t.start ≤ length nodes
   pub in_order : t.from ≤ t.start
   pub stands : (new : List Node) → new ≡ with_if nodes case t → StandsAt new rest s
 
-pub record Turned (nodes : List Node) (rest : List Frame) (t : Frame) (case otherwise : Label) (s : State) : Type 0 where
+pub record Turned (nodes : List Node) (rest : List Frame) (t : Frame) (case otherwise : NodeText) (s : State) : Type 0 where
   pub fits : t.start ≤ length nodes
   pub stands : (mid : List Node) → mid ≡ with_node nodes case 0 t.start
       → StandsAt mid (rest ++ record t { arm = arm.Else otherwise; start = length mid } ∷ []) s
 
-ClosesBlock-at : (o : Open Label) (b f : NodesOf Label) (x : Label) (q : ℕ) (nodes : List Node)
+ClosesBlock-at : (o : Open NodeText) (b f : NodesOf NodeText) (x : NodeText) (q : ℕ) (nodes : List Node)
     → nodes ≡ (base o ++ postorder b) ++ postorder f
-    → ClosesBlock nodes (frames o) (frame_behind (base o ++ postorder b) [] arm.Block x q) (closed (InBlock o b x q) f)
+    → ClosesBlock nodes (frames o) (frame_behind (base o ++ postorder b) [] arm.Block x q) (state_after_end (InBlock o b x q) f)
 ClosesBlock-at o b f x q nodes e =
     record {
       fits = omega (arith, ap length e, length-append (base o ++ postorder b) (postorder f));
       stands = λ new n. record { rows = n ∙ wrapped (base o) b f x q _ nodes e refl; open_blocks = refl };
     }
 
-ClosesIf-at : (o : Open Label) (b d f : NodesOf Label) (a : Arm) (x y : Label) (q : ℕ) (nodes : List Node)
+ClosesIf-at : (o : Open NodeText) (b d f : NodesOf NodeText) (a : Arm) (x y : NodeText) (q : ℕ) (nodes : List Node)
     → nodes ≡ ((base o ++ postorder b) ++ postorder d) ++ postorder f
     → ClosesIf nodes (frames o) (frame_behind (base o ++ postorder b) (postorder d) a x q) y (state_at o (Snoc b x q (Snoc d y 0 f)))
 ClosesIf-at o b d f a x y q nodes e =
@@ -210,9 +210,9 @@ ClosesIf-at o b d f a x y q nodes e =
           λ new n. record { rows = n ∙ wrapped (base o) b (Snoc d y 0 f) x q _ _ case refl; open_blocks = refl };
     }
 
-Turned-at : (o : Open Label) (b d f : NodesOf Label) (x y z : Label) (q : ℕ) (nodes : List Node)
+Turned-at : (o : Open NodeText) (b d f : NodesOf NodeText) (x y z : NodeText) (q : ℕ) (nodes : List Node)
     → nodes ≡ ((base o ++ postorder b) ++ postorder d) ++ postorder f
-    → Turned nodes (frames o) (frame_behind (base o ++ postorder b) (postorder d) (arm.Then y) x q) y z (turned z (InThen o b d x y q) f)
+    → Turned nodes (frames o) (frame_behind (base o ++ postorder b) (postorder d) (arm.Then y) x q) y z (state_after_else z (InThen o b d x y q) f)
 Turned-at o b d f x y z q nodes e =
     let case : with_node nodes y 0 (length ((base o ++ postorder b) ++ postorder d)) ≡ (base o ++ postorder b) ++ postorder (Snoc d y 0 f) =
     wrapped (base o ++ postorder b) d f y 0 _ nodes e refl in
@@ -222,21 +222,21 @@ Turned-at o b d f x y z q nodes e =
           λ mid m. record {
             rows = (m ∙ case) ∙ sym (append-nil ((base o ++ postorder b) ++ postorder (Snoc d y 0 f)));
             open_blocks =
-                ap (λ (n : ℕ). frames o ++ record { arm = arm.Else z; label = x; gives = q; from = length (base o ++ postorder b); start = n } ∷ [])
+                ap (λ (n : ℕ). frames o ++ record { arm = arm.Else z; head = x; gives = q; from = length (base o ++ postorder b); start = n } ∷ [])
                 (ap length (m ∙ case));
           };
     }
 
 -- by the frame that was last
-block_top : (o : Open Label) (f : NodesOf Label) (nodes : List Node) (rest : List Frame) (t : Frame)
-    → nodes ≡ base o ++ postorder f → IsTop o rest t → t.arm ≡ arm.Block → ClosesBlock nodes rest t (closed o f)
+block_top : (o : Open NodeText) (f : NodesOf NodeText) (nodes : List Node) (rest : List Frame) (t : Frame)
+    → nodes ≡ base o ++ postorder f → IsTop o rest t → t.arm ≡ arm.Block → ClosesBlock nodes rest t (state_after_end o f)
 block_top Top f nodes rest t e h a = absurd h
 block_top (InBlock o b x q) f nodes rest t e h a = rw (h.0, h.1) (ClosesBlock-at o b f x q nodes e)
 block_top (InThen o b d x y q) f nodes rest t e h a = absurd (cc (ap (λ (u : Frame). u.arm) h.1))
 block_top (InElse o b d x y q) f nodes rest t e h a = absurd (cc (ap (λ (u : Frame). u.arm) h.1))
 
-then_top : (o : Open Label) (f : NodesOf Label) (nodes : List Node) (rest : List Frame) (t : Frame) (z : Label)
-    → nodes ≡ base o ++ postorder f → IsTop o rest t → t.arm ≡ arm.Then z → ClosesIf nodes rest t z (closed o f)
+then_top : (o : Open NodeText) (f : NodesOf NodeText) (nodes : List Node) (rest : List Frame) (t : Frame) (z : NodeText)
+    → nodes ≡ base o ++ postorder f → IsTop o rest t → t.arm ≡ arm.Then z → ClosesIf nodes rest t z (state_after_end o f)
 then_top Top f nodes rest t z e h a = absurd h
 then_top (InBlock o b x q) f nodes rest t z e h a = absurd (cc (ap (λ (u : Frame). u.arm) h.1))
 then_top (InThen o b d x y q) f nodes rest t z e h a =
@@ -244,8 +244,8 @@ then_top (InThen o b d x y q) f nodes rest t z e h a =
     rw (h.0, h.1, same) (ClosesIf-at o b d f (arm.Then y) x y q nodes e)
 then_top (InElse o b d x y q) f nodes rest t z e h a = absurd (cc (ap (λ (u : Frame). u.arm) h.1))
 
-else_top : (o : Open Label) (f : NodesOf Label) (nodes : List Node) (rest : List Frame) (t : Frame) (z : Label)
-    → nodes ≡ base o ++ postorder f → IsTop o rest t → t.arm ≡ arm.Else z → ClosesIf nodes rest t z (closed o f)
+else_top : (o : Open NodeText) (f : NodesOf NodeText) (nodes : List Node) (rest : List Frame) (t : Frame) (z : NodeText)
+    → nodes ≡ base o ++ postorder f → IsTop o rest t → t.arm ≡ arm.Else z → ClosesIf nodes rest t z (state_after_end o f)
 else_top Top f nodes rest t z e h a = absurd h
 else_top (InBlock o b x q) f nodes rest t z e h a = absurd (cc (ap (λ (u : Frame). u.arm) h.1))
 else_top (InThen o b d x y q) f nodes rest t z e h a = absurd (cc (ap (λ (u : Frame). u.arm) h.1))
@@ -253,9 +253,9 @@ else_top (InElse o b d x y q) f nodes rest t z e h a =
     let same : z ≡ y = cc (ap (λ (u : Frame). u.arm) h.1) in
     rw (h.0, h.1, same) (ClosesIf-at o b d f (arm.Else y) x y q nodes e)
 
-turn_top : (o : Open Label) (f : NodesOf Label) (nodes : List Node) (rest : List Frame) (t : Frame) (z otherwise : Label)
+turn_top : (o : Open NodeText) (f : NodesOf NodeText) (nodes : List Node) (rest : List Frame) (t : Frame) (z otherwise : NodeText)
     → nodes ≡ base o ++ postorder f → IsTop o rest t → t.arm ≡ arm.Then z
-    → Turned nodes rest t z otherwise (turned otherwise o f)
+    → Turned nodes rest t z otherwise (state_after_else otherwise o f)
 turn_top Top f nodes rest t z w e h a = absurd h
 turn_top (InBlock o b x q) f nodes rest t z w e h a = absurd (cc (ap (λ (u : Frame). u.arm) h.1))
 turn_top (InThen o b d x y q) f nodes rest t z w e h a =
@@ -267,12 +267,12 @@ module _ (nodes : List Node) (blocks rest : List Frame) (t : Frame) (s : State) 
   top : IsTop s.outer rest t
   top = is_top s.outer rest t (sym h.open_blocks ∙ e)
 
-  pub closes_block : t.arm ≡ arm.Block → ClosesBlock nodes rest t (closed s.outer s.groups)
+  pub closes_block : t.arm ≡ arm.Block → ClosesBlock nodes rest t (state_after_end s.outer s.groups)
   closes_block = block_top s.outer s.groups nodes rest t h.rows top
 
-  pub closes_if : (case : Label) → (t.arm ≡ arm.Then case) ⊎ (t.arm ≡ arm.Else case) → ClosesIf nodes rest t case (closed s.outer s.groups)
+  pub closes_if : (case : NodeText) → (t.arm ≡ arm.Then case) ⊎ (t.arm ≡ arm.Else case) → ClosesIf nodes rest t case (state_after_end s.outer s.groups)
   closes_if case (inl a) = then_top s.outer s.groups nodes rest t case h.rows top a
   closes_if case (inr a) = else_top s.outer s.groups nodes rest t case h.rows top a
 
-  pub turns : (case otherwise : Label) → t.arm ≡ arm.Then case → Turned nodes rest t case otherwise (turned otherwise s.outer s.groups)
+  pub turns : (case otherwise : NodeText) → t.arm ≡ arm.Then case → Turned nodes rest t case otherwise (state_after_else otherwise s.outer s.groups)
   turns case otherwise = turn_top s.outer s.groups nodes rest t case otherwise h.rows top

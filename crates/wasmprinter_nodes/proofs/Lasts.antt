@@ -2,28 +2,28 @@
 use Rattle.std.proofs.Common.{◌≡◌, ℕ, suc, ◌+◌, ◌-◌, ◌≤◌, List, [], ◌∷◌, ◌++◌, length, take, drop, sym, ◌∙◌, ap, subst, arith, length-append}
 use Rattle.std.proofs.lemmas.List.{same_from_push, take_at, drop_at}
 use Rattle.wasmprinter_spec.specs.Folding.Tree.{NodesOf, Nil, Snoc, count, front}
-use Rattle.wasmprinter_nodes.specs.declared.Label.{Label}
+use Rattle.wasmprinter_nodes.specs.declared.NodeText.{NodeText}
 use Rattle.wasmprinter_nodes.specs.declared.Node.{Node}
 use Rattle.wasmprinter_nodes.specs.Postorder.{postorder, forest_of, IsPostorder}
 use Rattle.wasmprinter_nodes.specs.Rows.{IsLast}
 use Rattle.wasmprinter_nodes.proofs.Postorders.{forest_of-postorder, length-postorder, IsPostorder-postorder, length-row}
 
-pub record EndsIn (f : NodesOf Label) (rest : List Node) (node : Node) : Type 0 where
-  pub before : NodesOf Label
-  pub parts : NodesOf Label
-  pub is : f ≡ Snoc before node.label node.results parts
+pub record EndsIn (f : NodesOf NodeText) (rest : List Node) (node : Node) : Type 0 where
+  pub before : NodesOf NodeText
+  pub parts : NodesOf NodeText
+  pub is : f ≡ Snoc before node.head node.results parts
   pub is_rest : postorder before ++ postorder parts ≡ rest
   pub is_size : suc (count parts) ≡ node.size
 
-ends_in : (f : NodesOf Label) (rest : List Node) (node : Node) → postorder f ≡ rest ++ node ∷ [] → EndsIn f rest node
+ends_in : (f : NodesOf NodeText) (rest : List Node) (node : Node) → postorder f ≡ rest ++ node ∷ [] → EndsIn f rest node
 ends_in Nil rest node e = absurd (omega (arith, ap length e, length-append rest (node ∷ [])))
 ends_in (Snoc b h r parts) rest node e =
-    let mine : Node = record { label = h; results = r; size = suc (count parts) } in
+    let mine : Node = record { head = h; results = r; size = suc (count parts) } in
     let p = same_from_push (postorder b ++ postorder parts) rest mine node e in
     record {
       before = b;
       parts = parts;
-      is = ap (λ (n : Node). Snoc b n.label n.results parts) p.1;
+      is = ap (λ (n : Node). Snoc b n.head n.results parts) p.1;
       is_rest = p.0;
       is_size = ap (λ (n : Node). n.size) p.1;
     }
@@ -59,8 +59,8 @@ module _ (row rest : List Node) (node : Node) (h : IsPostorder row) (e : row ≡
       record {
         whole =
             last_of.is
-            ∙ (ap (λ (x : NodesOf Label). Snoc x node.label node.results last_of.parts) (sym fb)
-            ∙ ap (λ (x : NodesOf Label). Snoc (forest_of before) node.label node.results x) (sym fp));
+            ∙ (ap (λ (x : NodesOf NodeText). Snoc x node.head node.results last_of.parts) (sym fb)
+            ∙ ap (λ (x : NodesOf NodeText). Snoc (forest_of before) node.head node.results x) (sym fp));
         before_row = subst IsPostorder (sym b) (IsPostorder-postorder last_of.before);
         parts_row = subst IsPostorder (sym p) (IsPostorder-postorder last_of.parts);
         lengths =
@@ -71,4 +71,4 @@ module _ (row rest : List Node) (node : Node) (h : IsPostorder row) (e : row ≡
 pub front_count : (row before : List Node) (node : Node) (parts : List Node) → IsLast row before node parts
     → length before ≡ count (front (forest_of row))
 front_count row before node parts is =
-    length-row before is.before_row ∙ ap (λ (f : NodesOf Label). count (front f)) (sym is.whole)
+    length-row before is.before_row ∙ ap (λ (f : NodesOf NodeText). count (front f)) (sym is.whole)

@@ -1,8 +1,8 @@
 -- The steps of the builder take no notice of what stands first in a node.
 use Rattle.std.proofs.Common.{◌≡◌, ℕ, zero, suc, List, [], ◌∷◌, map, refl, sym, ◌∙◌, ap, Bool, true, false, cond, ltb, eqb}
-use Rattle.wasmprinter_spec.specs.Folding.Arities.{saturated}
-use Rattle.wasmprinter_spec.specs.Folding.Tree.{NodesOf, Nil, Snoc, front, last, OperandsOf, Fit, Passed, Short, with_last, operands_from, operands, with_operands}
-use Rattle.wasmprinter_nodes.specs.Building.{Open, Top, InBlock, InThen, InElse, StateOf, Step, Plain, Opens, OpensIf, Turns, Ends, state_at, turned, closed, step, run_all}
+use Rattle.wasmprinter_spec.specs.Folding.Arities.{saturating_sum}
+use Rattle.wasmprinter_spec.specs.Folding.Tree.{NodesOf, Nil, Snoc, front, last, OperandsOf, Fit, Passed, Short, with_last, operands_from, operand_search, with_operands}
+use Rattle.wasmprinter_nodes.specs.Building.{Open, Top, InBlock, InThen, InElse, StateOf, Step, Plain, Opens, OpensIf, Turns, Ends, state_at, state_after_else, state_after_end, step, run_all}
 use Rattle.wasmprinter_nodes.specs.Mapping.{map_nodes, map_operands, map_open, map_state, map_step}
 
 module _ {H K : Type 0} (v : H → K) where
@@ -28,7 +28,7 @@ module _ {H K : Type 0} (v : H → K) where
       → operands_from wanted sum (map_nodes v f) ≡ map_operands v (operands_from wanted sum f)
   operands_from-map wanted sum Nil = refl
   operands_from-map wanted sum (Snoc b h r held) =
-      let next : ℕ = saturated sum r in
+      let next : ℕ = saturating_sum sum r in
       let found : OperandsOf H = Fit b (Snoc Nil h r held) in
       let deeper : OperandsOf H = with_last h r held (operands_from wanted next b) in
       ap (λ (o : OperandsOf K). cond (eqb next wanted) (map_operands v found) (cond (ltb wanted next) Passed o))
@@ -36,9 +36,9 @@ module _ {H K : Type 0} (v : H → K) where
       ∙ (ap (λ (o : OperandsOf K). cond (eqb next wanted) (map_operands v found) o) (cond-map (ltb wanted next) Passed deeper)
       ∙ cond-map (eqb next wanted) found (cond (ltb wanted next) Passed deeper))
 
-  pub operands-map : (wanted : ℕ) (f : NodesOf H) → operands wanted (map_nodes v f) ≡ map_operands v (operands wanted f)
-  operands-map zero f = refl
-  operands-map (suc n) f = operands_from-map (suc n) 0 f
+  pub operand_search-map : (wanted : ℕ) (f : NodesOf H) → operand_search wanted (map_nodes v f) ≡ map_operands v (operand_search wanted f)
+  operand_search-map zero f = refl
+  operand_search-map (suc n) f = operands_from-map (suc n) 0 f
 
   with_operands-map : (f : NodesOf H) (h : H) (gives : ℕ) (o : OperandsOf H)
       → with_operands (map_nodes v f) (v h) gives (map_operands v o) ≡ map_nodes v (with_operands f h gives o)
@@ -48,22 +48,22 @@ module _ {H K : Type 0} (v : H → K) where
 
   -- an operator with its operands
   pub folded-map : (f : NodesOf H) (h : H) (takes gives : ℕ)
-      → with_operands (map_nodes v f) (v h) gives (operands takes (map_nodes v f)) ≡ map_nodes v (with_operands f h gives (operands takes f))
+      → with_operands (map_nodes v f) (v h) gives (operand_search takes (map_nodes v f)) ≡ map_nodes v (with_operands f h gives (operand_search takes f))
   folded-map f h takes gives =
-      ap (with_operands (map_nodes v f) (v h) gives) (operands-map takes f) ∙ with_operands-map f h gives (operands takes f)
+      ap (with_operands (map_nodes v f) (v h) gives) (operand_search-map takes f) ∙ with_operands-map f h gives (operand_search takes f)
 
-  turned-map : (otherwise : H) (o : Open H) (f : NodesOf H)
-      → map_state v (turned otherwise o f) ≡ turned (v otherwise) (map_open v o) (map_nodes v f)
-  turned-map otherwise Top f = refl
-  turned-map otherwise (InBlock o b x q) f = refl
-  turned-map otherwise (InThen o b d x y q) f = refl
-  turned-map otherwise (InElse o b d x y q) f = refl
+  state_after_else-map : (otherwise : H) (o : Open H) (f : NodesOf H)
+      → map_state v (state_after_else otherwise o f) ≡ state_after_else (v otherwise) (map_open v o) (map_nodes v f)
+  state_after_else-map otherwise Top f = refl
+  state_after_else-map otherwise (InBlock o b x q) f = refl
+  state_after_else-map otherwise (InThen o b d x y q) f = refl
+  state_after_else-map otherwise (InElse o b d x y q) f = refl
 
-  closed-map : (o : Open H) (f : NodesOf H) → map_state v (closed o f) ≡ closed (map_open v o) (map_nodes v f)
-  closed-map Top f = refl
-  closed-map (InBlock o b x q) f = refl
-  closed-map (InThen o b d x y q) f = refl
-  closed-map (InElse o b d x y q) f = refl
+  state_after_end-map : (o : Open H) (f : NodesOf H) → map_state v (state_after_end o f) ≡ state_after_end (map_open v o) (map_nodes v f)
+  state_after_end-map Top f = refl
+  state_after_end-map (InBlock o b x q) f = refl
+  state_after_end-map (InThen o b d x y q) f = refl
+  state_after_end-map (InElse o b d x y q) f = refl
 
   pub step-map : (s : StateOf H) (t : Step H) → map_state v (step s t) ≡ step (map_state v s) (map_step v t)
   step-map s (Plain h takes gives) = ap (state_at (map_open v s.outer)) (sym (folded-map s.groups h takes gives))
@@ -71,8 +71,8 @@ module _ {H K : Type 0} (v : H → K) where
   step-map s (OpensIf h case gives) =
       ap (λ (f : NodesOf K). state_at (InThen (map_open v s.outer) f (map_nodes v (last s.groups)) (v h) (v case) gives) Nil) (sym (front-map s.groups))
       ∙ ap (λ (f : NodesOf K). state_at (InThen (map_open v s.outer) (front (map_nodes v s.groups)) f (v h) (v case) gives) Nil) (sym (last-map s.groups))
-  step-map s (Turns otherwise) = turned-map otherwise s.outer s.groups
-  step-map s Ends = closed-map s.outer s.groups
+  step-map s (Turns otherwise) = state_after_else-map otherwise s.outer s.groups
+  step-map s Ends = state_after_end-map s.outer s.groups
 
   pub run_all-map : (s : StateOf H) (ts : List (Step H)) → map_state v (run_all s ts) ≡ run_all (map_state v s) (map (map_step v) ts)
   run_all-map s [] = refl

@@ -1,39 +1,39 @@
 -- A whole list of operators.
 use Rattle.std.proofs.Common.{◌≡◌, List, [], ◌∷◌, ◌++◌, map, refl, sym, ◌∙◌, ap, subst}
 use Rattle.wasmprinter_spec.specs.Row as row
-use Rattle.wasmprinter_spec.specs.Folding.Code.{Item, Code, Done, Plain, Block, If, IfElse, flat, role, IsFit}
-use Rattle.wasmprinter_spec.specs.Folding.Tree.{Head, Of, Then, Else, NodesOf, Nodes, Nil, Snoc, joined, front, last, folded, tree_behind, tree}
-use Rattle.wasmprinter_nodes.specs.declared.Label.{Label}
+use Rattle.wasmprinter_spec.specs.Folding.Code.{Item, NestedCode, Done, Plain, Block, If, IfElse, flat, role, IsFit}
+use Rattle.wasmprinter_spec.specs.Folding.Tree.{Head, Of, ThenCase, ElseCase, NodesOf, Nodes, Nil, Snoc, row_of_both, front, last, with_operator, tree_behind, tree}
+use Rattle.wasmprinter_nodes.specs.declared.NodeText.{NodeText}
 use Rattle.wasmprinter_nodes.specs.declared.Node.{Node}
 use Rattle.wasmprinter_nodes.specs.declared.builder.Frame.{Frame}
 use Rattle.wasmprinter_nodes.specs.Postorder.{postorder, forest_of, IsPostorder}
 use Rattle.wasmprinter_nodes.specs.Building.{Open, Top, InBlock, InThen, InElse, StateOf, Step, start, state_at, step, step_of, steps, run_all}
 use Rattle.wasmprinter_nodes.specs.Mapping.{map_nodes, map_step}
 use Rattle.wasmprinter_nodes.specs.Frames.{State, base, StandsAt}
-use Rattle.wasmprinter_nodes.proofs.Postorders.{postorder-joined, forest_of-postorder, IsPostorder-postorder}
+use Rattle.wasmprinter_nodes.proofs.Postorders.{postorder-row_of_both, forest_of-postorder, IsPostorder-postorder}
 use Rattle.wasmprinter_nodes.proofs.Maps.{front-map, last-map, folded-map}
 
 -- ---- the nodes of a state
 
 -- the nodes of all open parts, one row behind another
-abbrev pub base_row : Open Label → NodesOf Label
+abbrev pub base_row : Open NodeText → NodesOf NodeText
 base_row Top = Nil
-base_row (InBlock o b x q) = joined (base_row o) b
-base_row (InThen o b d x y q) = joined (joined (base_row o) b) d
-base_row (InElse o b d x y q) = joined (joined (base_row o) b) d
+base_row (InBlock o b x q) = row_of_both (base_row o) b
+base_row (InThen o b d x y q) = row_of_both (row_of_both (base_row o) b) d
+base_row (InElse o b d x y q) = row_of_both (row_of_both (base_row o) b) d
 
-postorder-base_row : (o : Open Label) → base o ≡ postorder (base_row o)
+postorder-base_row : (o : Open NodeText) → base o ≡ postorder (base_row o)
 postorder-base_row Top = refl
 postorder-base_row (InBlock o b x q) =
-    ap (λ (l : List Node). l ++ postorder b) (postorder-base_row o) ∙ sym (postorder-joined (base_row o) b)
+    ap (λ (l : List Node). l ++ postorder b) (postorder-base_row o) ∙ sym (postorder-row_of_both (base_row o) b)
 postorder-base_row (InThen o b d x y q) =
     ap (λ (l : List Node). (l ++ postorder b) ++ postorder d) (postorder-base_row o)
-    ∙ (ap (λ (l : List Node). l ++ postorder d) (sym (postorder-joined (base_row o) b))
-    ∙ sym (postorder-joined (joined (base_row o) b) d))
+    ∙ (ap (λ (l : List Node). l ++ postorder d) (sym (postorder-row_of_both (base_row o) b))
+    ∙ sym (postorder-row_of_both (row_of_both (base_row o) b) d))
 postorder-base_row (InElse o b d x y q) =
     ap (λ (l : List Node). (l ++ postorder b) ++ postorder d) (postorder-base_row o)
-    ∙ (ap (λ (l : List Node). l ++ postorder d) (sym (postorder-joined (base_row o) b))
-    ∙ sym (postorder-joined (joined (base_row o) b) d))
+    ∙ (ap (λ (l : List Node). l ++ postorder d) (sym (postorder-row_of_both (base_row o) b))
+    ∙ sym (postorder-row_of_both (row_of_both (base_row o) b) d))
 
 -- whatever blocks are open, the list stands for nodes
 pub stands_whole : (nodes : List Node) (blocks : List Frame) (s : State) → StandsAt nodes blocks s → IsPostorder nodes
@@ -42,14 +42,14 @@ stands_whole nodes blocks s h =
     (sym
     (h.rows
     ∙ (ap (λ (l : List Node). l ++ postorder s.groups) (postorder-base_row s.outer)
-    ∙ sym (postorder-joined (base_row s.outer) s.groups))))
-    (IsPostorder-postorder (joined (base_row s.outer) s.groups))
+    ∙ sym (postorder-row_of_both (base_row s.outer) s.groups))))
+    (IsPostorder-postorder (row_of_both (base_row s.outer) s.groups))
 
 -- where no block is open, it stands for those of the state
 pub stands_closed : (nodes : List Node) (blocks : List Frame) (s : State) → StandsAt nodes blocks s → s.outer ≡ Top
     → forest_of nodes ≡ s.groups
 stands_closed nodes blocks s h e =
-    ap forest_of (h.rows ∙ ap (λ (o : Open Label). base o ++ postorder s.groups) e) ∙ forest_of-postorder s.groups
+    ap forest_of (h.rows ∙ ap (λ (o : Open NodeText). base o ++ postorder s.groups) e) ∙ forest_of-postorder s.groups
 
 -- ---- code
 
@@ -72,20 +72,20 @@ module _ {H : Type 0} (v : Head → H) where
   run-item s x xs r e = ap (λ (q : row.Role). run_all (step s (step_of v q x)) (steps v xs)) e
 
   -- code, then others
-  run-behind : (s t : StateOf H) (code : Code) (xs : List Item) → run_all s (steps v (flat code)) ≡ t
+  run-behind : (s t : StateOf H) (code : NestedCode) (xs : List Item) → run_all s (steps v (flat code)) ≡ t
       → run_all s (steps v (flat code ++ xs)) ≡ run_all t (steps v xs)
   run-behind s t code xs e =
       ap (run_all s) (steps-append (flat code) xs)
       ∙ (run_all-append s (steps v (flat code)) (steps v xs) ∙ ap (λ (u : StateOf H). run_all u (steps v xs)) e)
 
   -- well-nested operators leave the open blocks as they are, and their nodes behind those that were there
-  pub run-flat : (o : Open H) (f : Nodes) (code : Code) → IsFit code
+  pub run-flat : (o : Open H) (f : Nodes) (code : NestedCode) → IsFit code
       → run_all (state_at o (map_nodes v f)) (steps v (flat code)) ≡ state_at o (map_nodes v (tree_behind f code))
   run-flat o f Done h = refl
   run-flat o f (Plain x rest) h =
       run-item (state_at o (map_nodes v f)) x (flat rest) row.Plain h.0
       ∙ (ap (λ (g : NodesOf H). run_all (state_at o g) (steps v (flat rest))) (folded-map v f (Of x) x.takes x.gives)
-      ∙ run-flat o (folded f x) rest h.1)
+      ∙ run-flat o (with_operator f x) rest h.1)
   run-flat o f (Block x body end rest) h =
       let inner : Open H = InBlock o (map_nodes v f) (v (Of x)) x.gives in
       run-item (state_at o (map_nodes v f)) x (flat body ++ end ∷ flat rest) row.Opens h.0
@@ -93,19 +93,19 @@ module _ {H : Type 0} (v : Head → H) where
       ∙ (run-item (state_at inner (map_nodes v (tree_behind Nil body))) end (flat rest) row.Ends h.2
       ∙ run-flat o (Snoc f (Of x) x.gives (tree_behind Nil body)) rest h.3))
   run-flat o f (If x body end rest) h =
-      let inner : NodesOf H → NodesOf H → Open H = λ a b. InThen o a b (v (Of x)) (v (Then x)) x.gives in
+      let inner : NodesOf H → NodesOf H → Open H = λ a b. InThen o a b (v (Of x)) (v (ThenCase x)) x.gives in
       let mine : Open H = inner (map_nodes v (front f)) (map_nodes v (last f)) in
       run-item (state_at o (map_nodes v f)) x (flat body ++ end ∷ flat rest) row.OpensIf h.0
       ∙ (ap (λ (a : NodesOf H). run_all (state_at (inner a (last (map_nodes v f))) Nil) (steps v (flat body ++ end ∷ flat rest))) (front-map v f)
       ∙ (ap (λ (b : NodesOf H). run_all (state_at (inner (map_nodes v (front f)) b) Nil) (steps v (flat body ++ end ∷ flat rest))) (last-map v f)
       ∙ (run-behind (state_at mine Nil) (state_at mine (map_nodes v (tree_behind Nil body))) body (end ∷ flat rest) (run-flat mine Nil body h.1)
       ∙ (run-item (state_at mine (map_nodes v (tree_behind Nil body))) end (flat rest) row.Ends h.2
-      ∙ run-flat o (Snoc (front f) (Of x) x.gives (Snoc (last f) (Then x) 0 (tree_behind Nil body))) rest h.3))))
+      ∙ run-flat o (Snoc (front f) (Of x) x.gives (Snoc (last f) (ThenCase x) 0 (tree_behind Nil body))) rest h.3))))
   run-flat o f (IfElse x body turn other end rest) h =
-      let inner : NodesOf H → NodesOf H → Open H = λ a b. InThen o a b (v (Of x)) (v (Then x)) x.gives in
+      let inner : NodesOf H → NodesOf H → Open H = λ a b. InThen o a b (v (Of x)) (v (ThenCase x)) x.gives in
       let mine : Open H = inner (map_nodes v (front f)) (map_nodes v (last f)) in
-      let cases : Nodes = Snoc (last f) (Then x) 0 (tree_behind Nil body) in
-      let second : Open H = InElse o (map_nodes v (front f)) (map_nodes v cases) (v (Of x)) (v (Else turn)) x.gives in
+      let cases : Nodes = Snoc (last f) (ThenCase x) 0 (tree_behind Nil body) in
+      let second : Open H = InElse o (map_nodes v (front f)) (map_nodes v cases) (v (Of x)) (v (ElseCase turn)) x.gives in
       let behind : List Item = turn ∷ (flat other ++ end ∷ flat rest) in
       run-item (state_at o (map_nodes v f)) x (flat body ++ behind) row.OpensIf h.0
       ∙ (ap (λ (a : NodesOf H). run_all (state_at (inner a (last (map_nodes v f))) Nil) (steps v (flat body ++ behind))) (front-map v f)
@@ -114,10 +114,10 @@ module _ {H : Type 0} (v : Head → H) where
       ∙ (run-item (state_at mine (map_nodes v (tree_behind Nil body))) turn (flat other ++ end ∷ flat rest) row.Turns h.2
       ∙ (run-behind (state_at second Nil) (state_at second (map_nodes v (tree_behind Nil other))) other (end ∷ flat rest) (run-flat second Nil other h.3)
       ∙ (run-item (state_at second (map_nodes v (tree_behind Nil other))) end (flat rest) row.Ends h.4
-      ∙ run-flat o (Snoc (front f) (Of x) x.gives (Snoc cases (Else turn) 0 (tree_behind Nil other))) rest h.5))))))
+      ∙ run-flat o (Snoc (front f) (Of x) x.gives (Snoc cases (ElseCase turn) 0 (tree_behind Nil other))) rest h.5))))))
 
   -- code is folded into its nodes
-  pub run-tree : (code : Code) → IsFit code → run_all start (steps v (flat code)) ≡ state_at Top (map_nodes v (tree code))
+  pub run-tree : (code : NestedCode) → IsFit code → run_all start (steps v (flat code)) ≡ state_at Top (map_nodes v (tree code))
   run-tree code h = run-flat Top Nil code h
 
 -- steps with something else first in each node

@@ -1,33 +1,33 @@
 -- One step of the search for operands.
 use Rattle.std.proofs.Common.{◌≡◌, ◌≢◌, ℕ, zero, suc, ◌<◌, ◌≤◌, cond, ltb, eqb, List, [], length, refl, sym, ◌∙◌, ap, arith}
 use Rattle.std.proofs.lemmas.Bool.{eq-eqb, ne_eqb, lt-ltb, le-ltb, cond-true, cond-false}
-use Rattle.wasmprinter_spec.specs.Folding.Arities.{saturated}
-use Rattle.wasmprinter_spec.specs.Folding.Tree.{NodesOf, Nil, Snoc, count, OperandsOf, Fit, Passed, Short, with_last, operands_from, operands}
-use Rattle.wasmprinter_spec.proofs.Folding.{AreLast, AreLast-operands}
-use Rattle.wasmprinter_nodes.specs.declared.Label.{Label}
+use Rattle.wasmprinter_spec.specs.Folding.Arities.{saturating_sum}
+use Rattle.wasmprinter_spec.specs.Folding.Tree.{NodesOf, Nil, Snoc, count, OperandsOf, Fit, Passed, Short, with_last, operands_from, operand_search}
+use Rattle.wasmprinter_spec.proofs.Folding.{AreLast, AreLast-operand_search}
+use Rattle.wasmprinter_nodes.specs.declared.NodeText.{NodeText}
 use Rattle.wasmprinter_nodes.specs.declared.Node.{Node}
 use Rattle.wasmprinter_nodes.specs.declared.rows.Taken.TheVariants as taken
 use Rattle.wasmprinter_nodes.specs.Postorder.{forest_of, IsPostorder}
 use Rattle.wasmprinter_nodes.specs.Rows.{IsLast, outcome}
-use Rattle.wasmprinter_nodes.proofs.Postorders.{count-joined, length-postorder, length-row}
+use Rattle.wasmprinter_nodes.proofs.Postorders.{count-row_of_both, length-postorder, length-row}
 
 -- the nodes before the operands are the same, however many nodes stand behind
-outcome-with_last : (h : Label) (r : ℕ) (parts : NodesOf Label) (o : OperandsOf Label) → outcome (with_last h r parts o) ≡ outcome o
+outcome-with_last : (h : NodeText) (r : ℕ) (parts : NodesOf NodeText) (o : OperandsOf NodeText) → outcome (with_last h r parts o) ≡ outcome o
 outcome-with_last h r parts (Fit before run) = refl
 outcome-with_last h r parts Passed = refl
 outcome-with_last h r parts Short = refl
 
-pub operands-positive : (takes : ℕ) (f : NodesOf Label) → takes ≢ 0 → operands takes f ≡ operands_from takes 0 f
-operands-positive zero f ne = absurd (ne refl)
-operands-positive (suc n) f ne = refl
+pub operand_search-positive : (takes : ℕ) (f : NodesOf NodeText) → takes ≢ 0 → operand_search takes f ≡ operands_from takes 0 f
+operand_search-positive zero f ne = absurd (ne refl)
+operand_search-positive (suc n) f ne = refl
 
 module _ (takes sum next : ℕ) (row before : List Node) (node : Node) (parts : List Node)
-    (is : IsLast row before node parts) (sums : next ≡ saturated sum node.results) where
-  fits : OperandsOf Label
-  fits = Fit (forest_of before) (Snoc Nil node.label node.results (forest_of parts))
+    (is : IsLast row before node parts) (sums : next ≡ saturating_sum sum node.results) where
+  fits : OperandsOf NodeText
+  fits = Fit (forest_of before) (Snoc Nil node.head node.results (forest_of parts))
 
-  deeper : OperandsOf Label
-  deeper = with_last node.label node.results (forest_of parts) (operands_from takes next (forest_of before))
+  deeper : OperandsOf NodeText
+  deeper = with_last node.head node.results (forest_of parts) (operands_from takes next (forest_of before))
 
   judged : operands_from takes sum (forest_of row) ≡ cond (eqb next takes) fits (cond (ltb takes next) Passed deeper)
   unfolding fits deeper
@@ -54,21 +54,21 @@ module _ (takes sum next : ℕ) (row before : List Node) (node : Node) (parts : 
       (judged
       ∙ (cond-false (eqb next takes) fits (cond (ltb takes next) Passed deeper) (ne_eqb next takes ne)
       ∙ cond-false (ltb takes next) Passed deeper (le-ltb takes next le)))
-      ∙ outcome-with_last node.label node.results (forest_of parts) (operands_from takes next (forest_of before))
+      ∙ outcome-with_last node.head node.results (forest_of parts) (operands_from takes next (forest_of before))
 
 -- an empty row has no operands
 pub found_none : (takes sum : ℕ) (row : List Node) → row ≡ [] → outcome (operands_from takes sum (forest_of row)) ≡ taken.Short
 found_none takes sum row e = ap (λ (r : List Node). outcome (operands_from takes sum (forest_of r))) e
 
 -- operands that were found stand in the row
-within : (f : NodesOf Label) (o : OperandsOf Label) (n : ℕ) → AreLast f o → taken.From n ≡ outcome o → n ≤ count f
+within : (f : NodesOf NodeText) (o : OperandsOf NodeText) (n : ℕ) → AreLast f o → taken.From n ≡ outcome o → n ≤ count f
 within f (Fit before run) n h e =
     let m : n ≡ count before = cc in
-    omega (arith, m, ap count h, count-joined before run)
+    omega (arith, m, ap count h, count-row_of_both before run)
 within f Passed n h e = absurd (cc)
 within f Short n h e = absurd (cc)
 
 pub outcome_within : (takes n : ℕ) (row : List Node) → IsPostorder row
-    → taken.From n ≡ outcome (operands takes (forest_of row)) → n ≤ length row
+    → taken.From n ≡ outcome (operand_search takes (forest_of row)) → n ≤ length row
 outcome_within takes n row h e =
-    omega (arith, within (forest_of row) (operands takes (forest_of row)) n (AreLast-operands takes (forest_of row)) e, ap length h.whole, length-postorder (forest_of row))
+    omega (arith, within (forest_of row) (operand_search takes (forest_of row)) n (AreLast-operand_search takes (forest_of row)) e, ap length h.whole, length-postorder (forest_of row))

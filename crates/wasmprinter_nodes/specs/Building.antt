@@ -4,7 +4,7 @@ use Rattle.std.specs.Prelude.{ℕ, List, [], ◌∷◌, map}
 use Rattle.wasmprinter_spec.specs.Row as row
 use Rattle.wasmprinter_spec.specs.Row.{Role}
 use Rattle.wasmprinter_spec.specs.Folding.Code.{Item, role}
-use Rattle.wasmprinter_spec.specs.Folding.Tree.{Head, Of, Then, Else, NodesOf, Nil, Snoc, front, last, operands, with_operands}
+use Rattle.wasmprinter_spec.specs.Folding.Tree.{Head, Of, ThenCase, ElseCase, NodesOf, Nil, Snoc, front, last, operand_search, with_operands}
 
 -- The open blocks, the innermost first: each with those around it, the nodes before it, what stands first in its node, and its
 -- results. An `if` has its predicate too and what stands first in the node of its open case; behind its `else` the node of its
@@ -34,27 +34,27 @@ abbrev pub start : {H : Type 0} → StateOf H
 start = state_at Top Nil
 
 -- an `else` closes the first case of an `if`, and changes nothing where there is none
-abbrev pub turned : {H : Type 0} → H → Open H → NodesOf H → StateOf H
-turned otherwise Top f = state_at Top f
-turned otherwise (InBlock o before head gives) f = state_at (InBlock o before head gives) f
-turned otherwise (InThen o before cases head case gives) f =
+abbrev pub state_after_else : {H : Type 0} → H → Open H → NodesOf H → StateOf H
+state_after_else otherwise Top f = state_at Top f
+state_after_else otherwise (InBlock o before head gives) f = state_at (InBlock o before head gives) f
+state_after_else otherwise (InThen o before cases head case gives) f =
     state_at (InElse o before (Snoc cases case 0 f) head otherwise gives) Nil
-turned otherwise (InElse o before cases head case gives) f = state_at (InElse o before cases head case gives) f
+state_after_else otherwise (InElse o before cases head case gives) f = state_at (InElse o before cases head case gives) f
 
 -- an `end` closes the innermost block, and changes nothing where there is none
-abbrev pub closed : {H : Type 0} → Open H → NodesOf H → StateOf H
-closed Top f = state_at Top f
-closed (InBlock o before head gives) f = state_at o (Snoc before head gives f)
-closed (InThen o before cases head case gives) f = state_at o (Snoc before head gives (Snoc cases case 0 f))
-closed (InElse o before cases head case gives) f = state_at o (Snoc before head gives (Snoc cases case 0 f))
+abbrev pub state_after_end : {H : Type 0} → Open H → NodesOf H → StateOf H
+state_after_end Top f = state_at Top f
+state_after_end (InBlock o before head gives) f = state_at o (Snoc before head gives f)
+state_after_end (InThen o before cases head case gives) f = state_at o (Snoc before head gives (Snoc cases case 0 f))
+state_after_end (InElse o before cases head case gives) f = state_at o (Snoc before head gives (Snoc cases case 0 f))
 
 -- one operator more
 abbrev pub step : {H : Type 0} → StateOf H → Step H → StateOf H
-step s (Plain head takes gives) = state_at s.outer (with_operands s.groups head gives (operands takes s.groups))
+step s (Plain head takes gives) = state_at s.outer (with_operands s.groups head gives (operand_search takes s.groups))
 step s (Opens head gives) = state_at (InBlock s.outer s.groups head gives) Nil
 step s (OpensIf head case gives) = state_at (InThen s.outer (front s.groups) (last s.groups) head case gives) Nil
-step s (Turns otherwise) = turned otherwise s.outer s.groups
-step s Ends = closed s.outer s.groups
+step s (Turns otherwise) = state_after_else otherwise s.outer s.groups
+step s Ends = state_after_end s.outer s.groups
 
 abbrev pub run_all : {H : Type 0} → StateOf H → List (Step H) → StateOf H
 run_all s [] = s
@@ -64,8 +64,8 @@ run_all s (t ∷ ts) = run_all (step s t) ts
 abbrev pub step_of : {H : Type 0} → (Head → H) → Role → Item → Step H
 step_of f row.Plain x = Plain (f (Of x)) x.takes x.gives
 step_of f row.Opens x = Opens (f (Of x)) x.gives
-step_of f row.OpensIf x = OpensIf (f (Of x)) (f (Then x)) x.gives
-step_of f row.Turns x = Turns (f (Else x))
+step_of f row.OpensIf x = OpensIf (f (Of x)) (f (ThenCase x)) x.gives
+step_of f row.Turns x = Turns (f (ElseCase x))
 step_of f _ x = Ends
 
 abbrev pub steps : {H : Type 0} → (Head → H) → List Item → List (Step H)

@@ -1,6 +1,6 @@
 -- The lists of a builder, as functions of the state that they stand for.
 use Rattle.std.specs.Prelude.{◌≡◌, ℕ, suc, ◌-◌, List, [], ◌∷◌, ◌++◌, length}
-use Rattle.wasmprinter_nodes.specs.declared.Label.{Label}
+use Rattle.wasmprinter_nodes.specs.declared.NodeText.{NodeText}
 use Rattle.wasmprinter_nodes.specs.declared.Node.{Node}
 use Rattle.wasmprinter_nodes.specs.declared.builder.Arm.{Arm}
 use Rattle.wasmprinter_nodes.specs.declared.builder.Arm.TheVariants as arm
@@ -10,28 +10,28 @@ use Rattle.wasmprinter_nodes.specs.Postorder.{postorder}
 use Rattle.wasmprinter_nodes.specs.Building.{Open, Top, InBlock, InThen, InElse, StateOf}
 
 abbrev pub State : Type 0
-State = StateOf Label
+State = StateOf NodeText
 
 -- the nodes before those of the open part
-abbrev pub base : Open Label → List Node
+abbrev pub base : Open NodeText → List Node
 base Top = []
-base (InBlock o before label gives) = base o ++ postorder before
-base (InThen o before cases label case gives) = (base o ++ postorder before) ++ postorder cases
-base (InElse o before cases label case gives) = (base o ++ postorder before) ++ postorder cases
+base (InBlock o before head gives) = base o ++ postorder before
+base (InThen o before cases head case gives) = (base o ++ postorder before) ++ postorder cases
+base (InElse o before cases head case gives) = (base o ++ postorder before) ++ postorder cases
 
 -- an open block behind these nodes, with the nodes that it holds in front of its open part
-abbrev pub frame_behind : List Node → List Node → Arm → Label → ℕ → Frame
-frame_behind before cases arm label gives =
-    record { arm = arm; label = label; gives = gives; from = length before; start = length (before ++ cases) }
+abbrev pub frame_behind : List Node → List Node → Arm → NodeText → ℕ → Frame
+frame_behind before cases arm head gives =
+    record { arm = arm; head = head; gives = gives; from = length before; start = length (before ++ cases) }
 
 -- the open blocks, the innermost last
-abbrev pub frames : Open Label → List Frame
+abbrev pub frames : Open NodeText → List Frame
 frames Top = []
-frames (InBlock o before label gives) = frames o ++ frame_behind (base o ++ postorder before) [] arm.Block label gives ∷ []
-frames (InThen o before cases label case gives) =
-    frames o ++ frame_behind (base o ++ postorder before) (postorder cases) (arm.Then case) label gives ∷ []
-frames (InElse o before cases label case gives) =
-    frames o ++ frame_behind (base o ++ postorder before) (postorder cases) (arm.Else case) label gives ∷ []
+frames (InBlock o before head gives) = frames o ++ frame_behind (base o ++ postorder before) [] arm.Block head gives ∷ []
+frames (InThen o before cases head case gives) =
+    frames o ++ frame_behind (base o ++ postorder before) (postorder cases) (arm.Then case) head gives ∷ []
+frames (InElse o before cases head case gives) =
+    frames o ++ frame_behind (base o ++ postorder before) (postorder cases) (arm.Else case) head gives ∷ []
 
 -- the lists are those of this state
 pub record StandsAt (nodes : List Node) (blocks : List Frame) (s : State) : Type 0 where
@@ -42,9 +42,9 @@ abbrev pub Stands : Builder → State → Type 0
 Stands b s = StandsAt b.nodes.items b.frames.items s
 
 -- with one node more, which holds those from a place on
-abbrev pub with_node : List Node → Label → ℕ → ℕ → List Node
-with_node nodes label results from = nodes ++ record { label = label; results = results; size = suc (length nodes - from) } ∷ []
+abbrev pub with_node : List Node → NodeText → ℕ → ℕ → List Node
+with_node nodes head results from = nodes ++ record { head = head; results = results; size = suc (length nodes - from) } ∷ []
 
 -- with the node of the open case of an `if`, and then that of the `if`
-abbrev pub with_if : List Node → Label → Frame → List Node
-with_if nodes case frame = with_node (with_node nodes case 0 frame.start) frame.label frame.gives frame.from
+abbrev pub with_if : List Node → NodeText → Frame → List Node
+with_if nodes case frame = with_node (with_node nodes case 0 frame.start) frame.head frame.gives frame.from

@@ -2,7 +2,7 @@
 use Rattle.std.specs.Prelude.{◌≡◌, ℕ, suc, ◌+◌, List, length}
 use Rattle.wasmprinter_spec.specs.Folding.Arities.{greatest}
 use Rattle.wasmprinter_spec.specs.Folding.Tree.{Snoc, count, OperandsOf, Fit, Passed, Short}
-use Rattle.wasmprinter_nodes.specs.declared.Label.{Label}
+use Rattle.wasmprinter_nodes.specs.declared.NodeText.{NodeText}
 use Rattle.wasmprinter_nodes.specs.declared.Node.{Node}
 use Rattle.wasmprinter_nodes.specs.declared.rows.Taken.{Taken}
 use Rattle.wasmprinter_nodes.specs.declared.rows.Taken.TheVariants as taken
@@ -10,13 +10,13 @@ use Rattle.wasmprinter_nodes.specs.Postorder.{forest_of, IsPostorder}
 
 -- the last node of a row, with the nodes before it and those that it holds
 pub record IsLast (row before : List Node) (node : Node) (parts : List Node) : Type 0 where
-  pub whole : forest_of row ≡ Snoc (forest_of before) node.label node.results (forest_of parts)
+  pub whole : forest_of row ≡ Snoc (forest_of before) node.head node.results (forest_of parts)
   pub before_row : IsPostorder before
   pub parts_row : IsPostorder parts
   pub lengths : length row ≡ suc (length before + length parts)
 
 -- operands, as the number of nodes before them
-abbrev pub outcome : OperandsOf Label → Taken
+abbrev pub outcome : OperandsOf NodeText → Taken
 outcome (Fit before run) = taken.From (count before)
 outcome Passed = taken.Passed
 outcome Short = taken.Short

@@ -1,12 +1,12 @@
 //! The builder: it folds one operator after another.
 ghost use Rattle.std.specs.Prelude.{◌≡◌, ◌≤◌, ◌+◌, length, drop, OnOk};
-ghost use Rattle.wasmprinter_spec.specs.Folding.Tree.{operands, front, count};
+ghost use Rattle.wasmprinter_spec.specs.Folding.Tree.{operand_search, front, count};
 ghost use Rattle.wasmprinter_nodes.specs.Postorder.{IsPostorder, forest_of};
 ghost use Rattle.wasmprinter_nodes.specs.Rows.{outcome, IsPlace};
 ghost use Rattle.wasmprinter_nodes.specs.Frames.{with_node, with_if};
 
 use crate::rows::{Taken, find_operands, last_group};
-use crate::{Label, Node};
+use crate::{Node, NodeText};
 use std::alloc::{AllocError, Global};
 
 /// Which part of a block is open.
@@ -14,10 +14,10 @@ use std::alloc::{AllocError, Global};
 pub enum Arm {
     /// What a block holds that has no cases.
     Block,
-    /// The first case of an `if`, whose node has this label.
-    Then(Label),
-    /// The second case of an `if`, whose node has this label.
-    Else(Label),
+    /// The first case of an `if`, whose node has this head.
+    Then(NodeText),
+    /// The second case of an `if`, whose node has this head.
+    Else(NodeText),
 }
 
 /// An open block.
@@ -26,7 +26,7 @@ pub struct Frame {
     /// Its part that is open.
     pub arm: Arm,
     /// What is printed of its node.
-    pub label: Label,
+    pub head: NodeText,
     /// How many results it gives.
     pub gives: u32,
     /// Where the nodes begin that the block will hold.
@@ -46,13 +46,13 @@ pub struct Builder {
 }
 
 /// Puts a node behind the nodes that it holds, which begin at `from`.
-fn wrap(nodes: &mut Vec<Node>, label: Label, results: u32, from: usize) -> Result<(), AllocError>
+fn wrap(nodes: &mut Vec<Node>, head: NodeText, results: u32, from: usize) -> Result<(), AllocError>
     requires { from ≤ length nodes.old.items }
-    ensures { OnOk result (nodes.new.items ≡ with_node nodes.old.items label results from) }
+    ensures { OnOk result (nodes.new.items ≡ with_node nodes.old.items head results from) }
 {
     let size = nodes.len() - from + 1;
     nodes.push(Node {
-        label,
+        head,
         results,
         size,
     })?;
@@ -60,20 +60,20 @@ fn wrap(nodes: &mut Vec<Node>, label: Label, results: u32, from: usize) -> Resul
 }
 
 /// Puts the node of the open case of an `if` behind what it holds, and then that of the `if`.
-fn wrap_if(nodes: &mut Vec<Node>, case: Label, frame: Frame) -> Result<(), AllocError>
+fn wrap_if(nodes: &mut Vec<Node>, case: NodeText, frame: Frame) -> Result<(), AllocError>
     requires case { frame.start ≤ length nodes.old.items }
     requires whole { frame.from ≤ frame.start }
     ensures { OnOk result (nodes.new.items ≡ with_if nodes.old.items case frame) }
 {
     wrap(nodes, case, 0, frame.start)?;
-    wrap(nodes, frame.label, frame.gives, frame.from)
+    wrap(nodes, frame.head, frame.gives, frame.from)
 }
 
 /// Where the operands of a plain operator begin, and its results.
 fn place_of(nodes: &[Node], start: usize, takes: u32, gives: u32) -> (usize, u32)
     requires in_range { start ≤ length nodes.now }
     requires whole { IsPostorder (drop start nodes.now) }
-    ensures { IsPlace start (length nodes.now) gives (outcome (operands takes (forest_of (drop start nodes.now)))) result.0 result.1 }
+    ensures { IsPlace start (length nodes.now) gives (outcome (operand_search takes (forest_of (drop start nodes.now)))) result.0 result.1 }
 {
     match find_operands(&nodes[start..], takes) {
         Taken::From(before) => (start + before, gives),
@@ -140,13 +140,13 @@ impl Builder {
     /// # Errors
     ///
     /// Where memory for it is refused: the nodes are of no use then, until the list is cleared.
-    pub fn plain(&mut self, label: Label, takes: u32, gives: u32) -> Result<(), AllocError>
+    pub fn plain(&mut self, head: NodeText, takes: u32, gives: u32) -> Result<(), AllocError>
         requires { (s : State) × Stands self.old s }
-        ensures { OnOk result ((s : State) → Stands self.old s → Stands self.new (step s (Plain label takes gives))) }
+        ensures { OnOk result ((s : State) → Stands self.old s → Stands self.new (step s (Plain head takes gives))) }
     {
         let start = self.start();
         let (from, results) = place_of(&self.nodes, start, takes, gives);
-        wrap(&mut self.nodes, label, results, from)
+        wrap(&mut self.nodes, head, results, from)
     }
 
     /// A block more, which is open.
@@ -154,14 +154,14 @@ impl Builder {
     /// # Errors
     ///
     /// Where memory for it is refused: the nodes are of no use then, until the list is cleared.
-    pub fn open(&mut self, label: Label, gives: u32) -> Result<(), AllocError>
+    pub fn open(&mut self, head: NodeText, gives: u32) -> Result<(), AllocError>
         requires { (s : State) × Stands self.old s }
-        ensures { OnOk result ((s : State) → Stands self.old s → Stands self.new (step s (Opens label gives))) }
+        ensures { OnOk result ((s : State) → Stands self.old s → Stands self.new (step s (Opens head gives))) }
     {
         let start = self.nodes.len();
         self.frames.push(Frame {
             arm: Arm::Block,
-            label,
+            head,
             gives,
             from: start,
             start,
@@ -169,21 +169,21 @@ impl Builder {
         Ok(())
     }
 
-    /// An `if` more, whose first case is open and gets a node with the label `then`. The last node of the open part is the predicate.
+    /// An `if` more, whose first case is open and gets a node with the head `then`. The last node of the open part is the predicate.
     ///
     /// # Errors
     ///
     /// Where memory for it is refused: the nodes are of no use then, until the list is cleared.
-    pub fn open_if(&mut self, label: Label, then: Label, gives: u32) -> Result<(), AllocError>
+    pub fn open_if(&mut self, head: NodeText, then: NodeText, gives: u32) -> Result<(), AllocError>
         requires { (s : State) × Stands self.old s }
-        ensures { OnOk result ((s : State) → Stands self.old s → Stands self.new (step s (OpensIf label then gives))) }
+        ensures { OnOk result ((s : State) → Stands self.old s → Stands self.new (step s (OpensIf head then gives))) }
     {
         let outer = self.start();
         let start = self.nodes.len();
         let from = predicate_from(&self.nodes, outer);
         self.frames.push(Frame {
             arm: Arm::Then(then),
-            label,
+            head,
             gives,
             from,
             start,
@@ -191,14 +191,14 @@ impl Builder {
         Ok(())
     }
 
-    /// An `else`: the second case of the innermost `if` is open, and gets a node with this label.
+    /// An `else`: the second case of the innermost `if` is open, and gets a node with this head.
     ///
     /// Where the open part is not the first case of an `if`, nothing changes.
     ///
     /// # Errors
     ///
     /// Where memory for it is refused: the nodes are of no use then, until the list is cleared.
-    pub fn turn(&mut self, otherwise: Label) -> Result<(), AllocError>
+    pub fn turn(&mut self, otherwise: NodeText) -> Result<(), AllocError>
         requires { (s : State) × Stands self.old s }
         ensures { OnOk result ((s : State) → Stands self.old s → Stands self.new (step s (Turns otherwise))) }
     {
@@ -230,7 +230,7 @@ impl Builder {
     {
         match self.frames.pop() {
             Some(frame) => match frame.arm {
-                Arm::Block => wrap(&mut self.nodes, frame.label, frame.gives, frame.from),
+                Arm::Block => wrap(&mut self.nodes, frame.head, frame.gives, frame.from),
                 Arm::Then(case) | Arm::Else(case) => wrap_if(&mut self.nodes, case, frame),
             },
             None => Ok(()),

@@ -9,7 +9,7 @@ pub use rows::{Last, last_group};
 
 /// What is printed of a node in front of the nodes that it holds.
 #[derive(Clone, Copy, Debug, PartialEq, Eq)]
-pub struct Label {
+pub struct NodeText {
     /// The place of the node's operator: a byte offset from the module's start.
     pub place: u64,
     /// Whether its branch is hinted as taken, where there is a hint.
@@ -26,7 +26,7 @@ pub struct Label {
 #[derive(Clone, Copy, Debug, PartialEq, Eq)]
 pub struct Node {
     /// What is printed of it.
-    pub label: Label,
+    pub head: NodeText,
     /// For how many results the node counts.
     pub results: u32,
     /// How many nodes end here: those that it holds, at every depth, and itself.

@@ -1,6 +1,6 @@
 //! Rows of nodes: their last node, and the search for operands.
 ghost use Rattle.std.specs.Prelude.{◌≡◌, [], MatchOption};
-ghost use Rattle.wasmprinter_spec.specs.Folding.Tree.{operands};
+ghost use Rattle.wasmprinter_spec.specs.Folding.Tree.{operand_search};
 ghost use Rattle.wasmprinter_nodes.specs.Postorder.{IsPostorder, forest_of};
 ghost use Rattle.wasmprinter_nodes.specs.Rows.{IsLast, outcome};
 
@@ -45,7 +45,7 @@ pub fn last_group(row: &[Node]) -> Option<Last<'_>>
 /// The operands of an operator that takes so many, behind a row of nodes.
 pub fn find_operands(row: &[Node], takes: u32) -> Taken
     requires { IsPostorder row.now }
-    ensures { result ≡ outcome (operands takes (forest_of row.now)) }
+    ensures { result ≡ outcome (operand_search takes (forest_of row.now)) }
 {
     if takes == 0 {
         return Taken::Short;

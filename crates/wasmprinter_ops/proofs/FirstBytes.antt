@@ -3,12 +3,12 @@ use Rattle.std.proofs.Common.{◌≡◌, ℕ, ◌<◌, List, [], ◌∷◌, leng
 use Rattle.std.specs.Prelude.{ℤ, slice_get}
 use Rattle.std.proofs.lemmas.Bool.{lt-ltb}
 use Rattle.wasmprinter_spec.specs.Grammar.{Input, input, Grammar, ◌>>=◌, some_is}
-use Rattle.wasmprinter_spec.specs.FirstByte.{announced, shorter, peeked, peeked_of}
+use Rattle.wasmprinter_spec.specs.FirstByte.{behind_first_byte, shorter, by_first_byte, by_first_byte_of}
 use Rattle.wasmprinter_spec.specs.Leb.{IsSigned}
 use Rattle.wasmprinter_spec.specs.Binary.ValTypes.{signed_index}
 
 module _ {A : Type 0} (h : ℕ → Grammar A) where
-  peeked_of_is : (p b : ℕ) (bytes : List ℕ) (x : A × Input) → slice_get bytes 0 ≡ Some b → (h b).parse (input p bytes) ≡ Some x → length x.1.bytes < length bytes → peeked_of h p bytes ≡ Some x
+  peeked_of_is : (p b : ℕ) (bytes : List ℕ) (x : A × Input) → slice_get bytes 0 ≡ Some b → (h b).parse (input p bytes) ≡ Some x → length x.1.bytes < length bytes → by_first_byte_of h p bytes ≡ Some x
   peeked_of_is p b [] x s e lt = absurd cc
   peeked_of_is p b (c ∷ cs) x s e lt =
       let same : b ≡ c = sym (some_is c b s) in
@@ -16,7 +16,7 @@ module _ {A : Type 0} (h : ℕ → Grammar A) where
       ap (λ (r : Option (A × Input)). r >>= shorter h (length (c ∷ cs))) here ∙ rw (lt-ltb (length x.1.bytes) (length (c ∷ cs)) lt) refl
 
   -- what takes the byte that was looked at stands there
-  pub peeked_is : (at : Input) (b : ℕ) (x : A × Input) → slice_get at.bytes 0 ≡ Some b → (h b).parse at ≡ Some x → length x.1.bytes < length at.bytes → (peeked h).parse at ≡ Some x
+  pub peeked_is : (at : Input) (b : ℕ) (x : A × Input) → slice_get at.bytes 0 ≡ Some b → (h b).parse at ≡ Some x → length x.1.bytes < length at.bytes → (by_first_byte h).parse at ≡ Some x
   peeked_is at b x s e lt = peeked_of_is at.place b at.bytes x s e lt
 
 some_signed : (bits : ℕ) (text : List ℕ) (n : ℤ) → IsSigned bits text n → 0 < length text
@@ -30,8 +30,8 @@ index_takes_byte at x e =
     omega (arith, ap length s.parts, length-append s.text x.1.bytes, some_signed 33 s.text s.spelled.0 s.spelled.2)
 
 -- what is announced by a byte takes it
-pub announced_takes_byte : {A : Type 0} (h : ℕ → Grammar A) (at : Input) (x : A × Input) → (announced h).parse at ≡ Some x → length x.1.bytes < length at.bytes
+pub announced_takes_byte : {A : Type 0} (h : ℕ → Grammar A) (at : Input) (x : A × Input) → (behind_first_byte h).parse at ≡ Some x → length x.1.bytes < length at.bytes
 announced_takes_byte h at x e =
-    let s = (announced h).sound at x e in
+    let s = (behind_first_byte h).sound at x e in
     let parts = s.spelled.2 in
     omega (arith, ap length s.parts, length-append s.text x.1.bytes, ap length parts.2, length-append parts.0 parts.1, ap length parts.3)

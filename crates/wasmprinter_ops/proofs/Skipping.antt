@@ -1,14 +1,14 @@
 -- Operators that are passed by, up to the `end` that closes them.
 use Rattle.std.proofs.Common.{◌≡◌, ℕ, ◌-◌, ◌<◌, ◌≤◌, List, [], ◌∷◌, ◌++◌, length, Option, Some, None, refl, sym, ap, subst, ◌∙◌, arith, append_assoc, length-append, take}
 use Rattle.std.proofs.lemmas.List.{take_at, length-take-le, map-append}
-use Rattle.wasmprinter_spec.specs.Grammar.{Input, input, Spans, ◌>>=◌, Placed, placed, some_is}
+use Rattle.wasmprinter_spec.specs.Grammar.{Input, input, Spans, ◌>>=◌, Placed, value_with_place, some_is}
 use Rattle.wasmprinter_spec.specs.Repeated.{Entries}
 use Rattle.wasmprinter_spec.specs.Operator.{Opcode, Operator}
 use Rattle.wasmprinter_spec.specs.Row.{Role}
 use Rattle.wasmprinter_spec.specs.Table.{role_of}
-use Rattle.wasmprinter_spec.specs.Stepped.{Move, On, Stop, Never, by_move, Ended, list_with_last, in_front, stepped_at}
+use Rattle.wasmprinter_spec.specs.Stepped.{Move, On, Stop, Never, by_move, Ended, list_with_last, in_front, items_by_steps_at}
 use Rattle.wasmprinter_spec.specs.Nesting.{Nests, Sequence, Open, at_start, advance}
-use Rattle.wasmprinter_spec.specs.Instructions.{operator, expression, Closed, closed_as, advance_by, operator_takes, roles, role_at}
+use Rattle.wasmprinter_spec.specs.Instructions.{operator, expression, Closed, closed_of_ended, advance_by, operator_takes, roles, role_at}
 use Rattle.wasmprinter_bytes.specs.Reads.{end_of}
 use Rattle.wasmprinter_ops.specs.Operators.{OperatorsAndEnd, operators, operators_in, HasExpression}
 use Rattle.wasmprinter_ops.specs.Nesting.{Steps, open_behind}
@@ -25,10 +25,10 @@ step_on Never new h = absurd h
 
 -- what reading comes to where these blocks are open
 abbrev reading : Open → Input → Option (Ended (Placed Operator) × Input)
-reading s at = stepped_at (placed operator) advance_by operator_takes s at
+reading s at = items_by_steps_at (value_with_place operator) advance_by operator_takes s at
 
 abbrev as_closed : Option (Ended (Placed Operator) × Input) → Option (Closed (Placed Operator) × Input)
-as_closed r = r >>= λ a. Some (closed_as a.0, a.1)
+as_closed r = r >>= λ a. Some (closed_of_ended a.0, a.1)
 
 -- operators that were read stand in front
 abbrev pub with_front : List (Placed Operator) → Option (Closed (Placed Operator) × Input) → Option (Closed (Placed Operator) × Input)
@@ -37,7 +37,7 @@ with_front ops r = r >>= λ x. Some (record { items = ops ++ x.0.items; end = x.
 -- operators stand between two places, behind which these blocks are open; what reading an expression comes to hangs on what stands there
 pub record Skipped (start : Input) (s : Open) (at : Input) : Type 0 where
   pub items : List (Placed Operator)
-  pub skipped : Spans (Entries (placed operator)) start (items, at)
+  pub skipped : Spans (Entries (value_with_place operator)) start (items, at)
   pub goes_on : open_behind at_start (roles items) ≡ Some s
   pub is : expression.parse start ≡ with_front items (as_closed (reading s at))
 
@@ -77,12 +77,12 @@ front_push ops o (Some x) = ap (λ (xs : List (Placed Operator)). Some (record {
 abbrev placed_as : Input → Operator → Placed Operator
 placed_as at o = record { place = at.place; value = o }
 
-placed_of : (at after : Input) (o : Operator) → operator.parse at ≡ Some (o, after) → (placed operator).parse at ≡ Some (placed_as at o, after)
+placed_of : (at after : Input) (o : Operator) → operator.parse at ≡ Some (o, after) → (value_with_place operator).parse at ≡ Some (placed_as at o, after)
 placed_of at after o e = rw e refl
 
 -- an operator takes a byte
 pub takes_byte : (at after : Input) (o : Operator) → operator.parse at ≡ Some (o, after) → length after.bytes < length at.bytes
-takes_byte at after o e = item_takes_byte (placed operator) advance_by operator_takes at (placed_as at o, after) (placed_of at after o e)
+takes_byte at after o e = item_takes_byte (value_with_place operator) advance_by operator_takes at (placed_as at o, after) (placed_of at after o e)
 
 module _ (start : Input) (s : Open) (at after : Input) (o : Operator) (e : operator.parse at ≡ Some (o, after)) (k : Skipped start s at) where
   -- what reading comes to, by what the operator does to the blocks
@@ -91,17 +91,17 @@ module _ (start : Input) (s : Open) (at after : Input) (o : Operator) (e : opera
   turns m is =
       let to : Move Open → Option (Closed (Placed Operator) × Input) = λ m. with_front k.items (as_closed (by_move m (λ t. in_front (placed_as at o) (reading t after)) (Some (list_with_last [] (placed_as at o), after)) None)) in
       k.is
-      ∙ ap (λ (r : Option (Ended (Placed Operator) × Input)). with_front k.items (as_closed r)) (stepped-item (placed operator) advance_by operator_takes s at (placed_as at o) after (placed_of at after o e))
+      ∙ ap (λ (r : Option (Ended (Placed Operator) × Input)). with_front k.items (as_closed r)) (stepped-item (value_with_place operator) advance_by operator_takes s at (placed_as at o) after (placed_of at after o e))
       ∙ ap to is
 
   -- blocks are open behind it
   pub skipped_more : (t : Open) → advance s (role_of o.opcode) ≡ On t → Skipped start t after
   skipped_more t is =
       let x : Placed Operator = placed_as at o in
-      let sp = (placed operator).sound at (x, after) (placed_of at after o e) in
+      let sp = (value_with_place operator).sound at (x, after) (placed_of at after o e) in
       record {
         items = k.items ++ x ∷ [];
-        skipped = spans-push (placed operator) start at after k.items x k.skipped sp (operator_takes at.place sp.text x sp.spelled);
+        skipped = spans-push (value_with_place operator) start at after k.items x k.skipped sp (operator_takes at.place sp.text x sp.spelled);
         goes_on = ap (open_behind at_start) (map-append role_at k.items (x ∷ [])) ∙ opens_on (roles k.items) at_start s t (role_at x) is k.goes_on;
         is = turns (On t) is ∙ front_push k.items x (reading t after);
       }
@@ -116,7 +116,7 @@ module _ (start : Input) (s : Open) (at after : Input) (o : Operator) (code : Op
   on_more h = skipped_more start s at after o e k new (ap (advance s) same_role ∙ step_on (advance s r) new h)
 
 -- the operators that were passed by, input their bytes alone
-front_of : (start at : Input) (ops : List (Placed Operator)) → Spans (Entries (placed operator)) start (ops, at) → operators.parse (input start.place (take (at.place - start.place) start.bytes)) ≡ Some ops
+front_of : (start at : Input) (ops : List (Placed Operator)) → Spans (Entries (value_with_place operator)) start (ops, at) → operators.parse (input start.place (take (at.place - start.place) start.bytes)) ≡ Some ops
 front_of start at ops s =
     let l : at.place - start.place ≡ length s.text = omega (arith, s.ends) in
     let t : take (at.place - start.place) start.bytes ≡ s.text = ap (λ (n : ℕ). take n start.bytes) l ∙ ap (take (length s.text)) s.parts ∙ take_at s.text at.bytes (length s.text) refl in

@@ -1,7 +1,7 @@
 -- Items up to the one at which a state stops, read one at a time.
 use Rattle.std.proofs.Common.{◌≡◌, ℕ, zero, suc, ◌<◌, List, [], length, Option, Some, None, refl, ap, ◌∙◌, arith, length-append}
 use Rattle.wasmprinter_spec.specs.Grammar.{Input, Grammar, ◌>>=◌}
-use Rattle.wasmprinter_spec.specs.Stepped.{Move, On, Stop, Never, by_move, Ended, list_with_last, in_front, stepped_of, stepped_at}
+use Rattle.wasmprinter_spec.specs.Stepped.{Move, On, Stop, Never, by_move, Ended, list_with_last, in_front, items_by_steps_of, items_by_steps_at}
 
 -- what follows a value need only be the same at that value
 pub bind_same : {X Y : Type 0} (r : Option X) (f h : X → Option Y) → ((x : X) → r ≡ Some x → f x ≡ h x) → (r >>= f) ≡ (r >>= h)
@@ -21,22 +21,22 @@ module _ {A S : Type 0} (g : Grammar A) (step : S → A → Move S) (takes : (p 
       omega (arith, ap length s.parts, length-append s.text x.1.bytes, takes at.place s.text x.0 s.spelled)
 
   -- it doesn't matter how many items are allowed, if there are more than bytes
-  enough : (n m : ℕ) (s : S) (at : Input) → length at.bytes < n → length at.bytes < m → stepped_of g step takes n s at ≡ stepped_of g step takes m s at
+  enough : (n m : ℕ) (s : S) (at : Input) → length at.bytes < n → length at.bytes < m → items_by_steps_of g step takes n s at ≡ items_by_steps_of g step takes m s at
   enough zero m s at lt lu = absurd (omega arith)
   enough (suc n) zero s at lt lu = absurd (omega arith)
   enough (suc n) (suc m) s at lt lu =
-      let next : ℕ → A × Input → Option (Ended A × Input) = λ k y. by_move (step s y.0) (λ t. in_front y.0 (stepped_of g step takes k t y.1)) (Some (list_with_last [] y.0, y.1)) None in
+      let next : ℕ → A × Input → Option (Ended A × Input) = λ k y. by_move (step s y.0) (λ t. in_front y.0 (items_by_steps_of g step takes k t y.1)) (Some (list_with_last [] y.0, y.1)) None in
       bind_same (g.parse at) (next n) (next m) (λ y e.
       let less : length y.1.bytes < length at.bytes = takes_byte at y e in
-      same_move (step s y.0) (λ t. in_front y.0 (stepped_of g step takes n t y.1)) (λ t. in_front y.0 (stepped_of g step takes m t y.1)) (Some (list_with_last [] y.0, y.1)) None
+      same_move (step s y.0) (λ t. in_front y.0 (items_by_steps_of g step takes n t y.1)) (λ t. in_front y.0 (items_by_steps_of g step takes m t y.1)) (Some (list_with_last [] y.0, y.1)) None
       (λ t. ap (in_front y.0) (enough n m t y.1 (omega arith) (omega arith))))
 
   -- an item stands in front
   pub stepped-item : (s : S) (at : Input) (x : A) (after : Input) → g.parse at ≡ Some (x, after)
-      → stepped_at g step takes s at ≡ by_move (step s x) (λ t. in_front x (stepped_at g step takes t after)) (Some (list_with_last [] x, after)) None
+      → items_by_steps_at g step takes s at ≡ by_move (step s x) (λ t. in_front x (items_by_steps_at g step takes t after)) (Some (list_with_last [] x, after)) None
   stepped-item s at x after e =
-      let next : A × Input → Option (Ended A × Input) = λ y. by_move (step s y.0) (λ t. in_front y.0 (stepped_of g step takes (length at.bytes) t y.1)) (Some (list_with_last [] y.0, y.1)) None in
+      let next : A × Input → Option (Ended A × Input) = λ y. by_move (step s y.0) (λ t. in_front y.0 (items_by_steps_of g step takes (length at.bytes) t y.1)) (Some (list_with_last [] y.0, y.1)) None in
       let less : length after.bytes < length at.bytes = takes_byte at (x, after) e in
       ap (λ (r : Option (A × Input)). r >>= next) e
-      ∙ same_move (step s x) (λ t. in_front x (stepped_of g step takes (length at.bytes) t after)) (λ t. in_front x (stepped_at g step takes t after)) (Some (list_with_last [] x, after)) None
+      ∙ same_move (step s x) (λ t. in_front x (items_by_steps_of g step takes (length at.bytes) t after)) (λ t. in_front x (items_by_steps_at g step takes t after)) (Some (list_with_last [] x, after)) None
       (λ t. ap (in_front x) (enough (length at.bytes) (suc (length after.bytes)) t after less (omega arith)))

@@ -3,7 +3,7 @@ use Rattle.std.proofs.Common.{◌≡◌, ℕ, ◌<◌, ◌≤◌, length, arith,
 use Rattle.std.proofs.lemmas.List.{nil_from_length}
 use Rattle.std.specs.Prelude.{MatchOption}
 use Rattle.std.specs.Bool.{IsTrue}
-use Rattle.wasmprinter_spec.specs.Grammar.{Input, Placed, placed, some_is}
+use Rattle.wasmprinter_spec.specs.Grammar.{Input, Placed, value_with_place, some_is}
 use Rattle.wasmprinter_spec.specs.Repeated.{some_or, Entries}
 use Rattle.wasmprinter_spec.specs.Operator.{Operator}
 use Rattle.wasmprinter_spec.specs.Instructions.{operator}
@@ -29,13 +29,13 @@ operators_are at ops e = rw e refl
 
 -- there are no more of them than bytes
 pub few_operators : (at : Input) → HasOperators at → length (operators_in at) ≤ length at.bytes
-few_operators at h = entries-few (placed operator) at.place at.bytes (operators_in at) (operators.sound at (operators_in at) (stand_there at h))
+few_operators at h = entries-few (value_with_place operator) at.place at.bytes (operators_in at) (operators.sound at (operators_in at) (stand_there at h))
 
 -- there are none where no bytes are left
 pub none_left : (at : Input) → HasOperators at → (at.bytes ≡ [] → operators_in at ≡ []) × (operators_in at ≡ [] → at.bytes ≡ [])
 none_left at h = (
   λ e. let few = few_operators at h in nil_from_length (operators_in at) (omega (arith, ap length e)),
-  λ e. subst (λ (ops : List (Placed Operator)). Entries (placed operator) at.place at.bytes ops) e (operators.sound at (operators_in at) (stand_there at h)),
+  λ e. subst (λ (ops : List (Placed Operator)). Entries (value_with_place operator) at.place at.bytes ops) e (operators.sound at (operators_in at) (stand_there at h)),
 )
 
 -- one operator was read, and the others stand behind it
@@ -45,9 +45,9 @@ pub record NextOperator (at after : Input) (o : ℕ × Operator) : Type 0 where
   pub fewer : length (pairs (operators_in after)) < length (pairs (operators_in at))
 
 -- the operator that was read is the first of those that stand there
-pub next_operator : (at after : Input) (o : ℕ × Operator) → (at.bytes ≡ [] → IsTrue false) → HasOperators at → (placed operator).parse at ≡ Some (placed_view o, after) → NextOperator at after o
+pub next_operator : (at after : Input) (o : ℕ × Operator) → (at.bytes ≡ [] → IsTrue false) → HasOperators at → (value_with_place operator).parse at ≡ Some (placed_view o, after) → NextOperator at after o
 next_operator at after o some h e =
-    let f = first_entry (placed operator) at (operators_in at) (λ z. let t = some z in cc) (stand_there at h) in
+    let f = first_entry (value_with_place operator) at (operators_in at) (λ z. let t = some z in cc) (stand_there at h) in
     let read : Placed Operator × Input = (f.item, f.after) in
     let same : read ≡ (placed_view o, after) = some_is read (placed_view o, after) (sym f.first ∙ e) in
     let item : f.item ≡ placed_view o = ap (λ (x : Placed Operator × Input). x.0) same in

@@ -1,6 +1,6 @@
 -- Operators with their places, as many as bytes hold.
 use Rattle.std.specs.Prelude.{◌≡◌, ℕ, List, [], map, Some, None, MatchOption, Result, Ok, Err}
-use Rattle.wasmprinter_spec.specs.Grammar.{Input, Spans, Remainder, Placed, placed}
+use Rattle.wasmprinter_spec.specs.Grammar.{Input, Spans, Remainder, Placed, value_with_place}
 use Rattle.wasmprinter_spec.specs.Repeated.{some_or, until_end, Entries}
 use Rattle.wasmprinter_spec.specs.Operator.{Operator}
 use Rattle.wasmprinter_spec.specs.Instructions.{operator, expression, roles}
@@ -21,7 +21,7 @@ pairs ops = map (λ o. (o.place, o.value)) ops
 
 -- operators up to the end of the bytes, each with its place
 abbrev pub operators : Remainder (List (Placed Operator))
-operators = until_end (placed operator)
+operators = until_end (value_with_place operator)
 
 -- the operators, none where the bytes spell something else
 abbrev pub operators_in : Input → List (Placed Operator)
@@ -40,14 +40,14 @@ pub record OperatorsAndEnd (old : Input) (end : ℕ) (new : Input) : Type 0 wher
   pub items : List (Placed Operator)
   pub before : Input
   pub stands : before.place ≡ end
-  pub skipped : Spans (Entries (placed operator)) old (items, before)
+  pub skipped : Spans (Entries (value_with_place operator)) old (items, before)
   pub is : expression.parse old ≡ Some (record { items = items; end = end }, new)
 
 -- operators of an expression stand there, none of which closes it, and behind them one that opens a block
 pub record HasBlock (at : Input) : Type 0 where
   pub items : List (Placed Operator)
   pub before : Input
-  pub skipped : Spans (Entries (placed operator)) at (items, before)
+  pub skipped : Spans (Entries (value_with_place operator)) at (items, before)
   pub blocks : Open
   pub goes_on : open_behind at_start (roles items) ≡ Some blocks
   pub opener : Operator

@@ -1,6 +1,6 @@
 //! How operators nest (section 5.4, "Control Instructions"): which blocks are open behind the operators that were read.
 ghost use Rattle.std.specs.Prelude.{◌≡◌, IfOk};
-ghost use Rattle.wasmprinter_spec.specs.Nesting.{Enter, Become, at_start, left, turned};
+ghost use Rattle.wasmprinter_spec.specs.Nesting.{Enter, Become, at_start, move_outwards, move_by_turn};
 ghost use Rattle.wasmprinter_ops.specs.Nesting.{frame_view, Steps, Advances};
 ghost use Rattle.wasmprinter_ops.specs.Shapes.{role_view};
 
@@ -41,12 +41,12 @@ pub(crate) struct Blocks {
 }
 
 impl Model for Blocks {
-    ghost use Rattle.wasmprinter_spec.specs.Nesting.{Open, opened};
+    ghost use Rattle.wasmprinter_spec.specs.Nesting.{Open, open_frames};
     ghost use Rattle.wasmprinter_ops.specs.Nesting.{frame_view, frames_view};
 
     ghost Value = { Open };
 
-    ghost view = { λ b. opened (frame_view b.innermost) (frames_view b.outer.items) };
+    ghost view = { λ b. open_frames (frame_view b.innermost) (frames_view b.outer.items) };
 }
 
 impl Blocks {
@@ -62,7 +62,7 @@ impl Blocks {
 
     /// Opens a block.
     fn enter(&mut self, frame: Frame) -> Result<Step, AllocError>
-        ensures { IfOk result (λ s. Steps (turned (Enter (frame_view frame)) self.old) s self.new) }
+        ensures { IfOk result (λ s. Steps (move_by_turn (Enter (frame_view frame)) self.old) s self.new) }
     {
         self.outer.push(self.innermost)?;
         self.innermost = frame;
@@ -71,7 +71,7 @@ impl Blocks {
 
     /// Goes on with the innermost block.
     fn go_on(&mut self, frame: Frame) -> Step
-        ensures { Steps (turned (Become (frame_view frame)) self.old) result self.new }
+        ensures { Steps (move_by_turn (Become (frame_view frame)) self.old) result self.new }
     {
         self.innermost = frame;
         Step::On
@@ -79,7 +79,7 @@ impl Blocks {
 
     /// Closes the innermost block.
     fn leave(&mut self) -> Step
-        ensures { Steps (left self.old.outer) result self.new }
+        ensures { Steps (move_outwards self.old.outer) result self.new }
     {
         match self.outer.pop() {
             Some(frame) => {

@@ -1,6 +1,6 @@
 //! Operators: opcodes with their immediates.
 ghost use Rattle.std.specs.Prelude.{◌≡◌, IfOk};
-ghost use Rattle.wasmprinter_spec.specs.Grammar.{placed};
+ghost use Rattle.wasmprinter_spec.specs.Grammar.{value_with_place};
 ghost use Rattle.wasmprinter_spec.specs.Row.{FenceShape, TryTableShape, FieldShape, BranchTableShape, CastShape, MemoryLaneShape};
 ghost use Rattle.wasmprinter_spec.specs.Instructions.{operator, immediates as immediates_grammar, indices, cast};
 ghost use Rattle.wasmprinter_bytes.specs.Reads.{Reads, IsWithin, end_of};
@@ -211,7 +211,7 @@ impl<'a> Operator<'a> {
 ///
 /// Those of [`Operator::read`].
 pub fn read_placed<'a>(cursor: &mut Cursor<'a>) -> Result<(u64, Operator<'a>), Malformed>
-    ensures reads { Reads placed_view (placed operator).parse cursor.old result cursor.new }
+    ensures reads { Reads placed_view (value_with_place operator).parse cursor.old result cursor.new }
     ensures within { IsWithin cursor.old result }
     ensures end { end_of cursor.new ≡ end_of cursor.old }
 {

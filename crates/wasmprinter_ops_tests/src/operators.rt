@@ -261,7 +261,7 @@ fn other_operators_are_refused(rt: HostRuntime) {
 }
 
 /// The place at which the bytes are refused, none if an expression stands there.
-fn refused_at(alloc: Global, bytes: &[u8]) -> Option<u64> {
+fn place_of_refusal(alloc: Global, bytes: &[u8]) -> Option<u64> {
     match Expression::read(alloc, &mut Cursor::new(0, bytes)) {
         Err(Error::Malformed { place }) => Some(place),
         _ => None,
@@ -291,7 +291,10 @@ fn other_nesting_is_refused(rt: HostRuntime) {
         (&[0x06, 0x40, 0x07, 0x00, 0x18, 0x00, 0x0b], 4),
     ];
     for (row, (bytes, place)) in rows.iter().enumerate() {
-        assert!(rt; refused_at(rt.alloc(), *bytes) == Some(*place), "row {row}");
+        assert!(rt;
+            place_of_refusal(rt.alloc(), *bytes) == Some(*place),
+            "row {row}"
+        );
     }
 }
 
@@ -330,7 +333,7 @@ fn value_types_are_read(rt: HostRuntime) {
 }
 
 /// The value type that the bytes spell from their first on.
-fn spelled(bytes: &[u8]) -> Result<ValType, Malformed> {
+fn type_of_bytes(bytes: &[u8]) -> Result<ValType, Malformed> {
     read_type(&mut Cursor::new(0, bytes))
 }
 
@@ -361,10 +364,10 @@ fn value_types_have_their_bytes(rt: HostRuntime) {
         (0x74, reference(true, HeapType::NoExn)),
     ];
     for (byte, val_type) in rows {
-        assert!(rt; spelled(&[byte]) == Ok(val_type));
+        assert!(rt; type_of_bytes(&[byte]) == Ok(val_type));
     }
     for byte in [0x40, 0x60, 0x68, 0x75, 0x77, 0x78, 0x79, 0x7a, 0x80] {
-        assert!(rt; spelled(&[byte]) == Err(Malformed { place: 0 }));
+        assert!(rt; type_of_bytes(&[byte]) == Err(Malformed { place: 0 }));
     }
 }
 
@@ -387,7 +390,7 @@ fn references_say_whether_they_may_be_null(rt: HostRuntime) {
         (&[0x63], Err(Malformed { place: 1 })),
     ];
     for (row, (bytes, wanted)) in rows.iter().enumerate() {
-        assert!(rt; spelled(*bytes) == *wanted, "row {row}");
+        assert!(rt; type_of_bytes(*bytes) == *wanted, "row {row}");
     }
 }
 

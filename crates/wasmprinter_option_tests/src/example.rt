@@ -8,7 +8,7 @@ use wasmprinter::{Config, Error, PrintTermcolor, place_of, print_bytes};
 use wasmprinter_samples::{IDENTITY, expect_text};
 
 /// The text of a module, or what is wrong with its bytes.
-fn shown(alloc: Global, wasm: &[u8]) -> Result<String, Error> {
+fn text_or_fault(alloc: Global, wasm: &[u8]) -> Result<String, Error> {
     match print_bytes(alloc, wasm) {
         Err(Error::Malformed { place }) => Ok(format!(in alloc; "no module: see byte {place}\n")?),
         printed => printed,
@@ -16,7 +16,7 @@ fn shown(alloc: Global, wasm: &[u8]) -> Result<String, Error> {
 }
 
 /// The text of a module without its bodies, in the colours of a terminal.
-fn outlined(alloc: Global, wasm: &[u8]) -> Result<Vec<u8>, Error> {
+fn outline_of(alloc: Global, wasm: &[u8]) -> Result<Vec<u8>, Error> {
     let mut config = Config::new();
     config.print_skeleton(true);
     let mut printer = PrintTermcolor(Ansi::new(Vec::new(alloc)));
@@ -25,7 +25,7 @@ fn outlined(alloc: Global, wasm: &[u8]) -> Result<Vec<u8>, Error> {
 }
 
 /// The number of the line on which an operator stands, from 0, and the operator's place in the module.
-fn found(
+fn line_of_operator(
     alloc: Global,
     wasm: &[u8],
     function: u32,
@@ -41,9 +41,9 @@ fn found(
 #[test]
 fn shows_a_module_and_what_is_none(rt: HostRuntime) -> Result<(), Fail> {
     let module = [0x00, 0x61, 0x73, 0x6d, 0x01, 0x00, 0x00, 0x00];
-    let text = shown(rt.alloc(), &module)?;
+    let text = text_or_fault(rt.alloc(), &module)?;
     expect_text(text.as_str(), "(module)\n")?;
-    let text = shown(rt.alloc(), b"(module)")?;
+    let text = text_or_fault(rt.alloc(), b"(module)")?;
     expect_text(text.as_str(), "no module: see byte 0\n")?;
     Ok(())
 }
@@ -51,14 +51,14 @@ fn shows_a_module_and_what_is_none(rt: HostRuntime) -> Result<(), Fail> {
 #[test]
 fn outlines_a_module(rt: HostRuntime) -> Result<(), Fail> {
     let module = [0x00, 0x61, 0x73, 0x6d, 0x01, 0x00, 0x00, 0x00];
-    let text = outlined(rt.alloc(), &module)?;
+    let text = outline_of(rt.alloc(), &module)?;
     assert!(rt; text.as_slice() == b"(\x1b[0m\x1b[1m\x1b[38;5;11mmodule\x1b[0m)\n".as_slice());
     Ok(())
 }
 
 #[test]
 fn finds_an_operator(rt: HostRuntime) -> Result<(), Fail> {
-    assert!(rt; found(rt.alloc(), &IDENTITY, 0, 0)? == Some((4, 0x20)));
-    assert!(rt; found(rt.alloc(), &IDENTITY, 0, 1)? == None);
+    assert!(rt; line_of_operator(rt.alloc(), &IDENTITY, 0, 0)? == Some((4, 0x20)));
+    assert!(rt; line_of_operator(rt.alloc(), &IDENTITY, 0, 1)? == None);
     Ok(())
 }

@@ -116,7 +116,11 @@ fn entry<'a>(behind: Option<SectionKind>, bytes: &'a [u8]) -> Result<CustomEntry
 }
 
 /// What is printed of a section.
-fn printed(alloc: Global, options: &PrintOptions, section: &CustomEntry) -> Result<String, Fail> {
+fn text_of_section(
+    alloc: Global,
+    options: &PrintOptions,
+    section: &CustomEntry,
+) -> Result<String, Fail> {
     let mut printer = Taker::new(alloc, &[]);
     write_custom(&mut printer, options, section)?;
     Ok(printer.text)
@@ -124,7 +128,7 @@ fn printed(alloc: Global, options: &PrintOptions, section: &CustomEntry) -> Resu
 
 /// What is printed of a section of these bytes in front of all others.
 fn first(alloc: Global, bytes: &[u8]) -> Result<String, Fail> {
-    printed(alloc, &PrintOptions::new(), &entry(None, bytes)?)
+    text_of_section(alloc, &PrintOptions::new(), &entry(None, bytes)?)
 }
 
 #[test]
@@ -136,7 +140,7 @@ fn raw_sections_stand_as_they_are(rt: HostRuntime) -> Result<(), Fail> {
     )?;
     let mut options = PrintOptions::new();
     options.skeleton = true;
-    let text = printed(rt.alloc(), &options, &entry(None, b"\x01abytes")?)?;
+    let text = text_of_section(rt.alloc(), &options, &entry(None, b"\x01abytes")?)?;
     expect_text(text.as_str(), "\n  (@custom \"a\" (before first) ...)")?;
     Ok(())
 }
@@ -176,7 +180,7 @@ fn places_have_words(rt: HostRuntime) -> Result<(), Fail> {
         (SectionKind::Data, "\n  (@custom \"a\" (after data) \"\")"),
     ] {
         let section = entry(Some(kind), b"\x01a")?;
-        let text = printed(rt.alloc(), &PrintOptions::new(), &section)?;
+        let text = text_of_section(rt.alloc(), &PrintOptions::new(), &section)?;
         expect_text(text.as_str(), wanted)?;
     }
     Ok(())
@@ -187,7 +191,7 @@ fn producers_have_lines(rt: HostRuntime) -> Result<(), Fail> {
     let section = b"\x09producers\x02\x08language\x02\x04Rust\x00\x01C\x0211\x03sdk\x01\x01e\x011";
     let mut options = PrintOptions::new();
     options.offsets = true;
-    let text = printed(rt.alloc(), &options, &entry(None, section)?)?;
+    let text = text_of_section(rt.alloc(), &options, &entry(None, section)?)?;
     expect_text(
         text.as_str(),
         "\n(;@10    ;)  (@producers\

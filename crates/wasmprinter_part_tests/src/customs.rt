@@ -226,7 +226,7 @@ fn flags_have_words(rt: HostRuntime) {
 }
 
 /// The place of a hint and whether it is taken.
-fn shown(hint: Option<Hint>) -> Option<(u64, bool)> {
+fn place_and_direction(hint: Option<Hint>) -> Option<(u64, bool)> {
     hint.map(|hint| (hint.place(), hint.is_taken()))
 }
 
@@ -239,7 +239,7 @@ fn assert_hints(
 ) {
     for (offset, hint) in rows {
         assert!(rt;
-            shown(hints.next_at(*offset)) == *hint,
+            place_and_direction(hints.next_at(*offset)) == *hint,
             "function {function}, offset {offset}"
         );
     }
@@ -264,7 +264,7 @@ fn hints_are_taken_in_order(rt: HostRuntime) {
         (1, &[(3, None)]),
         (4, &[(2, Some((0x5b, true)))]),
     ];
-    let mut hints = Hints::given(0x50, bytes);
+    let mut hints = Hints::of_section(0x50, bytes);
     for (function, offsets) in rows {
         assert_hints(&rt, function, hints.next_function(function), offsets);
     }
@@ -286,8 +286,8 @@ fn a_fault_gives_no_hints(rt: HostRuntime) {
         b"\x02\x01\x01\x03\x01\x01",
     ];
     for bytes in faults {
-        let mut hints = Hints::given(0, bytes);
-        assert!(rt; shown(hints.next_function(1).next_at(3)) == None);
+        let mut hints = Hints::of_section(0, bytes);
+        assert!(rt; place_and_direction(hints.next_function(1).next_at(3)) == None);
     }
 }
 
@@ -305,20 +305,20 @@ fn many_hints(alloc: Global, count: u32, count_bytes: [u8; 3]) -> Result<Vec<u8>
 #[test]
 fn hints_are_read_once(rt: HostRuntime) -> Result<(), Fail> {
     let bytes = many_hints(rt.alloc(), 131_071, [0xff, 0xff, 0x07])?;
-    let mut hints = Hints::given(0, &bytes);
+    let mut hints = Hints::of_section(0, &bytes);
     for number in 0..100_000 {
-        assert!(rt; shown(hints.next_function(number).next_at(0)) == None);
+        assert!(rt; place_and_direction(hints.next_function(number).next_at(0)) == None);
     }
     let mut function = hints.next_function(100_000);
-    assert!(rt; shown(function.next_at(0)) == Some((7, true)));
-    assert!(rt; shown(function.next_at(0)) == Some((10, true)));
+    assert!(rt; place_and_direction(function.next_at(0)) == Some((7, true)));
+    assert!(rt; place_and_direction(function.next_at(0)) == Some((10, true)));
     Ok(())
 }
 
 #[test]
 fn a_hint_too_many_is_a_fault(rt: HostRuntime) -> Result<(), Fail> {
     let bytes = many_hints(rt.alloc(), 131_072, [0x80, 0x80, 0x08])?;
-    let mut hints = Hints::given(0, &bytes);
-    assert!(rt; shown(hints.next_function(100_000).next_at(0)) == None);
+    let mut hints = Hints::of_section(0, &bytes);
+    assert!(rt; place_and_direction(hints.next_function(100_000).next_at(0)) == None);
     Ok(())
 }

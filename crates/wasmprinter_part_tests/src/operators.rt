@@ -45,7 +45,7 @@ fn setting(form: Form, nesting: u64) -> Setting<'static, NoTypes> {
 }
 
 /// The operators of an expression of function 0, printed in a module with the names of this section.
-fn printed(
+fn text_of_operators(
     alloc: Global,
     section: &[u8],
     invents: bool,
@@ -76,7 +76,7 @@ fn printed(
 
 /// The operators in one line, in a module with the names of this section.
 fn with_names(alloc: Global, section: &[u8], invents: bool, bytes: &[u8]) -> Result<String, Fail> {
-    printed(
+    text_of_operators(
         alloc,
         section,
         invents,
@@ -88,8 +88,8 @@ fn with_names(alloc: Global, section: &[u8], invents: bool, bytes: &[u8]) -> Res
 
 /// The operators over lines, with the hints of this section.
 fn with_hints(alloc: Global, section: &[u8], bytes: &[u8]) -> Result<String, Fail> {
-    let mut hints = Hints::given(0, section);
-    printed(
+    let mut hints = Hints::of_section(0, section);
+    text_of_operators(
         alloc,
         &[],
         false,

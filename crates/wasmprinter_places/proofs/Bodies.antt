@@ -1,7 +1,7 @@
 -- Where the places of bodies lie: they rise.
 use Rattle.std.proofs.Common.{ℕ, ◌+◌, ◌≤◌, ◌==◌, List, [], ◌∷◌, ◌++◌, length, Bool, true, false, cond, Option, Some, refl, arith}
 use Rattle.std.specs.List.{flat_map}
-use Rattle.wasmprinter_spec.specs.Grammar.{Placed, placed}
+use Rattle.wasmprinter_spec.specs.Grammar.{Placed, value_with_place}
 use Rattle.wasmprinter_spec.specs.Name.{vec}
 use Rattle.wasmprinter_spec.specs.Binary.ValTypes.{val_type}
 use Rattle.wasmprinter_spec.specs.Binary.Code.{local_entry, body, code_entry}
@@ -11,7 +11,7 @@ use Rattle.wasmprinter_spec.specs.Layout.Functions.{locals_place}
 use Rattle.wasmprinter_spec.specs.Lines.{places}
 use Rattle.wasmprinter_spec.specs.Apart.{Rises, place_if_any, locals_places, body_places}
 use Rattle.wasmprinter_places.proofs.Order.{Order, rising, rises_from, rises_ends}
-use Rattle.wasmprinter_places.proofs.Lies.{Lies, Lies-any, Lies-u32, Lies-seq, Lies-behind, Lies-less, Lies-map_value, Lies-placed, LiesIn-alone, Lies-exactly, Lies-vec, Lies-expression}
+use Rattle.wasmprinter_places.proofs.Lies.{Lies, Lies-any, Lies-u32, Lies-seq, Lies-behind, Lies-less, Lies-map_value, Lies-value_with_place, LiesIn-alone, Lies-exactly, Lies-vec, Lies-expression}
 
 -- An operator takes a byte.
 Lies-operator : {o : Order} → Lies o 1 operator (λ x. [])
@@ -36,10 +36,10 @@ locals_rise (e ∷ es) p q h =
     (rises_from p (e.place + 1) q (locals_places es) (omega (arith, h.0)) (locals_rise es (e.place + 1) q h.1))
 
 -- The locals' line.
-Lies-locals : Lies rising 1 (vec (placed local_entry)) locals_places
+Lies-locals : Lies rising 1 (vec (value_with_place local_entry)) locals_places
 Lies-locals = record {
   lie = λ p text es s.
-      let all : Lies rising 1 (vec (placed local_entry)) (λ xs. flat_map (λ e. e.place ∷ []) xs) = Lies-vec (Lies-placed Lies-local_entry) in
+      let all : Lies rising 1 (vec (value_with_place local_entry)) (λ xs. flat_map (λ e. e.place ∷ []) xs) = Lies-vec (Lies-value_with_place Lies-local_entry) in
       locals_rise es (p + 1) (p + length text) (all.lie p text es s);
 }
 
@@ -48,8 +48,8 @@ abbrev inner_places : Body → List ℕ
 inner_places b = locals_places b.locals ++ (places b.operators ++ (b.end ∷ []))
 
 Lies-body : Lies rising 1 body inner_places
-Lies-body = Lies-map_value inner_places (Lies-seq Lies-locals (λ es. Lies-expression (Lies-placed Lies-operator)))
+Lies-body = Lies-map_value inner_places (Lies-seq Lies-locals (λ es. Lies-expression (Lies-value_with_place Lies-operator)))
 
 pub Lies-code_entry : Lies rising 0 code_entry body_places
 Lies-code_entry =
-    Lies-map_value body_places (Lies-less 1 0 (omega arith) (Lies-less (1 + 0) 1 (omega arith) (Lies-behind Lies-u32 (λ size. Lies-exactly (LiesIn-alone (Lies-placed Lies-body)) size))))
+    Lies-map_value body_places (Lies-less 1 0 (omega arith) (Lies-less (1 + 0) 1 (omega arith) (Lies-behind Lies-u32 (λ size. Lies-exactly (LiesIn-alone (Lies-value_with_place Lies-body)) size))))

@@ -17,15 +17,15 @@ use Rattle.wasmprinter_spec.specs.Module.{locals_of}
 use Rattle.wasmprinter_spec.specs.Options.{Options}
 use Rattle.wasmprinter_spec.specs.Piece.{Piece}
 use Rattle.wasmprinter_spec.specs.Layout.Groups.{has_break, close, group_gap_at}
-use Rattle.wasmprinter_spec.specs.Layout.Variables.{Variables, Alone, Together, with_variable, grouped, variables_pieces, groups_pieces}
+use Rattle.wasmprinter_spec.specs.Layout.Variables.{Variables, Alone, Together, with_variable, variable_groups, variables_pieces, groups_pieces}
 use Rattle.wasmprinter_spec.specs.Layout.Declarations.{Scope, Folding}
 use Rattle.wasmprinter_spec.specs.Layout.Operators.{OverLines, Setting}
 use Rattle.wasmprinter_spec.specs.Layout.Functions.{locals_place, local_line, local_pieces, header_pieces, over_lines, result_count, body_by, body_pieces, inner_pieces, function_group, function_pieces}
-use Rattle.wasmprinter_spec.specs.Lines.{places, is_among, kept}
+use Rattle.wasmprinter_spec.specs.Lines.{places, is_among, lines_without}
 use Rattle.wasmprinter_spec.specs.Apart.{Rises, place_if_any, locals_places, body_places}
 use Rattle.wasmprinter_places.proofs.Order.{rises_ends}
 use Rattle.wasmprinter_places.proofs.Indexes.{IsElsewhere, Follows, follows_none, follows_one, follows_skip, follows_elsewhere, follows_both}
-use Rattle.wasmprinter_places.proofs.Kept.{kept_out, kept_in, kept-append}
+use Rattle.wasmprinter_places.proofs.Kept.{kept_out, kept_in, lines_without-append}
 use Rattle.wasmprinter_places.proofs.CodeSection.{all_parts}
 use Rattle.wasmprinter_spec.proofs.OneLine.{starts, IsOneLine, both_stay, variables_stay, groups_stay}
 use Rattle.wasmprinter_places.proofs.OperatorLines.{hint_lines, operator_lines, operators_begin}
@@ -74,17 +74,17 @@ module _ (names : Names) where
 
   module _ (named : ℕ → Option Named) where
     locals_step : (place k count : ℕ) (type : ValType) (rest : List ValType) (r : Option ℕ) →
-        flat_map starts (local_line names r (grouped named k rest)) ≡ some_all (place_if_any r) →
-        flat_map starts (local_line names (cond (count == 0) r (Some place)) (grouped named k (replicate count type ++ rest))) ≡ some_all (place_if_any (cond (count == 0) r (Some place)))
+        flat_map starts (local_line names r (variable_groups named k rest)) ≡ some_all (place_if_any r) →
+        flat_map starts (local_line names (cond (count == 0) r (Some place)) (variable_groups named k (replicate count type ++ rest))) ≡ some_all (place_if_any (cond (count == 0) r (Some place)))
     locals_step place k zero type rest r h = h
     locals_step place k (suc n) type rest r h =
-        rw (ne_eqb (suc n) 0 (λ e. omega (arith, e))) (with_begins (Some place) (named k) type (grouped named (k + 1) (replicate n type ++ rest)))
+        rw (ne_eqb (suc n) 0 (λ e. omega (arith, e))) (with_begins (Some place) (named k) type (variable_groups named (k + 1) (replicate n type ++ rest)))
 
     nothing_begins : flat_map starts (local_line names None []) ≡ []
     unfolding local_line
     nothing_begins = refl
 
-    locals_begin : (k : ℕ) (es : List (Placed LocalEntry)) → flat_map starts (local_line names (locals_place es) (grouped named k (locals_of es))) ≡ some_all (locals_places es)
+    locals_begin : (k : ℕ) (es : List (Placed LocalEntry)) → flat_map starts (local_line names (locals_place es) (variable_groups named k (locals_of es))) ≡ some_all (locals_places es)
     locals_begin k [] = nothing_begins
     locals_begin k (e ∷ es) = locals_step e.place k e.value.count e.value.type (locals_of es) (locals_place es) (locals_begin k es)
 
@@ -184,31 +184,31 @@ module _ (ps : List ℕ) where
   abbrev pub IsKept : ℕ → Type 0
   IsKept p = is_among ps (Some p) ≡ false
 
-  all_out : (xs : List (Option ℕ)) → AllByRecursion IsHint xs → kept ps xs ≡ []
+  all_out : (xs : List (Option ℕ)) → AllByRecursion IsHint xs → lines_without ps xs ≡ []
   all_out [] h = refl
   all_out (x ∷ xs) h = kept_out ps x xs h.0 ∙ all_out xs h.1
 
-  some_kept : (xs : List ℕ) → AllByRecursion IsKept xs → kept ps (some_all xs) ≡ some_all xs
+  some_kept : (xs : List ℕ) → AllByRecursion IsKept xs → lines_without ps (some_all xs) ≡ some_all xs
   some_kept [] h = refl
   some_kept (x ∷ xs) h = kept_in ps (Some x) (some_all xs) h.0 ∙ ap (λ (ls : List (Option ℕ)). Some x ∷ ls) (some_kept xs h.1)
 
   operators_kept : (body : ℕ) (hs : List (Placed Hint)) (os : List (Placed Operator)) → OfHints IsHint hs → AllByRecursion IsKept (places os) →
-      kept ps (operator_lines body hs os) ≡ placed_lines os
+      lines_without ps (operator_lines body hs os) ≡ placed_lines os
   operators_kept body hs [] all own = refl
   operators_kept body hs (o ∷ os) all own =
       let offset : ℕ = o.place - body in
       let hint : List (Option ℕ) = hint_lines (next_hint offset hs) in
       let rest : List (Option ℕ) = operator_lines body (hint_behind offset hs) os in
-      kept-append ps hint (Some o.place ∷ rest)
+      lines_without-append ps hint (Some o.place ∷ rest)
       ∙ ap₂ (λ (ls ms : List (Option ℕ)). ls ++ ms) (all_out hint (of_next_hint IsHint offset hs all))
       (kept_in ps (Some o.place) rest own.0
       ∙ ap (λ (ls : List (Option ℕ)). Some o.place ∷ ls) (operators_kept body (hint_behind offset hs) os (of_hint_behind IsHint offset hs all) own.1))
 
-  closing_kept : (place : ℕ) (b : Bool) → IsKept place → kept ps (closing_lines place b) ≡ closing_lines place b
+  closing_kept : (place : ℕ) (b : Bool) → IsKept place → lines_without ps (closing_lines place b) ≡ closing_lines place b
   closing_kept place true h = kept_in ps (Some place) [] h
   closing_kept place false h = refl
 
-  pub own_kept : (b : Bool) (hs : List (Placed Hint)) (f : PlacedFunction) → OfHints IsHint hs → AllByRecursion IsKept (body_places f.body) → kept ps (own_lines b hs f) ≡ kept_lines b f
+  pub own_kept : (b : Bool) (hs : List (Placed Hint)) (f : PlacedFunction) → OfHints IsHint hs → AllByRecursion IsKept (body_places f.body) → lines_without ps (own_lines b hs f) ≡ kept_lines b f
   own_kept b hs f all own =
       let locals : List ℕ = locals_places f.body.value.locals in
       let operators : List (Placed Operator) = f.body.value.operators in
@@ -218,7 +218,7 @@ module _ (ps : List ℕ) where
       let second = all_parts IsKept (places operators) (f.body.value.end ∷ []) first.1 in
       kept_in ps (Some f.body.place) (some_all locals ++ (lines ++ closing)) own.0
       ∙ ap (λ (ls : List (Option ℕ)). Some f.body.place ∷ ls)
-      (kept-append ps (some_all locals) (lines ++ closing)
+      (lines_without-append ps (some_all locals) (lines ++ closing)
       ∙ ap₂ (λ (ls ms : List (Option ℕ)). ls ++ ms) (some_kept locals first.0)
-      (kept-append ps lines closing
+      (lines_without-append ps lines closing
       ∙ ap₂ (λ (ls ms : List (Option ℕ)). ls ++ ms) (operators_kept f.body.place hs operators all second.0) (closing_kept f.body.value.end b second.1.0)))

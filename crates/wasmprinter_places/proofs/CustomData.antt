@@ -5,14 +5,14 @@ use Rattle.std.specs.List.{flat_map}
 use Rattle.std.proofs.lemmas.List.{length-append}
 use Rattle.std.proofs.lemmas.List.Concat.{flat_map-append}
 use Rattle.wasmprinter_spec.specs.Choices.{tested}
-use Rattle.wasmprinter_spec.specs.Grammar.{Input, input, Grammar, some_is, Placed, placed}
+use Rattle.wasmprinter_spec.specs.Grammar.{Input, input, Grammar, some_is, Placed, value_with_place}
 use Rattle.wasmprinter_spec.specs.Name.{u32, vec, name}
 use Rattle.wasmprinter_spec.specs.Lenient.{Lenient, one, repeat, unless_ended}
 use Rattle.wasmprinter_spec.specs.Placed.{Custom}
 use Rattle.wasmprinter_spec.specs.Customs.{Role, Silent, Listed, Raw, name_section, hint_section, producers_section, dylink_section, producers_role, dylink_role, role_of}
 use Rattle.wasmprinter_spec.specs.Customs.Producers as p
 use Rattle.wasmprinter_spec.specs.Customs.Producers.{Field, are_runs}
-use Rattle.wasmprinter_spec.specs.Customs.Dylink.{Subsection, subsection, subsections, judged, judged_by, first_other}
+use Rattle.wasmprinter_spec.specs.Customs.Dylink.{Subsection, subsection, subsections, judgement_of, judgement_by, first_other}
 use Rattle.wasmprinter_spec.specs.Customs.Hints as h
 use Rattle.wasmprinter_spec.specs.Customs.Hints.{FunctionHints, hint, most_functions, most_hints, at_most, function_hints, or_none, hints_given}
 use Rattle.wasmprinter_spec.specs.Lines.{places, places_of_hints}
@@ -21,10 +21,10 @@ use Rattle.wasmprinter_places.proofs.Order.{inside, Inside, inside_both, inside_
 use Rattle.wasmprinter_places.proofs.Lies.{Lies, Lies-any, Lies-behind, Lies-less, Lies-mapped, Lies-map_value, Lies-vec}
 
 -- In this order a place may be that of the end, so it says nothing of the value that has it.
-pub Lies-here : {A : Type 0} (g : Grammar A) → Lies inside 0 (placed g) (λ x. x.place ∷ [])
+pub Lies-here : {A : Type 0} (g : Grammar A) → Lies inside 0 (value_with_place g) (λ x. x.place ∷ [])
 Lies-here g = record { lie = λ p text x s. (omega (arith, s.0), omega (arith, s.0), omega arith) }
 
-pub Lies-list : {A : Type 0} (g : Grammar A) → Lies inside 0 (vec (placed g)) (λ xs. places xs)
+pub Lies-list : {A : Type 0} (g : Grammar A) → Lies inside 0 (vec (value_with_place g)) (λ xs. places xs)
 Lies-list g = Lies-less 1 0 (omega arith) (Lies-vec (Lies-here g))
 
 -- ---- `producers`
@@ -126,7 +126,7 @@ module _ (a e : ℕ) (le : a ≤ e) where
   producers_lie None h = le
   producers_lie (Some fs) h = if_lies (are_runs fs) (Listed fs) Raw (h fs refl) le
 
-  dylink_lie : (ss : List Subsection) (o : Option ℕ) (end : Option Input) → Inside a (places ss) e → LiesAs (dylink_role (judged_by ss o end))
+  dylink_lie : (ss : List Subsection) (o : Option ℕ) (end : Option Input) → Inside a (places ss) e → LiesAs (dylink_role (judgement_by ss o end))
   dylink_lie ss (Some id) end h = le
   dylink_lie ss None (Some behind) h = h
   dylink_lie ss None None h = le
@@ -144,4 +144,4 @@ role_inside c =
     if_lies a e le (bytes_eq c.name name_section) Silent _ le
     (if_lies a e le (bytes_eq c.name hint_section) Silent _ le
     (if_lies a e le (bytes_eq c.name producers_section) (producers_role (p.producers.parse at)) _ (producers_lie a e le (p.producers.parse at) listed)
-    (if_lies a e le (bytes_eq c.name dylink_section) (dylink_role (judged at)) Raw (dylink_lie a e le read.0 (first_other read.0) read.1 linked) le)))
+    (if_lies a e le (bytes_eq c.name dylink_section) (dylink_role (judgement_of at)) Raw (dylink_lie a e le read.0 (first_other read.0) read.1 linked) le)))

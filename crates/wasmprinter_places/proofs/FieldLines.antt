@@ -11,7 +11,7 @@ use Rattle.wasmprinter_spec.specs.Operator.{Operator}
 use Rattle.wasmprinter_spec.specs.Indexed.{space_of}
 use Rattle.wasmprinter_spec.specs.Placed.{TypeGroup, Import, Table, Global, Mode, Passive, Declared, Active, Items, Functions, Expressions, ElementEntry, DataMode, PassiveData, ActiveData, Data, Export}
 use Rattle.wasmprinter_spec.specs.Piece.{Piece, Break}
-use Rattle.wasmprinter_spec.specs.Layout.Groups.{has_break, close, group, numbered}
+use Rattle.wasmprinter_spec.specs.Layout.Groups.{has_break, close, group, numbered_pieces}
 use Rattle.wasmprinter_spec.specs.Layout.Declarations.{Scope, Folding, item_declaration, item_index}
 use Rattle.wasmprinter_spec.specs.Layout.Types.{type_pieces, member_pieces, group_pieces_by, type_group_pieces, type_section_pieces}
 use Rattle.wasmprinter_spec.specs.Layout.Operators.{InLine, Setting}
@@ -44,11 +44,11 @@ placed_lines xs = map (λ x. Some x.place) xs
 
 -- Fields of one line each.
 pub numbered_begin : {A : Type 0} (write : ℕ → Placed A → List Piece) → ((i : ℕ) (x : Placed A) → flat_map starts (write i x) ≡ Some x.place ∷ []) →
-    (i : ℕ) (xs : List (Placed A)) → flat_map starts (numbered write i xs) ≡ placed_lines xs
-unfolding numbered
+    (i : ℕ) (xs : List (Placed A)) → flat_map starts (numbered_pieces write i xs) ≡ placed_lines xs
+unfolding numbered_pieces
 numbered_begin write one i [] = refl
 numbered_begin write one i (x ∷ xs) =
-    flat_map-append starts (write i x) (numbered write (i + 1) xs)
+    flat_map-append starts (write i x) (numbered_pieces write (i + 1) xs)
     ∙ ap₂ (λ (ls ms : List (Option ℕ)). ls ++ ms) (one i x) (numbered_begin write one (i + 1) xs)
 
 module _ (low high : ℕ) where
@@ -76,24 +76,24 @@ module _ (low high : ℕ) where
   -- ---- types
 
   members_elsewhere : (names : Names) (place i : ℕ) (ts : List SubType) → AllByRecursion (IsOutside low high) (member_places true place ts) →
-      AreElsewhere low high (flat_map starts (numbered (member_pieces names place) i ts))
-  unfolding numbered member_pieces
+      AreElsewhere low high (flat_map starts (numbered_pieces (member_pieces names place) i ts))
+  unfolding numbered_pieces member_pieces
   members_elsewhere names place i [] h = tt
   members_elsewhere names place i (t ∷ ts) h =
-      let rest : List Piece = numbered (member_pieces names place) (i + 1) ts in
+      let rest : List Piece = numbered_pieces (member_pieces names place) (i + 1) ts in
       (h.0, pieces_elsewhere (type_pieces names i t) rest (stay_elsewhere (type_stays names i t)) (members_elsewhere names place (i + 1) ts h.1))
 
-  alone_elsewhere : (names : Names) (i : ℕ) (ts : List SubType) → AreElsewhere low high (flat_map starts (numbered (type_pieces names) i ts))
-  unfolding numbered
+  alone_elsewhere : (names : Names) (i : ℕ) (ts : List SubType) → AreElsewhere low high (flat_map starts (numbered_pieces (type_pieces names) i ts))
+  unfolding numbered_pieces
   alone_elsewhere names i [] = tt
   alone_elsewhere names i (t ∷ ts) =
-      pieces_elsewhere (type_pieces names i t) (numbered (type_pieces names) (i + 1) ts) (stay_elsewhere (type_stays names i t)) (alone_elsewhere names (i + 1) ts)
+      pieces_elsewhere (type_pieces names i t) (numbered_pieces (type_pieces names) (i + 1) ts) (stay_elsewhere (type_stays names i t)) (alone_elsewhere names (i + 1) ts)
 
   group_by_elsewhere : (names : Names) (written : Bool) (place i : ℕ) (ts : List SubType) → AllByRecursion (IsOutside low high) (member_places written place ts) →
       AreElsewhere low high (flat_map starts (group_pieces_by names written place i ts))
   unfolding group
   group_by_elsewhere names true place i ts h =
-      let members : List Piece = numbered (member_pieces names place) i ts in
+      let members : List Piece = numbered_pieces (member_pieces names place) i ts in
       pieces_elsewhere members (close None 1 (has_break members)) (members_elsewhere names place i ts h) (close_elsewhere 1 (has_break members))
   group_by_elsewhere names false place i ts h = alone_elsewhere names i ts
 

@@ -9,7 +9,7 @@ use Rattle.wasmprinter_spec.specs.Placed.{PlacedFunction}
 use Rattle.wasmprinter_spec.specs.Piece.{all_calls}
 use Rattle.wasmprinter_spec.specs.Layout.Functions.{locals_place}
 use Rattle.wasmprinter_spec.specs.Layout.{module_pieces, layout}
-use Rattle.wasmprinter_spec.specs.Lines.{lines_of, line_places, places, hint_places, kept, lines_for, IsItsLine}
+use Rattle.wasmprinter_spec.specs.Lines.{lines_of, line_places, places, hint_places, lines_without, lines_for, IsItsLine}
 use Rattle.wasmprinter_spec.specs.Apart.{Rises, IsOutside, place_if_any, locals_places, body_places, IsApart}
 use Rattle.wasmprinter_spec.specs.PlaceLaws.{FunctionsHaveLines}
 use Rattle.wasmprinter_places.proofs.Order.{rises_ends, rises_from}
@@ -34,27 +34,27 @@ locals_first : (r : Option ℕ) (place : ℕ) (others : List (Option ℕ)) → r
 locals_first r place others e = ap (λ (x : Option ℕ). slice_get (some_all (place_if_any x) ++ others) 0) e
 
 module _ (low high : ℕ) (ps : List ℕ) (ls : List (Option ℕ)) (rise : RisesAmong low high low ls) where
-  its_line : (place number : ℕ) → low ≤ place → place < high → slice_get (kept ps ls) number ≡ Some (Some place) → IsItsLine ps ls place number
+  its_line : (place number : ℕ) → low ≤ place → place < high → slice_get (lines_without ps ls) number ≡ Some (Some place) → IsItsLine ps ls place number
   its_line place number above below e =
       let all = there ps ls number (Some place) e in
       record {
-        among_kept = record { has = e; only = λ other f. once low high (kept ps ls) low other number place (rises_kept low high ps ls low rise) above below f e };
+        among_kept = record { has = e; only = λ other f. once low high (lines_without ps ls) low other number place (rises_kept low high ps ls low rise) above below f e };
         among_all = (all.0, record { has = all.1; only = λ other f. once low high ls low other all.0 place rise above below f all.1 });
       }
 
-  module _ (f : PlacedFunction) (s : Stands f (kept ps ls)) (r : Rises low (body_places f.body) high) where
+  module _ (f : PlacedFunction) (s : Stands f (lines_without ps ls)) (r : Rises low (body_places f.body) high) where
     header_line : IsItsLine ps ls f.body.place s.at
     header_line =
         let same : s.at + 0 ≡ s.at = omega arith in
         its_line f.body.place s.at r.0 (omega (arith, rises_ends (f.body.place + 1) high _ r.1))
-        (subst (λ (k : ℕ). slice_get (kept ps ls) k ≡ Some (Some f.body.place)) same (s.stands 0 (Some f.body.place) refl))
+        (subst (λ (k : ℕ). slice_get (lines_without ps ls) k ≡ Some (Some f.body.place)) same (s.stands 0 (Some f.body.place) refl))
 
     behind_header : (n x : ℕ) →
         slice_get (some_all (locals_places f.body.value.locals) ++ (placed_lines f.body.value.operators ++ closing_lines f.body.value.end s.closes)) n ≡ Some (Some x) →
-        slice_get (kept ps ls) (s.at + 1 + n) ≡ Some (Some x)
+        slice_get (lines_without ps ls) (s.at + 1 + n) ≡ Some (Some x)
     behind_header n x e =
         let same : s.at + suc n ≡ s.at + 1 + n = omega arith in
-        subst (λ (k : ℕ). slice_get (kept ps ls) k ≡ Some (Some x)) same (s.stands (suc n) (Some x) e)
+        subst (λ (k : ℕ). slice_get (lines_without ps ls) k ≡ Some (Some x)) same (s.stands (suc n) (Some x) e)
 
     inner_rise : Rises low (locals_places f.body.value.locals ++ (places f.body.value.operators ++ (f.body.value.end ∷ []))) high
     inner_rise = rises_from low (f.body.place + 1) high _ (omega (arith, r.0)) r.1
@@ -67,7 +67,7 @@ module _ (low high : ℕ) (ps : List ℕ) (ls : List (Option ℕ)) (rise : Rises
         let bounds : Rises low (place ∷ []) high = subst (λ (x : Option ℕ). Rises low (place_if_any x) high) e inner in
         let same : s.at + 1 + 0 ≡ s.at + 1 = omega arith in
         its_line place (s.at + 1) bounds.0 (omega (arith, bounds.1))
-        (subst (λ (k : ℕ). slice_get (kept ps ls) k ≡ Some (Some place)) same (behind_header 0 place (locals_first (locals_place f.body.value.locals) place others e)))
+        (subst (λ (k : ℕ). slice_get (lines_without ps ls) k ≡ Some (Some place)) same (behind_header 0 place (locals_first (locals_place f.body.value.locals) place others e)))
 
     operator_line : (j : ℕ) (o : Placed Operator) → slice_get f.body.value.operators j ≡ Some o → IsItsLine ps ls o.place (s.at + 1 + lines_for (locals_place f.body.value.locals) + j)
     operator_line j o e =
@@ -82,7 +82,7 @@ module _ (low high : ℕ) (ps : List ℕ) (ls : List (Option ℕ)) (rise : Rises
         let counted : length locals ≡ lines_for (locals_place f.body.value.locals) = lines_counted (locals_place f.body.value.locals) in
         let same : s.at + 1 + (length locals + j) ≡ s.at + 1 + lines_for (locals_place f.body.value.locals) + j = omega (arith, counted) in
         its_line o.place (s.at + 1 + lines_for (locals_place f.body.value.locals) + j) bounds.0 (omega (arith, bounds.1))
-        (subst (λ (k : ℕ). slice_get (kept ps ls) k ≡ Some (Some o.place)) same there)
+        (subst (λ (k : ℕ). slice_get (lines_without ps ls) k ≡ Some (Some o.place)) same there)
 
 pub function_lines : FunctionsHaveLines
 unfolding layout
@@ -96,7 +96,7 @@ function_lines bytes m o answers spelled whole unfolded laid i f e =
     let body : Rises a.low (body_places f.body) a.high = rises_each (λ g. body_places g.body) m.functions a.low a.high i f a.bodies e in
     let own : AllByRecursion (IsKept ps) (body_places f.body) =
     all_rising (IsKept ps) a.low a.high (body_places f.body) (λ x above below. none_among (IsOutside a.low a.high) x (inside_not a.low a.high x above below) ps a.hints) body in
-    let stands : Stands f (kept ps ls) = subst (λ (xs : List (Option ℕ)). Stands f (kept ps xs)) (sym are) (module_stands o answers m begins.0 unfolded whole i f e own) in
+    let stands : Stands f (lines_without ps ls) = subst (λ (xs : List (Option ℕ)). Stands f (lines_without ps xs)) (sym are) (module_stands o answers m begins.0 unfolded whole i f e own) in
     record {
       header = stands.at;
       at_header = header_line a.low a.high ps ls rise f stands body;

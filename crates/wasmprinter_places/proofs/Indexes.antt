@@ -4,7 +4,7 @@ use Rattle.std.specs.Prelude.{slice_get}
 use Rattle.std.specs.List.{AllByRecursion, flat_map}
 use Rattle.wasmprinter_spec.specs.Grammar.{some_is}
 use Rattle.wasmprinter_spec.specs.Apart.{Rises, IsOutside}
-use Rattle.wasmprinter_spec.specs.Lines.{is_among, kept}
+use Rattle.wasmprinter_spec.specs.Lines.{is_among, lines_without}
 use Rattle.wasmprinter_places.proofs.Order.{rises_from, rises_ends}
 
 -- ---- parts
@@ -119,9 +119,9 @@ module _ (low high : ℕ) where
   dropped true x xs ys p h rest = elim h [ inl out ↦ rest p out.1 | inr up ↦ among_from ys p (up.0 + 1) (omega (arith, up.2)) (rest (up.0 + 1) up.3) ]
 
   -- Some lines left out, the others rise still.
-  pub rises_kept : (ps : List ℕ) (xs : List (Option ℕ)) (p : ℕ) → RisesAmong low high p xs → RisesAmong low high p (kept ps xs)
+  pub rises_kept : (ps : List ℕ) (xs : List (Option ℕ)) (p : ℕ) → RisesAmong low high p xs → RisesAmong low high p (lines_without ps xs)
   rises_kept ps [] p h = tt
-  rises_kept ps (x ∷ xs) p h = dropped (is_among ps x) x xs (kept ps xs) p h (λ q rest. rises_kept ps xs q rest)
+  rises_kept ps (x ∷ xs) p h = dropped (is_among ps x) x xs (lines_without ps xs) p h (λ q rest. rises_kept ps xs q rest)
 
   -- ---- lines that follow rising places, and may leave some out
 

@@ -3,30 +3,30 @@ use Rattle.std.proofs.Common.{◌≡◌, ℕ, zero, suc, List, [], ◌∷◌, �
 use Rattle.std.specs.Prelude.{slice_get}
 use Rattle.std.specs.List.{AllByRecursion}
 use Rattle.std.proofs.lemmas.Bool.{eq-eqb, ne_eqb}
-use Rattle.wasmprinter_spec.specs.Lines.{is_among, kept}
+use Rattle.wasmprinter_spec.specs.Lines.{is_among, lines_without}
 
 -- a line in front is left out, or kept
-pub kept_out : (ps : List ℕ) (x : Option ℕ) (xs : List (Option ℕ)) → is_among ps x ≡ true → kept ps (x ∷ xs) ≡ kept ps xs
-kept_out ps x xs e = ap (λ (b : Bool). cond b (kept ps xs) (x ∷ kept ps xs)) e
+pub kept_out : (ps : List ℕ) (x : Option ℕ) (xs : List (Option ℕ)) → is_among ps x ≡ true → lines_without ps (x ∷ xs) ≡ lines_without ps xs
+kept_out ps x xs e = ap (λ (b : Bool). cond b (lines_without ps xs) (x ∷ lines_without ps xs)) e
 
-pub kept_in : (ps : List ℕ) (x : Option ℕ) (xs : List (Option ℕ)) → is_among ps x ≡ false → kept ps (x ∷ xs) ≡ x ∷ kept ps xs
-kept_in ps x xs e = ap (λ (b : Bool). cond b (kept ps xs) (x ∷ kept ps xs)) e
+pub kept_in : (ps : List ℕ) (x : Option ℕ) (xs : List (Option ℕ)) → is_among ps x ≡ false → lines_without ps (x ∷ xs) ≡ x ∷ lines_without ps xs
+kept_in ps x xs e = ap (λ (b : Bool). cond b (lines_without ps xs) (x ∷ lines_without ps xs)) e
 
 step : (b : Bool) (x : Option ℕ) (xs ys zs : List (Option ℕ)) → zs ≡ xs ++ ys → cond b zs (x ∷ zs) ≡ cond b xs (x ∷ xs) ++ ys
 step true x xs ys zs e = e
 step false x xs ys zs e = ap (λ (ls : List (Option ℕ)). x ∷ ls) e
 
 -- Lines are left out of each part.
-pub kept-append : (ps : List ℕ) (xs ys : List (Option ℕ)) → kept ps (xs ++ ys) ≡ kept ps xs ++ kept ps ys
-kept-append ps [] ys = refl
-kept-append ps (x ∷ xs) ys = step (is_among ps x) x (kept ps xs) (kept ps ys) (kept ps (xs ++ ys)) (kept-append ps xs ys)
+pub lines_without-append : (ps : List ℕ) (xs ys : List (Option ℕ)) → lines_without ps (xs ++ ys) ≡ lines_without ps xs ++ lines_without ps ys
+lines_without-append ps [] ys = refl
+lines_without-append ps (x ∷ xs) ys = step (is_among ps x) x (lines_without ps xs) (lines_without ps ys) (lines_without ps (xs ++ ys)) (lines_without-append ps xs ys)
 
 -- none of these places
 abbrev pub AreNone : List ℕ → List (Option ℕ) → Type 0
 AreNone ps xs = AllByRecursion (λ x. is_among ps x ≡ false) xs
 
 -- Where no line is left out, all are kept.
-pub all_kept : (ps : List ℕ) (xs : List (Option ℕ)) → AreNone ps xs → kept ps xs ≡ xs
+pub all_kept : (ps : List ℕ) (xs : List (Option ℕ)) → AreNone ps xs → lines_without ps xs ≡ xs
 all_kept ps [] h = refl
 all_kept ps (x ∷ xs) h = kept_in ps x xs h.0 ∙ ap (λ (ls : List (Option ℕ)). x ∷ ls) (all_kept ps xs h.1)
 
@@ -37,9 +37,9 @@ there_of true x xs ys n y rest e = let r = rest n e in (suc r.0, r.1)
 there_of false x xs ys zero y rest e = (0, e)
 there_of false x xs ys (suc n) y rest e = let r = rest n e in (suc r.0, r.1)
 
-pub there : (ps : List ℕ) (xs : List (Option ℕ)) (n : ℕ) (y : Option ℕ) → slice_get (kept ps xs) n ≡ Some y → (j : ℕ) × (slice_get xs j ≡ Some y)
+pub there : (ps : List ℕ) (xs : List (Option ℕ)) (n : ℕ) (y : Option ℕ) → slice_get (lines_without ps xs) n ≡ Some y → (j : ℕ) × (slice_get xs j ≡ Some y)
 there ps [] n y e = absurd cc
-there ps (x ∷ xs) n y e = there_of (is_among ps x) x xs (kept ps xs) n y (λ k f. there ps xs k y f) e
+there ps (x ∷ xs) n y e = there_of (is_among ps x) x xs (lines_without ps xs) n y (λ k f. there ps xs k y f) e
 
 -- ---- which places are among others
 

@@ -2,7 +2,7 @@
 use Rattle.std.proofs.Common.{◌≡◌, ℕ, ◌+◌, ◌≤◌, List, [], ◌∷◌, ◌++◌, length, Option, Some, subst, sym, ap, arith}
 use Rattle.std.specs.List.{flat_map}
 use Rattle.std.proofs.lemmas.List.{length-append}
-use Rattle.wasmprinter_spec.specs.Grammar.{Grammar, Remainder, some_is, byte, seq, try_map, map_value, Placed, placed}
+use Rattle.wasmprinter_spec.specs.Grammar.{Grammar, Remainder, some_is, byte, seq, try_map, map_value, Placed, value_with_place}
 use Rattle.wasmprinter_spec.specs.Leb.{IsUnsigned}
 use Rattle.wasmprinter_spec.specs.Name.{u32, vec}
 use Rattle.wasmprinter_spec.specs.Repeated.{Items, times, Entries}
@@ -68,8 +68,8 @@ pub Lies-map_value : {o : Order} {A B : Type 0} {n : ℕ} {f : A → B} {g : Gra
 Lies-map_value {f} shown all = Lies-mapped (λ a b e. ap shown (some_is (f a) b e)) all
 
 -- A value that shows its own place too.
-pub Lies-placed : {o : Order} {A : Type 0} {g : Grammar A} {shown : A → List ℕ} → Lies o 1 g shown → Lies o 0 (placed g) (λ x. x.place ∷ shown x.value)
-Lies-placed {o} {shown} all = record {
+pub Lies-value_with_place : {o : Order} {A : Type 0} {g : Grammar A} {shown : A → List ℕ} → Lies o 1 g shown → Lies o 0 (value_with_place g) (λ x. x.place ∷ shown x.value)
+Lies-value_with_place {o} {shown} all = record {
   lie = λ p text x s.
       let own = all.lie p text x.value s.1 in
       let here : o.holds (p + 0) ((p + 0) ∷ []) (p + 1) = o.one (p + 0) (p + 1) (omega arith) in
@@ -110,7 +110,7 @@ pub Lies-vec : {o : Order} {A : Type 0} {g : Grammar A} {shown : A → List ℕ}
 Lies-vec {shown} all = Lies-map_value (λ xs. flat_map shown xs) (Lies-less (1 + 0) 1 (omega arith) (Lies-behind Lies-u32 (λ n. Lies-times all n)))
 
 -- Operators up to the `end` that closes them, which has a place behind all of theirs.
-pub Lies-expression : {o : Order} → Lies o 0 (placed operator) (λ x. x.place ∷ []) → Lies o 0 expression (λ x. flat_map (λ y. y.place ∷ []) x.items ++ (x.end ∷ []))
+pub Lies-expression : {o : Order} → Lies o 0 (value_with_place operator) (λ x. x.place ∷ []) → Lies o 0 expression (λ x. flat_map (λ y. y.place ∷ []) x.items ++ (x.end ∷ []))
 Lies-expression {o} all = record {
   lie = λ p text x s.
       let t : List ℕ = s.0 in

@@ -9,10 +9,10 @@ use Rattle.wasmprinter_spec.specs.Customs.Hints.{FunctionHints, hints_of, next_h
 use Rattle.wasmprinter_spec.specs.Names.{Names}
 use Rattle.wasmprinter_spec.specs.ModuleNames.{module_names}
 use Rattle.wasmprinter_spec.specs.Placed.{Import, PlacedFunction, PlacedModule}
-use Rattle.wasmprinter_spec.specs.Module.{imported, func_import, table_import, memory_import, global_import, tag_import, without_places}
+use Rattle.wasmprinter_spec.specs.Module.{imported_types, func_import, table_import, memory_import, global_import, tag_import, without_places}
 use Rattle.wasmprinter_spec.specs.Options.{Options, Answers}
 use Rattle.wasmprinter_spec.specs.Piece.{Piece, Feed}
-use Rattle.wasmprinter_spec.specs.Layout.Groups.{has_break, close, group_at, numbered}
+use Rattle.wasmprinter_spec.specs.Layout.Groups.{has_break, close, group_at, numbered_pieces}
 use Rattle.wasmprinter_spec.specs.Layout.Identifiers.{leading_mark_pieces}
 use Rattle.wasmprinter_spec.specs.Layout.Declarations.{Scope, Folding}
 use Rattle.wasmprinter_spec.specs.Layout.Types.{type_section_pieces}
@@ -26,10 +26,10 @@ use Rattle.wasmprinter_spec.specs.Layout.Elements.{element_pieces}
 use Rattle.wasmprinter_spec.specs.Layout.DataSegments.{data_pieces}
 use Rattle.wasmprinter_spec.specs.Layout.Customs.{Part, Shown, Stops, parts_at, Laid, laid_parts}
 use Rattle.wasmprinter_spec.specs.Layout.{tag_pieces, start_pieces, early_scope, late_scope, module_parts, module_pieces_of, module_pieces_with, module_pieces, refusal}
-use Rattle.wasmprinter_spec.specs.Lines.{hint_places, kept}
+use Rattle.wasmprinter_spec.specs.Lines.{hint_places, lines_without}
 use Rattle.wasmprinter_spec.specs.Apart.{Rises, IsOutside, body_places, IsApart}
 use Rattle.wasmprinter_places.proofs.Indexes.{StandsAt, stands_left, stands_right, IsElsewhere, AreElsewhere, RisesAmong, elsewhere_first, elsewhere_last, Follows, follows_none, follows_both}
-use Rattle.wasmprinter_places.proofs.Kept.{kept-append, each_among}
+use Rattle.wasmprinter_places.proofs.Kept.{lines_without-append, each_among}
 use Rattle.wasmprinter_spec.proofs.OneLine.{starts, leading_mark_stays}
 use Rattle.wasmprinter_places.proofs.FieldLines.{elsewhere_both, numbered_begin, placed_lines, placed_elsewhere, types_elsewhere, table_begins, memory_begins, tag_begins, global_begins, imports_begin, export_begins, start_elsewhere, element_begins, data_begins}
 use Rattle.wasmprinter_places.proofs.CustomLines.{part_starts, part_lines, customs_elsewhere}
@@ -69,15 +69,15 @@ Stands-right {f} xs {ys} h = record { closes = h.closes; at = length xs + h.at; 
 
 module _ (ps : List ℕ) (f : PlacedFunction) where
   -- behind other lines and in front of others
-  left_stands : (xs ys : List (Option ℕ)) → Stands f (kept ps xs) → Stands f (kept ps (xs ++ ys))
-  left_stands xs ys h = subst (Stands f) (sym (kept-append ps xs ys)) (Stands-left (kept ps ys) h)
+  left_stands : (xs ys : List (Option ℕ)) → Stands f (lines_without ps xs) → Stands f (lines_without ps (xs ++ ys))
+  left_stands xs ys h = subst (Stands f) (sym (lines_without-append ps xs ys)) (Stands-left (lines_without ps ys) h)
 
-  right_stands : (xs ys : List (Option ℕ)) → Stands f (kept ps ys) → Stands f (kept ps (xs ++ ys))
-  right_stands xs ys h = subst (Stands f) (sym (kept-append ps xs ys)) (Stands-right (kept ps xs) h)
+  right_stands : (xs ys : List (Option ℕ)) → Stands f (lines_without ps ys) → Stands f (lines_without ps (xs ++ ys))
+  right_stands xs ys h = subst (Stands f) (sym (lines_without-append ps xs ys)) (Stands-right (lines_without ps xs) h)
 
   function_stands : (o : Options) (s : Scope) → s.folding ≡ None → o.skeleton ≡ false → AllByRecursion (IsKept ps) (body_places f.body) →
       (es : List FunctionHints) → OfEntries (IsHint ps) es → (n i : ℕ) (fs : List PlacedFunction) → slice_get fs i ≡ Some f →
-      Stands f (kept ps (flat_map starts (functions_pieces o s es n fs)))
+      Stands f (lines_without ps (flat_map starts (functions_pieces o s es n fs)))
   unfolding functions_pieces
   function_stands o s flat whole body es all n i [] e = absurd cc
   function_stands o s flat whole body es all n zero (g ∷ fs) e =
@@ -85,21 +85,21 @@ module _ (ps : List ℕ) (f : PlacedFunction) where
       let same : g ≡ f = some_is g f e in
       let own = function_begins o s flat n hs g whole in
       let rest : List Piece = functions_pieces o s (hints_behind n es) (n + 1) fs in
-      let its : kept ps (own_lines own.closes hs g) ≡ kept_lines own.closes g =
+      let its : lines_without ps (own_lines own.closes hs g) ≡ kept_lines own.closes g =
       own_kept ps own.closes hs g (of_next_hints (IsHint ps) n es all) (subst (λ (h : PlacedFunction). AllByRecursion (IsKept ps) (body_places h.body)) (sym same) body) in
-      let lines : kept ps (flat_map starts (function_pieces o s n hs g)) ≡ kept_lines own.closes f =
-      ap (kept ps) own.are ∙ its ∙ ap (kept_lines own.closes) same in
+      let lines : lines_without ps (flat_map starts (function_pieces o s n hs g)) ≡ kept_lines own.closes f =
+      ap (lines_without ps) own.are ∙ its ∙ ap (kept_lines own.closes) same in
       let here : Stands f (kept_lines own.closes f) = record {
         closes = own.closes;
         at = 0;
         stands = λ k x h. let zeros : 0 + k ≡ k = omega arith in ap (slice_get (kept_lines own.closes f)) zeros ∙ h;
       } in
-      subst (λ (ls : List (Option ℕ)). Stands f (kept ps ls)) (sym (flat_map-append starts (function_pieces o s n hs g) rest))
+      subst (λ (ls : List (Option ℕ)). Stands f (lines_without ps ls)) (sym (flat_map-append starts (function_pieces o s n hs g) rest))
       (left_stands (flat_map starts (function_pieces o s n hs g)) (flat_map starts rest) (subst (Stands f) (sym lines) here))
   function_stands o s flat whole body es all n (suc i) (g ∷ fs) e =
       let own : List Piece = function_pieces o s n (next_hints n es) g in
       let rest : List Piece = functions_pieces o s (hints_behind n es) (n + 1) fs in
-      subst (λ (ls : List (Option ℕ)). Stands f (kept ps ls)) (sym (flat_map-append starts own rest))
+      subst (λ (ls : List (Option ℕ)). Stands f (lines_without ps ls)) (sym (flat_map-append starts own rest))
       (right_stands (flat_map starts own) (flat_map starts rest) (function_stands o s flat whole body (hints_behind n es) (of_hints_behind (IsHint ps) n es all) (n + 1) i fs e))
 
 -- ---- parts one behind the other
@@ -187,22 +187,22 @@ module _ (o : Options) (answers : Answers) (m : PlacedModule) where
       ++ (Shown (type_section_pieces own_names 0 m.types) ∷ customs_at (Some TypeSection))
       ++ (Shown (imports_pieces own_scope no_numbers m.imports) ∷ customs_at (Some ImportSection))
       ++ customs_at (Some FunctionSection)
-      ++ (Shown (numbered (table_pieces own_scope) (length (imported table_import own_imports)) m.tables) ∷ customs_at (Some TableSection))
-      ++ (Shown (numbered (memory_pieces own_scope) (length (imported memory_import own_imports)) m.memories) ∷ customs_at (Some MemorySection))
-      ++ (Shown (numbered (tag_pieces own_scope) (length (imported tag_import own_imports)) m.tags) ∷ customs_at (Some TagSection))
-      ++ (Shown (numbered (global_pieces own_scope) (length (imported global_import own_imports)) m.globals) ∷ customs_at (Some GlobalSection))
-      ++ (Shown (numbered (λ i e. export_pieces own_scope e) 0 m.exports) ∷ customs_at (Some ExportSection))
+      ++ (Shown (numbered_pieces (table_pieces own_scope) (length (imported_types table_import own_imports)) m.tables) ∷ customs_at (Some TableSection))
+      ++ (Shown (numbered_pieces (memory_pieces own_scope) (length (imported_types memory_import own_imports)) m.memories) ∷ customs_at (Some MemorySection))
+      ++ (Shown (numbered_pieces (tag_pieces own_scope) (length (imported_types tag_import own_imports)) m.tags) ∷ customs_at (Some TagSection))
+      ++ (Shown (numbered_pieces (global_pieces own_scope) (length (imported_types global_import own_imports)) m.globals) ∷ customs_at (Some GlobalSection))
+      ++ (Shown (numbered_pieces (λ i e. export_pieces own_scope e) 0 m.exports) ∷ customs_at (Some ExportSection))
       ++ (Shown (start_pieces own_scope m.start) ∷ customs_at (Some StartSection))
-      ++ (Shown (numbered (element_pieces o.skeleton own_scope) 0 m.elements) ∷ customs_at (Some ElementSection))
+      ++ (Shown (numbered_pieces (element_pieces o.skeleton own_scope) 0 m.elements) ∷ customs_at (Some ElementSection))
 
   abbrev functions_of : List Piece
-  functions_of = functions_pieces o own_scope (hints_of m.customs) (length (imported func_import own_imports)) m.functions
+  functions_of = functions_pieces o own_scope (hints_of m.customs) (length (imported_types func_import own_imports)) m.functions
 
   abbrev code_parts : List Part
   code_parts = Shown functions_of ∷ customs_at (Some CodeSection)
 
   abbrev data_parts : List Part
-  data_parts = Shown (numbered (data_pieces o.skeleton (late_scope o own_names m)) 0 m.datas) ∷ customs_at (Some DataSection)
+  data_parts = Shown (numbered_pieces (data_pieces o.skeleton (late_scope o own_names m)) 0 m.datas) ∷ customs_at (Some DataSection)
 
   parts_are : own_parts ≡ front_parts ++ code_parts ++ data_parts
   parts_are = refl
@@ -227,18 +227,18 @@ module _ (o : Options) (answers : Answers) (m : PlacedModule) where
         let s : Scope = own_scope in
         let types = field_out (type_section_pieces own_names 0 m.types) TypeSection (types_elsewhere a.low a.high own_names 0 m.types a.types) in
         let imports = items_out (imports_pieces s no_numbers m.imports) ImportSection (placed_lines m.imports) (imports_begin s no_numbers m.imports) (placed_elsewhere a.low a.high m.imports a.imports) in
-        let tables = items_out (numbered (table_pieces s) (length (imported table_import own_imports)) m.tables) TableSection (placed_lines m.tables)
-        (numbered_begin (table_pieces s) (table_begins s flat) (length (imported table_import own_imports)) m.tables) (placed_elsewhere a.low a.high m.tables a.tables) in
-        let memories = items_out (numbered (memory_pieces s) (length (imported memory_import own_imports)) m.memories) MemorySection (placed_lines m.memories)
-        (numbered_begin (memory_pieces s) (memory_begins s) (length (imported memory_import own_imports)) m.memories) (placed_elsewhere a.low a.high m.memories a.memories) in
-        let tags = items_out (numbered (tag_pieces s) (length (imported tag_import own_imports)) m.tags) TagSection (placed_lines m.tags)
-        (numbered_begin (tag_pieces s) (tag_begins s) (length (imported tag_import own_imports)) m.tags) (placed_elsewhere a.low a.high m.tags a.tags) in
-        let globals = items_out (numbered (global_pieces s) (length (imported global_import own_imports)) m.globals) GlobalSection (placed_lines m.globals)
-        (numbered_begin (global_pieces s) (global_begins s flat) (length (imported global_import own_imports)) m.globals) (placed_elsewhere a.low a.high m.globals a.globals) in
-        let exports = items_out (numbered (λ i e. export_pieces s e) 0 m.exports) ExportSection (placed_lines m.exports)
+        let tables = items_out (numbered_pieces (table_pieces s) (length (imported_types table_import own_imports)) m.tables) TableSection (placed_lines m.tables)
+        (numbered_begin (table_pieces s) (table_begins s flat) (length (imported_types table_import own_imports)) m.tables) (placed_elsewhere a.low a.high m.tables a.tables) in
+        let memories = items_out (numbered_pieces (memory_pieces s) (length (imported_types memory_import own_imports)) m.memories) MemorySection (placed_lines m.memories)
+        (numbered_begin (memory_pieces s) (memory_begins s) (length (imported_types memory_import own_imports)) m.memories) (placed_elsewhere a.low a.high m.memories a.memories) in
+        let tags = items_out (numbered_pieces (tag_pieces s) (length (imported_types tag_import own_imports)) m.tags) TagSection (placed_lines m.tags)
+        (numbered_begin (tag_pieces s) (tag_begins s) (length (imported_types tag_import own_imports)) m.tags) (placed_elsewhere a.low a.high m.tags a.tags) in
+        let globals = items_out (numbered_pieces (global_pieces s) (length (imported_types global_import own_imports)) m.globals) GlobalSection (placed_lines m.globals)
+        (numbered_begin (global_pieces s) (global_begins s flat) (length (imported_types global_import own_imports)) m.globals) (placed_elsewhere a.low a.high m.globals a.globals) in
+        let exports = items_out (numbered_pieces (λ i e. export_pieces s e) 0 m.exports) ExportSection (placed_lines m.exports)
         (numbered_begin (λ i e. export_pieces s e) (λ i e. export_begins s e) 0 m.exports) (placed_elsewhere a.low a.high m.exports a.exports) in
         let start = field_out (start_pieces s m.start) StartSection (start_elsewhere a.low a.high s m.start a.start) in
-        let elements = items_out (numbered (element_pieces o.skeleton s) 0 m.elements) ElementSection (placed_lines m.elements)
+        let elements = items_out (numbered_pieces (element_pieces o.skeleton s) 0 m.elements) ElementSection (placed_lines m.elements)
         (numbered_begin (element_pieces o.skeleton s) (element_begins o.skeleton s flat) 0 m.elements) (placed_elsewhere a.low a.high m.elements a.elements) in
         let first = out_both a.low a.high (out_both a.low a.high (customs_out None) types) imports in
         let second = out_both a.low a.high (out_both a.low a.high first (customs_out (Some FunctionSection))) tables in
@@ -248,7 +248,7 @@ module _ (o : Options) (answers : Answers) (m : PlacedModule) where
     data_out : AreOut a.low a.high data_parts
     data_out =
         let s : Scope = late_scope o own_names m in
-        items_out (numbered (data_pieces o.skeleton s) 0 m.datas) DataSection (placed_lines m.datas)
+        items_out (numbered_pieces (data_pieces o.skeleton s) 0 m.datas) DataSection (placed_lines m.datas)
         (numbered_begin (data_pieces o.skeleton s) (data_begins o.skeleton s flat) 0 m.datas) (placed_elsewhere a.low a.high m.datas a.datas)
 
     closing_out : (place : ℕ) (b : Bool) → IsOutside a.low a.high place → AreElsewhere a.low a.high (closing_lines place b)
@@ -262,7 +262,7 @@ module _ (o : Options) (answers : Answers) (m : PlacedModule) where
         let all : List ℕ = flat_map (λ f. body_places f.body) m.functions in
         let rise : Rises a.low (all ++ []) a.high = subst (λ (ps : List ℕ). Rises a.low ps a.high) (sym (append-nil all)) a.bodies in
         let follow : Follows a.low a.high all functions =
-        functions_follow a.low a.high o own_scope flat whole (hints_of m.customs) a.hints (length (imported func_import own_imports)) m.functions in
+        functions_follow a.low a.high o own_scope flat whole (hints_of m.customs) a.hints (length (imported_types func_import own_imports)) m.functions in
         let code : RisesAmong a.low a.high a.low functions = subst (RisesAmong a.low a.high a.low) (append-nil functions) (follow a.low [] [] rise (λ q h. tt)) in
         let section : RisesAmong a.low a.high a.low (part_lines code_parts) =
         elsewhere_last a.low a.high a.low functions (part_lines (customs_at (Some CodeSection))) code (customs_out (Some CodeSection)).out in
@@ -273,16 +273,16 @@ module _ (o : Options) (answers : Answers) (m : PlacedModule) where
 
   -- The kept lines of a function stand among those of the module.
   pub module_stands : (b : Bool) → o.folds ≡ false → o.skeleton ≡ false → (i : ℕ) (f : PlacedFunction) → slice_get m.functions i ≡ Some f →
-      AllByRecursion (IsKept (hint_places m)) (body_places f.body) → Stands f (kept (hint_places m) (module_lines b m.size own_parts))
+      AllByRecursion (IsKept (hint_places m)) (body_places f.body) → Stands f (lines_without (hint_places m) (module_lines b m.size own_parts))
   module_stands b unfolded whole i f e body =
       let ps : List ℕ = hint_places m in
       let functions : List (Option ℕ) = flat_map starts functions_of in
-      let own : Stands f (kept ps functions) =
-      function_stands ps f o own_scope (nothing_folds o.folds _ unfolded) whole body (hints_of m.customs) (each_among ps) (length (imported func_import own_imports)) i m.functions e in
-      let section : Stands f (kept ps (part_lines code_parts)) = left_stands ps f functions (part_lines (customs_at (Some CodeSection))) own in
-      let front : Stands f (kept ps (part_lines (front_parts ++ code_parts))) =
-      subst (λ (ls : List (Option ℕ)). Stands f (kept ps ls)) (sym (parts_joined front_parts code_parts)) (right_stands ps f (part_lines front_parts) (part_lines code_parts) section) in
-      let parts : Stands f (kept ps (part_lines own_parts)) =
-      subst (λ (ls : List (Option ℕ)). Stands f (kept ps ls)) (sym (parts_joined (front_parts ++ code_parts) data_parts)) (left_stands ps f (part_lines (front_parts ++ code_parts)) (part_lines data_parts) front) in
+      let own : Stands f (lines_without ps functions) =
+      function_stands ps f o own_scope (nothing_folds o.folds _ unfolded) whole body (hints_of m.customs) (each_among ps) (length (imported_types func_import own_imports)) i m.functions e in
+      let section : Stands f (lines_without ps (part_lines code_parts)) = left_stands ps f functions (part_lines (customs_at (Some CodeSection))) own in
+      let front : Stands f (lines_without ps (part_lines (front_parts ++ code_parts))) =
+      subst (λ (ls : List (Option ℕ)). Stands f (lines_without ps ls)) (sym (parts_joined front_parts code_parts)) (right_stands ps f (part_lines front_parts) (part_lines code_parts) section) in
+      let parts : Stands f (lines_without ps (part_lines own_parts)) =
+      subst (λ (ls : List (Option ℕ)). Stands f (lines_without ps ls)) (sym (parts_joined (front_parts ++ code_parts) data_parts)) (left_stands ps f (part_lines (front_parts ++ code_parts)) (part_lines data_parts) front) in
       let closed = left_stands ps f (part_lines own_parts) (closing_lines m.size b) parts in
       right_stands ps f (Some 0 ∷ []) ((part_lines own_parts ++ closing_lines m.size b) ++ []) (left_stands ps f (part_lines own_parts ++ closing_lines m.size b) [] closed)

@@ -7,7 +7,7 @@ use Rattle.wasmprinter_spec.specs.Operator.{Operator}
 use Rattle.wasmprinter_spec.specs.Row.{Role}
 use Rattle.wasmprinter_spec.specs.Table.{word_of, role_of, shape_of}
 use Rattle.wasmprinter_spec.specs.Labels as labels
-use Rattle.wasmprinter_spec.specs.Labels.{labels_after, count_after, outside, inside}
+use Rattle.wasmprinter_spec.specs.Labels.{labels_after, count_after, labels_outside, labels_inside}
 use Rattle.wasmprinter_spec.specs.Customs.Hints.{Hint, next_hint, hint_behind}
 use Rattle.wasmprinter_spec.specs.Piece.{Piece, Word}
 use Rattle.wasmprinter_spec.specs.Layout.Operators.{Form, OverLines, InLine, Setting, pieces_by, level, before_word, operator_pieces, hint_pieces, operators_pieces, expression_pieces}
@@ -26,7 +26,7 @@ module _ (s : Setting) (line : s.form ≡ InLine) where
   operator_stays first own xs o =
       let role : Role = role_of o.value.opcode in
       both_stay (subst (λ (f : Form). IsOneLine (before_word f first o.place (s.nesting + level role (length xs)))) (sym line) (before_stays first o.place (s.nesting + level role (length xs))))
-      (then_stay refl (by_shape_stay s (inside role xs) (outside role xs) own (shape_of o.value.opcode) o.value.immediates))
+      (then_stay refl (by_shape_stay s (labels_inside role xs) (labels_outside role xs) own (shape_of o.value.opcode) o.value.immediates))
 
   operators_stay : (first : Bool) (n : ℕ) (xs : List labels.Label) (os : List (Placed Operator)) → IsOneLine (operators_pieces s [] first n xs os)
   unfolding operators_pieces
@@ -62,8 +62,8 @@ module _ (s : Setting) (over : s.form ≡ OverLines) where
   operator_begins first own xs o =
       let role : Role = role_of o.value.opcode in
       let nesting : ℕ = s.nesting + level role (length xs) in
-      let rest : List Piece = pieces_by s (inside role xs) (outside role xs) own (shape_of o.value.opcode) o.value.immediates in
-      let stays : IsOneLine rest = by_shape_stay s (inside role xs) (outside role xs) own (shape_of o.value.opcode) o.value.immediates in
+      let rest : List Piece = pieces_by s (labels_inside role xs) (labels_outside role xs) own (shape_of o.value.opcode) o.value.immediates in
+      let stays : IsOneLine rest = by_shape_stay s (labels_inside role xs) (labels_outside role xs) own (shape_of o.value.opcode) o.value.immediates in
       ap (λ (f : Form). flat_map starts (before_word f first o.place nesting ++ (Word (word_of o.value.opcode) ∷ rest))) over
       ∙ ap (λ (ls : List (Option ℕ)). Some o.place ∷ ls) stays.begins
 

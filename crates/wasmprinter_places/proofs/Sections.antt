@@ -2,7 +2,7 @@
 use Rattle.std.proofs.Common.{◌≡◌, ℕ, ◌+◌, ◌≤◌, ◌==◌, List, [], ◌∷◌, ◌++◌, length, Bool, true, false, refl, sym, ap, subst, ◌∙◌, arith, map}
 use Rattle.std.specs.List.{flat_map}
 use Rattle.std.proofs.lemmas.List.{length-append}
-use Rattle.wasmprinter_spec.specs.Grammar.{Remainder, Placed, placed, choose, map_value, some_is}
+use Rattle.wasmprinter_spec.specs.Grammar.{Remainder, Placed, value_with_place, choose, map_value, some_is}
 use Rattle.wasmprinter_spec.specs.Name.{u32, vec}
 use Rattle.wasmprinter_spec.specs.Types.{SubType}
 use Rattle.wasmprinter_spec.specs.Placed.{TypeGroup, type_group, Custom, custom_of}
@@ -44,7 +44,7 @@ members_lie false first p place text g next s =
     subst (λ (x : TypeGroup). Inside place (member_places x.written place x.types) (p + length text)) (some_is (type_group false (s.0 ∷ [])) g s.1)
     (omega (arith, next))
 
-group_lies : (p : ℕ) (text : List ℕ) (g : Placed TypeGroup) → (placed group).spells p text g → Inside p (group_places g) (p + length text)
+group_lies : (p : ℕ) (text : List ℕ) (g : Placed TypeGroup) → (value_with_place group).spells p text g → Inside p (group_places g) (p + length text)
 group_lies p text g s =
     let parts = s.1.2 in
     let a : ℕ × TypeGroup = s.1.0 in
@@ -59,7 +59,7 @@ group_lies p text g s =
     subst (λ (q : ℕ). Inside p (member_places g.value.written q g.value.types) (p + length parts.0 + length parts.1)) (sym s.0) named in
     (omega (arith, s.0), omega (arith, s.0), inside_wider p p (p + length parts.0 + length parts.1) (p + length text) (member_places g.value.written g.place g.value.types) (omega arith) (omega (arith, long)) there)
 
-Lies-group : Lies inside 0 (placed group) group_places
+Lies-group : Lies inside 0 (value_with_place group) group_places
 Lies-group = record { lie = λ p text g s. inside_wider (p + 0) p (p + length text) (p + length text) (group_places g) (omega arith) (omega arith) (group_lies p text g s) }
 
 -- ---- custom sections

@@ -3,7 +3,7 @@ use Rattle.std.specs.Prelude.{◌≡◌, ℕ, Bool, true, false, List, [], ◌�
 use Rattle.std.proofs.Common.{refl, sym, ap, ap₂, ◌∙◌, subst, append_assoc, append-nil}
 use Rattle.std.proofs.lemmas.List.{map-append}
 use Rattle.std.specs.declared.io.Error.{Error as IoError}
-use Rattle.wasmprinter_spec.specs.Call.{Call, Text, cut_call, atoms}
+use Rattle.wasmprinter_spec.specs.Call.{Call, Text, calls_of_bytes, atoms}
 use Rattle.wasmprinter_spec.specs.Meaning.{Meaning, Run, Succeeded, Failed}
 use Rattle.wasmprinter_print.specs.Emits.{Emits, EmitsOrFails, Made, Owes, Calls, Ending, Through, AtCall, Stopped, Never, halt_of, Whole, Broken, Begun}
 use Rattle.wasmprinter_error.specs.declared.error.Error.{Error}
@@ -13,7 +13,7 @@ use Rattle.wasmprinter_error.specs.declared.error.Error.TheVariants.{Malformed, 
 pub atoms-append : (k l : List Call) → atoms (k ++ l) ≡ atoms k ++ atoms l
 atoms-append [] l = refl
 atoms-append (c ∷ k) l =
-    ap (λ x. cut_call c ++ x) (atoms-append k l) ∙ sym (append_assoc (cut_call c) (atoms k) (atoms l))
+    ap (λ x. calls_of_bytes c ++ x) (atoms-append k l) ∙ sym (append_assoc (calls_of_bytes c) (atoms k) (atoms l))
 
 -- a run after a run
 pub Run-append : {P : Type 0} (m : Meaning P) (a s t : P) (k l : List Call) →
@@ -190,7 +190,7 @@ settles m {whole = whole} {k} o v = alike m whole (atoms-append o.layout k ∙ o
 -- a text in two parts
 pub atoms-text : (x y : List ℕ) (k : List Call) → atoms (Text x ∷ Text y ∷ k) ≡ atoms (Text (x ++ y) ∷ k)
 atoms-text x y k =
-    sym (append_assoc (cut_call (Text x)) (cut_call (Text y)) (atoms k)) ∙ ap (λ b. b ++ atoms k) (sym (map-append (λ b. Text (b ∷ [])) x y))
+    sym (append_assoc (calls_of_bytes (Text x)) (calls_of_bytes (Text y)) (atoms k)) ∙ ap (λ b. b ++ atoms k) (sym (map-append (λ b. Text (b ∷ [])) x y))
 
 -- the first part of a text, and then the rest
 pub then_text : {P : Type 0} (m : Meaning P) {a s t : P} {r : Ending} {x y : List ℕ} {k : List Call} →

@@ -4,7 +4,7 @@ ghost use Rattle.std.specs.Prelude.{[], ◌∷◌};
 ghost use Rattle.wasmprinter_spec.specs.Call.{Text, Newline, Start, Reset};
 ghost use Rattle.wasmprinter_print.specs.Emits.{Emits};
 ghost use Rattle.wasmprinter_print.specs.Styles.{style_of};
-ghost use Rattle.wasmprinter_spec.specs.Piece.{styled};
+ghost use Rattle.wasmprinter_spec.specs.Piece.{calls_in_style};
 
 use crate::Print;
 use std::io;
@@ -63,8 +63,8 @@ pub fn reset<P: Print>(p: &mut P) -> io::Result<()>
 }
 
 /// Writes a piece of text in a style.
-pub fn styled<P: Print>(p: &mut P, style: Style, s: &str) -> io::Result<()>
-    ensures { Emits P.meaning p.old p.new result (styled (style_of style) s.now) }
+pub fn text_in_style<P: Print>(p: &mut P, style: Style, s: &str) -> io::Result<()>
+    ensures { Emits P.meaning p.old p.new result (calls_in_style (style_of style) s.now) }
 {
     start(p, style)?;
     text(p, s)?;

@@ -13,7 +13,7 @@ use std::{fmt, io};
 pub struct PrintFmtWrite<T>(pub T);
 
 /// The error of a writer that refused: it tells no cause, and so is of the kind `Other`.
-fn refused(_e: fmt::Error) -> io::Error
+fn error_of_refusal(_e: fmt::Error) -> io::Error
     ensures { error_kind result ≡ Other }
 {
     io::Error::from(ErrorKind::Other)
@@ -30,7 +30,7 @@ impl<T: fmt::Write> Print for PrintFmtWrite<T> {
     ghost colors = { λ _. false };
 
     fn write_str(&mut self, s: &str) -> io::Result<()> {
-        self.0.write_str(s).map_err(refused)
+        self.0.write_str(s).map_err(error_of_refusal)
     }
 
     fn newline(&mut self) -> io::Result<()> {

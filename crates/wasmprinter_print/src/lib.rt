@@ -16,7 +16,7 @@ ghost use Rattle.wasmprinter_print.specs.PieceLaws.{PieceHandsOn, PiecesHandOn, 
 mod calls;
 mod fmt_write;
 
-pub use calls::{Style, feed, reset, start, styled, text};
+pub use calls::{Style, feed, reset, start, text, text_in_style};
 pub use fmt_write::PrintFmtWrite;
 use std::io;
 

@@ -1,9 +1,9 @@
 -- What holds of all values that bytes spell: a predicate goes through each combinator of grammars from the parts to the whole.
 use Rattle.std.proofs.Common.{◌≡◌, ℕ, ◌+◌, ◌<◌, ◌≤◌, List, [], ◌∷◌, ◌++◌, length, Bool, true, false, Option, Some, None, refl, subst, sym}
 use Rattle.std.specs.List.{AllByRecursion}
-use Rattle.wasmprinter_spec.specs.Grammar.{Grammar, some_is, byte, seq, try_map, map_value, succeed, fail, choose, placed}
-use Rattle.wasmprinter_spec.specs.FirstByte.{announced, Peeked, peeked}
-use Rattle.wasmprinter_spec.specs.Binary.ValTypes.{given}
+use Rattle.wasmprinter_spec.specs.Grammar.{Grammar, some_is, byte, seq, try_map, map_value, succeed, fail, choose, value_with_place}
+use Rattle.wasmprinter_spec.specs.FirstByte.{behind_first_byte, Peeked, by_first_byte}
+use Rattle.wasmprinter_spec.specs.Binary.ValTypes.{value_if_any}
 use Rattle.wasmprinter_spec.specs.Repeated.{Items, times, Entries}
 use Rattle.wasmprinter_spec.specs.Sized.{take_bytes, alone, exactly}
 use Rattle.wasmprinter_spec.specs.Binary.{AreBytes}
@@ -68,13 +68,13 @@ pub AllSpelled-take_bytes : (n : ℕ) → AllSpelled (take_bytes n) (λ bs. (len
 AllSpelled-take_bytes n = record { has = λ p text bs bytes s. subst (λ t. (length t ≡ n) × AreBytes t) (sym s.1) (s.0, bytes) }
 
 -- A value if there is one.
-pub AllSpelled-given : {A : Type 0} {P : A → Type 0} (o : Option A) → ((a : A) → o ≡ Some a → P a) → AllSpelled (given o) P
-AllSpelled-given None holds = AllSpelled-fail
-AllSpelled-given (Some a) holds = AllSpelled-succeed (holds a refl)
+pub AllSpelled-value_if_any : {A : Type 0} {P : A → Type 0} (o : Option A) → ((a : A) → o ≡ Some a → P a) → AllSpelled (value_if_any o) P
+AllSpelled-value_if_any None holds = AllSpelled-fail
+AllSpelled-value_if_any (Some a) holds = AllSpelled-succeed (holds a refl)
 
 -- What the first byte announces, if each such value has P.
-pub AllSpelled-announced : {A : Type 0} {h : ℕ → Grammar A} {P : A → Type 0} → ((b : ℕ) → AllSpelled (h b) P) → AllSpelled (announced h) P
-AllSpelled-announced each = AllSpelled-map_value (AllSpelled-seq (AllSpelled-any byte) each) (λ x h. h.1)
+pub AllSpelled-behind_first_byte : {A : Type 0} {h : ℕ → Grammar A} {P : A → Type 0} → ((b : ℕ) → AllSpelled (h b) P) → AllSpelled (behind_first_byte h) P
+AllSpelled-behind_first_byte each = AllSpelled-map_value (AllSpelled-seq (AllSpelled-any byte) each) (λ x h. h.1)
 
 peeked_has : {A : Type 0} {h : ℕ → Grammar A} {P : A → Type 0} → ((b : ℕ) → AllSpelled (h b) P) →
     (p : ℕ) (text : List ℕ) (a : A) → AreBytes text → Peeked h p text a → P a
@@ -82,12 +82,12 @@ peeked_has each p [] a bytes s = absurd s
 peeked_has each p (b ∷ text) a bytes s = (each b).has p (b ∷ text) a bytes s
 
 -- What the first byte chooses, itself among it, if each such value has P.
-pub AllSpelled-peeked : {A : Type 0} {h : ℕ → Grammar A} {P : A → Type 0} → ((b : ℕ) → AllSpelled (h b) P) → AllSpelled (peeked h) P
-AllSpelled-peeked each = record { has = λ p text a bytes s. peeked_has each p text a bytes s }
+pub AllSpelled-by_first_byte : {A : Type 0} {h : ℕ → Grammar A} {P : A → Type 0} → ((b : ℕ) → AllSpelled (h b) P) → AllSpelled (by_first_byte h) P
+AllSpelled-by_first_byte each = record { has = λ p text a bytes s. peeked_has each p text a bytes s }
 
 -- A value with its place.
-pub AllSpelled-placed : {A : Type 0} {g : Grammar A} {P : A → Type 0} → AllSpelled g P → AllSpelled (placed g) (λ x. P x.value)
-AllSpelled-placed all = record { has = λ p text x bytes s. all.has p text x.value bytes s.1 }
+pub AllSpelled-value_with_place : {A : Type 0} {g : Grammar A} {P : A → Type 0} → AllSpelled g P → AllSpelled (value_with_place g) (λ x. P x.value)
+AllSpelled-value_with_place all = record { has = λ p text x bytes s. all.has p text x.value bytes s.1 }
 
 -- A value that takes exactly n bytes.
 pub AllSpelled-exactly : {A : Type 0} {g : Grammar A} {P : A → Type 0} → AllSpelled g P → (n : ℕ) → AllSpelled (exactly (alone g) n) P

@@ -22,7 +22,7 @@ use Rattle.wasmprinter_spec.specs.Layout.Declarations.{Scope, scope_of, folding_
 use Rattle.wasmprinter_spec.specs.Layout.Expressions.{in_line}
 use Rattle.wasmprinter_spec.specs.Layout.Imports.{Numbers, no_numbers, number_of, numbers_behind}
 use Rattle.wasmprinter_spec.specs.Layout.{early_scope, late_scope}
-use Rattle.wasmprinter_spec.specs.Text.Items.{each, identified}
+use Rattle.wasmprinter_spec.specs.Text.Items.{each, identifier_in_front}
 use Rattle.wasmprinter_spec.specs.Text.Types as text
 use Rattle.wasmprinter_spec.specs.Text.Types.{read_group}
 use Rattle.wasmprinter_spec.specs.Text.Functions.{read_function}
@@ -34,37 +34,37 @@ use Rattle.wasmprinter_spec.specs.Text.Tables.{read_table}
 use Rattle.wasmprinter_spec.specs.Text.Globals.{read_global}
 use Rattle.wasmprinter_spec.specs.Text.Elements.{read_element}
 use Rattle.wasmprinter_spec.specs.Text.DataSegments.{read_data}
-use Rattle.wasmprinter_spec.specs.Read.{Fields, no_fields, fields, declared, imported_ids, space_behind, spaces_of, context, module_of_fields, read_forest}
+use Rattle.wasmprinter_spec.specs.Read.{Fields, no_fields, fields, identifiers_of, imported_ids, space_behind, spaces_of, context, module_of_fields, read_forest}
 use Rattle.wasmprinter_reading.specs.Listed.{AreSignaturesInRange}
 use Rattle.wasmprinter_reading.specs.OperatorLaws.{count_in, HaveSameTypes, HaveSameNames}
 use Rattle.wasmprinter_reading.proofs.Ranged.{IsRanged, IsRangedImport, IsRangedTable, IsRangedGlobal, IsRangedExport, IsRangedElement, IsRangedData, IsRangedFunction}
-use Rattle.wasmprinter_reading.proofs.Counts.{imported-length, own_parameters_few, own_fields_few, types_few, variables_few}
+use Rattle.wasmprinter_reading.proofs.Counts.{imported_types-length, own_parameters_few, own_fields_few, types_few, variables_few}
 use Rattle.wasmprinter_reading.proofs.Declarations.{id, identifiers_at-more}
 use Rattle.wasmprinter_reading.proofs.Identifiers.{id_items, IsUnidentified, declaration-items, of_least}
 use Rattle.wasmprinter_reading.proofs.Numbered.{map_numbered}
 use Rattle.wasmprinter_reading.proofs.Spaces.{identifiers_space, declared_numbered, number_in, imports_of, imported_ids-held}
 use Rattle.wasmprinter_reading.proofs.Fields.Scopes.{AreScoped, type_bound, type_indices-read}
-use Rattle.wasmprinter_reading.proofs.Fields.Memories.{memory_items, identified-memory, read_memory-items}
-use Rattle.wasmprinter_reading.proofs.Fields.Tags.{tag_items, identified-tag, read_tag-items}
+use Rattle.wasmprinter_reading.proofs.Fields.Memories.{memory_items, identifier_in_front-memory, read_memory-items}
+use Rattle.wasmprinter_reading.proofs.Fields.Tags.{tag_items, identifier_in_front-tag, read_tag-items}
 use Rattle.wasmprinter_reading.proofs.Fields.Start.{start_held, start_items, IsIndexedStart, read_start-items}
 use Rattle.wasmprinter_reading.proofs.Fields.Exports.{export_items, read_export-items}
-use Rattle.wasmprinter_reading.proofs.Fields.Functions.{function_items, identified-function, variable_count, read_function-items}
+use Rattle.wasmprinter_reading.proofs.Fields.Functions.{function_items, identifier_in_front-function, variable_count, read_function-items}
 use Rattle.wasmprinter_reading.proofs.Fields.Expressions.{AreIndexed}
 use Rattle.wasmprinter_reading.proofs.Fields.Imports.{extern_items, imports_items, IsScopedExtern, read_import-items}
 use Rattle.wasmprinter_reading.proofs.Fields.Tables as tables
-use Rattle.wasmprinter_reading.proofs.Fields.Tables.{table_items, identified-table, read_table-items}
-use Rattle.wasmprinter_reading.proofs.Fields.Globals.{global_items, identified-global, read_global-items}
+use Rattle.wasmprinter_reading.proofs.Fields.Tables.{table_items, identifier_in_front-table, read_table-items}
+use Rattle.wasmprinter_reading.proofs.Fields.Globals.{global_items, identifier_in_front-global, read_global-items}
 use Rattle.wasmprinter_reading.proofs.Fields.Elements as elements
-use Rattle.wasmprinter_reading.proofs.Fields.Elements.{element_items, identified-element, read_element-items}
+use Rattle.wasmprinter_reading.proofs.Fields.Elements.{element_items, identifier_in_front-element, read_element-items}
 use Rattle.wasmprinter_reading.proofs.Fields.DataSegments as datas
-use Rattle.wasmprinter_reading.proofs.Fields.DataSegments.{data_items, identified-data, read_data-items}
+use Rattle.wasmprinter_reading.proofs.Fields.DataSegments.{data_items, identifier_in_front-data, read_data-items}
 use Rattle.wasmprinter_reading.proofs.Each.{all_parts}
 use Rattle.wasmprinter_reading.proofs.Foldable.{Foldable, AllFoldable, CanFold}
 use Rattle.wasmprinter_reading.proofs.Types.Ranged.{IsRangedGroup}
 use Rattle.wasmprinter_reading.proofs.Types.Ranges.{own_signature_ranged}
 use Rattle.wasmprinter_reading.proofs.Types.Trees.{type_section_items}
 use Rattle.wasmprinter_reading.proofs.Sorted.{field_rows, fields-gathered, gathered_functions, gathered_tables, gathered_memories, gathered_tags, gathered_globals, gathered_exports, gathered_elements, gathered_datas, fields-start, extern_id, imports_held, fields-imports, group_bodies, fields-types, unidentified_rows, unidentified_imports, unidentified_start, unidentified_types}
-use Rattle.wasmprinter_reading.proofs.DeclaredTypes.{declared_types, declared_groups, read_groups-items, group_types-declared, field_space-declared, own_signature_counted, own_fields_counted, own_signature_declared}
+use Rattle.wasmprinter_reading.proofs.DeclaredTypes.{declared_types, declared_groups, read_groups-items, group_types-identifiers_of, field_space-identifiers_of, own_signature_counted, own_fields_counted, own_signature_declared}
 
 -- ---- what is read of each
 
@@ -95,11 +95,11 @@ none_before GlobalKind = refl
 none_before TagKind = refl
 
 imports_few : (kind : ExternKind) (is : List Import) → imports_of kind is ≤ length is
-imports_few FuncKind is = imported-length func_import is
-imports_few TableKind is = imported-length table_import is
-imports_few MemoryKind is = imported-length memory_import is
-imports_few GlobalKind is = imported-length global_import is
-imports_few TagKind is = imported-length tag_import is
+imports_few FuncKind is = imported_types-length func_import is
+imports_few TableKind is = imported_types-length table_import is
+imports_few MemoryKind is = imported_types-length memory_import is
+imports_few GlobalKind is = imported_types-length global_import is
+imports_few TagKind is = imported_types-length tag_import is
 
 -- what bytes spell of types is in range
 groups_ranged : (gs : List (Placed TypeGroup)) → AllByRecursion (λ g. IsRangedGroup g.value) gs → AllByRecursion (λ g. AllByRecursion (IsDeclaredSub (2 ^ 32)) g) (groups_of gs)
@@ -235,7 +235,7 @@ module _ (o : Options) (names : Names) (m : PlacedModule) where
 
   -- imports of a kind, and behind them what is defined
   kind_space : {A : Type 0} → AreApart names → (kind : ExternKind) (items : ℕ → A → Forest) →
-      ((i : ℕ) (x : A) → (identified (items i x)).0 ≡ id (names.items (space_of kind) i)) → (xs : List A) → before kind + length xs ≤ 2 ^ 64 →
+      ((i : ℕ) (x : A) → (identifier_in_front (items i x)).0 ≡ id (names.items (space_of kind) i)) → (xs : List A) → before kind + length xs ≤ 2 ^ 64 →
       (n : ℕ) → n ≡ before kind + length xs →
       space_behind kind own_imports (map_numbered items (before kind) xs) ≡ Some (identifiers (names.items (space_of kind)) n)
   kind_space apart kind items its xs few n e =
@@ -244,7 +244,7 @@ module _ (o : Options) (names : Names) (m : PlacedModule) where
       let start : b ≡ 0 + b = omega arith in
       let first = imported_ids-held names (extern_items early) (extern_id early) kind no_numbers m.imports ∙ ap (λ (k : ℕ). identifiers_at named k b) (none_before kind) in
       let rest = declared_numbered items named its b xs ∙ ap (λ (k : ℕ). identifiers_at named k (length xs)) start in
-      let are : imported_ids kind own_imports ++ declared (map_numbered items b xs) ≡ identifiers named n =
+      let are : imported_ids kind own_imports ++ identifiers_of (map_numbered items b xs) ≡ identifiers named n =
       ap₂ (λ x y. x ++ y) first rest ∙ identifiers_at-more named 0 b (length xs) ∙ ap (identifiers_at named 0) (sym e) in
       let fits : n ≤ 2 ^ 64 = omega (arith, e, few) in
       ap index_space are ∙ identifiers_space named (apart.items (space_of kind)) n fits
@@ -254,9 +254,9 @@ module _ (o : Options) (names : Names) (m : PlacedModule) where
   numbers_fit h kind n small = omega (arith, small, h.imports, imports_few kind (without_places m.imports), length-map m.imports (λ i. i.value))
 
   -- a space of what is not imported
-  alone_space : {A : Type 0} → AreApart names → (space : Space) (items : ℕ → A → Forest) → ((i : ℕ) (x : A) → (identified (items i x)).0 ≡ id (names.items space i)) →
+  alone_space : {A : Type 0} → AreApart names → (space : Space) (items : ℕ → A → Forest) → ((i : ℕ) (x : A) → (identifier_in_front (items i x)).0 ≡ id (names.items space i)) →
       (xs : List A) (n : ℕ) → n < 2 ^ 32 → n ≡ length xs →
-      index_space (declared (map_numbered items 0 xs)) ≡ Some (identifiers (names.items space) n)
+      index_space (identifiers_of (map_numbered items 0 xs)) ≡ Some (identifiers (names.items space) n)
   alone_space apart space items its xs n small e =
       ap index_space (declared_numbered items (names.items space) its 0 xs ∙ ap (identifiers_at (names.items space) 0) (sym e))
       ∙ identifiers_space (names.items space) (apart.items space) n (omega (arith, small))
@@ -265,7 +265,7 @@ module _ (o : Options) (names : Names) (m : PlacedModule) where
   types_fit : IsRanged m → length own_types ≤ 2 ^ 64
   types_fit h = omega (arith, h.types, types_few m.types h.each_group)
 
-  types_space : AreApart names → IsRanged m → index_space (declared (concat (group_bodies names 0 m.types))) ≡ Some (own_space Types)
+  types_space : AreApart names → IsRanged m → index_space (identifiers_of (concat (group_bodies names 0 m.types))) ≡ Some (own_space Types)
   types_space apart h = ap index_space (declared_types names 0 m.types) ∙ identifiers_space (names.items Types) (apart.items Types) (length own_types) (types_fit h)
 
   -- as many values as there are
@@ -277,19 +277,19 @@ module _ (o : Options) (names : Names) (m : PlacedModule) where
   spaces_of-all_fields apart h =
       rw (
         types_space apart h,
-        kind_space apart FuncKind (own_function false) (λ i f. identified-function early i (own_hints i) f) m.functions
+        kind_space apart FuncKind (own_function false) (λ i f. identifier_in_front-function early i (own_hints i) f) m.functions
             (numbers_fit h FuncKind _ h.functions) own_counts.functions (counted FuncKind function_of m.functions),
-        kind_space apart TableKind own_table (λ i t. ap (λ x. x.0) (identified-table early i t.value)) m.tables
+        kind_space apart TableKind own_table (λ i t. ap (λ x. x.0) (identifier_in_front-table early i t.value)) m.tables
             (numbers_fit h TableKind _ h.tables) own_counts.tables (counted TableKind (λ t. table_without_places t.value) m.tables),
-        kind_space apart MemoryKind own_memory (λ i x. ap (λ y. y.0) (identified-memory early i x.value)) m.memories
+        kind_space apart MemoryKind own_memory (λ i x. ap (λ y. y.0) (identifier_in_front-memory early i x.value)) m.memories
             (numbers_fit h MemoryKind _ h.memories) own_counts.memories (counted MemoryKind (λ x. x.value) m.memories),
-        kind_space apart TagKind own_tag (λ i tag. identified-tag early i tag.value) m.tags
+        kind_space apart TagKind own_tag (λ i tag. identifier_in_front-tag early i tag.value) m.tags
             (numbers_fit h TagKind _ h.tags) own_counts.tags (counted TagKind (λ x. x.value) m.tags),
-        kind_space apart GlobalKind own_global (λ i g. ap (λ x. x.0) (identified-global early i g.value)) m.globals
+        kind_space apart GlobalKind own_global (λ i g. ap (λ x. x.0) (identifier_in_front-global early i g.value)) m.globals
             (numbers_fit h GlobalKind _ h.globals) own_counts.globals (counted GlobalKind (λ g. global_without_places g.value) m.globals),
-        alone_space apart row.Elem (own_element false) (λ i e. ap (λ x. x.0) (identified-element early i e.value)) m.elements own_counts.elems
+        alone_space apart row.Elem (own_element false) (λ i e. ap (λ x. x.0) (identifier_in_front-element early i e.value)) m.elements own_counts.elems
             (omega (arith, h.elements, length-map m.elements (λ e. element_without_places e.value))) (length-map m.elements (λ e. element_without_places e.value)),
-        alone_space apart row.Data (own_data false) (λ i d. ap (λ x. x.0) (identified-data late i d.value)) m.datas own_counts.datas
+        alone_space apart row.Data (own_data false) (λ i d. ap (λ x. x.0) (identifier_in_front-data late i d.value)) m.datas own_counts.datas
             (omega (arith, h.datas, length-map m.datas (λ d. data_without_places d.value))) (length-map m.datas (λ d. data_without_places d.value)),
       )
 
@@ -302,7 +302,7 @@ module _ (o : Options) (names : Names) (m : PlacedModule) where
   whole_context = context all_spaces own_groups
 
   own_signatures : (i : ℕ) → whole_context.signature i ≡ signature_at own_types i
-  own_signatures i = ap (λ gs. signature_at (all_types gs) i) (group_types-declared names 0 m.types)
+  own_signatures i = ap (λ gs. signature_at (all_types gs) i) (group_types-identifiers_of names 0 m.types)
 
   module _ (apart : AreApart names) (named : AreNamed names) (foldable : CanFold o m) (k : IsIndexed (module_of m)) (h : IsRanged m) where
     spaces_are : (f : ℕ) (space : Space) → space_in all_spaces space ≡ identifiers (in_function names f space) (count_in own_counts space)
@@ -336,7 +336,7 @@ module _ (o : Options) (names : Names) (m : PlacedModule) where
     same_names : (f : ℕ) → HaveSameNames (in_line (scope_of own_types names f (folding_of o m)) 2) whole_context own_counts
     same_names f = record {
       spaces = spaces_are f;
-      fields = λ t fs e. field_space-declared names m.types t fs e;
+      fields = λ t fs e. field_space-identifiers_of names m.types t fs e;
       few = spaces_few;
       few_fields = λ t fs e. let less = own_fields_few m.types t fs h.each_group e in omega (arith, less);
       functions = λ t s e. own_signature_counted m.types t s e;
@@ -504,7 +504,7 @@ module _ (o : Options) (names : Names) (m : PlacedModule) where
           read_start-items early whole_context own_counts (scoped early.function) m.start h.start (indexed_start m.start k.start),
           read_elements,
           read_datas,
-          group_types-declared names 0 m.types,
+          group_types-identifiers_of names 0 m.types,
         )
 
   -- no identifier stands before the fields

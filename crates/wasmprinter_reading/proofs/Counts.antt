@@ -5,7 +5,7 @@ use Rattle.std.proofs.lemmas.List.{length-append, length-replicate}
 use Rattle.wasmprinter_spec.specs.Grammar.{Placed, some_is}
 use Rattle.wasmprinter_spec.specs.Types.{ExternType, FieldType, CompositeType, FuncComposite, ArrayComposite, StructComposite, SubType, all_types, func_type_of, fields_of, signature_at, fields_at}
 use Rattle.wasmprinter_spec.specs.Placed.{TypeGroup, Import, LocalEntry}
-use Rattle.wasmprinter_spec.specs.Module.{groups_of, locals_of, selected_first, imported}
+use Rattle.wasmprinter_spec.specs.Module.{groups_of, locals_of, with_first_if_any, imported_types}
 use Rattle.wasmprinter_spec.specs.Indexed.{parameter_count}
 use Rattle.wasmprinter_reading.proofs.Ranged.{IsRangedLocal}
 use Rattle.wasmprinter_reading.proofs.Types.Ranged.{IsFewComposite, IsFewSub, IsRangedGroup}
@@ -57,11 +57,11 @@ types_few (g ∷ gs) h = omega (arith, length-append g.value.types (all_types (g
 -- ---- imports
 
 -- no more is imported of a kind than of all
-pub imported-length : {A : Type 0} (f : ExternType → Option A) (is : List Import) → length (imported f is) ≤ length is
-imported-length f [] = omega arith
-imported-length {A = A} f (i ∷ is) = by (f i.type) (imported-length f is)
+pub imported_types-length : {A : Type 0} (f : ExternType → Option A) (is : List Import) → length (imported_types f is) ≤ length is
+imported_types-length f [] = omega arith
+imported_types-length {A = A} f (i ∷ is) = by (f i.type) (imported_types-length f is)
   where
-    by : (x : Option A) → length (imported f is) ≤ length is → length (selected_first x (imported f is)) ≤ suc (length is)
+    by : (x : Option A) → length (imported_types f is) ≤ length is → length (with_first_if_any x (imported_types f is)) ≤ suc (length is)
     by None less = omega (arith, less)
     by (Some x) less = omega (arith, less)
 

@@ -11,13 +11,13 @@ use Rattle.wasmprinter_spec.specs.Placed.{TypeGroup}
 use Rattle.wasmprinter_spec.specs.Module.{groups_of}
 use Rattle.wasmprinter_spec.specs.Indexed.{IsDeclaredFunc, IsDeclaredComposite, IsDeclaredSub}
 use Rattle.wasmprinter_spec.specs.IndexSpaces.{Identifiers}
-use Rattle.wasmprinter_spec.specs.Text.Items.{each, identified}
+use Rattle.wasmprinter_spec.specs.Text.Items.{each, identifier_in_front}
 use Rattle.wasmprinter_spec.specs.Text.Types.{Declared, read_group, group_types, declared_fields, field_space}
-use Rattle.wasmprinter_spec.specs.Read.{declared}
+use Rattle.wasmprinter_spec.specs.Read.{identifiers_of}
 use Rattle.wasmprinter_reading.proofs.Declarations.{id, identifiers_at-more}
 use Rattle.wasmprinter_reading.proofs.Identifiers.{Reads, declaration-items}
 use Rattle.wasmprinter_reading.proofs.Numbered.{map_numbered}
-use Rattle.wasmprinter_reading.proofs.Spaces.{declared_numbered, declared-append}
+use Rattle.wasmprinter_reading.proofs.Spaces.{declared_numbered, identifiers_of-append}
 use Rattle.wasmprinter_reading.proofs.Types.Ranged.{IsRangedGroup}
 use Rattle.wasmprinter_reading.proofs.Types.Trees.{sub_items, type_items}
 use Rattle.wasmprinter_reading.proofs.Types.Back.{declared_type, read_group-items, types-declared}
@@ -25,16 +25,16 @@ use Rattle.wasmprinter_reading.proofs.Sorted.{group_bodies}
 
 -- ---- identifiers of types
 
-type_id : (names : Names) (i : ℕ) (t : SubType) → (identified (type_items names i t)).0 ≡ id (names.items Types i)
+type_id : (names : Names) (i : ℕ) (t : SubType) → (identifier_in_front (type_items names i t)).0 ≡ id (names.items Types i)
 type_id names i t = ap (λ x. x.0) (declaration-items (names.items Types i) (Group (sub_items names i t) End) refl)
 
 pub declared_types : (names : Names) (i : ℕ) (gs : List (Placed TypeGroup)) →
-    declared (concat (group_bodies names i gs)) ≡ identifiers_at (names.items Types) i (length (all_types (groups_of gs)))
+    identifiers_of (concat (group_bodies names i gs)) ≡ identifiers_at (names.items Types) i (length (all_types (groups_of gs)))
 declared_types names i [] = refl
 declared_types names i (g ∷ gs) =
     let ts : List SubType = g.value.types in
     let us : List SubType = all_types (groups_of gs) in
-    declared-append (map_numbered (type_items names) i ts) (concat (group_bodies names (i + length ts) gs))
+    identifiers_of-append (map_numbered (type_items names) i ts) (concat (group_bodies names (i + length ts) gs))
     ∙ ap₂ (λ xs ys. xs ++ ys) (declared_numbered (type_items names) (names.items Types) (type_id names) i ts) (declared_types names (i + length ts) gs)
     ∙ identifiers_at-more (names.items Types) i (length ts) (length us)
     ∙ ap (identifiers_at (names.items Types) i) (sym (length-append ts us))
@@ -56,10 +56,10 @@ read_groups-items names ids bound reads apart i (g ∷ gs) d h =
       read_groups-items names ids bound reads apart (i + length g.value.types) gs d.1 h.1,
     )
 
-pub group_types-declared : (names : Names) (i : ℕ) (gs : List (Placed TypeGroup)) → group_types (declared_groups names i gs) ≡ groups_of gs
-group_types-declared names i [] = refl
-group_types-declared names i (g ∷ gs) =
-    ap₂ (λ x xs. x ∷ xs) (types-declared names i g.value.types) (group_types-declared names (i + length g.value.types) gs)
+pub group_types-identifiers_of : (names : Names) (i : ℕ) (gs : List (Placed TypeGroup)) → group_types (declared_groups names i gs) ≡ groups_of gs
+group_types-identifiers_of names i [] = refl
+group_types-identifiers_of names i (g ∷ gs) =
+    ap₂ (λ x xs. x ∷ xs) (types-declared names i g.value.types) (group_types-identifiers_of names (i + length g.value.types) gs)
 
 -- ---- fields
 
@@ -96,9 +96,9 @@ fields_from names i (t ∷ ts) (suc k) fs e =
     fields_from names (i + 1) ts k fs e ∙ ap (λ (k : ℕ). identifiers (names.fields k) (length fs)) same
 
 -- the identifiers of a structure type's fields
-pub field_space-declared : (names : Names) (gs : List (Placed TypeGroup)) (k : ℕ) (fs : List FieldType) → fields_at (all_types (groups_of gs)) k ≡ Some fs →
+pub field_space-identifiers_of : (names : Names) (gs : List (Placed TypeGroup)) (k : ℕ) (fs : List FieldType) → fields_at (all_types (groups_of gs)) k ≡ Some fs →
     field_space (declared_groups names 0 gs) k ≡ identifiers (names.fields k) (length fs)
-field_space-declared names gs k fs e =
+field_space-identifiers_of names gs k fs e =
     let same : 0 + k ≡ k = omega arith in
     ap (λ ds. declared_fields (slice_get ds k)) (all_declared names 0 gs)
     ∙ fields_from names 0 (all_types (groups_of gs)) k fs e

@@ -3,8 +3,8 @@
 use Rattle.std.proofs.Common.{◌≡◌, ℕ, ◌+◌, ◌<◌, ◌^◌, List, [], ◌∷◌, ◌++◌, length, Bool, true, false, subst, sym, arith}
 use Rattle.std.proofs.lemmas.List.{length-append}
 use Rattle.std.specs.List.{AllByRecursion}
-use Rattle.wasmprinter_spec.specs.Grammar.{Grammar, some_is, seq, map_value, choose, placed}
-use Rattle.wasmprinter_spec.specs.FirstByte.{Peeked, peeked}
+use Rattle.wasmprinter_spec.specs.Grammar.{Grammar, some_is, seq, map_value, choose, value_with_place}
+use Rattle.wasmprinter_spec.specs.FirstByte.{Peeked, by_first_byte}
 use Rattle.wasmprinter_spec.specs.Repeated.{Items, times}
 use Rattle.wasmprinter_spec.specs.Sized.{alone, exactly}
 use Rattle.wasmprinter_spec.specs.Name.{vec}
@@ -50,11 +50,11 @@ peeked_has : {A : Type 0} {h : ℕ → Grammar A} {P : A → Type 0} → ((b : �
 peeked_has each p [] a few s = absurd s
 peeked_has each p (b ∷ text) a few s = (each b).has p (b ∷ text) a few s
 
-pub FewSpelled-peeked : {A : Type 0} {h : ℕ → Grammar A} {P : A → Type 0} → ((b : ℕ) → FewSpelled (h b) P) → FewSpelled (peeked h) P
-FewSpelled-peeked each = record { has = λ p text a few s. peeked_has each p text a few s }
+pub FewSpelled-by_first_byte : {A : Type 0} {h : ℕ → Grammar A} {P : A → Type 0} → ((b : ℕ) → FewSpelled (h b) P) → FewSpelled (by_first_byte h) P
+FewSpelled-by_first_byte each = record { has = λ p text a few s. peeked_has each p text a few s }
 
-pub FewSpelled-placed : {A : Type 0} {g : Grammar A} {P : A → Type 0} → FewSpelled g P → FewSpelled (placed g) (λ x. P x.value)
-FewSpelled-placed all = record { has = λ p text x few s. all.has p text x.value few s.1 }
+pub FewSpelled-value_with_place : {A : Type 0} {g : Grammar A} {P : A → Type 0} → FewSpelled g P → FewSpelled (value_with_place g) (λ x. P x.value)
+FewSpelled-value_with_place all = record { has = λ p text x few s. all.has p text x.value few s.1 }
 
 items_have : {A : Type 0} {g : Grammar A} {P : A → Type 0} → FewSpelled g P →
     (xs : List A) (p : ℕ) (text : List ℕ) → AreFewBytes text → Items g p text xs → AllByRecursion P xs

@@ -10,7 +10,7 @@ use Rattle.wasmprinter_spec.specs.Forest.{Forest, End, Word, Name, onto}
 use Rattle.wasmprinter_spec.specs.Labels.{Named}
 use Rattle.wasmprinter_spec.specs.IndexSpaces.{Identifiers, index, leading_index}
 use Rattle.wasmprinter_spec.specs.Names.{IsGiven, IsNamed, IsNamedIfAny, AreDistinct, identifiers}
-use Rattle.wasmprinter_spec.specs.Text.Items.{identified}
+use Rattle.wasmprinter_spec.specs.Text.Items.{identifier_in_front}
 use Rattle.wasmprinter_spec.specs.Piece.{Piece, Gap, NumberRemark, EndStyle, Identifier, NameNote}
 use Rattle.wasmprinter_spec.specs.Layout.Identifiers.{given_pieces, mark_pieces, leading_mark_pieces, mark_gap_pieces, identifier_gap_pieces, declaration_pieces, index_pieces}
 use Rattle.wasmprinter_lexical.proofs.Grown.{onto-End}
@@ -36,9 +36,9 @@ id_items (Some n) = Name n.content End
 
 -- no identifier stands in front
 abbrev pub IsUnidentified : Forest → Type 0
-IsUnidentified f = identified f ≡ (None, f)
+IsUnidentified f = identifier_in_front f ≡ (None, f)
 
-pub declaration-items : (o : Option Named) (f : Forest) → IsUnidentified f → identified (onto (id_items o) f) ≡ (id o, f)
+pub declaration-items : (o : Option Named) (f : Forest) → IsUnidentified f → identifier_in_front (onto (id_items o) f) ≡ (id o, f)
 declaration-items None f h = h
 declaration-items (Some n) f h = refl
 

@@ -2,7 +2,7 @@
 use Rattle.std.proofs.Common.{◌≡◌, ℕ, ◌+◌, cond, List, [], ◌∷◌, ◌++◌, Option, Some, None, refl, sym, ap, ◌∙◌, codes, Bool, false, subst, append-nil, map}
 use Rattle.std.proofs.lemmas.Str.{is_utf8-from_IsUtf8}
 use Rattle.wasmprinter_spec.specs.Grammar.{◌>>=◌}
-use Rattle.wasmprinter_spec.specs.Forest.{Forest, End, Word, Name, String, Reserved, Group, Note, onto, forest, cut, row_customs, customs}
+use Rattle.wasmprinter_spec.specs.Forest.{Forest, End, Word, Name, String, Reserved, Group, Note, onto, forest, without_annotations, row_customs, customs}
 use Rattle.wasmprinter_spec.specs.Token.{tokens}
 use Rattle.wasmprinter_spec.specs.Call.{text_of}
 use Rattle.wasmprinter_spec.specs.Options.{Options, Answers, AreUnclaimed, IsBlank}
@@ -31,7 +31,7 @@ use Rattle.wasmprinter_reading.proofs.GivenNames.{module_names_apart, module_nam
 use Rattle.wasmprinter_reading.proofs.Stays.{module_pieces_stay}
 use Rattle.wasmprinter_lexical.proofs.Pieces.{Bound, text_of-all_calls}
 use Rattle.wasmprinter_lexical.proofs.Respelled.{all_lexed, pieces_lexed}
-use Rattle.wasmprinter_lexical.proofs.Noted.{Noted, noted-cut, noted-raw_groups}
+use Rattle.wasmprinter_lexical.proofs.Noted.{Noted, noted-without_annotations, noted-raw_groups}
 use Rattle.wasmprinter_lexical.proofs.Writes.{Writes, pieces_tokens, writes_text, writes_forest}
 use Rattle.wasmprinter_reading.proofs.Identifiers.{id_items}
 use Rattle.wasmprinter_reading.proofs.Fields.Functions.{functions_hinted}
@@ -44,14 +44,14 @@ use Rattle.wasmprinter_reading.proofs.Back.{early, before, module_items, module_
 -- ---- raw custom sections read back
 
 -- behind cuts no annotation is left
-row_customs-cut : (f : Forest) → row_customs (cut f) ≡ []
-row_customs-cut End = refl
-row_customs-cut (Word s f) = row_customs-cut f
-row_customs-cut (Name s f) = row_customs-cut f
-row_customs-cut (String s f) = row_customs-cut f
-row_customs-cut (Reserved f) = row_customs-cut f
-row_customs-cut (Group g f) = row_customs-cut f
-row_customs-cut (Note id g f) = row_customs-cut f
+row_customs-without_annotations : (f : Forest) → row_customs (without_annotations f) ≡ []
+row_customs-without_annotations End = refl
+row_customs-without_annotations (Word s f) = row_customs-without_annotations f
+row_customs-without_annotations (Name s f) = row_customs-without_annotations f
+row_customs-without_annotations (String s f) = row_customs-without_annotations f
+row_customs-without_annotations (Reserved f) = row_customs-without_annotations f
+row_customs-without_annotations (Group g f) = row_customs-without_annotations f
+row_customs-without_annotations (Note id g f) = row_customs-without_annotations f
 
 -- the raw custom sections of a row read as these
 record RawRow (f : Forest) (rs : List RawCustom) : Type 0 where
@@ -62,8 +62,8 @@ raw_rows {f = f} {g = g} {rs = rs} {ts = ts} a b = record { reads = both_rows f 
 
 plain_row : {ps : List Piece} {f : Forest} → Writes Bound ps Bound f → RawRow f []
 plain_row {f = f} w =
-    let none : row_customs f ≡ [] = ap row_customs (sym w.without) ∙ row_customs-cut f in
-    record { reads = ap (λ cs. each read_custom (map cut cs)) none }
+    let none : row_customs f ≡ [] = ap row_customs (sym w.without) ∙ row_customs-without_annotations f in
+    record { reads = ap (λ cs. each read_custom (map without_annotations cs)) none }
 
 functions_row : (skeleton : Bool) (s : Scope) (es : List FunctionHints) (i : ℕ) (fs : List PlacedFunction) → RowReads (functions_hinted skeleton s es i fs) []
 functions_row skeleton s es i [] = refl
@@ -123,9 +123,9 @@ module _ (o : Options) (names : Names) (named : AreNamed names) (m : PlacedModul
 
   customs_read : (f : Forest) → Noted f own_forest → read_customs f ≡ Some (raw_customs m.customs)
   customs_read f n =
-      each-map read_custom cut (customs f)
+      each-map read_custom without_annotations (customs f)
       ∙ ap (each read_custom) (noted-raw_groups n)
-      ∙ ap (λ cs. each read_custom (map cut cs)) (append-nil (row_customs (onto (id_items names.module_name) (module_noted o names named m h plain answers))))
+      ∙ ap (λ cs. each read_custom (map without_annotations cs)) (append-nil (row_customs (onto (id_items names.module_name) (module_noted o names named m h plain answers))))
       ∙ (raw_rows (id_row names.module_name) module_row).reads
 
   -- ---- the text reads as the module
@@ -138,7 +138,7 @@ module _ (o : Options) (names : Names) (named : AreNamed names) (m : PlacedModul
       let readable : IsPlainText (text_of (all_calls o ps)) = subst IsPlainText (sym (writes_text o ps w)) (text_is_plain o blank w.printed w.are) in
       ap (λ t. cond t (forest (text_of (all_calls o ps)) >>= read_groups) None) (is_utf8-from_IsUtf8 _ (plain_is_utf8 _ readable))
       ∙ ap (λ f. f >>= read_groups) (writes_forest o blank ps w)
-      ∙ ap (λ f. read_forest f >>= λ y. read_customs w.whole >>= λ cs. Some (record y { customs = cs })) (noted-cut w.noted ∙ w.without)
+      ∙ ap (λ f. read_forest f >>= λ y. read_customs w.whole >>= λ cs. Some (record y { customs = cs })) (noted-without_annotations w.noted ∙ w.without)
       ∙ ap (λ r. r >>= λ y. read_customs w.whole >>= λ cs. Some (record y { customs = cs })) e
       ∙ ap (λ r. r >>= λ cs. Some (record x { customs = cs })) (customs_read w.whole w.noted)
 

@@ -3,7 +3,7 @@ use Rattle.std.proofs.Common.{ℕ, ◌<◌, ◌^◌, ◌≤◌, ◌+◌, length,
 use Rattle.std.specs.List.{AllByRecursion}
 use Rattle.wasmprinter_spec.specs.Forest.{Forest, End, Group}
 use Rattle.wasmprinter_spec.specs.Piece.{Piece}
-use Rattle.wasmprinter_spec.specs.Layout.Groups.{numbered}
+use Rattle.wasmprinter_spec.specs.Layout.Groups.{numbered_pieces}
 use Rattle.wasmprinter_lexical.proofs.Pieces.{Bound}
 use Rattle.wasmprinter_lexical.proofs.Writes.{Writes, both_write, nothing_writes}
 
@@ -18,8 +18,8 @@ map_numbered f i (x ∷ xs) = f i x ∷ map_numbered f (i + 1) xs
 
 -- fields of one kind, each with its number
 pub numbered_writes : {A : Type 0} (P : A → Type 0) (write : ℕ → A → List Piece) (items : ℕ → A → Forest) → ((i : ℕ) (x : A) → i < 2 ^ 64 → P x → Writes Bound (write i x) Bound (Group (items i x) End)) →
-    (i : ℕ) (xs : List A) → i + length xs ≤ 2 ^ 64 → AllByRecursion P xs → Writes Bound (numbered write i xs) Bound (rows (map_numbered items i xs))
-unfolding numbered rows
+    (i : ℕ) (xs : List A) → i + length xs ≤ 2 ^ 64 → AllByRecursion P xs → Writes Bound (numbered_pieces write i xs) Bound (rows (map_numbered items i xs))
+unfolding numbered_pieces rows
 numbered_writes P write items law i [] small h = nothing_writes
 numbered_writes P write items law i (x ∷ xs) small h =
     both_write (law i x (omega arith) h.0) (numbered_writes P write items law (i + 1) xs (omega arith) h.1)

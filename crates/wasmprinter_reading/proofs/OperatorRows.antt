@@ -21,7 +21,7 @@ use Rattle.wasmprinter_spec.specs.Character.{class}
 use Rattle.wasmprinter_spec.specs.FloatText.{digits_behind, unsigned_text, float_text, unsigned_calls, float_calls}
 use Rattle.wasmprinter_spec.specs.Call.{text_of}
 use Rattle.wasmprinter_spec.specs.Options.{defaults, IsBlank}
-use Rattle.wasmprinter_spec.specs.Piece.{all_calls, repeated}
+use Rattle.wasmprinter_spec.specs.Piece.{all_calls, repetition_of}
 use Rattle.wasmprinter_spec.specs.Layout.Groups.{line_group, line_group_gap}
 use Rattle.wasmprinter_spec.specs.Layout.Identifiers.{mark_pieces, leading_mark_pieces, index_pieces}
 use Rattle.wasmprinter_spec.specs.Layout.ValTypes.{type_index_pieces, heap_pieces, null_ref_pieces, ref_pieces, val_pieces, type_list}
@@ -313,7 +313,7 @@ branches_are = record {
 }
 
 branches_print : text_of (all_calls defaults (expression_pieces (setting invented OverLines) branches)) ≡ branches_text
-unfolding table expression_pieces operators_pieces operator_pieces immediate_pieces operand_pieces index_pieces label_pieces mark_pieces leading_mark_pieces block_pieces type_use_pieces type_index_pieces signature_pieces groups_pieces variables_pieces list_group type_list val_pieces ending_pieces line_group line_group_gap digits repeated identifier_text chars class
+unfolding table expression_pieces operators_pieces operator_pieces immediate_pieces operand_pieces index_pieces label_pieces mark_pieces leading_mark_pieces block_pieces type_use_pieces type_index_pieces signature_pieces groups_pieces variables_pieces list_group type_list val_pieces ending_pieces line_group line_group_gap digits repetition_of identifier_text chars class
 branches_print = refl
 
 branches_read : read_alone (context invented) branches_text ≡ Some (without_places branches)

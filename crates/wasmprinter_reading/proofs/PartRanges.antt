@@ -26,8 +26,8 @@ use Rattle.wasmprinter_spec.specs.Binary.Elements.{element_behind, element}
 use Rattle.wasmprinter_spec.specs.Binary.DataSegments as segments
 use Rattle.wasmprinter_spec.specs.Binary.{AreBytes}
 use Rattle.wasmprinter_reading.proofs.Ranged.{IsRangedMax, IsRangedPage, IsRangedMemory, IsRangedExpression, IsRangedTableType, IsRangedTable, IsRangedGlobal, IsRangedExtern, IsRangedImport, IsRangedMode, AreRangedItems, IsRangedElement, IsRangedDataMode, IsRangedData}
-use Rattle.wasmprinter_reading.proofs.AllSpelled.{AllSpelled, AllSpelled-any, AllSpelled-seq, AllSpelled-try_map, AllSpelled-map_value, AllSpelled-succeed, AllSpelled-fail, AllSpelled-choose, AllSpelled-announced, AllSpelled-take_bytes}
-use Rattle.wasmprinter_reading.proofs.Few.{FewSpelled, FewSpelled-all, FewSpelled-seq, FewSpelled-map_value, FewSpelled-choose, FewSpelled-peeked, FewSpelled-vec}
+use Rattle.wasmprinter_reading.proofs.AllSpelled.{AllSpelled, AllSpelled-any, AllSpelled-seq, AllSpelled-try_map, AllSpelled-map_value, AllSpelled-succeed, AllSpelled-fail, AllSpelled-choose, AllSpelled-behind_first_byte, AllSpelled-take_bytes}
+use Rattle.wasmprinter_reading.proofs.Few.{FewSpelled, FewSpelled-all, FewSpelled-seq, FewSpelled-map_value, FewSpelled-choose, FewSpelled-by_first_byte, FewSpelled-vec}
 use Rattle.wasmprinter_reading.proofs.LebRange.{AllSpelled-unsigned}
 use Rattle.wasmprinter_reading.proofs.Vectors.{AllSpelled-u32, AllSpelled-vec}
 use Rattle.wasmprinter_reading.proofs.Types.Ranged.{IsRangedHeap, IsRangedVal}
@@ -58,7 +58,7 @@ AllSpelled-page false = AllSpelled-succeed tt
 
 -- A memory: its limits and the size of its pages.
 pub AllSpelled-memory_type : AllSpelled memory_type IsRangedMemory
-AllSpelled-memory_type = AllSpelled-announced (λ flags.
+AllSpelled-memory_type = AllSpelled-behind_first_byte (λ flags.
     AllSpelled-choose (ltb flags 16)
     (AllSpelled-map_value (AllSpelled-seq (AllSpelled-limits (has_bit 0 flags)) (λ _. AllSpelled-page (has_bit 3 flags)))
     (λ x h. record { min = h.0.0; max = h.0.1; page = h.1 })) AllSpelled-fail)
@@ -95,7 +95,7 @@ AllSpelled-table_limits flags =
 -- The type of a table.
 AllSpelled-table_type : AllSpelled table_type IsRangedTableType
 AllSpelled-table_type =
-    AllSpelled-map_value (AllSpelled-seq AllSpelled-reference_type (λ _. AllSpelled-announced AllSpelled-table_limits))
+    AllSpelled-map_value (AllSpelled-seq AllSpelled-reference_type (λ _. AllSpelled-behind_first_byte AllSpelled-table_limits))
     (λ x h. record { min = h.1.0; max = h.1.1; element = h.0 })
 
 -- A table, with an initialiser or without.
@@ -108,7 +108,7 @@ FewSpelled-table_by b =
     (FewSpelled-map_value (FewSpelled-all AllSpelled-table_type) (λ t h. record { type = h; init = tt }))
 
 pub FewSpelled-table : FewSpelled table IsRangedTable
-FewSpelled-table = FewSpelled-peeked FewSpelled-table_by
+FewSpelled-table = FewSpelled-by_first_byte FewSpelled-table_by
 
 -- The type of a global.
 AllSpelled-global_type : AllSpelled global_type (λ t. IsRangedVal t.type)
@@ -131,7 +131,7 @@ AllSpelled-extern_type_behind k =
 -- An import: two names, and what it is.
 pub AllSpelled-import : AllSpelled import IsRangedImport
 AllSpelled-import =
-    AllSpelled-map_value (AllSpelled-seq AllSpelled-name (λ _. AllSpelled-seq AllSpelled-name (λ _. AllSpelled-announced AllSpelled-extern_type_behind)))
+    AllSpelled-map_value (AllSpelled-seq AllSpelled-name (λ _. AllSpelled-seq AllSpelled-name (λ _. AllSpelled-behind_first_byte AllSpelled-extern_type_behind)))
     (λ x h. record { source = h.0; name = h.1.0; type = h.1.1 })
 
 -- ---- element segments

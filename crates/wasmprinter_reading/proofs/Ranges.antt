@@ -4,7 +4,7 @@ use Rattle.std.specs.List.{AllByRecursion}
 use Rattle.std.proofs.lemmas.Bool.{and_parts}
 use Rattle.std.proofs.lemmas.List.{length-append, length-map}
 use Rattle.wasmprinter_spec.specs.Choices.{tested}
-use Rattle.wasmprinter_spec.specs.Grammar.{Grammar, Placed, ◌>>=◌, bind_some, some_is, seq, map_value, placed}
+use Rattle.wasmprinter_spec.specs.Grammar.{Grammar, Placed, ◌>>=◌, bind_some, some_is, seq, map_value, value_with_place}
 use Rattle.wasmprinter_spec.specs.Name.{u32}
 use Rattle.wasmprinter_spec.specs.Operator.{Operator}
 use Rattle.wasmprinter_spec.specs.Nesting.{Nests, Sequence}
@@ -22,8 +22,8 @@ use Rattle.wasmprinter_spec.specs.Binary.{type_indices_in, bodies_in, data_count
 use Rattle.wasmprinter_reading.specs.Listed.{IsListed}
 use Rattle.wasmprinter_reading.proofs.Ranged.{IsRangedImport, IsRangedTable, IsRangedMemory, IsRangedGlobal, IsRangedExport, IsRangedStart, IsRangedElement, IsRangedData, IsRangedCustom, IsRangedLocal, ArePlaced, IsRangedBody, IsRangedFunction, IsRanged}
 use Rattle.wasmprinter_reading.proofs.Customs.Ordered.{in_order}
-use Rattle.wasmprinter_reading.proofs.AllSpelled.{AllSpelled, split_bytes, entries_have, AllSpelled-any, AllSpelled-seq, AllSpelled-map_value, AllSpelled-placed, AllSpelled-exactly, AllSpelled-within}
-use Rattle.wasmprinter_reading.proofs.Few.{FewSpelled, FewSpelled-placed, FewSpelled-vec, AllSpelled-few}
+use Rattle.wasmprinter_reading.proofs.AllSpelled.{AllSpelled, split_bytes, entries_have, AllSpelled-any, AllSpelled-seq, AllSpelled-map_value, AllSpelled-value_with_place, AllSpelled-exactly, AllSpelled-within}
+use Rattle.wasmprinter_reading.proofs.Few.{FewSpelled, FewSpelled-value_with_place, FewSpelled-vec, AllSpelled-few}
 use Rattle.wasmprinter_reading.proofs.PartRanges.{AllSpelled-name, AllSpelled-memory_type, AllSpelled-tag, FewSpelled-table, FewSpelled-global, AllSpelled-import, FewSpelled-element, FewSpelled-data}
 use Rattle.wasmprinter_reading.proofs.Vectors.{IsVector, AllSpelled-u32, AllSpelled-vec}
 use Rattle.wasmprinter_reading.proofs.Types.Ranged.{IsRangedGroup}
@@ -68,11 +68,11 @@ AllSpelled-local_entry = AllSpelled-map_value (AllSpelled-seq AllSpelled-u32 (λ
 -- A body: its locals and its operators.
 AllSpelled-body : AllSpelled body (λ b. IsNestedBody b)
 AllSpelled-body =
-    AllSpelled-map_value (AllSpelled-seq (AllSpelled-vec (AllSpelled-placed AllSpelled-local_entry)) (λ _. AllSpelled-expression))
+    AllSpelled-map_value (AllSpelled-seq (AllSpelled-vec (AllSpelled-value_with_place AllSpelled-local_entry)) (λ _. AllSpelled-expression))
     (λ x h. record { locals = h.0; listed = h.1.listed; nested = h.1.nested })
 
 -- each operator of a body takes a byte
-body_takes : (p : ℕ) (text : List ℕ) (b : Placed Body) → (placed body).spells p text b → length b.value.operators ≤ length text
+body_takes : (p : ℕ) (text : List ℕ) (b : Placed Body) → (value_with_place body).spells p text b → length b.value.operators ≤ length text
 body_takes p text b s =
     let x = s.1.0 in
     let parts = s.1.2 in
@@ -81,13 +81,13 @@ body_takes p text b s =
     omega (arith, count, ap (λ y. length y.operators) same, ap length parts.2, length-append parts.0 parts.1)
 
 -- one stands behind the other
-operators_placed : (os : List (Placed Operator)) (low p : ℕ) (text : List ℕ) → low ≤ p → Items (placed operator) p text os → ArePlaced low os
+operators_placed : (os : List (Placed Operator)) (low p : ℕ) (text : List ℕ) → low ≤ p → Items (value_with_place operator) p text os → ArePlaced low os
 operators_placed [] low p text h s = tt
 operators_placed (o ∷ os) low p text h s =
     let takes : 0 < length s.0 = operator_takes p s.0 o s.3 in
     (omega (arith, h, s.3.0), operators_placed os (suc o.place) (p + length s.0) s.1 (omega (arith, takes, s.3.0)) s.4)
 
-body_placed : (p : ℕ) (text : List ℕ) (b : Placed Body) → (placed body).spells p text b → ArePlaced b.place b.value.operators
+body_placed : (p : ℕ) (text : List ℕ) (b : Placed Body) → (value_with_place body).spells p text b → ArePlaced b.place b.value.operators
 body_placed p text b s =
     let x = s.1.0 in
     let parts = s.1.2 in
@@ -95,9 +95,9 @@ body_placed p text b s =
     let placed : ArePlaced b.place x.1.items = operators_placed x.1.items b.place (p + length parts.0) parts.4.0 (omega (arith, s.0)) parts.4.2 in
     subst (λ y. ArePlaced b.place y.operators) same placed
 
-AllSpelled-placed_body : AllSpelled (placed body) (λ b. IsNestedBody b.value × ArePlaced b.place b.value.operators)
+AllSpelled-placed_body : AllSpelled (value_with_place body) (λ b. IsNestedBody b.value × ArePlaced b.place b.value.operators)
 AllSpelled-placed_body = record {
-  has = λ p text b bytes s. ((AllSpelled-placed AllSpelled-body).has p text b bytes s, body_placed p text b s);
+  has = λ p text b bytes s. ((AllSpelled-value_with_place AllSpelled-body).has p text b bytes s, body_placed p text b s);
 }
 
 -- A code entry: its body.
@@ -138,19 +138,19 @@ AllSpelled-custom size = record { has = λ p text c bytes s. custom_has p text c
 -- The content of a section of each kind.
 AllSpelled-content : (kind : Kind) → AllSpelled (map_value (λ x. holds kind x.1) (seq u32 (λ size. exactly (content kind) size))) IsRangedSection
 AllSpelled-content CustomSection = AllSpelled-map_value (AllSpelled-seq AllSpelled-u32 (λ size. AllSpelled-custom size)) (λ x h. h.1)
-AllSpelled-content TypeSection = AllSpelled-sized (holds TypeSection) (AllSpelled-vec (AllSpelled-placed AllSpelled-group)) (λ gs h. h)
-AllSpelled-content ImportSection = AllSpelled-sized (holds ImportSection) (AllSpelled-vec (AllSpelled-placed AllSpelled-import)) (λ is h. h)
+AllSpelled-content TypeSection = AllSpelled-sized (holds TypeSection) (AllSpelled-vec (AllSpelled-value_with_place AllSpelled-group)) (λ gs h. h)
+AllSpelled-content ImportSection = AllSpelled-sized (holds ImportSection) (AllSpelled-vec (AllSpelled-value_with_place AllSpelled-import)) (λ is h. h)
 AllSpelled-content FunctionSection = AllSpelled-sized (holds FunctionSection) (AllSpelled-vec AllSpelled-u32) (λ is h. h)
-AllSpelled-content TableSection = AllSpelled-few_sized (holds TableSection) (FewSpelled-vec (FewSpelled-placed FewSpelled-table)) (λ ts h. h)
-AllSpelled-content MemorySection = AllSpelled-sized (holds MemorySection) (AllSpelled-vec (AllSpelled-placed AllSpelled-memory_type)) (λ xs h. h)
-AllSpelled-content TagSection = AllSpelled-sized (holds TagSection) (AllSpelled-vec (AllSpelled-placed AllSpelled-tag)) (λ is h. h)
-AllSpelled-content GlobalSection = AllSpelled-few_sized (holds GlobalSection) (FewSpelled-vec (FewSpelled-placed FewSpelled-global)) (λ gs h. h)
-AllSpelled-content ExportSection = AllSpelled-sized (holds ExportSection) (AllSpelled-vec (AllSpelled-placed AllSpelled-export)) (λ es h. h)
-AllSpelled-content StartSection = AllSpelled-sized (holds StartSection) (AllSpelled-map_value (AllSpelled-placed AllSpelled-u32) (λ i h. h)) (λ start h. h)
-AllSpelled-content ElementSection = AllSpelled-few_sized (holds ElementSection) (FewSpelled-vec (FewSpelled-placed FewSpelled-element)) (λ es h. h)
+AllSpelled-content TableSection = AllSpelled-few_sized (holds TableSection) (FewSpelled-vec (FewSpelled-value_with_place FewSpelled-table)) (λ ts h. h)
+AllSpelled-content MemorySection = AllSpelled-sized (holds MemorySection) (AllSpelled-vec (AllSpelled-value_with_place AllSpelled-memory_type)) (λ xs h. h)
+AllSpelled-content TagSection = AllSpelled-sized (holds TagSection) (AllSpelled-vec (AllSpelled-value_with_place AllSpelled-tag)) (λ is h. h)
+AllSpelled-content GlobalSection = AllSpelled-few_sized (holds GlobalSection) (FewSpelled-vec (FewSpelled-value_with_place FewSpelled-global)) (λ gs h. h)
+AllSpelled-content ExportSection = AllSpelled-sized (holds ExportSection) (AllSpelled-vec (AllSpelled-value_with_place AllSpelled-export)) (λ es h. h)
+AllSpelled-content StartSection = AllSpelled-sized (holds StartSection) (AllSpelled-map_value (AllSpelled-value_with_place AllSpelled-u32) (λ i h. h)) (λ start h. h)
+AllSpelled-content ElementSection = AllSpelled-few_sized (holds ElementSection) (FewSpelled-vec (FewSpelled-value_with_place FewSpelled-element)) (λ es h. h)
 AllSpelled-content DataCountSection = AllSpelled-sized (holds DataCountSection) (AllSpelled-map_value AllSpelled-u32 (λ n h. tt)) (λ count h. h)
 AllSpelled-content CodeSection = AllSpelled-sized (holds CodeSection) (AllSpelled-vec AllSpelled-code_entry) (λ bs h. h)
-AllSpelled-content DataSection = AllSpelled-few_sized (holds DataSection) (FewSpelled-vec (FewSpelled-placed FewSpelled-data)) (λ ds h. h)
+AllSpelled-content DataSection = AllSpelled-few_sized (holds DataSection) (FewSpelled-vec (FewSpelled-value_with_place FewSpelled-data)) (λ ds h. h)
 
 -- A section: its content.
 AllSpelled-section : AllSpelled section IsRangedSection

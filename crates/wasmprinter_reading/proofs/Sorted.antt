@@ -10,7 +10,7 @@ use Rattle.wasmprinter_spec.specs.Indexed.{space_of}
 use Rattle.wasmprinter_spec.specs.Placed.{TypeGroup, Import}
 use Rattle.wasmprinter_spec.specs.Layout.Declarations.{Scope}
 use Rattle.wasmprinter_spec.specs.Layout.Imports.{Numbers, number_of, numbers_behind}
-use Rattle.wasmprinter_spec.specs.Text.Items.{identified}
+use Rattle.wasmprinter_spec.specs.Text.Items.{identifier_in_front}
 use Rattle.wasmprinter_spec.specs.Text.Imports.{ImportField}
 use Rattle.wasmprinter_spec.specs.Read.{Fields, with_start, with_field, fields}
 use Rattle.wasmprinter_lexical.proofs.Grown.{onto_assoc}
@@ -24,7 +24,7 @@ use Rattle.wasmprinter_reading.proofs.Types.Trees.{type_items, type_field, membe
 use Rattle.wasmprinter_reading.proofs.Types.Back.{group_members-items}
 use Rattle.wasmprinter_reading.proofs.Fields.Scopes.{own_index}
 use Rattle.wasmprinter_reading.proofs.Fields.Start.{start_held, start_items}
-use Rattle.wasmprinter_reading.proofs.Fields.Imports.{extern_items, import_items, imports_items, import_field-items, identified-extern}
+use Rattle.wasmprinter_reading.proofs.Fields.Imports.{extern_items, import_items, imports_items, import_field-items, identifier_in_front-extern}
 
 -- ---- fields of one kind, before others
 
@@ -85,8 +85,8 @@ fields-start s (Some i) f m none e =
 
 -- ---- imports
 
-pub extern_id : (s : Scope) (n : ℕ) (t : ExternType) → (identified (extern_items s n t)).0 ≡ id (s.names.items (space_of (kind_of_extern t)) n)
-extern_id s n t = ap (λ x. x.0) (identified-extern s n t)
+pub extern_id : (s : Scope) (n : ℕ) (t : ExternType) → (identifier_in_front (extern_items s n t)).0 ≡ id (s.names.items (space_of (kind_of_extern t)) n)
+extern_id s n t = ap (λ x. x.0) (identifier_in_front-extern s n t)
 
 abbrev pub imports_held : Scope → Numbers → List (Placed Import) → List ImportField
 imports_held s n is = held_imports s.names (extern_items s) (extern_id s) n is

@@ -4,15 +4,15 @@ use Rattle.wasmprinter_spec.specs.Forest.{Forest}
 use Rattle.wasmprinter_spec.specs.Grammar.{Placed}
 use Rattle.wasmprinter_spec.specs.Types.{ExternKind, FuncKind, TableKind, MemoryKind, GlobalKind, TagKind, ExternType, FuncExtern, TableExtern, MemoryExtern, GlobalExtern, TagExtern}
 use Rattle.wasmprinter_spec.specs.Placed.{Import}
-use Rattle.wasmprinter_spec.specs.Module.{without_places, selected_first, imported, func_import, table_import, memory_import, global_import, tag_import}
+use Rattle.wasmprinter_spec.specs.Module.{without_places, with_first_if_any, imported_types, func_import, table_import, memory_import, global_import, tag_import}
 use Rattle.wasmprinter_spec.specs.Labels.{Named}
 use Rattle.wasmprinter_spec.specs.Names.{Names, identifiers_at, identifiers, AreDistinct}
 use Rattle.wasmprinter_spec.specs.IndexSpaces.{index_space}
 use Rattle.wasmprinter_spec.specs.Layout.Imports.{Numbers, number_of, numbers_behind}
-use Rattle.wasmprinter_spec.specs.Text.Items.{identified}
+use Rattle.wasmprinter_spec.specs.Text.Items.{identifier_in_front}
 use Rattle.wasmprinter_spec.specs.Text.Imports.{ImportField, field_of}
 use Rattle.wasmprinter_spec.specs.Indexed.{space_of}
-use Rattle.wasmprinter_spec.specs.Read.{declared, same_kind, imported_ids}
+use Rattle.wasmprinter_spec.specs.Read.{identifiers_of, same_kind, imported_ids}
 use Rattle.wasmprinter_reading.proofs.Declarations.{id}
 use Rattle.wasmprinter_reading.proofs.Numbered.{map_numbered}
 use Rattle.wasmprinter_reading.proofs.Names.Resolving.{identifiers_are_distinct}
@@ -23,14 +23,14 @@ identifiers_space named apart count few = rw (identifiers_are_distinct named apa
 
 -- ---- fields of one kind
 
-pub declared_numbered : {A : Type 0} (items : ℕ → A → Forest) (named : ℕ → Option Named) → ((i : ℕ) (x : A) → (identified (items i x)).0 ≡ id (named i)) →
-    (i : ℕ) (xs : List A) → declared (map_numbered items i xs) ≡ identifiers_at named i (length xs)
+pub declared_numbered : {A : Type 0} (items : ℕ → A → Forest) (named : ℕ → Option Named) → ((i : ℕ) (x : A) → (identifier_in_front (items i x)).0 ≡ id (named i)) →
+    (i : ℕ) (xs : List A) → identifiers_of (map_numbered items i xs) ≡ identifiers_at named i (length xs)
 declared_numbered items named its i [] = refl
 declared_numbered items named its i (x ∷ xs) = ap₂ (λ y ys. y ∷ ys) (its i x) (declared_numbered items named its (i + 1) xs)
 
-pub declared-append : (fs gs : List Forest) → declared (fs ++ gs) ≡ declared fs ++ declared gs
-declared-append [] gs = refl
-declared-append (f ∷ fs) gs = ap (λ ids. (identified f).0 ∷ ids) (declared-append fs gs)
+pub identifiers_of-append : (fs gs : List Forest) → identifiers_of (fs ++ gs) ≡ identifiers_of fs ++ identifiers_of gs
+identifiers_of-append [] gs = refl
+identifiers_of-append (f ∷ fs) gs = ap (λ ids. (identifier_in_front f).0 ∷ ids) (identifiers_of-append fs gs)
 
 -- ---- imports take the first numbers of their kind
 
@@ -51,19 +51,19 @@ number_in TagKind n = n.tags
 
 -- how many imports of a kind there are
 abbrev pub imports_of : ExternKind → List Import → ℕ
-imports_of FuncKind is = length (imported func_import is)
-imports_of TableKind is = length (imported table_import is)
-imports_of MemoryKind is = length (imported memory_import is)
-imports_of GlobalKind is = length (imported global_import is)
-imports_of TagKind is = length (imported tag_import is)
+imports_of FuncKind is = length (imported_types func_import is)
+imports_of TableKind is = length (imported_types table_import is)
+imports_of MemoryKind is = length (imported_types memory_import is)
+imports_of GlobalKind is = length (imported_types global_import is)
+imports_of TagKind is = length (imported_types tag_import is)
 
 -- the same with one of this type in front
 abbrev imports_with : ExternKind → ExternType → List Import → ℕ
-imports_with FuncKind t is = length (selected_first (func_import t) (imported func_import is))
-imports_with TableKind t is = length (selected_first (table_import t) (imported table_import is))
-imports_with MemoryKind t is = length (selected_first (memory_import t) (imported memory_import is))
-imports_with GlobalKind t is = length (selected_first (global_import t) (imported global_import is))
-imports_with TagKind t is = length (selected_first (tag_import t) (imported tag_import is))
+imports_with FuncKind t is = length (with_first_if_any (func_import t) (imported_types func_import is))
+imports_with TableKind t is = length (with_first_if_any (table_import t) (imported_types table_import is))
+imports_with MemoryKind t is = length (with_first_if_any (memory_import t) (imported_types memory_import is))
+imports_with GlobalKind t is = length (with_first_if_any (global_import t) (imported_types global_import is))
+imports_with TagKind t is = length (with_first_if_any (tag_import t) (imported_types tag_import is))
 
 imports_of-first : (kind : ExternKind) (i : Import) (is : List Import) → imports_of kind (i ∷ is) ≡ imports_with kind i.type is
 imports_of-first FuncKind i is = refl
@@ -99,7 +99,7 @@ takes_or_leaves TagKind (TagExtern i) n is = inl (record { same = refl; its_kind
 takes_or_leaves TagKind _ n is = inr (record { other = refl; next = refl; count = refl })
 
 module _ (names : Names) (items : ℕ → ExternType → Forest)
-    (its : (n : ℕ) (t : ExternType) → (identified (items n t)).0 ≡ id (names.items (space_of (kind_of_extern t)) n)) where
+    (its : (n : ℕ) (t : ExternType) → (identifier_in_front (items n t)).0 ≡ id (names.items (space_of (kind_of_extern t)) n)) where
   -- the fields as they are sorted
   abbrev pub held_imports : Numbers → List (Placed Import) → List ImportField
   held_imports n [] = []
@@ -128,7 +128,7 @@ module _ (names : Names) (items : ℕ → ExternType → Forest)
           imported_ids kind (held_imports behind is) ≡ identifiers_at named (number_in kind behind) (imports_of kind (without_places is)) →
           imported_ids kind (held_imports n (i ∷ is)) ≡ identifiers_at named (number_in kind n) (imports_with kind i.value.type (without_places is))
       by (inl t) rest =
-          let first : (identified (items (number_of i.value.type n) i.value.type)).0 ≡ option_map (λ n. n.content) (named (number_in kind n)) =
+          let first : (identifier_in_front (items (number_of i.value.type n) i.value.type)).0 ≡ option_map (λ n. n.content) (named (number_in kind n)) =
           its (number_of i.value.type n) i.value.type
           ∙ ap₂ (λ k j. id (names.items (space_of k) j)) t.its_kind t.number in
           rw (t.same, t.count, first, rest, t.next)

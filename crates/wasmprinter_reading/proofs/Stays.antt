@@ -10,8 +10,8 @@ use Rattle.wasmprinter_spec.specs.Options.{Options, Answers}
 use Rattle.wasmprinter_spec.specs.Customs.Hints.{Hint, FunctionHints, hints_of, next_hints, hints_behind}
 use Rattle.wasmprinter_spec.specs.Piece.{Piece, Feed}
 use Rattle.wasmprinter_spec.specs.Placed.{PlacedFunction, PlacedModule}
-use Rattle.wasmprinter_spec.specs.Module.{without_places, imported, func_import}
-use Rattle.wasmprinter_spec.specs.Layout.Groups.{group_at, group_gap_at, close, has_break, numbered}
+use Rattle.wasmprinter_spec.specs.Module.{without_places, imported_types, func_import}
+use Rattle.wasmprinter_spec.specs.Layout.Groups.{group_at, group_gap_at, close, has_break, numbered_pieces}
 use Rattle.wasmprinter_spec.specs.Layout.Identifiers.{leading_mark_pieces}
 use Rattle.wasmprinter_spec.specs.Layout.Declarations.{Scope}
 use Rattle.wasmprinter_spec.specs.Layout.Functions.{header_pieces, inner_pieces, function_pieces, functions_pieces, function_group}
@@ -120,9 +120,9 @@ module _ (o r : Options) (same : o.skeleton ≡ r.skeleton) where
     parts_stay : PartsStay (module_parts o answers names m) (module_parts p answers names m)
     parts_stay =
         let s : Scope = early_scope o names m in
-        let elements : Bool → List Piece = λ t. numbered (element_pieces t s) 0 m.elements in
-        let datas : Bool → List Piece = λ t. numbered (data_pieces t (late_scope o names m)) 0 m.datas in
-        let functions = functions_stay s (hints_of m.customs) (length (imported func_import (without_places m.imports))) m.functions in
+        let elements : Bool → List Piece = λ t. numbered_pieces (element_pieces t s) 0 m.elements in
+        let datas : Bool → List Piece = λ t. numbered_pieces (data_pieces t (late_scope o names m)) 0 m.datas in
+        let functions = functions_stay s (hints_of m.customs) (length (imported_types func_import (without_places m.imports))) m.functions in
         let first = parts_then (customs_stay None) (field_stays (Some TypeSection) refl) in
         let second = parts_then (parts_then first (field_stays (Some ImportSection) refl)) (customs_stay (Some FunctionSection)) in
         let third = parts_then (parts_then second (field_stays (Some TableSection) refl)) (field_stays (Some MemorySection) refl) in

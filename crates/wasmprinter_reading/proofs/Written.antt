@@ -10,8 +10,8 @@ use Rattle.wasmprinter_spec.specs.Types.{FuncKind, TableKind, MemoryKind, TagKin
 use Rattle.wasmprinter_spec.specs.Customs.Hints.{hints_of, hints_behind}
 use Rattle.wasmprinter_spec.specs.Placed.{PlacedModule, PlacedFunction}
 use Rattle.wasmprinter_spec.specs.Names.{Names, AreNamed}
-use Rattle.wasmprinter_spec.specs.Module.{without_places, imported, func_import, table_import, memory_import, global_import, tag_import}
-use Rattle.wasmprinter_spec.specs.Layout.Groups.{numbered}
+use Rattle.wasmprinter_spec.specs.Module.{without_places, imported_types, func_import, table_import, memory_import, global_import, tag_import}
+use Rattle.wasmprinter_spec.specs.Layout.Groups.{numbered_pieces}
 use Rattle.wasmprinter_spec.specs.Layout.Identifiers.{leading_mark_pieces}
 use Rattle.wasmprinter_spec.specs.Layout.Customs.{Shown, Laid, laid_parts, parts_at}
 use Rattle.wasmprinter_spec.specs.Folding.Arities.{signatures_within}
@@ -76,40 +76,40 @@ module _ (o : Options) (names : Names) (named : AreNamed names) (m : PlacedModul
       (record { functions = small; tables = small; memories = small; globals = small; tags = small })
       h.each_import
 
-  pub tables_write : Writes Bound (numbered (table_pieces (early o names m)) (length (imported table_import (without_places m.imports))) m.tables) Bound
+  pub tables_write : Writes Bound (numbered_pieces (table_pieces (early o names m)) (length (imported_types table_import (without_places m.imports))) m.tables) Bound
       (field_rows (codes "table") (own_table o names m) (before o names m TableKind) m.tables)
   tables_write =
       numbered_writes (λ t. IsRangedTable t.value) (table_pieces (early o names m)) (λ i t. Word (codes "table") (own_table o names m i t))
       (table_writes (early o names m) named signatures bare)
       _ m.tables (numbers_fit o names m h TableKind _ h.tables) h.each_table
 
-  pub memories_write : Writes Bound (numbered (memory_pieces (early o names m)) (length (imported memory_import (without_places m.imports))) m.memories) Bound
+  pub memories_write : Writes Bound (numbered_pieces (memory_pieces (early o names m)) (length (imported_types memory_import (without_places m.imports))) m.memories) Bound
       (field_rows (codes "memory") (own_memory o names m) (before o names m MemoryKind) m.memories)
   memories_write =
       numbered_writes (λ x. IsRangedMemory x.value) (memory_pieces (early o names m)) (λ i x. Word (codes "memory") (own_memory o names m i x))
       (memory_writes (early o names m) named)
       _ m.memories (numbers_fit o names m h MemoryKind _ h.memories) h.each_memory
 
-  pub tags_write : Writes Bound (numbered (tag_pieces (early o names m)) (length (imported tag_import (without_places m.imports))) m.tags) Bound
+  pub tags_write : Writes Bound (numbered_pieces (tag_pieces (early o names m)) (length (imported_types tag_import (without_places m.imports))) m.tags) Bound
       (field_rows (codes "tag") (own_tag o names m) (before o names m TagKind) m.tags)
   tags_write =
       numbered_writes (λ t. t.value < 2 ^ 32) (tag_pieces (early o names m)) (λ i t. Word (codes "tag") (own_tag o names m i t))
       (tag_writes (early o names m) named signatures)
       _ m.tags (numbers_fit o names m h TagKind _ h.tags) h.each_tag
 
-  pub globals_write : Writes Bound (numbered (global_pieces (early o names m)) (length (imported global_import (without_places m.imports))) m.globals) Bound
+  pub globals_write : Writes Bound (numbered_pieces (global_pieces (early o names m)) (length (imported_types global_import (without_places m.imports))) m.globals) Bound
       (field_rows (codes "global") (own_global o names m) (before o names m GlobalKind) m.globals)
   globals_write =
       numbered_writes (λ g. IsRangedGlobal g.value) (global_pieces (early o names m)) (λ i g. Word (codes "global") (own_global o names m i g))
       (global_writes (early o names m) named signatures bare)
       _ m.globals (numbers_fit o names m h GlobalKind _ h.globals) h.each_global
 
-  pub exports_write : Writes Bound (numbered (λ i e. export_pieces (early o names m) e) 0 m.exports) Bound (field_rows (codes "export") (own_export o names m) 0 m.exports)
+  pub exports_write : Writes Bound (numbered_pieces (λ i e. export_pieces (early o names m) e) 0 m.exports) Bound (field_rows (codes "export") (own_export o names m) 0 m.exports)
   exports_write =
       numbered_writes (λ e. IsRangedExport e.value) (λ i e. export_pieces (early o names m) e) (λ i e. Word (codes "export") (own_export o names m i e))
       (λ i e small k. export_writes (early o names m) named e k) 0 m.exports (omega (arith, h.exports)) h.each_export
 
-  pub elements_write : Writes Bound (numbered (element_pieces o.skeleton (early o names m)) 0 m.elements) Bound
+  pub elements_write : Writes Bound (numbered_pieces (element_pieces o.skeleton (early o names m)) 0 m.elements) Bound
       (field_rows (codes "elem") (own_element o names m o.skeleton) 0 m.elements)
   elements_write =
       numbered_writes (λ e. IsRangedElement e.value) (element_pieces o.skeleton (early o names m)) (λ i e. Word (codes "elem") (own_element o names m o.skeleton i e))
@@ -135,7 +135,7 @@ module _ (o : Options) (names : Names) (named : AreNamed names) (m : PlacedModul
       (functions_hinted o.skeleton (early o names m) es (i + 1) fs)) (sym (next_waiting i low))
       (own_functions_write (i + 1) (omega (arith, low)) fs (omega arith) k.1))
 
-  pub functions_write : WritesNoted Bound (functions_pieces o (early o names m) (hints_of m.customs) (length (imported func_import (without_places m.imports))) m.functions) Bound
+  pub functions_write : WritesNoted Bound (functions_pieces o (early o names m) (hints_of m.customs) (length (imported_types func_import (without_places m.imports))) m.functions) Bound
       (field_rows (codes "func") (own_function o names m o.skeleton) (before o names m FuncKind) m.functions)
       (functions_hinted o.skeleton (early o names m) (hints_of m.customs) (before o names m FuncKind) m.functions)
   functions_write =
@@ -145,7 +145,7 @@ module _ (o : Options) (names : Names) (named : AreNamed names) (m : PlacedModul
       (functions_hinted o.skeleton (early o names m) (waiting o names m k) b m.functions)) none
       (own_functions_write b (omega arith) m.functions (numbers_fit o names m h FuncKind _ h.functions) h.each_function)
 
-  pub datas_write : Writes Bound (numbered (data_pieces o.skeleton (late o names m)) 0 m.datas) Bound (field_rows (codes "data") (own_data o names m o.skeleton) 0 m.datas)
+  pub datas_write : Writes Bound (numbered_pieces (data_pieces o.skeleton (late o names m)) 0 m.datas) Bound (field_rows (codes "data") (own_data o names m o.skeleton) 0 m.datas)
   datas_write =
       numbered_writes (λ d. IsRangedData d.value) (data_pieces o.skeleton (late o names m)) (λ i d. Word (codes "data") (own_data o names m o.skeleton i d))
       (data_writes (late o names m) named signatures bare o.skeleton) 0 m.datas (omega (arith, h.datas)) h.each_data

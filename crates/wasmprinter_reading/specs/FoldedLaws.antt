@@ -18,7 +18,7 @@ use Rattle.wasmprinter_spec.specs.Layout.{layout, refusal}
 use Rattle.wasmprinter_spec.specs.Layout.Operators.{Setting}
 use Rattle.wasmprinter_spec.specs.Layout.Folded.{items, node_pieces}
 use Rattle.wasmprinter_spec.specs.Folding.Arities.{Signatures}
-use Rattle.wasmprinter_spec.specs.Folding.Code.{Item, Code, code_of}
+use Rattle.wasmprinter_spec.specs.Folding.Code.{Item, NestedCode, nested_code_of}
 use Rattle.wasmprinter_spec.specs.Folding.Tree.{tree}
 use Rattle.wasmprinter_spec.specs.Folding.Refusals.{IsFoldable}
 use Rattle.wasmprinter_spec.specs.IndexSpaces.{Context}
@@ -26,8 +26,8 @@ use Rattle.wasmprinter_spec.specs.Read.{read}
 use Rattle.wasmprinter_reading.specs.OperatorLaws.{HaveSameTypes, HaveSameNames, AreOperators, read_alone}
 
 -- an item, but for what is said of its operands and results
-abbrev pub uncounted : Item → Item
-uncounted x = record x { takes = 0; gives = 0 }
+abbrev pub without_counts : Item → Item
+without_counts x = record x { takes = 0; gives = 0 }
 
 -- The text that is laid out for operators folded by any numbers of operands and results, over lines or in one, with hints in front of them
 -- or without, reads as exactly them.
@@ -36,8 +36,8 @@ FoldedOperatorsReadBack =
     (s : Setting) → AreApart s.names → AreNamed s.names →
     (c : Context) (n : Counts) → HaveSameTypes s c n → HaveSameNames s c n →
     (signatures : Signatures) (hs : List (Placed Hint)) (os : List (Placed Operator)) → AreOperators n os →
-    (xs : List Item) → map uncounted xs ≡ map uncounted (items s signatures hs 0 [] [] os) →
-    (code : Code) → code_of xs ≡ Some code →
+    (xs : List Item) → map without_counts xs ≡ map without_counts (items s signatures hs 0 [] [] os) →
+    (code : NestedCode) → nested_code_of xs ≡ Some code →
     (o : Options) → IsBlank o.indent →
     read_alone c (text_of (all_calls o (node_pieces o false s.form true s.nesting (tree code)))) ≡ Some (without_places os)
 

@@ -16,8 +16,8 @@ use Rattle.wasmprinter_spec.specs.Names.{AreApart, AreNamed, in_function, identi
 use Rattle.wasmprinter_spec.specs.Piece.{all_calls}
 use Rattle.wasmprinter_spec.specs.Customs.Hints.{Hint}
 use Rattle.wasmprinter_spec.specs.Layout.Operators.{Setting, operators_pieces}
-use Rattle.wasmprinter_spec.specs.Forest.{forest, cut}
-use Rattle.wasmprinter_spec.specs.Code.{unfolded}
+use Rattle.wasmprinter_spec.specs.Forest.{forest, without_annotations}
+use Rattle.wasmprinter_spec.specs.Code.{chunks_of_forest}
 use Rattle.wasmprinter_spec.specs.IndexSpaces.{Context, space_in}
 use Rattle.wasmprinter_spec.specs.Text.Operators.{read_operators}
 use Rattle.wasmprinter_reading.specs.Listed.{IsListed, AreSignaturesInRange}
@@ -62,7 +62,7 @@ pub record AreOperators (n : Counts) (os : List (Placed Operator)) : Type 0 wher
 
 -- the operators that a text holds, and nothing else
 abbrev pub read_alone : Context → List ℕ → Option (List Operator)
-read_alone c text = forest text >>= λ f. unfolded (cut f) >>= read_operators c
+read_alone c text = forest text >>= λ f. chunks_of_forest (without_annotations f) >>= read_operators c
 
 -- The text that is laid out for operators, over lines or in one, with hints in front of them or without, reads as exactly them,
 -- whatever items and labels are called.

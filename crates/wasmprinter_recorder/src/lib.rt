@@ -49,14 +49,14 @@ impl Recorder {
     }
 
     /// Refuses the call with the number among those that can fail, the first of which is 1.
-    pub fn refusing(alloc: Global, call: u32, kind: ErrorKind) -> Recorder {
+    pub fn with_refusal(alloc: Global, call: u32, kind: ErrorKind) -> Recorder {
         let mut recorder = Recorder::new(alloc);
         recorder.refusal = Some((call, kind));
         recorder
     }
 
     /// Takes the custom sections with this name itself.
-    pub fn taking(alloc: Global, name: &'static str) -> Recorder {
+    pub fn with_section_taken(alloc: Global, name: &'static str) -> Recorder {
         let mut recorder = Recorder::new(alloc);
         recorder.taken = name;
         recorder
@@ -68,7 +68,7 @@ impl Recorder {
     }
 
     /// How many calls that can fail were made.
-    pub fn made(&self) -> u32 {
+    pub fn call_count(&self) -> u32 {
         self.made
     }
 
@@ -186,7 +186,7 @@ impl Print for Recorder {
 
 #[test]
 fn writes_down_each_call_at_once(rt: HostRuntime) -> Result<(), Fail> {
-    let mut recorder = Recorder::refusing(rt.alloc(), 5, ErrorKind::BrokenPipe);
+    let mut recorder = Recorder::with_refusal(rt.alloc(), 5, ErrorKind::BrokenPipe);
     recorder.start_line(None);
     recorder.start_line(Some(31));
     recorder.write_str("[0]\n{K}\\")?;
@@ -201,7 +201,7 @@ fn writes_down_each_call_at_once(rt: HostRuntime) -> Result<(), Fail> {
         recorder.calls(),
         "[][0x1f]\\[0\\]\\n\\{K\\}\\\\\n{K}{? \"a\\\"b\" 0x8 [1, 2]}{T}{!}{R}[0x0]",
     )?;
-    assert!(rt; recorder.made() == 6);
+    assert!(rt; recorder.call_count() == 6);
     assert!(rt; recorder.is_complete());
     Ok(())
 }

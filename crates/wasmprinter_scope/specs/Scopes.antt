@@ -26,8 +26,8 @@ abbrev pub folds_in : layout.Scope → Bool
 folds_in s = is_some s.folding
 
 -- the same types and identifiers, for the locals and labels of a function
-abbrev pub within : layout.Scope → ℕ → layout.Scope
-within s f = record s { function = f }
+abbrev pub scope_of_function : layout.Scope → ℕ → layout.Scope
+scope_of_function s f = record s { function = f }
 
 -- the identifier of an item of the module: by computation one of the scope's names
 abbrev pub item_in : Scan → Space → ℕ → Option Named

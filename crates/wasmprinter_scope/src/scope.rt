@@ -8,7 +8,7 @@ ghost use Rattle.wasmprinter_spec.specs.Layout.Identifiers.{declaration_pieces, 
 ghost use Rattle.wasmprinter_spec.specs.Layout.ValTypes.{ref_pieces, val_pieces};
 ghost use Rattle.wasmprinter_spec.specs.Layout.Types.{type_pieces};
 ghost use Rattle.wasmprinter_print.specs.Prints.{Prints};
-ghost use Rattle.wasmprinter_names.specs.Shown.{shown};
+ghost use Rattle.wasmprinter_names.specs.Shown.{names_of_identifiers};
 ghost use Rattle.wasmprinter_text.specs.Items.{item_of};
 ghost use Rattle.wasmprinter_ops.specs.ValTypes.{ref_view, type_view};
 ghost use Rattle.wasmprinter_labels.specs.Scan.{names_of};
@@ -64,7 +64,7 @@ pub struct Scope<'s, 'a> {
 impl<'s, 'a> Scope<'s, 'a> {
     /// The identifiers of the module.
     pub fn identifiers(&self) -> Identifiers<'s, 'a>
-        ensures all { shown result ≡ names_of self.now.labels }
+        ensures all { names_of_identifiers result ≡ names_of self.now.labels }
         ensures items { (space : Space) (n : ℕ) → item_of result space 0 n ≡ item_in self.now.labels space n }
     {
         self.labels.identifiers()

@@ -11,7 +11,7 @@ use Rattle.wasmprinter_spec.specs.Placed.{TypeGroup, Import, Table, Global, Expo
 use Rattle.wasmprinter_spec.specs.Options.{Options}
 use Rattle.wasmprinter_spec.specs.Piece.{Piece}
 use Rattle.wasmprinter_spec.specs.Layout.{tag_pieces, start_pieces, early_scope, late_scope}
-use Rattle.wasmprinter_spec.specs.Layout.Groups.{has_break, numbered}
+use Rattle.wasmprinter_spec.specs.Layout.Groups.{has_break, numbered_pieces}
 use Rattle.wasmprinter_spec.specs.Layout.Identifiers.{leading_mark_pieces}
 use Rattle.wasmprinter_spec.specs.Layout.Declarations.{Scope}
 use Rattle.wasmprinter_spec.specs.Layout.Types.{type_group_pieces, type_section_pieces}
@@ -26,7 +26,7 @@ use Rattle.wasmprinter_spec.specs.Layout.DataSegments.{data_pieces}
 use Rattle.wasmprinter_lines.proofs.Groups.{has_break-append}
 use Rattle.wasmprinter_text.proofs.Signatures.{mark-line}
 use Rattle.wasmprinter_entries.specs.Externs.{imported_count}
-use Rattle.wasmprinter_fields.proofs.Numbering.{numbered-break}
+use Rattle.wasmprinter_fields.proofs.Numbering.{numbered_pieces-break}
 
 -- for groups of types: each begins a line
 pub types-break : (names : Names) (i : ℕ) (gs : List (Placed TypeGroup)) → has_break (type_section_pieces names i gs) ≡ not (length gs == 0)

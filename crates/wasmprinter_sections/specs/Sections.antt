@@ -8,7 +8,7 @@ use Rattle.wasmprinter_spec.specs.Placed.{PlacedModule}
 use Rattle.wasmprinter_spec.specs.Options.{Options, Answers}
 use Rattle.wasmprinter_spec.specs.Piece.{Piece}
 use Rattle.wasmprinter_spec.specs.Layout.{tag_pieces, start_pieces, module_parts, module_pieces_with}
-use Rattle.wasmprinter_spec.specs.Layout.Groups.{numbered}
+use Rattle.wasmprinter_spec.specs.Layout.Groups.{numbered_pieces}
 use Rattle.wasmprinter_spec.specs.Layout.Declarations.{Scope, scope_of, folding_of}
 use Rattle.wasmprinter_spec.specs.Layout.Types.{type_section_pieces}
 use Rattle.wasmprinter_spec.specs.Layout.Imports.{no_numbers, imports_pieces}
@@ -22,7 +22,7 @@ use Rattle.wasmprinter_spec.specs.Layout.DataSegments.{data_pieces}
 use Rattle.wasmprinter_spec.specs.Layout.Customs.{Part, Shown, parts_at, Laid, laid_parts}
 use Rattle.wasmprinter_entries.specs.Externs.{imported_count}
 use Rattle.wasmprinter_fold.specs.Views.{FolderView}
-use Rattle.wasmprinter_scope.specs.Scopes.{types_of, within}
+use Rattle.wasmprinter_scope.specs.Scopes.{types_of, scope_of_function}
 
 -- what folds the operators of a module, if the options want it, with the sequences of colours in texts or without
 abbrev pub Folds : Options → Bool → Option FolderView → PlacedModule → Type 0
@@ -30,8 +30,8 @@ Folds o paints None m = o.folds ≡ false
 Folds o paints (Some f) m = (o.folds ≡ true) × (f.operators_of ≡ m) × (f.paints ≡ paints)
 
 -- the options of what is printed with them or without
-abbrev pub painting : Options → Bool → Options
-painting o paints = record o { paints = paints }
+abbrev pub with_paints : Options → Bool → Options
+with_paints o paints = record o { paints = paints }
 
 -- what fields in front of the functions are laid out by
 abbrev pub first_scope : Options → Names → PlacedModule → Scope
@@ -41,15 +41,15 @@ first_scope o names m = scope_of (types_of m) names (imported_count FuncKind m.i
 abbrev pub fields_of : Options → Scope → PlacedModule → Kind → List Piece
 fields_of o s m TypeSection = type_section_pieces s.names 0 m.types
 fields_of o s m ImportSection = imports_pieces s no_numbers m.imports
-fields_of o s m TableSection = numbered (table_pieces s) (imported_count TableKind m.imports) m.tables
-fields_of o s m MemorySection = numbered (memory_pieces s) (imported_count MemoryKind m.imports) m.memories
-fields_of o s m TagSection = numbered (tag_pieces s) (imported_count TagKind m.imports) m.tags
-fields_of o s m GlobalSection = numbered (global_pieces s) (imported_count GlobalKind m.imports) m.globals
-fields_of o s m ExportSection = numbered (λ i e. export_pieces s e) 0 m.exports
+fields_of o s m TableSection = numbered_pieces (table_pieces s) (imported_count TableKind m.imports) m.tables
+fields_of o s m MemorySection = numbered_pieces (memory_pieces s) (imported_count MemoryKind m.imports) m.memories
+fields_of o s m TagSection = numbered_pieces (tag_pieces s) (imported_count TagKind m.imports) m.tags
+fields_of o s m GlobalSection = numbered_pieces (global_pieces s) (imported_count GlobalKind m.imports) m.globals
+fields_of o s m ExportSection = numbered_pieces (λ i e. export_pieces s e) 0 m.exports
 fields_of o s m StartSection = start_pieces s m.start
-fields_of o s m ElementSection = numbered (element_pieces o.skeleton s) 0 m.elements
+fields_of o s m ElementSection = numbered_pieces (element_pieces o.skeleton s) 0 m.elements
 fields_of o s m CodeSection = functions_pieces o s (hints_of m.customs) (imported_count FuncKind m.imports) m.functions
-fields_of o s m DataSection = numbered (data_pieces o.skeleton (within s (imported_count FuncKind m.imports + length m.functions))) 0 m.datas
+fields_of o s m DataSection = numbered_pieces (data_pieces o.skeleton (scope_of_function s (imported_count FuncKind m.imports + length m.functions))) 0 m.datas
 fields_of o s m _ = []
 
 -- the fields of the section of a kind, and the custom sections behind it

@@ -6,11 +6,11 @@ ghost use Rattle.wasmprinter_spec.specs.Options.{Options};
 ghost use Rattle.wasmprinter_spec.specs.Layout.Declarations.{Scope as FieldScope};
 ghost use Rattle.wasmprinter_spec.specs.Layout.DataSegments.{data_pieces};
 ghost use Rattle.wasmprinter_spec.specs.Layout.Functions.{functions_pieces};
-ghost use Rattle.wasmprinter_spec.specs.Layout.Groups.{has_break, numbered};
+ghost use Rattle.wasmprinter_spec.specs.Layout.Groups.{has_break, numbered_pieces};
 ghost use Rattle.wasmprinter_print.specs.Prints.{PrintsOrStops};
 ghost use Rattle.wasmprinter_entries.specs.Externs.{kind_view, imported_count};
 ghost use Rattle.wasmprinter_entries.specs.Places.{section_kind_view};
-ghost use Rattle.wasmprinter_scope.specs.Scopes.{scope_view, within, folds_in};
+ghost use Rattle.wasmprinter_scope.specs.Scopes.{scope_view, scope_of_function, folds_in};
 ghost use Rattle.wasmprinter_fields.specs.Parts.{field_line};
 ghost use Rattle.wasmprinter_sections.specs.Sections.{fields_of};
 
@@ -63,8 +63,8 @@ fn write_datas<P: Print>(
     scope: &mut Scope<'_, '_>,
 ) -> Result<(), Error>
     ensures pieces { PrintsOrStops P.meaning options.now p.old p.new (folds_in (scope_view scope.old)) result
-        (numbered (data_pieces options.now.skeleton
-        (within (scope_view scope.old) (imported_count FuncKind module.now.imports + length module.now.functions))) 0 module.now.datas) }
+        (numbered_pieces (data_pieces options.now.skeleton
+        (scope_of_function (scope_view scope.old) (imported_count FuncKind module.now.imports + length module.now.functions))) 0 module.now.datas) }
     ensures scope { scope_view scope.new ≡ scope_view scope.old }
 {
     let function = scope.function;
@@ -85,7 +85,7 @@ fn write_defined<P: Print, F: Field>(
 ) -> Result<(), Error>
     requires { length fields.now < 2 ^ 32 }
     ensures pieces { PrintsOrStops P.meaning options.now p.old p.new (folds_in (scope_view scope.old)) result
-        (numbered (field_line F.keyword F.line_place (F.parts options.now (scope_view scope.old)))
+        (numbered_pieces (field_line F.keyword F.line_place (F.parts options.now (scope_view scope.old)))
         (imported_count (kind_view kind) module.now.imports) fields.now) }
     ensures scope { scope_view scope.new ≡ scope_view scope.old }
 {

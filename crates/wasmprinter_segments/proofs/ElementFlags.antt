@@ -1,7 +1,7 @@
 -- Element segments behind their flags.
 use Rattle.std.proofs.Common.{◌≡◌, ℕ, zero, suc, ◌<◌, ◌≤◌, Some, None, refl, ◌∙◌, arith}
 use Rattle.std.proofs.lemmas.Bool.{ne_eqb}
-use Rattle.wasmprinter_spec.specs.Grammar.{Input, Placed, placed}
+use Rattle.wasmprinter_spec.specs.Grammar.{Input, Placed, value_with_place}
 use Rattle.wasmprinter_spec.specs.Name.{u32}
 use Rattle.wasmprinter_spec.specs.Operator.{Operator}
 use Rattle.wasmprinter_spec.specs.Placed.{Mode, Items, element_of, entry_of}
@@ -23,7 +23,7 @@ in_parts (suc (suc (suc (suc (suc (suc (suc (suc n)))))))) at lt = absurd (omega
 -- flags were read
 module _ (old mid : Input) (flags : ℕ) (read : u32.parse old ≡ Some (flags, mid)) where
   -- which are too large
-  pub element_past : 8 ≤ flags → (placed element).parse old ≡ None
+  pub element_past : 8 ≤ flags → (value_with_place element).parse old ≡ None
   element_past le =
       let none : (element_behind flags).parse mid ≡ None =
       rw (
@@ -40,7 +40,7 @@ module _ (old mid : Input) (flags : ℕ) (read : u32.parse old ≡ Some (flags, 
 
   module _ (lt : flags < 8) where
     -- no mode stands behind them
-    pub element_no_mode : (mode_by flags).parse mid ≡ None → (placed element).parse old ≡ None
+    pub element_no_mode : (mode_by flags).parse mid ≡ None → (value_with_place element).parse old ≡ None
     element_no_mode e =
         let parts : (segment (names_table flags) (mode_by flags) (items_by flags)).parse mid ≡ None = rw e refl in
         let none : (element_behind flags).parse mid ≡ None = in_parts flags mid lt ∙ parts in
@@ -48,7 +48,7 @@ module _ (old mid : Input) (flags : ℕ) (read : u32.parse old ≡ Some (flags, 
 
     module _ (after : Input) (mode : Mode (Placed Operator)) (first : (mode_by flags).parse mid ≡ Some (mode, after)) where
       -- a mode, but no items
-      pub element_no_items : (items_by flags).parse after ≡ None → (placed element).parse old ≡ None
+      pub element_no_items : (items_by flags).parse after ≡ None → (value_with_place element).parse old ≡ None
       element_no_items e =
           let parts : (segment (names_table flags) (mode_by flags) (items_by flags)).parse mid ≡ None = rw (first, e) refl in
           let none : (element_behind flags).parse mid ≡ None = in_parts flags mid lt ∙ parts in
@@ -56,7 +56,7 @@ module _ (old mid : Input) (flags : ℕ) (read : u32.parse old ≡ Some (flags, 
 
       -- both
       pub element_read : (new : Input) (items : Items (Placed Operator)) → (items_by flags).parse after ≡ Some (items, new)
-          → (placed element).parse old ≡ Some (record { place = old.place; value = entry_of (names_table flags) (element_of mode items) }, new)
+          → (value_with_place element).parse old ≡ Some (record { place = old.place; value = entry_of (names_table flags) (element_of mode items) }, new)
       element_read new items e =
           let parts : (segment (names_table flags) (mode_by flags) (items_by flags)).parse mid ≡ Some (entry_of (names_table flags) (element_of mode items), new) = rw (first, e) refl in
           let some : (element_behind flags).parse mid ≡ Some (entry_of (names_table flags) (element_of mode items), new) = in_parts flags mid lt ∙ parts in

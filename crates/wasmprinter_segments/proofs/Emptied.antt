@@ -2,7 +2,7 @@
 use Rattle.std.proofs.Common.{◌≡◌, ℕ, ◌+◌, ◌<◌, ◌≤◌, get_or, drop, List, [], ◌∷◌, ◌++◌, length, Option, Some, None, refl, sym, ap, subst, ◌∙◌, inl, inr, arith, append_assoc, length-append}
 use Rattle.std.proofs.Math.ListN.{drop_of_length-le}
 use Rattle.std.proofs.lemmas.List.{at_drop_more}
-use Rattle.wasmprinter_spec.specs.Grammar.{Input, some_is, Placed, placed}
+use Rattle.wasmprinter_spec.specs.Grammar.{Input, some_is, Placed, value_with_place}
 use Rattle.wasmprinter_spec.specs.Repeated.{Items}
 use Rattle.wasmprinter_spec.specs.Name.{vec}
 use Rattle.wasmprinter_spec.specs.Sections.{TableSection}
@@ -33,14 +33,14 @@ has_none (Some []) ne = absurd (ne tt)
 has_none (Some (o ∷ os)) ne = tt
 
 -- a table that was spelled at a place, and its initialiser is empty
-here_of : (p : ℕ) (text behind : List ℕ) (x : PlacedTable) (place : ℕ) → (placed table).spells p text x → IsEmpty place x → (place ≡ p) × table.spells place text (table_of x.value.type (Some []))
+here_of : (p : ℕ) (text behind : List ℕ) (x : PlacedTable) (place : ℕ) → (value_with_place table).spells p text x → IsEmpty place x → (place ≡ p) × table.spells place text (table_of x.value.type (Some []))
 here_of p text behind x place s e =
     let there : place ≡ p = sym e.0 ∙ s.0 in
     let same : x.value ≡ table_of x.value.type (Some []) = ap (table_of x.value.type) (init_is x.value.init e.1) in
     (there, subst (λ (q : ℕ). table.spells q text (table_of x.value.type (Some []))) (sym there) (subst (λ (v : Table (Placed Operator)). table.spells p text v) same s.1))
 
 -- it is one of the tables that were spelled
-among : (p : ℕ) (text : List ℕ) (ts : List PlacedTable) (place : ℕ) → Items (placed table) p text ts → FirstIsEmpty place ts
+among : (p : ℕ) (text : List ℕ) (ts : List PlacedTable) (place : ℕ) → Items (value_with_place table) p text ts → FirstIsEmpty place ts
     → (at : Input) → (before behind : List ℕ) → at.bytes ≡ before ++ (text ++ behind) → p ≡ at.place + length before → HasEmptyInit at place
 among p text [] place s any at before behind parts starts = absurd any
 among p text (x ∷ xs) place s (inl here) at before behind parts starts =
@@ -87,17 +87,17 @@ pub found_none : (ts : List PlacedTable) (i : ℕ) → length ts ≤ i → Found
 found_none ts i le h = h None (subst (λ (xs : List PlacedTable). FindsEmpty xs None) (sym (drop_of_length-le ts le)) tt)
 
 -- a table section among whose tables one is empty is refused for it
-pub section_empty : (at after : Input) (ts : List PlacedTable) (place : ℕ) → (vec (placed table)).parse at ≡ Some (ts, after) → FirstIsEmpty place ts
+pub section_empty : (at after : Input) (ts : List PlacedTable) (place : ℕ) → (vec (value_with_place table)).parse at ≡ Some (ts, after) → FirstIsEmpty place ts
     → (content_reasons TableSection at).tables place
 section_empty at after ts place read any =
-    let s = (vec (placed table)).sound at (ts, after) read in
+    let s = (vec (value_with_place table)).sound at (ts, after) read in
     let same : s.spelled.0.1 ≡ ts = some_is s.spelled.0.1 ts s.spelled.1 in
     let parts = s.spelled.2 in
-    let items : Items (placed table) (at.place + length parts.0) parts.1 ts = subst (λ (xs : List PlacedTable). Items (placed table) (at.place + length parts.0) parts.1 xs) same parts.4.1 in
+    let items : Items (value_with_place table) (at.place + length parts.0) parts.1 ts = subst (λ (xs : List PlacedTable). Items (value_with_place table) (at.place + length parts.0) parts.1 xs) same parts.4.1 in
     let split : at.bytes ≡ parts.0 ++ (parts.1 ++ after.bytes) = s.parts ∙ ap (λ (t : List ℕ). t ++ after.bytes) parts.2 ∙ append_assoc parts.0 parts.1 after.bytes in (
       among (at.place + length parts.0) parts.1 ts place items any at parts.0 after.bytes split refl,
       λ x e.
-          let b = alone_some (vec (placed table)) at x e in
+          let b = alone_some (vec (value_with_place table)) at x e in
           let are : ts ≡ x = ap (λ (y : List PlacedTable × Input). y.0) (some_is (ts, after) (x, b.0) (sym read ∙ b.1)) in
           (x, refl, subst (FirstIsEmpty place) are any),
     )

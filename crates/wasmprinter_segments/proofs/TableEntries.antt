@@ -2,8 +2,8 @@
 use Rattle.std.proofs.Common.{◌≡◌, ℕ, ◌<◌, Bool, true, false, List, [], ◌∷◌, length, Option, Some, None, refl, ap, ◌∙◌, arith, length-append, eqb}
 use Rattle.std.specs.Prelude.{slice_get, Result, Ok, Err}
 use Rattle.std.proofs.lemmas.Bool.{lt-ltb, ne_eqb}
-use Rattle.wasmprinter_spec.specs.Grammar.{Input, input, Grammar, ◌>>=◌, some_is, seq, map_value, choose, Placed, placed}
-use Rattle.wasmprinter_spec.specs.FirstByte.{only, shorter, peeked, peeked_of}
+use Rattle.wasmprinter_spec.specs.Grammar.{Input, input, Grammar, ◌>>=◌, some_is, seq, map_value, choose, Placed, value_with_place}
+use Rattle.wasmprinter_spec.specs.FirstByte.{only, shorter, by_first_byte, by_first_byte_of}
 use Rattle.wasmprinter_spec.specs.Operator.{Operator}
 use Rattle.wasmprinter_spec.specs.Placed.{Table, table_of}
 use Rattle.wasmprinter_spec.specs.Instructions.{expression, constant}
@@ -24,14 +24,14 @@ module _ {A : Type 0} (h : ℕ → Grammar A) (takes : (b : ℕ) (at : Input) (x
   kept n None less = refl
   kept n (Some x) less = rw (lt-ltb (length x.1.bytes) n (less x refl)) refl
 
-  by_first : (p b : ℕ) (bytes : List ℕ) → slice_get bytes 0 ≡ Some b → peeked_of h p bytes ≡ (h b).parse (input p bytes)
+  by_first : (p b : ℕ) (bytes : List ℕ) → slice_get bytes 0 ≡ Some b → by_first_byte_of h p bytes ≡ (h b).parse (input p bytes)
   by_first p b [] s = absurd cc
   by_first p b (c ∷ cs) s =
       let same : c ≡ b = some_is c b s in
       kept (length (c ∷ cs)) ((h c).parse (input p (c ∷ cs))) (takes c (input p (c ∷ cs))) ∙ ap (λ (d : ℕ). (h d).parse (input p (c ∷ cs))) same
 
   -- it is read as its first byte says
-  pub peeked_by : (at : Input) (b : ℕ) → slice_get at.bytes 0 ≡ Some b → (peeked h).parse at ≡ (h b).parse at
+  pub peeked_by : (at : Input) (b : ℕ) → slice_get at.bytes 0 ≡ Some b → (by_first_byte h).parse at ≡ (h b).parse at
   peeked_by at b s = by_first at.place b at.bytes s
 
 -- a table without an initialiser
@@ -68,37 +68,37 @@ table_first at b s = peeked_by table_by (λ c. chosen_takes (eqb c 0x40)) at b s
 abbrev with_place : Input → Option (Table (Placed Operator) × Input) → Option (Placed (Table (Placed Operator)) × Input)
 with_place at r = r >>= λ a. Some (record { place = at.place; value = a.0 }, a.1)
 
-entry_first : (at : Input) (b : ℕ) → slice_get at.bytes 0 ≡ Some b → (placed table).parse at ≡ (placed (table_by b)).parse at
+entry_first : (at : Input) (b : ℕ) → slice_get at.bytes 0 ≡ Some b → (value_with_place table).parse at ≡ (value_with_place (table_by b)).parse at
 entry_first at b s = ap (with_place at) (table_first at b s)
 
 -- where there is no byte there is no entry
-none_of : (p : ℕ) (bytes : List ℕ) → slice_get bytes 0 ≡ None → (placed table).parse (input p bytes) ≡ None
+none_of : (p : ℕ) (bytes : List ℕ) → slice_get bytes 0 ≡ None → (value_with_place table).parse (input p bytes) ≡ None
 none_of p [] s = refl
 none_of p (c ∷ cs) s = absurd cc
 
-pub no_entry : (at : Input) → slice_get at.bytes 0 ≡ None → (placed table).parse at ≡ None
+pub no_entry : (at : Input) → slice_get at.bytes 0 ≡ None → (value_with_place table).parse at ≡ None
 no_entry at s = none_of at.place at.bytes s
 
 -- a table without an initialiser is one whose first byte is another than 40
-pub plain_entry : (at : Input) (b : ℕ) → slice_get at.bytes 0 ≡ Some b → (b ≡ 0x40 → ⊥) → (placed table).parse at ≡ with_place at (plain.parse at)
+pub plain_entry : (at : Input) (b : ℕ) → slice_get at.bytes 0 ≡ Some b → (b ≡ 0x40 → ⊥) → (value_with_place table).parse at ≡ with_place at (plain.parse at)
 plain_entry at b s ne =
-    let other : (placed (table_by b)).parse at ≡ with_place at (plain.parse at) = rw (ne_eqb b 0x40 ne) refl in
+    let other : (value_with_place (table_by b)).parse at ≡ with_place at (plain.parse at) = rw (ne_eqb b 0x40 ne) refl in
     entry_first at b s ∙ other
 
 -- what begins with it is read as a table with an initialiser
 pub initialised_entry : {X : Type 0} (view : X → Placed (Table (Placed Operator))) (at new : Input) (b : ℕ) → slice_get at.bytes 0 ≡ Some b → b ≡ 0x40 → (r : Result X Error)
-    → Takes view (placed (table_by 0x40)).parse TableGrows at r new → Takes view (placed table).parse TableGrows at r new
+    → Takes view (value_with_place (table_by 0x40)).parse TableGrows at r new → Takes view (value_with_place table).parse TableGrows at r new
 initialised_entry view at new b s is (Ok x) h = entry_first at 0x40 (s ∙ ap (λ (n : ℕ). Some n) is) ∙ h
 initialised_entry view at new b s is (Err f) h =
     let same = entry_first at 0x40 (s ∙ ap (λ (n : ℕ). Some n) is) in
-    part_fault ((placed (table_by 0x40)).parse at ≡ None) (TableGrows at) ((placed table).parse at ≡ None) (TableGrows at) at at (λ none. same ∙ none) (λ more. more) refl f h
+    part_fault ((value_with_place (table_by 0x40)).parse at ≡ None) (TableGrows at) ((value_with_place table).parse at ≡ None) (TableGrows at) at at (λ none. same ∙ none) (λ more. more) refl f h
 
 -- a fault of the initialiser, behind 40 00 and a type, is one of the entry
 pub initialiser_fault : (at a b c : Input) (x y : ℕ) (t : TableType) → (only 0x40).parse at ≡ Some (x, a) → (only 0x00).parse a ≡ Some (y, b) → table_type.parse b ≡ Some (t, c)
     → end_of c ≡ end_of at → (f : Error) → HasReason (reader_reasons (expression.parse c ≡ None) (HasBlock c) c) f
-    → HasReason (reader_reasons ((placed (table_by 0x40)).parse at ≡ None) (TableGrows at) at) f
+    → HasReason (reader_reasons ((value_with_place (table_by 0x40)).parse at ≡ None) (TableGrows at) at) f
 initialiser_fault at a b c x y t first second type ends =
-    part_fault (expression.parse c ≡ None) (HasBlock c) ((placed (table_by 0x40)).parse at ≡ None) (TableGrows at) c at (λ none. rw (first, second, type, none) refl)
+    part_fault (expression.parse c ≡ None) (HasBlock c) ((value_with_place (table_by 0x40)).parse at ≡ None) (TableGrows at) c at (λ none. rw (first, second, type, none) refl)
     (λ more. record {
       value = x;
       after = a;

@@ -1,6 +1,6 @@
 -- Bodies with more locals than are allowed.
 use Rattle.std.proofs.Common.{◌≡◌, ℕ, ◌<◌, List, [], Some, None, refl, sym, ap, subst, ◌∙◌, arith}
-use Rattle.wasmprinter_spec.specs.Grammar.{Input, input, ◌>>=◌, bind_some, some_is, seq, Placed, placed}
+use Rattle.wasmprinter_spec.specs.Grammar.{Input, input, ◌>>=◌, bind_some, some_is, seq, Placed, value_with_place}
 use Rattle.wasmprinter_spec.specs.Sized.{front_at, alone}
 use Rattle.wasmprinter_spec.specs.Name.{u32, vec}
 use Rattle.wasmprinter_spec.specs.Placed.{LocalEntry, Body}
@@ -25,12 +25,12 @@ abbrev Entries : Type 0
 Entries = List (Placed LocalEntry)
 
 -- the locals that were read are those of the body, if one stands there
-module _ (at mid : Input) (locals : Entries) (read : (vec (placed local_entry)).parse at ≡ Some (locals, mid)) where
+module _ (at mid : Input) (locals : Entries) (read : (vec (value_with_place local_entry)).parse at ≡ Some (locals, mid)) where
   -- the locals of the body
   body_locals : (x : Body × Input) → body.parse at ≡ Some x → x.0.locals ≡ locals
   body_locals x e =
-      let a = bind_some ((seq (vec (placed local_entry)) (λ _. expression)).parse at) (λ a. Some (body_from a.0.0 a.0.1, a.1)) x e in
-      let b = bind_some ((vec (placed local_entry)).parse at) (λ l. expression.parse l.1 >>= λ c. Some ((l.0, c.0), c.1)) a.0 a.1 in
+      let a = bind_some ((seq (vec (value_with_place local_entry)) (λ _. expression)).parse at) (λ a. Some (body_from a.0.0 a.0.1, a.1)) x e in
+      let b = bind_some ((vec (value_with_place local_entry)).parse at) (λ l. expression.parse l.1 >>= λ c. Some ((l.0, c.0), c.1)) a.0 a.1 in
       let c = bind_some (expression.parse b.0.1) (λ c. Some ((b.0.0, c.0), c.1)) a.0 b.2 in
       let same : b.0.0 ≡ locals = ap (λ (y : Entries × Input). y.0) (some_is b.0 (locals, mid) (sym b.1 ∙ read)) in
       let first : b.0.0 ≡ a.0.0.0 = ap (λ (y : (Entries × Closed (Placed Operator)) × Input). y.0.0) (some_is ((b.0.0, c.0.0), c.0.1) a.0 c.2) in
@@ -38,7 +38,7 @@ module _ (at mid : Input) (locals : Entries) (read : (vec (placed local_entry)).
       sym made ∙ sym first ∙ same
 
   -- the body has too many locals
-  is_over : (place : ℕ) → place ≡ at.place → most_locals < local_count locals → (x : Placed Body × Input) → (placed body).parse at ≡ Some x → IsOver place x.0
+  is_over : (place : ℕ) → place ≡ at.place → most_locals < local_count locals → (x : Placed Body × Input) → (value_with_place body).parse at ≡ Some x → IsOver place x.0
   is_over place begins many x e =
       let with_place : Body × Input → Placed Body × Input = λ a. (record { place = at.place; value = a.0 }, a.1) in
       let a = bind_some (body.parse at) (λ a. Some (with_place a)) x e in
@@ -46,9 +46,9 @@ module _ (at mid : Input) (locals : Entries) (read : (vec (placed local_entry)).
       subst (λ (y : Placed Body × Input). IsOver place y.0) (some_is (with_place a.0) x a.2) here
 
   -- too many locals were read
-  pub body_over : (place : ℕ) → place ≡ at.place → most_locals < local_count locals → HasManyLocals at place × ((x : Placed Body × Input) → (placed body).parse at ≡ Some x → IsOver place x.0)
+  pub body_over : (place : ℕ) → place ≡ at.place → most_locals < local_count locals → HasManyLocals at place × ((x : Placed Body × Input) → (value_with_place body).parse at ≡ Some x → IsOver place x.0)
   body_over place begins many =
-      let s = (vec (placed local_entry)).sound at (locals, mid) read in (
+      let s = (vec (value_with_place local_entry)).sound at (locals, mid) read in (
         record {
           before = [];
           text = s.text;
@@ -56,15 +56,15 @@ module _ (at mid : Input) (locals : Entries) (read : (vec (placed local_entry)).
           parts = s.parts;
           starts = omega arith;
           locals = locals;
-          spelled = subst (λ (p : ℕ). (vec (placed local_entry)).spells p s.text locals) (sym begins) s.spelled;
+          spelled = subst (λ (p : ℕ). (vec (value_with_place local_entry)).spells p s.text locals) (sym begins) s.spelled;
           many = many;
         },
         is_over place begins many,
       )
 
   -- a fault of the expression is one of the body
-  pub body_fault : end_of mid ≡ end_of at → (f : Error) → HasReason (reader_reasons (expression.parse mid ≡ None) (HasBlock mid) mid) f → HasReason (body_reasons (placed body).parse (HasBlocks at) at) f
-  body_fault ends = reason_implied (reader_reasons (expression.parse mid ≡ None) (HasBlock mid) mid) (body_reasons (placed body).parse (HasBlocks at) at) (record {
+  pub body_fault : end_of mid ≡ end_of at → (f : Error) → HasReason (reader_reasons (expression.parse mid ≡ None) (HasBlock mid) mid) f → HasReason (body_reasons (value_with_place body).parse (HasBlocks at) at) f
+  body_fault ends = reason_implied (reader_reasons (expression.parse mid ≡ None) (HasBlock mid) mid) (body_reasons (value_with_place body).parse (HasBlocks at) at) (record {
     malformed = λ place h. (rw (read, h.0) refl, omega (arith, h.1, ends));
     component = λ h. h;
     locals = λ place h. absurd h;
@@ -76,28 +76,28 @@ module _ (at mid : Input) (locals : Entries) (read : (vec (placed local_entry)).
 -- a fault of a body is one of the entry
 module _ (old mid part new : Input) (size : ℕ) (size_read : u32.parse old ≡ Some (size, mid)) (cut : front_at size mid ≡ Some (part.bytes, new)) (begins : part.place ≡ mid.place) where
   -- the body that stands in the entry is read of the part
-  entry_body : (x : Placed Body × Input) → code_entry.parse old ≡ Some x → (after : Input) × ((placed body).parse part ≡ Some (x.0, after))
+  entry_body : (x : Placed Body × Input) → code_entry.parse old ≡ Some x → (after : Input) × ((value_with_place body).parse part ≡ Some (x.0, after))
   entry_body x e =
-      let a = bind_some ((sized old mid part new size size_read cut begins (alone (placed body))).parse old) (λ a. Some (a.0.1, a.1)) x e in
+      let a = bind_some ((sized old mid part new size size_read cut begins (alone (value_with_place body))).parse old) (λ a. Some (a.0.1, a.1)) x e in
       let same : a.0.0.1 ≡ x.0 = ap (λ (y : Placed Body × Input). y.0) (some_is (a.0.0.1, a.0.1) x a.2) in
-      alone_some (placed body) part x.0 (sized_some old mid part new size size_read cut begins (alone (placed body)) a.0 a.1 ∙ ap (λ (b : Placed Body). Some b) same)
+      alone_some (value_with_place body) part x.0 (sized_some old mid part new size size_read cut begins (alone (value_with_place body)) a.0 a.1 ∙ ap (λ (b : Placed Body). Some b) same)
 
   -- it has too many locals
-  entry_over : (place : ℕ) → (body_reasons (placed body).parse (HasBlocks part) part).locals place → (body_reasons code_entry.parse (HasEntryBlocks old) old).locals place
+  entry_over : (place : ℕ) → (body_reasons (value_with_place body).parse (HasBlocks part) part).locals place → (body_reasons code_entry.parse (HasEntryBlocks old) old).locals place
   entry_over place h =
       let p = old_parts old mid part new size size_read cut begins in
       (many_in_part old part p.0 new.bytes place p.1 p.2 h.0, λ x f. let b = entry_body x f in h.1 (x.0, b.0) b.1)
 
   -- none is spelled there
-  entry_malformed : (place : ℕ) → (body_reasons (placed body).parse (HasBlocks part) part).malformed place → (body_reasons code_entry.parse (HasEntryBlocks old) old).malformed place
+  entry_malformed : (place : ℕ) → (body_reasons (value_with_place body).parse (HasBlocks part) part).malformed place → (body_reasons code_entry.parse (HasEntryBlocks old) old).malformed place
   entry_malformed place h =
-      let none : code_entry.parse old ≡ None = rw (sized_none old mid part new size size_read cut begins (alone (placed body)) (alone_none (placed body) part h.0)) refl in
+      let none : code_entry.parse old ≡ None = rw (sized_none old mid part new size size_read cut begins (alone (value_with_place body)) (alone_none (value_with_place body) part h.0)) refl in
       let within = part_within old mid part new size size_read cut begins in
       (none, omega (arith, h.1, within))
 
   -- each fault is one of the entry
-  pub entry_fault : (f : Error) → HasReason (body_reasons (placed body).parse (HasBlocks part) part) f → HasReason (body_reasons code_entry.parse (HasEntryBlocks old) old) f
-  entry_fault = reason_implied (body_reasons (placed body).parse (HasBlocks part) part) (body_reasons code_entry.parse (HasEntryBlocks old) old) (record {
+  pub entry_fault : (f : Error) → HasReason (body_reasons (value_with_place body).parse (HasBlocks part) part) f → HasReason (body_reasons code_entry.parse (HasEntryBlocks old) old) f
+  entry_fault = reason_implied (body_reasons (value_with_place body).parse (HasBlocks part) part) (body_reasons code_entry.parse (HasEntryBlocks old) old) (record {
     malformed = entry_malformed;
     component = λ h. h;
     locals = entry_over;

@@ -1,7 +1,7 @@
 -- Reading bodies of functions.
 use Rattle.std.specs.List.{AllByRecursion}
 use Rattle.std.specs.Prelude.{◌≡◌, ℕ, ◌≤◌, List, Option, Some, None, Result, Ok, Err}
-use Rattle.wasmprinter_spec.specs.Grammar.{Input, input, Placed, placed}
+use Rattle.wasmprinter_spec.specs.Grammar.{Input, input, Placed, value_with_place}
 use Rattle.wasmprinter_spec.specs.Sized.{front_at}
 use Rattle.wasmprinter_spec.specs.Name.{u32, vec}
 use Rattle.wasmprinter_spec.specs.Placed.{Body}
@@ -44,7 +44,7 @@ TakesBodyBy parse Grows old (Err e) new = HasReason (body_reasons parse (Grows o
 
 -- a body of few locals is read, or the refusal is true
 abbrev pub TakesBody : Input → Result (Placed Body) Error → Input → Type 0
-TakesBody old r new = TakesBodyBy (placed body).parse HasBlocks old r new
+TakesBody old r new = TakesBodyBy (value_with_place body).parse HasBlocks old r new
 
 -- the same of an entry of a code section
 abbrev pub TakesEntry : Input → Result (Placed Body) Error → Input → Type 0

@@ -1,6 +1,6 @@
 -- Where reading wants memory: at a block of an expression, and for a list of expressions that has some.
 use Rattle.std.specs.Prelude.{◌≡◌, ℕ, zero, suc, ◌⊎◌, Bool, true, false, Option, Some}
-use Rattle.wasmprinter_spec.specs.Grammar.{Input, placed}
+use Rattle.wasmprinter_spec.specs.Grammar.{Input, value_with_place}
 use Rattle.wasmprinter_spec.specs.FirstByte.{only}
 use Rattle.wasmprinter_spec.specs.Name.{u32, vec}
 use Rattle.wasmprinter_spec.specs.Binary.ValTypes.{reference_type}
@@ -20,7 +20,7 @@ pub record Behind {A : Type 0} (parse : Input → Option (A × Input)) (Holds : 
 
 -- of a body: in the expression behind its locals
 abbrev pub HasBlocks : Input → Type 0
-HasBlocks at = Behind (vec (placed local_entry)).parse (λ _. HasBlock) at
+HasBlocks at = Behind (vec (value_with_place local_entry)).parse (λ _. HasBlock) at
 
 -- of a global: in its initialiser
 abbrev pub GlobalGrows : Input → Type 0

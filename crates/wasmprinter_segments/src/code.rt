@@ -1,6 +1,6 @@
 //! The code section (section 5.5, "Code Section"): bodies of functions, each with its locals and an expression.
 ghost use Rattle.std.specs.Prelude.{◌≡◌, ◌<◌, ◌↔◌, IsTrue};
-ghost use Rattle.wasmprinter_spec.specs.Grammar.{placed};
+ghost use Rattle.wasmprinter_spec.specs.Grammar.{value_with_place};
 ghost use Rattle.wasmprinter_spec.specs.Binary.Code.{local_entry};
 ghost use Rattle.wasmprinter_spec.specs.Instructions.{roles};
 ghost use Rattle.wasmprinter_spec.specs.Limits.{local_count, most_locals};
@@ -42,7 +42,7 @@ impl Model for LocalEntry {
 }
 
 impl Spelled for LocalEntry {
-    ghost parse = { (placed local_entry).parse };
+    ghost parse = { (value_with_place local_entry).parse };
 
     fn read(cursor: &mut Cursor) -> Result<LocalEntry, Malformed> {
         let place = cursor.place();

@@ -1,6 +1,6 @@
 //! The data section and the data count section (section 5.5, "Data Section" and "Data Count Section").
 ghost use Rattle.std.specs.Prelude.{◌≡◌, ◌<◌, Some};
-ghost use Rattle.wasmprinter_spec.specs.Grammar.{placed};
+ghost use Rattle.wasmprinter_spec.specs.Grammar.{value_with_place};
 ghost use Rattle.wasmprinter_spec.specs.Binary.DataSegments.{data_mode, byte_vec, segment, data_count_section};
 ghost use Rattle.wasmprinter_spec.specs.Sections.{DataSection};
 ghost use Rattle.wasmprinter_bytes.specs.Reads.{Reads, IsWithin, end_of};
@@ -92,7 +92,7 @@ fn read_bytes<'a>(cursor: &mut Cursor<'a>) -> Result<&'a [u8], Malformed>
 }
 
 impl<'a> GrownIn<'a> for Data<'a> {
-    ghost parse = { (placed segment).parse };
+    ghost parse = { (value_with_place segment).parse };
 
     ghost grows = { DataGrows };
 

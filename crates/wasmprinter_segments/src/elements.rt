@@ -1,6 +1,6 @@
 //! The element section (section 5.5, "Element Section").
 ghost use Rattle.std.specs.Prelude.{◌≡◌};
-ghost use Rattle.wasmprinter_spec.specs.Grammar.{placed};
+ghost use Rattle.wasmprinter_spec.specs.Grammar.{value_with_place};
 ghost use Rattle.wasmprinter_spec.specs.Binary.Elements.{element as element_grammar, function_items, expression_items};
 ghost use Rattle.wasmprinter_spec.specs.Sections.{ElementSection};
 ghost use Rattle.wasmprinter_bytes.specs.Reads.{Reads, IsWithin, end_of};
@@ -163,7 +163,7 @@ fn is_kind_omitted(flags: u32) -> bool
 }
 
 impl<'a> GrownIn<'a> for Element<'a> {
-    ghost parse = { (placed element_grammar).parse };
+    ghost parse = { (value_with_place element_grammar).parse };
 
     ghost grows = { ElementGrows };
 

@@ -1,6 +1,6 @@
 //! The global section (section 5.5, "Global Section").
 ghost use Rattle.std.specs.Prelude.{◌≡◌};
-ghost use Rattle.wasmprinter_spec.specs.Grammar.{placed};
+ghost use Rattle.wasmprinter_spec.specs.Grammar.{value_with_place};
 ghost use Rattle.wasmprinter_spec.specs.Binary.Globals.{global as global_grammar};
 ghost use Rattle.wasmprinter_spec.specs.Sections.{GlobalSection};
 ghost use Rattle.wasmprinter_entries.specs.Contents.{TakesHeld};
@@ -36,7 +36,7 @@ impl<'a> Model for Global<'a> {
 }
 
 impl<'a> GrownIn<'a> for Global<'a> {
-    ghost parse = { (placed global_grammar).parse };
+    ghost parse = { (value_with_place global_grammar).parse };
 
     ghost grows = { GlobalGrows };
 

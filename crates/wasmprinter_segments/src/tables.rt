@@ -1,6 +1,6 @@
 //! The table section (section 5.5, "Table Section").
 ghost use Rattle.std.specs.Prelude.{◌≡◌, ◌↔◌, IsTrue};
-ghost use Rattle.wasmprinter_spec.specs.Grammar.{placed};
+ghost use Rattle.wasmprinter_spec.specs.Grammar.{value_with_place};
 ghost use Rattle.wasmprinter_spec.specs.Binary.Tables.{table_by, table as table_grammar};
 ghost use Rattle.wasmprinter_spec.specs.Sections.{TableSection};
 ghost use Rattle.wasmprinter_bytes.specs.Reads.{end_of};
@@ -48,7 +48,7 @@ impl<'a> Model for Table<'a> {
 }
 
 impl<'a> GrownIn<'a> for Table<'a> {
-    ghost parse = { (placed table_grammar).parse };
+    ghost parse = { (value_with_place table_grammar).parse };
 
     ghost grows = { TableGrows };
 
@@ -69,7 +69,7 @@ impl<'a> GrownIn<'a> for Table<'a> {
 impl<'a> Table<'a> {
     /// Reads two bytes that announce an initialiser, a type, and the initialiser.
     fn read_initialised(alloc: Global, cursor: &mut Cursor<'a>) -> Result<Self, Error>
-        ensures reads { Takes (λ t. t) (placed (table_by 0x40)).parse TableGrows cursor.old result cursor.new }
+        ensures reads { Takes (λ t. t) (value_with_place (table_by 0x40)).parse TableGrows cursor.old result cursor.new }
         ensures end { end_of cursor.new ≡ end_of cursor.old }
     {
         let place = cursor.place();

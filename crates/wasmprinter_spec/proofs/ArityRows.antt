@@ -8,7 +8,7 @@ use Rattle.wasmprinter_spec.specs.Row.{OfBranchIf, OfBranchOnNull}
 use Rattle.wasmprinter_spec.specs.Table.{table}
 use Rattle.wasmprinter_spec.specs.Instructions.{expression}
 use Rattle.wasmprinter_spec.specs.Placed.{import_of, PlacedModule}
-use Rattle.wasmprinter_spec.specs.Folding.Arities.{Signatures, Counts, taking, greatest, saturated, label_of_block, counts, counts_of, signatures_within}
+use Rattle.wasmprinter_spec.specs.Folding.Arities.{Signatures, Counts, takes_and_gives, greatest, saturating_sum, label_of_block, counts, counts_of, signatures_within}
 use Rattle.wasmprinter_spec.proofs.Samples.{func, bare, empty_placed}
 use Rattle.wasmprinter_spec.proofs.BlockSamples.{block, loop, if_op, try_table, nop}
 
@@ -47,7 +47,7 @@ abbrev all_counted : List (List ℕ) → List (Option Counts)
 all_counted rows = map counted rows
 
 abbrev all_taking : List (ℕ × ℕ) → List (Option Counts)
-all_taking rows = map (λ c. Some (taking c.0 c.1)) rows
+all_taking rows = map (λ c. Some (takes_and_gives c.0 c.1)) rows
 
 fixed_counts : all_counted ((0x6a ∷ []) ∷ (0x01 ∷ []) ∷ (0x1c ∷ 0x00 ∷ []) ∷ (0xfc ∷ 0x0a ∷ 0x00 ∷ 0x00 ∷ []) ∷ []) ≡ all_taking ((2, 1) ∷ (0, 0) ∷ (3, 1) ∷ (3, 0) ∷ [])
 unfolding table
@@ -102,7 +102,7 @@ block_counts : all_counted ((0x02 ∷ 0x7f ∷ 0x0b ∷ []) ∷ (0x03 ∷ 0x00 �
 unfolding table
 block_counts = refl
 
-end_counts : counts_of known open_labels (record { opcode = opcode 0 0x0b; immediates = NoImmediates }) ≡ taking 0 0
+end_counts : counts_of known open_labels (record { opcode = opcode 0 0x0b; immediates = NoImmediates }) ≡ takes_and_gives 0 0
 unfolding table
 end_counts = refl
 
@@ -112,15 +112,15 @@ aggregate_counts : all_counted ((0xfb ∷ 0x00 ∷ 0x01 ∷ []) ∷ (0xfb ∷ 0x
 unfolding table
 aggregate_counts = refl
 
-unlisted_counts : counts_of known open_labels (record { opcode = opcode 0 0xff; immediates = NoImmediates }) ≡ taking 0 0
+unlisted_counts : counts_of known open_labels (record { opcode = opcode 0 0xff; immediates = NoImmediates }) ≡ takes_and_gives 0 0
 unfolding table
 unlisted_counts = refl
 
 -- sums stay at the greatest number
-greatest_sum : saturated 4294967295 1 ≡ 4294967295
+greatest_sum : saturating_sum 4294967295 1 ≡ 4294967295
 greatest_sum = refl
 
-greatest_counts : map (λ a. counts known (Some greatest ∷ []) a (Index 0)) (OfBranchIf ∷ OfBranchOnNull ∷ []) ≡ taking 4294967295 4294967295 ∷ taking 4294967295 4294967295 ∷ []
+greatest_counts : map (λ a. counts known (Some greatest ∷ []) a (Index 0)) (OfBranchIf ∷ OfBranchOnNull ∷ []) ≡ takes_and_gives 4294967295 4294967295 ∷ takes_and_gives 4294967295 4294967295 ∷ []
 greatest_counts = refl
 
 -- a branch to a loop takes its parameters, one to another block the results

@@ -21,7 +21,7 @@ use Rattle.wasmprinter_spec.specs.Text.Types.{heap_of_word, ref_of_word, number_
 use Rattle.wasmprinter_spec.specs.Read.{read}
 use Rattle.wasmprinter_spec.specs.Call.{Call, Style, Text, Newline, Line, Start, Name, Keyword, TypeName, Comment, Reset, text_of, atoms}
 use Rattle.wasmprinter_spec.specs.Options.{defaults}
-use Rattle.wasmprinter_spec.specs.Piece.{all_calls, repeated, left_in, place_text}
+use Rattle.wasmprinter_spec.specs.Piece.{all_calls, repetition_of, left_in, place_text}
 use Rattle.wasmprinter_spec.specs.Layout.{layout}
 use Rattle.wasmprinter_spec.specs.Layout.Operators.{Form, InLine, OverLines, Setting, expression_pieces}
 use Rattle.wasmprinter_spec.proofs.Computing.{composing}
@@ -68,7 +68,7 @@ abbrev printed : PlacedModule → List ℕ
 printed m = text_of (layout defaults (λ n. false) m)
 
 samples_printed : map (λ ss. map (λ s. printed (placed_module s.operators)) ss) all_samples ≡ map (λ ss. map (λ s. module_lines s.lines) ss) all_samples
-unfolding composing repeated digits table
+unfolding composing repetition_of digits table
 samples_printed = refl
 
 -- ---- the way back
@@ -113,13 +113,13 @@ cases_in_line = refl
 -- parameters and results of a type
 whole_signature : shown OverLines (func (types.I32 ∷ types.I64 ∷ []) (types.I64 ∷ []) ∷ []) (block (OfType 0) ∷ end ∷ [])
     ≡ codes "\nblock (type 0) (param i32 i64) (result i64) ;; label = @1\nend"
-unfolding composing repeated digits table
+unfolding composing repetition_of digits table
 whole_signature = refl
 
 -- a type without parameters and results, and one that isn't there
 no_signature : shown OverLines (func [] [] ∷ []) (block (OfType 0) ∷ loop (OfType 5) ∷ end ∷ end ∷ [])
     ≡ codes "\nblock (type 0) ;; label = @1\n  loop (type 5) ;; label = @2\n  end\nend"
-unfolding composing repeated digits table
+unfolding composing repetition_of digits table
 no_signature = refl
 
 -- ---- calls
@@ -168,7 +168,7 @@ clause_calls = refl
 
 line_calls : atoms (all_calls defaults (expression_pieces (setting OverLines []) (record { place = 9; value = block Empty } ∷ record { place = 11; value = end } ∷ []))) ≡ atoms (
     Newline ∷ Line (Some 9) ∷ plain (codes "block ") ++ in_style Comment (codes ";; label = @1") ++ Newline ∷ Line (Some 11) ∷ plain (codes "end"))
-unfolding composing repeated digits table
+unfolding composing repetition_of digits table
 line_calls = refl
 
 -- ---- a module from its bytes to its text, with places
@@ -191,5 +191,5 @@ with_places : option_map (λ m. text_of (layout (record defaults { offsets = tru
     ∷ codes "(;@1e    ;)  )"
     ∷ codes "(;@1f    ;))"
     ∷ []))
-unfolding composing place_text left_in repeated digits table
+unfolding composing place_text left_in repetition_of digits table
 with_places = refl

@@ -9,8 +9,8 @@ use Rattle.wasmprinter_spec.specs.Table.{table}
 use Rattle.wasmprinter_spec.specs.Character.{class}
 use Rattle.wasmprinter_spec.specs.Numeral.{numeral, natural, integer}
 use Rattle.wasmprinter_spec.specs.Token.{lex}
-use Rattle.wasmprinter_spec.specs.Forest.{forest, cut}
-use Rattle.wasmprinter_spec.specs.Code.{head, unfolded}
+use Rattle.wasmprinter_spec.specs.Forest.{forest, without_annotations}
+use Rattle.wasmprinter_spec.specs.Code.{head, chunks_of_forest}
 use Rattle.wasmprinter_spec.specs.IndexSpaces.{Context}
 use Rattle.wasmprinter_spec.specs.Text.Items.{groups}
 use Rattle.wasmprinter_spec.specs.Text.Types.{heap_of_word, ref_of_word, number_of_word}
@@ -28,7 +28,7 @@ around = record {
 
 -- the operators of a text
 abbrev ops : List ℕ → Option (List Operator)
-ops text = forest text >>= λ f. unfolded (cut f) >>= read_operators around
+ops text = forest text >>= λ f. chunks_of_forest (without_annotations f) >>= read_operators around
 
 -- ---- folded blocks
 

@@ -21,7 +21,7 @@ use Rattle.wasmprinter_spec.specs.Text.Types.{heap_of_word, ref_of_word, number_
 use Rattle.wasmprinter_spec.specs.Read.{read}
 use Rattle.wasmprinter_spec.specs.Call.{text_of}
 use Rattle.wasmprinter_spec.specs.Options.{defaults}
-use Rattle.wasmprinter_spec.specs.Piece.{repeated}
+use Rattle.wasmprinter_spec.specs.Piece.{repetition_of}
 use Rattle.wasmprinter_spec.specs.Layout.{layout}
 use Rattle.wasmprinter_spec.proofs.Computing.{composing}
 use Rattle.wasmprinter_spec.specs.Text.Exports.{kind_of_word}
@@ -74,7 +74,7 @@ unfolding table
 structure_decoded = refl
 
 structure_printed : printed structure_bytes ≡ Some (beside_structure_text (codes " (type 0)"))
-unfolding composing repeated digits table
+unfolding composing repetition_of digits table
 structure_printed = refl
 
 structure_unread : read (beside_structure_text (codes " (type 0)")) ≡ None
@@ -139,7 +139,7 @@ unfolding table
 group_decoded = refl
 
 group_printed : printed group_bytes ≡ Some group_text
-unfolding composing repeated digits table
+unfolding composing repetition_of digits table
 group_printed = refl
 
 group_read : read group_text ≡ Some over_group

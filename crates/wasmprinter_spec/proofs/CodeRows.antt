@@ -12,7 +12,7 @@ use Rattle.wasmprinter_spec.specs.Operator.{NoImmediates, I32}
 use Rattle.wasmprinter_spec.specs.Row.{Row, NoneShape, BlockShape, I32Shape, IndexShape, Tag, Fixed, OfBlock, OpensIf, OpensTry, Catches}
 use Rattle.wasmprinter_spec.specs.Table.{table, rows_of}
 use Rattle.wasmprinter_spec.specs.Table.Rows.{plain, control}
-use Rattle.wasmprinter_spec.specs.Code.{Chunk, PartHead, ThenHead, ElseHead, OperatorHead, head, Folded, operands, flattened, unfolded}
+use Rattle.wasmprinter_spec.specs.Code.{Chunk, PartHead, ThenHead, ElseHead, OperatorHead, head, Folded, operands, chunks_of_instructions, chunks_of_forest}
 use Rattle.wasmprinter_spec.specs.IndexSpaces.{Context}
 use Rattle.wasmprinter_spec.specs.Text.Operators.{first_reading}
 use Rattle.wasmprinter_spec.proofs.Samples.{no_spaces}
@@ -69,7 +69,7 @@ no_row = refl
 
 -- the hints in front of each operator of a text
 abbrev hints : List ℕ → Option (List (List Forest))
-hints text = forest text >>= unfolded >>= λ cs. Some (map (λ c. c.hints) cs)
+hints text = forest text >>= chunks_of_forest >>= λ cs. Some (map (λ c. c.hints) cs)
 
 -- a hint that holds this byte
 abbrev byte : ℕ → Forest
@@ -118,7 +118,7 @@ other_names = refl
 abbrev of_number : ℕ → Chunk
 of_number n = record { rows = record bare { number = n } ∷ []; arguments = End; hints = [] }
 
-in_three_parts : flattened (Folded (of_number 1 ∷ []) (of_number 2) (of_number 3 ∷ []) ∷ []) ≡ Some (of_number 1 ∷ of_number 2 ∷ of_number 3 ∷ [])
+in_three_parts : chunks_of_instructions (Folded (of_number 1 ∷ []) (of_number 2) (of_number 3 ∷ []) ∷ []) ≡ Some (of_number 1 ∷ of_number 2 ∷ of_number 3 ∷ [])
 in_three_parts = refl
 
 operand_in_three_parts : operands (Folded (of_number 1 ∷ []) (of_number 2) (of_number 3 ∷ []) ∷ Folded [] (of_number 4) [] ∷ []) ≡ Some (of_number 1 ∷ of_number 2 ∷ of_number 3 ∷ of_number 4 ∷ [])

@@ -4,53 +4,53 @@ use Rattle.std.proofs.lemmas.List.{append-nil}
 use Rattle.std.proofs.lemmas.Bool.{eqb-true, eqb-false, ltb-true, ltb-false, cond_both}
 use Rattle.wasmprinter_spec.specs.Row as row
 use Rattle.wasmprinter_spec.specs.Row.{Role, Opens, OpensIf, OpensTry, Turns, Catches, CatchesAll, Delegates, Ends}
-use Rattle.wasmprinter_spec.specs.Folding.Arities.{greatest, saturated}
-use Rattle.wasmprinter_spec.specs.Folding.Code.{Item, Code, Done, Plain, Block, If, IfElse, flat, role, IsFit}
-use Rattle.wasmprinter_spec.specs.Folding.Tree.{Of, Then, Else, NodesOf, Nodes, Nil, Snoc, joined, front, last, OperandsOf, Operands, Fit, Passed, Short, with_last, operands_from, operands, with_operands, folded, results_of, IsFirst, IsAnswer, tree_behind}
-use Rattle.wasmprinter_spec.specs.Folding.Unfolding.{Told, told_as, told, unfolded, UnfoldingRule}
+use Rattle.wasmprinter_spec.specs.Folding.Arities.{greatest, saturating_sum}
+use Rattle.wasmprinter_spec.specs.Folding.Code.{Item, NestedCode, Done, Plain, Block, If, IfElse, flat, role, IsFit}
+use Rattle.wasmprinter_spec.specs.Folding.Tree.{Of, ThenCase, ElseCase, NodesOf, Nodes, Nil, Snoc, row_of_both, front, last, OperandsOf, Operands, Fit, Passed, Short, with_last, operands_from, operand_search, with_operands, with_operator, results_of, IsFirst, IsAnswer, tree_behind}
+use Rattle.wasmprinter_spec.specs.Folding.Unfolding.{Told, told_by_role, told_of, unfolding_of, UnfoldingRule}
 
-saturated-zero : (s : ℕ) → s ≤ greatest → saturated s 0 ≡ s
-saturated-zero s h = omega arith
+saturating_sum-zero : (s : ℕ) → s ≤ greatest → saturating_sum s 0 ≡ s
+saturating_sum-zero s h = omega arith
 
-saturated_assoc : (s q n : ℕ) → saturated (saturated s q) n ≡ saturated s (n + q)
+saturated_assoc : (s q n : ℕ) → saturating_sum (saturating_sum s q) n ≡ saturating_sum s (n + q)
 saturated_assoc s q n = omega arith
 
 module _ {H : Type 0} where
   -- ---- nodes in rows
 
-  pub joined-nil : (f : NodesOf H) → joined Nil f ≡ f
-  joined-nil Nil = refl
-  joined-nil (Snoc b h r held) = ap (λ (x : NodesOf H). Snoc x h r held) (joined-nil b)
+  pub row_of_both-nil : (f : NodesOf H) → row_of_both Nil f ≡ f
+  row_of_both-nil Nil = refl
+  row_of_both-nil (Snoc b h r held) = ap (λ (x : NodesOf H). Snoc x h r held) (row_of_both-nil b)
 
-  pub joined_assoc : (a b c : NodesOf H) → joined (joined a b) c ≡ joined a (joined b c)
+  pub joined_assoc : (a b c : NodesOf H) → row_of_both (row_of_both a b) c ≡ row_of_both a (row_of_both b c)
   joined_assoc a b Nil = refl
   joined_assoc a b (Snoc c h r held) = ap (λ (x : NodesOf H). Snoc x h r held) (joined_assoc a b c)
 
-  pub joined-front-last : (f : NodesOf H) → joined (front f) (last f) ≡ f
-  joined-front-last Nil = refl
-  joined-front-last (Snoc b h r held) = refl
+  pub row_of_both-front-last : (f : NodesOf H) → row_of_both (front f) (last f) ≡ f
+  row_of_both-front-last Nil = refl
+  row_of_both-front-last (Snoc b h r held) = refl
 
   -- ---- the search for operands
 
-  nil_joined : (a b : NodesOf H) → Nil ≡ joined a b → a ≡ Nil
+  nil_joined : (a b : NodesOf H) → Nil ≡ row_of_both a b → a ≡ Nil
   nil_joined a Nil e = sym e
   nil_joined a (Snoc b h r held) e = absurd (cc)
 
   -- before a run of one node no shorter run has any results
   one_first : (wanted s : ℕ) (h : H) (q : ℕ) (held : NodesOf H) → s < wanted → s ≤ greatest → IsFirst wanted s (Snoc Nil h q held)
-  one_first wanted s h q held lt le before Nil e ne = omega (arith, saturated-zero s le)
+  one_first wanted s h q held lt le before Nil e ne = omega (arith, saturating_sum-zero s le)
   one_first wanted s h q held lt le before (Snoc last g r inner) e ne = absurd (ne (nil_joined before last (ap front e)))
 
-  more_first : (wanted s : ℕ) (run : NodesOf H) (h : H) (q : ℕ) (held : NodesOf H) → s < wanted → s ≤ greatest → IsFirst wanted (saturated s q) run → IsFirst wanted s (Snoc run h q held)
-  more_first wanted s run h q held lt le first before Nil e ne = omega (arith, saturated-zero s le)
+  more_first : (wanted s : ℕ) (run : NodesOf H) (h : H) (q : ℕ) (held : NodesOf H) → s < wanted → s ≤ greatest → IsFirst wanted (saturating_sum s q) run → IsFirst wanted s (Snoc run h q held)
+  more_first wanted s run h q held lt le first before Nil e ne = omega (arith, saturating_sum-zero s le)
   more_first wanted s run h q held lt le first before (Snoc last g r inner) e ne =
       let same : q ≡ r = cc in
-      let below : saturated (saturated s q) (results_of last) < wanted = first before last (ap front e) ne in
+      let below : saturating_sum (saturating_sum s q) (results_of last) < wanted = first before last (ap front e) ne in
       omega (arith, same, below, saturated_assoc s q (results_of last))
 
   -- one node more at the end of a row
   more : (wanted s : ℕ) (b : NodesOf H) (h : H) (q : ℕ) (held : NodesOf H) (o : OperandsOf H)
-      → s < wanted → s ≤ greatest → IsAnswer wanted (saturated s q) b o → IsAnswer wanted s (Snoc b h q held) (with_last h q held o)
+      → s < wanted → s ≤ greatest → IsAnswer wanted (saturating_sum s q) b o → IsAnswer wanted s (Snoc b h q held) (with_last h q held o)
   more wanted s b h q held (Fit before run) lt le a =
       (ap (λ (x : NodesOf H). Snoc x h q held) a.0, sym (saturated_assoc s q (results_of run)) ∙ a.1, more_first wanted s run h q held lt le a.2)
   more wanted s b h q held Passed lt le a =
@@ -58,21 +58,21 @@ module _ {H : Type 0} where
   more wanted s b h q held Short lt le a =
       λ before run e. short before run e
     where
-      short : (before run : NodesOf H) → Snoc b h q held ≡ joined before run → saturated s (results_of run) < wanted
-      short before Nil e = omega (arith, saturated-zero s le)
+      short : (before run : NodesOf H) → Snoc b h q held ≡ row_of_both before run → saturating_sum s (results_of run) < wanted
+      short before Nil e = omega (arith, saturating_sum-zero s le)
       short before (Snoc run g r inner) e =
           let same : q ≡ r = cc in
-          let below : saturated (saturated s q) (results_of run) < wanted = a before run (ap front e) in
+          let below : saturating_sum (saturating_sum s q) (results_of run) < wanted = a before run (ap front e) in
           omega (arith, same, below, saturated_assoc s q (results_of run))
 
   pub IsAnswer-operands_from : (wanted s : ℕ) (f : NodesOf H) → s < wanted → s ≤ greatest → IsAnswer wanted s f (operands_from wanted s f)
   IsAnswer-operands_from wanted s Nil lt le = none
     where
-      none : (before run : NodesOf H) → Nil ≡ joined before run → saturated s (results_of run) < wanted
-      none before Nil e = omega (arith, saturated-zero s le)
+      none : (before run : NodesOf H) → Nil ≡ row_of_both before run → saturating_sum s (results_of run) < wanted
+      none before Nil e = omega (arith, saturating_sum-zero s le)
       none before (Snoc run h r inner) e = absurd (cc)
   IsAnswer-operands_from wanted s (Snoc b h q held) lt le =
-      let next : ℕ = saturated s q in
+      let next : ℕ = saturating_sum s q in
       let deeper : OperandsOf H = with_last h q held (operands_from wanted next b) in
       cond_both (eqb next wanted) (Fit b (Snoc Nil h q held)) (cond (ltb wanted next) Passed deeper)
       (IsAnswer wanted s (Snoc b h q held))
@@ -84,22 +84,22 @@ module _ {H : Type 0} where
       (IsAnswer-operands_from wanted next b (omega (arith, eqb-false next wanted ne, ltb-false wanted next e)) (omega arith))))
 
   -- an operator that takes operands takes them by the rule
-  pub IsAnswer-operands : (wanted : ℕ) (f : NodesOf H) → 0 < wanted → IsAnswer wanted 0 f (operands wanted f)
-  IsAnswer-operands zero f lt = absurd (omega arith)
-  IsAnswer-operands (suc n) f lt = IsAnswer-operands_from (suc n) 0 f lt (omega arith)
+  pub IsAnswer-operand_search : (wanted : ℕ) (f : NodesOf H) → 0 < wanted → IsAnswer wanted 0 f (operand_search wanted f)
+  IsAnswer-operand_search zero f lt = absurd (omega arith)
+  IsAnswer-operand_search (suc n) f lt = IsAnswer-operands_from (suc n) 0 f lt (omega arith)
 
 -- ---- what nodes say
 
-pub unfolded-joined : (a b : Nodes) → unfolded (joined a b) ≡ unfolded a ++ unfolded b
-unfolded-joined a Nil = sym (append-nil (unfolded a))
-unfolded-joined a (Snoc b (Of x) r held) = simp (unfolded-joined a b, append_assoc)
-unfolded-joined a (Snoc b (Then x) r held) = unfolded-joined a b
-unfolded-joined a (Snoc b (Else x) r held) = unfolded-joined a b
+pub unfolding_of-row_of_both : (a b : Nodes) → unfolding_of (row_of_both a b) ≡ unfolding_of a ++ unfolding_of b
+unfolding_of-row_of_both a Nil = sym (append-nil (unfolding_of a))
+unfolding_of-row_of_both a (Snoc b (Of x) r held) = simp (unfolding_of-row_of_both a b, append_assoc)
+unfolding_of-row_of_both a (Snoc b (ThenCase x) r held) = unfolding_of-row_of_both a b
+unfolding_of-row_of_both a (Snoc b (ElseCase x) r held) = unfolding_of-row_of_both a b
 
 module _ {H : Type 0} where
   -- operands that were found are the last nodes
   abbrev pub AreLast : NodesOf H → OperandsOf H → Type 0
-  AreLast f (Fit before run) = f ≡ joined before run
+  AreLast f (Fit before run) = f ≡ row_of_both before run
   AreLast f Passed = Unit {0}
   AreLast f Short = Unit {0}
 
@@ -115,7 +115,7 @@ module _ {H : Type 0} where
   AreLast-operands_from : (wanted sum : ℕ) (f : NodesOf H) → AreLast f (operands_from wanted sum f)
   AreLast-operands_from wanted sum Nil = tt
   AreLast-operands_from wanted sum (Snoc b h r held) =
-      let next : ℕ = saturated sum r in
+      let next : ℕ = saturating_sum sum r in
       let deeper : OperandsOf H = with_last h r held (operands_from wanted next b) in
       let found : AreLast (Snoc b h r held) (Fit b (Snoc Nil h r held)) = refl in
       let over : AreLast (Snoc b h r held) (cond (ltb wanted next) Passed deeper) =
@@ -123,46 +123,46 @@ module _ {H : Type 0} where
       (AreLast-with_last b held h r (operands_from wanted next b) (AreLast-operands_from wanted next b)) in
       AreLast-cond (Snoc b h r held) (eqb next wanted) (Fit b (Snoc Nil h r held)) (cond (ltb wanted next) Passed deeper) found over
 
-  pub AreLast-operands : (wanted : ℕ) (f : NodesOf H) → AreLast f (operands wanted f)
-  AreLast-operands zero f = tt
-  AreLast-operands (suc n) f = AreLast-operands_from (suc n) 0 f
+  pub AreLast-operand_search : (wanted : ℕ) (f : NodesOf H) → AreLast f (operand_search wanted f)
+  AreLast-operand_search zero f = tt
+  AreLast-operand_search (suc n) f = AreLast-operands_from (suc n) 0 f
 
-unfolded-with_operands : (f : Nodes) (x : Item) (o : Operands) → role x ≡ row.Plain → AreLast f o → unfolded (with_operands f (Of x) x.gives o) ≡ unfolded f ++ Some x ∷ []
-unfolded-with_operands f x (Fit before run) p e =
+unfolding_of-with_operands : (f : Nodes) (x : Item) (o : Operands) → role x ≡ row.Plain → AreLast f o → unfolding_of (with_operands f (Of x) x.gives o) ≡ unfolding_of f ++ Some x ∷ []
+unfolding_of-with_operands f x (Fit before run) p e =
     rw p
-    (sym (append_assoc (unfolded before) (unfolded run) (Some x ∷ []))
-    ∙ ap (λ (l : List Told). l ++ Some x ∷ []) (sym (unfolded-joined before run) ∙ ap unfolded (sym e)))
-unfolded-with_operands f x Passed p e = rw p refl
-unfolded-with_operands f x Short p e = rw p refl
+    (sym (append_assoc (unfolding_of before) (unfolding_of run) (Some x ∷ []))
+    ∙ ap (λ (l : List Told). l ++ Some x ∷ []) (sym (unfolding_of-row_of_both before run) ∙ ap unfolding_of (sym e)))
+unfolding_of-with_operands f x Passed p e = rw p refl
+unfolding_of-with_operands f x Short p e = rw p refl
 
 -- whatever numbers of operands and results are given
-pub unfolded-folded : (f : Nodes) (x : Item) → role x ≡ row.Plain → unfolded (folded f x) ≡ unfolded f ++ Some x ∷ []
-unfolded-folded f x p = unfolded-with_operands f x (operands x.takes f) p (AreLast-operands x.takes f)
+pub unfolding_of-with_operator : (f : Nodes) (x : Item) → role x ≡ row.Plain → unfolding_of (with_operator f x) ≡ unfolding_of f ++ Some x ∷ []
+unfolding_of-with_operator f x p = unfolding_of-with_operands f x (operand_search x.takes f) p (AreLast-operand_search x.takes f)
 
-unfolded-front-last : (f : Nodes) → unfolded (front f) ++ unfolded (last f) ≡ unfolded f
-unfolded-front-last f = sym (unfolded-joined (front f) (last f)) ∙ ap unfolded (joined-front-last f)
+unfolding_of-front-last : (f : Nodes) → unfolding_of (front f) ++ unfolding_of (last f) ≡ unfolding_of f
+unfolding_of-front-last f = sym (unfolding_of-row_of_both (front f) (last f)) ∙ ap unfolding_of (row_of_both-front-last f)
 
-told-append : (a b : List Item) → told (a ++ b) ≡ told a ++ told b
-told-append [] b = refl
-told-append (x ∷ a) b = ap (λ (l : List Told). told_as (role x) x ∷ l) (told-append a b)
+told_of-append : (a b : List Item) → told_of (a ++ b) ≡ told_of a ++ told_of b
+told_of-append [] b = refl
+told_of-append (x ∷ a) b = ap (λ (l : List Told). told_by_role (role x) x ∷ l) (told_of-append a b)
 
 -- what stands behind a row of nodes
-pub unfolded-tree_behind : (f : Nodes) (code : Code) → IsFit code → unfolded (tree_behind f code) ≡ unfolded f ++ told (flat code)
-unfolded-tree_behind f Done h = sym (append-nil (unfolded f))
-unfolded-tree_behind f (Plain x rest) h =
-    unfolded-tree_behind (folded f x) rest h.1
-    ∙ rw (unfolded-folded f x h.0, h.0) (append_assoc (unfolded f) (Some x ∷ []) (told (flat rest)))
-unfolded-tree_behind f (Block x body end rest) h =
-    unfolded-tree_behind (Snoc f (Of x) x.gives (tree_behind Nil body)) rest h.3
-    ∙ simp (unfolded-tree_behind Nil body h.1, told-append, append_assoc, h.0, h.2)
-unfolded-tree_behind f (If x body end rest) h =
-    unfolded-tree_behind (Snoc (front f) (Of x) x.gives (Snoc (last f) (Then x) 0 (tree_behind Nil body))) rest h.3
-    ∙ simp (unfolded-tree_behind Nil body h.1, told-append, append_assoc, h.0, h.2, ← unfolded-front-last f)
-unfolded-tree_behind f (IfElse x body turn other end rest) h =
-    unfolded-tree_behind
-    (Snoc (front f) (Of x) x.gives (Snoc (Snoc (last f) (Then x) 0 (tree_behind Nil body)) (Else turn) 0 (tree_behind Nil other))) rest h.5
-    ∙ simp (unfolded-tree_behind Nil body h.1, unfolded-tree_behind Nil other h.3, told-append, append_assoc, h.0, h.2, h.4, ← unfolded-front-last f)
+pub unfolding_of-tree_behind : (f : Nodes) (code : NestedCode) → IsFit code → unfolding_of (tree_behind f code) ≡ unfolding_of f ++ told_of (flat code)
+unfolding_of-tree_behind f Done h = sym (append-nil (unfolding_of f))
+unfolding_of-tree_behind f (Plain x rest) h =
+    unfolding_of-tree_behind (with_operator f x) rest h.1
+    ∙ rw (unfolding_of-with_operator f x h.0, h.0) (append_assoc (unfolding_of f) (Some x ∷ []) (told_of (flat rest)))
+unfolding_of-tree_behind f (Block x body end rest) h =
+    unfolding_of-tree_behind (Snoc f (Of x) x.gives (tree_behind Nil body)) rest h.3
+    ∙ simp (unfolding_of-tree_behind Nil body h.1, told_of-append, append_assoc, h.0, h.2)
+unfolding_of-tree_behind f (If x body end rest) h =
+    unfolding_of-tree_behind (Snoc (front f) (Of x) x.gives (Snoc (last f) (ThenCase x) 0 (tree_behind Nil body))) rest h.3
+    ∙ simp (unfolding_of-tree_behind Nil body h.1, told_of-append, append_assoc, h.0, h.2, ← unfolding_of-front-last f)
+unfolding_of-tree_behind f (IfElse x body turn other end rest) h =
+    unfolding_of-tree_behind
+    (Snoc (front f) (Of x) x.gives (Snoc (Snoc (last f) (ThenCase x) 0 (tree_behind Nil body)) (ElseCase turn) 0 (tree_behind Nil other))) rest h.5
+    ∙ simp (unfolding_of-tree_behind Nil body h.1, unfolding_of-tree_behind Nil other h.3, told_of-append, append_assoc, h.0, h.2, h.4, ← unfolding_of-front-last f)
 
 -- folding loses nothing
-pub unfolded-tree : UnfoldingRule
-unfolded-tree code h = unfolded-tree_behind Nil code h
+pub unfolding_of-tree : UnfoldingRule
+unfolding_of-tree code h = unfolding_of-tree_behind Nil code h

@@ -5,26 +5,26 @@ use Rattle.wasmprinter_spec.specs.Grammar.{◌>>=◌, bind_some, some_is}
 use Rattle.wasmprinter_spec.specs.Row as row
 use Rattle.wasmprinter_spec.specs.Row.{Role, Opens, OpensIf, OpensTry, Turns, Catches, CatchesAll, Delegates, Ends}
 use Rattle.wasmprinter_spec.specs.Nesting.{Part, Sequence, Handlers, Nests, none, plain, block, one_armed, two_armed, tried, delegated, no_handler, caught, caught_all}
-use Rattle.wasmprinter_spec.specs.Folding.Code.{Item, Code, Done, Plain, Block, If, IfElse, flat, role, Behind, Outside, InBlock, InIf, with_code, in_front, behind_of, whole, code_of, IsFit, AreWithoutTry, CodeRule, UniqueCodeRule, NestedCodeRule, NestingCodeRule}
+use Rattle.wasmprinter_spec.specs.Folding.Code.{Item, NestedCode, Done, Plain, Block, If, IfElse, flat, role, Behind, Outside, InBlock, InIf, with_code, in_front, behind_of, whole, nested_code_of, IsFit, AreWithoutTry, CodeRule, UniqueCodeRule, NestedCodeRule, NestingCodeRule}
 
 -- ---- a tree, its list, and its tree again
 
 -- code behind code
-abbrev behind : Code → Code → Code
+abbrev behind : NestedCode → NestedCode → NestedCode
 behind Done d = d
 behind (Plain x rest) d = Plain x (behind rest d)
 behind (Block x body end rest) d = Block x body end (behind rest d)
 behind (If x body end rest) d = If x body end (behind rest d)
 behind (IfElse x body turn other end rest) d = IfElse x body turn other end (behind rest d)
 
-behind-done : (c : Code) → behind c Done ≡ c
+behind-done : (c : NestedCode) → behind c Done ≡ c
 behind-done Done = refl
 behind-done (Plain x rest) = ap (Plain x) (behind-done rest)
 behind-done (Block x body end rest) = ap (Block x body end) (behind-done rest)
 behind-done (If x body end rest) = ap (If x body end) (behind-done rest)
 behind-done (IfElse x body turn other end rest) = ap (IfElse x body turn other end) (behind-done rest)
 
-with_code-twice : (f g : Code → Code) (b : Behind) → with_code f (with_code g b) ≡ with_code (λ c. f (g c)) b
+with_code-twice : (f g : NestedCode → NestedCode) (b : Behind) → with_code f (with_code g b) ≡ with_code (λ c. f (g c)) b
 with_code-twice f g (Outside c) = refl
 with_code-twice f g (InBlock c end b) = refl
 with_code-twice f g (InIf c turn other end b) = refl
@@ -35,7 +35,7 @@ with_code-same (InBlock c end b) = refl
 with_code-same (InIf c turn other end b) = refl
 
 -- code in front of a list
-behind_of-flat : (c : Code) (xs : List Item) (b : Behind) → IsFit c → behind_of xs ≡ Some b → behind_of (flat c ++ xs) ≡ Some (with_code (behind c) b)
+behind_of-flat : (c : NestedCode) (xs : List Item) (b : Behind) → IsFit c → behind_of xs ≡ Some b → behind_of (flat c ++ xs) ≡ Some (with_code (behind c) b)
 behind_of-flat Done xs b h e = e ∙ ap (λ (b : Behind). Some b) (sym (with_code-same b))
 behind_of-flat (Plain x rest) xs b h e =
     rw (behind_of-flat rest xs b h.1 e, h.0) (ap (λ (b : Behind). Some b) (with_code-twice (Plain x) (behind rest) b))
@@ -43,32 +43,32 @@ behind_of-flat (Block x body end rest) xs b h e =
     let after : behind_of (end ∷ (flat rest ++ xs)) ≡ Some (InBlock Done end (with_code (behind rest) b)) = rw (behind_of-flat rest xs b h.3 e, h.2) refl in
     let inner : behind_of (flat body ++ end ∷ (flat rest ++ xs)) ≡ Some (InBlock body end (with_code (behind rest) b)) =
     behind_of-flat body (end ∷ (flat rest ++ xs)) (InBlock Done end (with_code (behind rest) b)) h.1 after
-    ∙ ap (λ (c : Code). Some (InBlock c end (with_code (behind rest) b))) (behind-done body) in
+    ∙ ap (λ (c : NestedCode). Some (InBlock c end (with_code (behind rest) b))) (behind-done body) in
     rw (append_assoc (flat body) (end ∷ flat rest) xs, inner, h.0) (ap (λ (b : Behind). Some b) (with_code-twice (Block x body end) (behind rest) b))
 behind_of-flat (If x body end rest) xs b h e =
     let after : behind_of (end ∷ (flat rest ++ xs)) ≡ Some (InBlock Done end (with_code (behind rest) b)) = rw (behind_of-flat rest xs b h.3 e, h.2) refl in
     let inner : behind_of (flat body ++ end ∷ (flat rest ++ xs)) ≡ Some (InBlock body end (with_code (behind rest) b)) =
     behind_of-flat body (end ∷ (flat rest ++ xs)) (InBlock Done end (with_code (behind rest) b)) h.1 after
-    ∙ ap (λ (c : Code). Some (InBlock c end (with_code (behind rest) b))) (behind-done body) in
+    ∙ ap (λ (c : NestedCode). Some (InBlock c end (with_code (behind rest) b))) (behind-done body) in
     rw (append_assoc (flat body) (end ∷ flat rest) xs, inner, h.0) (ap (λ (b : Behind). Some b) (with_code-twice (If x body end) (behind rest) b))
 behind_of-flat (IfElse x body turn other end rest) xs b h e =
     let far : Behind = with_code (behind rest) b in
     let after : behind_of (end ∷ (flat rest ++ xs)) ≡ Some (InBlock Done end far) = rw (behind_of-flat rest xs b h.5 e, h.4) refl in
     let second : behind_of (flat other ++ end ∷ (flat rest ++ xs)) ≡ Some (InBlock other end far) =
     behind_of-flat other (end ∷ (flat rest ++ xs)) (InBlock Done end far) h.3 after
-    ∙ ap (λ (c : Code). Some (InBlock c end far)) (behind-done other) in
+    ∙ ap (λ (c : NestedCode). Some (InBlock c end far)) (behind-done other) in
     let between : behind_of (turn ∷ (flat other ++ end ∷ (flat rest ++ xs))) ≡ Some (InIf Done turn other end far) = rw (second, h.2) refl in
     let first : behind_of (flat body ++ turn ∷ (flat other ++ end ∷ (flat rest ++ xs))) ≡ Some (InIf body turn other end far) =
     behind_of-flat body (turn ∷ (flat other ++ end ∷ (flat rest ++ xs))) (InIf Done turn other end far) h.1 between
-    ∙ ap (λ (c : Code). Some (InIf c turn other end far)) (behind-done body) in
+    ∙ ap (λ (c : NestedCode). Some (InIf c turn other end far)) (behind-done body) in
     rw (append_assoc (flat body) (turn ∷ (flat other ++ end ∷ flat rest)) xs, append_assoc (flat other) (end ∷ flat rest) xs, first, h.0)
     (ap (λ (b : Behind). Some b) (with_code-twice (IfElse x body turn other end) (behind rest) b))
 
 -- the tree of what a tree says is the tree
-pub code_of-flat : UniqueCodeRule
-code_of-flat c h =
+pub nested_code_of-flat : UniqueCodeRule
+nested_code_of-flat c h =
     let e : behind_of (flat c ++ []) ≡ Some (Outside c) =
-    behind_of-flat c [] (Outside Done) h refl ∙ ap (λ (c : Code). Some (Outside c)) (behind-done c) in
+    behind_of-flat c [] (Outside Done) h refl ∙ ap (λ (c : NestedCode). Some (Outside c)) (behind-done c) in
     ap (λ (b : Option Behind). b >>= whole) (ap behind_of (sym (append-nil (flat c))) ∙ e)
 
 -- the operators that a place has behind it
@@ -96,7 +96,7 @@ plain_in_front x (InBlock c end b) e h = (refl, ((e, h.0), h.1, h.2))
 plain_in_front x (InIf c turn other end b) e h = (refl, ((e, h.0), h.1, h.2, h.3, h.4))
 
 -- a constructor whose last part is the code behind it
-module _ (f : Code → Code) (xs : List Item) (flat_f : (d : Code) → flat (f d) ≡ xs ++ flat d) (fit_f : (d : Code) → IsFit d → IsFit (f d)) where
+module _ (f : NestedCode → NestedCode) (xs : List Item) (flat_f : (d : NestedCode) → flat (f d) ≡ xs ++ flat d) (fit_f : (d : NestedCode) → IsFit d → IsFit (f d)) where
   closed_in_front : (b : Behind) → IsFitBehind b → IsTreeOf (xs ++ flat_behind b) (with_code f b)
   closed_in_front (Outside d) h = (flat_f d, fit_f d h)
   closed_in_front (InBlock d end b) h =
@@ -110,13 +110,13 @@ module _ (f : Code → Code) (xs : List Item) (flat_f : (d : Code) → flat (f d
 in_two : (x : Item) (a b : List Item) (y : Item) → x ∷ (a ++ y ∷ b) ≡ (x ∷ (a ++ y ∷ [])) ++ b
 in_two x a b y = simp (append_assoc)
 
-block_in_front : (x : Item) (c : Code) (end : Item) (b : Behind) → Leads Opens x (InBlock c end b) (with_code (Block x c end) b)
+block_in_front : (x : Item) (c : NestedCode) (end : Item) (b : Behind) → Leads Opens x (InBlock c end b) (with_code (Block x c end) b)
 block_in_front x c end b e h =
     let t : IsTreeOf ((x ∷ (flat c ++ end ∷ [])) ++ flat_behind b) (with_code (Block x c end) b) =
     closed_in_front (Block x c end) (x ∷ (flat c ++ end ∷ [])) (λ d. in_two x (flat c) (flat d) end) (λ d i. (e, h.0, h.1, i)) b h.2 in
     (t.0 ∙ sym (in_two x (flat c) (flat_behind b) end), t.1)
 
-if_in_front : (x : Item) (c : Code) (end : Item) (b : Behind) → Leads OpensIf x (InBlock c end b) (with_code (If x c end) b)
+if_in_front : (x : Item) (c : NestedCode) (end : Item) (b : Behind) → Leads OpensIf x (InBlock c end b) (with_code (If x c end) b)
 if_in_front x c end b e h =
     let t : IsTreeOf ((x ∷ (flat c ++ end ∷ [])) ++ flat_behind b) (with_code (If x c end) b) =
     closed_in_front (If x c end) (x ∷ (flat c ++ end ∷ [])) (λ d. in_two x (flat c) (flat d) end) (λ d i. (e, h.0, h.1, i)) b h.2 in
@@ -126,7 +126,7 @@ if_in_front x c end b e h =
 in_three : (x : Item) (a b c : List Item) (y z : Item) → x ∷ (a ++ y ∷ (b ++ z ∷ c)) ≡ (x ∷ (a ++ y ∷ (b ++ z ∷ []))) ++ c
 in_three x a b c y z = simp (append_assoc)
 
-if_else_in_front : (x : Item) (c : Code) (turn : Item) (other : Code) (end : Item) (b : Behind) → Leads OpensIf x (InIf c turn other end b) (with_code (IfElse x c turn other end) b)
+if_else_in_front : (x : Item) (c : NestedCode) (turn : Item) (other : NestedCode) (end : Item) (b : Behind) → Leads OpensIf x (InIf c turn other end b) (with_code (IfElse x c turn other end) b)
 if_else_in_front x c turn other end b e h =
     let t : IsTreeOf ((x ∷ (flat c ++ turn ∷ (flat other ++ end ∷ []))) ++ flat_behind b) (with_code (IfElse x c turn other end) b) =
     closed_in_front (IfElse x c turn other end) (x ∷ (flat c ++ turn ∷ (flat other ++ end ∷ [])))
@@ -162,13 +162,13 @@ behind_of-tree (x ∷ xs) b e =
     (top.0 ∙ ap (λ (l : List Item). x ∷ l) t.0, top.1)
 
 -- the tree of a list is well formed and says the list
-pub code_of-tree : CodeRule
-code_of-tree xs c e =
+pub nested_code_of-tree : CodeRule
+nested_code_of-tree xs c e =
     let b = bind_some (behind_of xs) whole c e in
     of_whole b.0 b.2 (behind_of-tree xs b.0 b.1)
   where
     of_whole : (b : Behind) → whole b ≡ Some c → IsTreeOf xs b → (flat c ≡ xs) × IsFit c
-    of_whole (Outside d) e h = subst (λ (c : Code). (flat c ≡ xs) × IsFit c) (some_is d c e) h
+    of_whole (Outside d) e h = subst (λ (c : NestedCode). (flat c ≡ xs) × IsFit c) (some_is d c e) h
     of_whole (InBlock d end b) e h = absurd cc
     of_whole (InIf d turn other end b) e h = absurd cc
 
@@ -217,7 +217,7 @@ parted (x ∷ xs) (r ∷ before) between after e =
 
 -- the tree of operators
 record HasTree (xs : List Item) : Type 0 where
-  code : Code
+  code : NestedCode
   is_flat : flat code ≡ xs
   is_fit : IsFit code
 
@@ -294,10 +294,10 @@ grows no_handler = tt
 grows (caught b hs) = tt
 grows (caught_all b) = tt
 
-pub code_of-nested : NestedCodeRule
-code_of-nested xs n h =
+pub nested_code_of-nested : NestedCodeRule
+nested_code_of-nested xs n h =
     let t : HasTree xs = grows n xs refl h in
-    (t.code, ap code_of (sym t.is_flat) ∙ code_of-flat t.code t.is_fit)
+    (t.code, ap nested_code_of (sym t.is_flat) ∙ nested_code_of-flat t.code t.is_fit)
 
 -- ---- what has a tree is well nested
 
@@ -305,7 +305,7 @@ code_of-nested xs n h =
 abbrev IsNested : List Role → Type 0
 IsNested rs = Nests Sequence rs × AreWithoutTry rs
 
-nested-fit : (c : Code) → IsFit c → IsNested (map role (flat c))
+nested-fit : (c : NestedCode) → IsFit c → IsNested (map role (flat c))
 nested-fit Done h = (none, tt)
 nested-fit (Plain x rest) h =
     let r : IsNested (map role (flat rest)) = nested-fit rest h.1 in
@@ -331,7 +331,7 @@ nested-fit (IfElse x body turn other end rest) h =
       ),
     )
 
-pub code_of-nests : NestingCodeRule
-code_of-nests xs c e =
-    let t : (flat c ≡ xs) × IsFit c = code_of-tree xs c e in
+pub nested_code_of-nests : NestingCodeRule
+nested_code_of-nests xs c e =
+    let t : (flat c ≡ xs) × IsFit c = nested_code_of-tree xs c e in
     subst (λ (ys : List Item). IsNested (map role ys)) t.0 (nested-fit c t.1)

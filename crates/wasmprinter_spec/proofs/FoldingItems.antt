@@ -12,8 +12,8 @@ use Rattle.wasmprinter_spec.specs.Layout.Operators.{Setting, before_word, level,
 use Rattle.wasmprinter_spec.specs.Layout.Folded.{item, items, node_pieces, folded_pieces, FoldedRule, FoldingRule}
 use Rattle.wasmprinter_spec.specs.Folding.Tree.{tree}
 use Rattle.wasmprinter_spec.specs.Folding.Arities.{Signatures}
-use Rattle.wasmprinter_spec.specs.Folding.Code.{Code, role, code_of, AreWithoutTry}
-use Rattle.wasmprinter_spec.proofs.FoldingCode.{code_of-nested, code_of-nests}
+use Rattle.wasmprinter_spec.specs.Folding.Code.{NestedCode, role, nested_code_of, AreWithoutTry}
+use Rattle.wasmprinter_spec.proofs.FoldingCode.{nested_code_of-nested, nested_code_of-nests}
 
 module _ (s : Setting) (t : Signatures) where
   pub operators-items : (os : List (Placed Operator)) (hs : List (Placed Hint)) (n : ℕ) (xs : List labels.Label) (ls : List (Option ℕ))
@@ -39,17 +39,17 @@ module _ (s : Setting) (t : Signatures) where
   unfolding folded_pieces
   folded_pieces-nested o paints hs os n h =
       let e : map role (items s t hs 0 [] [] os) ≡ roles os = roles-items os hs 0 [] [] in
-      let c : (code : Code) × (code_of (items s t hs 0 [] [] os) ≡ Some code) =
-      code_of-nested (items s t hs 0 [] [] os) (subst (λ (rs : List Role). Nests Sequence rs) (sym e) n) (subst AreWithoutTry (sym e) h) in
+      let c : (code : NestedCode) × (nested_code_of (items s t hs 0 [] [] os) ≡ Some code) =
+      nested_code_of-nested (items s t hs 0 [] [] os) (subst (λ (rs : List Role). Nests Sequence rs) (sym e) n) (subst AreWithoutTry (sym e) h) in
       (node_pieces o paints s.form true s.nesting (tree c.0), rw (c.1) refl)
 
   -- nothing else is folded
   pub folded_pieces-nests : FoldingRule s t
   unfolding folded_pieces
   folded_pieces-nests o paints hs os ps e =
-      let c : (code : Code) × (code_of (items s t hs 0 [] [] os) ≡ Some code) = some_tree (code_of (items s t hs 0 [] [] os)) e in
-      subst (λ (rs : List Role). Nests Sequence rs × AreWithoutTry rs) (roles-items os hs 0 [] []) (code_of-nests (items s t hs 0 [] [] os) c.0 c.1)
+      let c : (code : NestedCode) × (nested_code_of (items s t hs 0 [] [] os) ≡ Some code) = some_tree (nested_code_of (items s t hs 0 [] [] os)) e in
+      subst (λ (rs : List Role). Nests Sequence rs × AreWithoutTry rs) (roles-items os hs 0 [] []) (nested_code_of-nests (items s t hs 0 [] [] os) c.0 c.1)
     where
-      some_tree : (c : Option Code) → option_map (λ (code : Code). node_pieces o paints s.form true s.nesting (tree code)) c ≡ Some ps → (code : Code) × (c ≡ Some code)
+      some_tree : (c : Option NestedCode) → option_map (λ (code : NestedCode). node_pieces o paints s.form true s.nesting (tree code)) c ≡ Some ps → (code : NestedCode) × (c ≡ Some code)
       some_tree None e = absurd cc
       some_tree (Some code) e = (code, refl)

@@ -9,8 +9,8 @@ use Rattle.wasmprinter_spec.specs.Instructions.{expression}
 use Rattle.wasmprinter_spec.specs.Names.{Names, no_names}
 use Rattle.wasmprinter_spec.specs.LabelNames.{label_naming}
 use Rattle.wasmprinter_spec.specs.Customs.Hints.{Hint}
-use Rattle.wasmprinter_spec.specs.Forest.{forest, cut}
-use Rattle.wasmprinter_spec.specs.Code.{unfolded}
+use Rattle.wasmprinter_spec.specs.Forest.{forest, without_annotations}
+use Rattle.wasmprinter_spec.specs.Code.{chunks_of_forest}
 use Rattle.wasmprinter_spec.specs.Text.Operators.{read_operators}
 use Rattle.wasmprinter_spec.specs.Call.{text_of}
 use Rattle.wasmprinter_spec.specs.Options.{Options, defaults}
@@ -50,7 +50,7 @@ spelled bytes = option_map (λ x. map (λ o. o.value) x.0.items) (expression.par
 -- what code reads as that names nothing
 abbrev read_back : List ℕ → Option (List Operator)
 read_back text =
-    forest text >>= λ f. unfolded (cut f) >>= read_operators (record { spaces = no_spaces; signature = λ n. None; fields = λ n. [] })
+    forest text >>= λ f. chunks_of_forest (without_annotations f) >>= read_operators (record { spaces = no_spaces; signature = λ n. None; fields = λ n. [] })
 
 -- bytes, and the lines that they give in a body
 record Sample : Type 0 where

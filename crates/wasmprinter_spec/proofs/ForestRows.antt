@@ -5,11 +5,11 @@ use Rattle.std.specs.Str.{is_utf8, chars}
 use Rattle.wasmprinter_spec.specs.Character.{class}
 use Rattle.wasmprinter_spec.specs.Numeral.{numeral}
 use Rattle.wasmprinter_spec.specs.Token.{escape, lex}
-use Rattle.wasmprinter_spec.specs.Forest.{Forest, End, Word, Name, String, Reserved, Group, Note, forest, cut, customs}
+use Rattle.wasmprinter_spec.specs.Forest.{Forest, End, Word, Name, String, Reserved, Group, Note, forest, without_annotations, customs}
 
 -- what is left where annotations are cut out
 abbrev without_notes : List ℕ → Option Forest
-without_notes text = option_map cut (forest text)
+without_notes text = option_map without_annotations (forest text)
 
 abbrev customs_of : List ℕ → Option (List Forest)
 customs_of text = option_map customs (forest text)

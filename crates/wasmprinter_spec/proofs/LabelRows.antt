@@ -10,8 +10,8 @@ use Rattle.wasmprinter_spec.specs.Table.{table}
 use Rattle.wasmprinter_spec.specs.Character.{class}
 use Rattle.wasmprinter_spec.specs.Numeral.{numeral, natural}
 use Rattle.wasmprinter_spec.specs.Token.{escape, lex}
-use Rattle.wasmprinter_spec.specs.Forest.{forest, cut}
-use Rattle.wasmprinter_spec.specs.Code.{head, unfolded}
+use Rattle.wasmprinter_spec.specs.Forest.{forest, without_annotations}
+use Rattle.wasmprinter_spec.specs.Code.{head, chunks_of_forest}
 use Rattle.wasmprinter_spec.specs.Text.Types.{number_of_word}
 use Rattle.wasmprinter_spec.specs.Text.Operators.{read_operators}
 use Rattle.wasmprinter_spec.specs.Labels.{Naming}
@@ -19,7 +19,7 @@ use Rattle.wasmprinter_spec.specs.LabelNames.{label_naming}
 use Rattle.wasmprinter_spec.specs.Call.{text_of}
 use Rattle.wasmprinter_spec.specs.Options.{defaults}
 use Rattle.wasmprinter_spec.specs.Quoted.{char_text, quoted_text, identifier_text}
-use Rattle.wasmprinter_spec.specs.Piece.{all_calls, repeated}
+use Rattle.wasmprinter_spec.specs.Piece.{all_calls, repetition_of}
 use Rattle.wasmprinter_spec.specs.Layout.Operators.{OverLines, expression_pieces}
 use Rattle.wasmprinter_spec.proofs.Computing.{composing}
 use Rattle.wasmprinter_spec.proofs.BlockSamples.{block, loop, if_op, else_op, try_op, end, br, br_table, delegate, try_table}
@@ -37,7 +37,7 @@ lines ls = flat_map (λ l. codes "\n    " ++ l) ls
 -- what code without indices into other spaces reads as
 abbrev read_back : List ℕ → Option (List Operator)
 read_back text =
-    forest text >>= λ f. unfolded (cut f) >>= read_operators (record { spaces = record no_spaces { types = []; functions = []; tags = []; locals = [] }; signature = λ n. None; fields = λ n. [] })
+    forest text >>= λ f. chunks_of_forest (without_annotations f) >>= read_operators (record { spaces = record no_spaces { types = []; functions = []; tags = []; locals = [] }; signature = λ n. None; fields = λ n. [] })
 
 -- the first labels have these names, and all others none
 abbrev named : List (List ℕ) → Naming
@@ -59,7 +59,7 @@ abbrev both_lines : List ℕ
 both_lines = lines (codes "block $a" ∷ codes "  block $a" ∷ codes "    br 1" ∷ codes "    br $a" ∷ codes "  end" ∷ codes "end" ∷ [])
 
 shadowed : printed (named (codes "a" ∷ codes "a" ∷ [])) both ≡ both_lines
-unfolding composing repeated digits table is_utf8 encode_utf8 chars class identifier_text quoted_text char_text
+unfolding composing repetition_of digits table is_utf8 encode_utf8 chars class identifier_text quoted_text char_text
 shadowed = refl
 
 shadowed_reads : read_back both_lines ≡ Some both
@@ -86,7 +86,7 @@ between_lines = lines (
     ∷ [])
 
 shadowed_for_a_while : printed (named (codes "a" ∷ codes "b" ∷ codes "a" ∷ [])) between ≡ between_lines
-unfolding composing repeated digits table is_utf8 encode_utf8 chars class identifier_text quoted_text char_text
+unfolding composing repetition_of digits table is_utf8 encode_utf8 chars class identifier_text quoted_text char_text
 shadowed_for_a_while = refl
 
 shadowed_for_a_while_reads : read_back between_lines ≡ Some between
@@ -102,7 +102,7 @@ abbrev delegated_lines : List ℕ
 delegated_lines = lines (codes "try $t" ∷ codes "delegate 0" ∷ codes "block $u" ∷ codes "  br $u" ∷ codes "  br 1" ∷ codes "end" ∷ [])
 
 label_goes_with_delegate : printed (named (codes "t" ∷ codes "u" ∷ [])) delegated ≡ delegated_lines
-unfolding composing repeated digits table is_utf8 encode_utf8 chars class identifier_text quoted_text char_text
+unfolding composing repetition_of digits table is_utf8 encode_utf8 chars class identifier_text quoted_text char_text
 label_goes_with_delegate = refl
 
 label_goes_with_delegate_reads : read_back delegated_lines ≡ Some delegated
@@ -129,7 +129,7 @@ hiding_lines = lines (
     ∷ [])
 
 hides_from_delegate : printed (named (codes "a" ∷ codes "a" ∷ codes "b" ∷ codes "a" ∷ [])) hiding ≡ hiding_lines
-unfolding composing repeated digits table is_utf8 encode_utf8 chars class identifier_text quoted_text char_text
+unfolding composing repetition_of digits table is_utf8 encode_utf8 chars class identifier_text quoted_text char_text
 hides_from_delegate = refl
 
 hides_from_delegate_reads : read_back hiding_lines ≡ Some hiding
@@ -150,7 +150,7 @@ empty_lines = lines (
     ∷ [])
 
 empty_names : printed (named ([] ∷ [] ∷ [])) both ≡ empty_lines
-unfolding composing repeated digits table is_utf8 encode_utf8 chars class identifier_text quoted_text char_text
+unfolding composing repetition_of digits table is_utf8 encode_utf8 chars class identifier_text quoted_text char_text
 empty_names = refl
 
 empty_names_read : read_back empty_lines ≡ Some both
@@ -176,7 +176,7 @@ strange_lines = lines (
     ∷ [])
 
 strange_names : printed (named (codes "#x\"" ∷ codes "a b" ∷ (0xc3 ∷ 0xa9 ∷ []) ∷ [])) strange ≡ strange_lines
-unfolding composing repeated digits table is_utf8 encode_utf8 chars class identifier_text quoted_text char_text
+unfolding composing repetition_of digits table is_utf8 encode_utf8 chars class identifier_text quoted_text char_text
 strange_names = refl
 
 strange_names_read : read_back strange_lines ≡ Some strange
@@ -189,7 +189,7 @@ abbrev mixed_lines : List ℕ
 mixed_lines = lines (codes "block ;; label = @1" ∷ codes "  block $a" ∷ codes "    br 1 (;@1;)" ∷ codes "    br $a" ∷ codes "  end" ∷ codes "end" ∷ [])
 
 second_named : printed (one_named 1 (codes "a")) both ≡ mixed_lines
-unfolding composing repeated digits table is_utf8 encode_utf8 chars class identifier_text quoted_text char_text
+unfolding composing repetition_of digits table is_utf8 encode_utf8 chars class identifier_text quoted_text char_text
 second_named = refl
 
 second_named_reads : read_back mixed_lines ≡ Some both
@@ -203,7 +203,7 @@ abbrev invented_lines : List ℕ
 invented_lines = lines (codes "try $#label0" ∷ codes "delegate 0" ∷ codes "block $#label0" ∷ codes "  br $#label0" ∷ codes "  br 1" ∷ codes "end" ∷ [])
 
 invented_identifiers : printed invented delegated ≡ invented_lines
-unfolding composing repeated digits table is_utf8 encode_utf8 chars class identifier_text quoted_text char_text
+unfolding composing repetition_of digits table is_utf8 encode_utf8 chars class identifier_text quoted_text char_text
 invented_identifiers = refl
 
 invented_identifiers_read : read_back invented_lines ≡ Some delegated
@@ -214,7 +214,7 @@ abbrev deep_lines : List ℕ
 deep_lines = lines (codes "block $#label0" ∷ codes "  block $#label1" ∷ codes "    br $#label0" ∷ codes "    br $#label1" ∷ codes "  end" ∷ codes "end" ∷ [])
 
 invented_deeper : printed invented both ≡ deep_lines
-unfolding composing repeated digits table is_utf8 encode_utf8 chars class identifier_text quoted_text char_text
+unfolding composing repetition_of digits table is_utf8 encode_utf8 chars class identifier_text quoted_text char_text
 invented_deeper = refl
 
 -- a name beside invented identifiers
@@ -223,7 +223,7 @@ partly_lines =
     lines (codes "block $#label0" ∷ codes "  block $\"#label1 #label0\" (@name \"#label0\")" ∷ codes "    br $#label0" ∷ codes "    br $\"#label1 #label0\" (@name \"#label0\")" ∷ codes "  end" ∷ codes "end" ∷ [])
 
 partly_invented : printed (label_naming true (λ n. cond (n == 1) (Some (codes "#label0")) None)) both ≡ partly_lines
-unfolding composing repeated digits table is_utf8 encode_utf8 chars class identifier_text quoted_text char_text
+unfolding composing repetition_of digits table is_utf8 encode_utf8 chars class identifier_text quoted_text char_text
 partly_invented = refl
 
 partly_invented_reads : read_back partly_lines ≡ Some both

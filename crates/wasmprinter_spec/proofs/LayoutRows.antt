@@ -7,7 +7,7 @@ use Rattle.wasmprinter_spec.specs.Placed.{PlacedModule}
 use Rattle.wasmprinter_spec.specs.Call.{Call, Style, Text, Newline, Line, Start, Claim, Literal, Name, Keyword, TypeName, Comment, Reset, text_of, atoms}
 use Rattle.wasmprinter_spec.specs.Options.{Options, Answers, defaults}
 use Rattle.wasmprinter_spec.specs.Quoted.{char_text, byte_text, quoted_text, quoted_bytes}
-use Rattle.wasmprinter_spec.specs.Piece.{Break, repeated, left_in, place_text, text}
+use Rattle.wasmprinter_spec.specs.Piece.{Break, repetition_of, left_in, place_text, text}
 use Rattle.wasmprinter_spec.specs.Layout.{layout}
 use Rattle.wasmprinter_spec.proofs.Computing.{composing}
 use Rattle.wasmprinter_spec.proofs.Samples.{lines, empty_placed, identity_placed, identity_text, identity_text_with_offsets, stored_placed, stored_text, mixed_placed, mixed_text}
@@ -40,7 +40,7 @@ unfolding composing
 empty_plain = refl
 
 empty_with_offsets : printed with_offsets empty_placed ≡ codes "(module\n(;@8     ;))\n"
-unfolding composing place_text left_in repeated digits
+unfolding composing place_text left_in repetition_of digits
 empty_with_offsets = refl
 
 empty_calls : atoms (all_calls defaults empty_placed) ≡ atoms (Line (Some 0) ∷ Text (codes "(") ∷ Start Keyword ∷ Text (codes "module") ∷ Start Reset ∷ Text (codes ")") ∷ Newline ∷ [])
@@ -50,11 +50,11 @@ empty_calls = refl
 -- ---- a function under a name
 
 identity_plain : printed defaults identity_placed ≡ identity_text
-unfolding composing repeated digits table char_text quoted_text chars
+unfolding composing repetition_of digits table char_text quoted_text chars
 identity_plain = refl
 
 identity_with_offsets : printed with_offsets identity_placed ≡ identity_text_with_offsets
-unfolding composing repeated left_in place_text digits table char_text quoted_text chars
+unfolding composing repetition_of left_in place_text digits table char_text quoted_text chars
 identity_with_offsets = refl
 
 identity_skeleton : printed skeleton identity_placed ≡ lines (
@@ -64,7 +64,7 @@ identity_skeleton : printed skeleton identity_placed ≡ lines (
     ∷ codes "  (func (;0;) (type 0) (param i32) (result i32) ...)"
     ∷ codes ")"
     ∷ [])
-unfolding composing repeated digits char_text quoted_text chars
+unfolding composing repetition_of digits char_text quoted_text chars
 identity_skeleton = refl
 
 identity_skeleton_with_offsets : printed (record skeleton { offsets = true }) identity_placed ≡ lines (
@@ -74,7 +74,7 @@ identity_skeleton_with_offsets : printed (record skeleton { offsets = true }) id
     ∷ codes "(;@1f    ;)  (func (;0;) (type 0) (param i32) (result i32) ...)"
     ∷ codes "(;@23    ;))"
     ∷ [])
-unfolding composing repeated left_in place_text digits char_text quoted_text chars
+unfolding composing repetition_of left_in place_text digits char_text quoted_text chars
 identity_skeleton_with_offsets = refl
 
 identity_without_indent : printed (record defaults { indent = [] }) identity_placed ≡ lines (
@@ -86,7 +86,7 @@ identity_without_indent : printed (record defaults { indent = [] }) identity_pla
     ∷ codes ")"
     ∷ codes ")"
     ∷ [])
-unfolding composing repeated digits table char_text quoted_text chars
+unfolding composing repetition_of digits table char_text quoted_text chars
 identity_without_indent = refl
 
 identity_line_places : line_places (all_calls defaults identity_placed) ≡ Some 0 ∷ Some 0xb ∷ Some 0x17 ∷ Some 0x1f ∷ Some 0x20 ∷ Some 0x22 ∷ Some 0x23 ∷ []
@@ -96,7 +96,7 @@ identity_line_places = refl
 -- ---- a function with a local
 
 stored_plain : printed defaults stored_placed ≡ stored_text
-unfolding composing repeated digits table
+unfolding composing repetition_of digits table
 stored_plain = refl
 
 stored_line_places : line_places (all_calls defaults stored_placed) ≡ Some 0 ∷ Some 0xb ∷ Some 0x17 ∷ Some 0x18 ∷ Some 0x1a ∷ Some 0x1c ∷ Some 0x1e ∷ Some 0x20 ∷ Some 0x21 ∷ []
@@ -145,18 +145,18 @@ identity_skeleton_calls : atoms (all_calls skeleton identity_placed) ≡ atoms (
     ++ plain (codes " (") ++ in_style Keyword (codes "result") ++ plain (codes " ") ++ in_style TypeName (codes "i32") ++ plain (codes ") ...)")
     ++ Newline ∷ Line (Some 0x23) ∷ plain (codes ")")
     ++ Newline ∷ [])
-unfolding composing repeated digits char_text quoted_text chars
+unfolding composing repetition_of digits char_text quoted_text chars
 identity_skeleton_calls = refl
 
 stored_all_calls : atoms (all_calls with_offsets stored_placed) ≡ atoms stored_calls
-unfolding composing repeated left_in place_text digits table
+unfolding composing repetition_of left_in place_text digits table
 stored_all_calls = refl
 
 -- ---- several types, functions, locals and results
 
 -- locals of all entries on one line, whose place is that of the first entry that declares one; no signature of a type that isn't there
 mixed_plain : printed defaults mixed_placed ≡ mixed_text
-unfolding composing repeated digits table char_text quoted_text chars
+unfolding composing repetition_of digits table char_text quoted_text chars
 mixed_plain = refl
 
 -- with offsets the parentheses of functions close on lines of their own
@@ -177,16 +177,16 @@ unfolding place_text left_in digits
 long_place = refl
 
 no_place : text with_offsets (Break None 2) ≡ codes "\n               "
-unfolding place_text repeated
+unfolding place_text repetition_of
 no_place = refl
 
 -- no more than fifty levels are indented
 deep_line : text defaults (Break (Some 0x10) 60) ≡ 10 ∷ replicate 100 32
-unfolding repeated
+unfolding repetition_of
 deep_line = refl
 
 other_indent : text (record defaults { indent = codes "\t." }) (Break None 3) ≡ codes "\n\t.\t.\t."
-unfolding repeated
+unfolding repetition_of
 other_indent = refl
 
 -- ---- quotes

@@ -8,10 +8,10 @@ use Rattle.wasmprinter_spec.specs.Row.{Types}
 use Rattle.wasmprinter_spec.specs.Labels.{Named}
 use Rattle.wasmprinter_spec.specs.Names.{Names}
 use Rattle.wasmprinter_spec.specs.Piece.{Piece, Begin, Break}
-use Rattle.wasmprinter_spec.specs.Layout.Groups.{has_break, close, line_group, line_group_gap, group_gap, numbered}
+use Rattle.wasmprinter_spec.specs.Layout.Groups.{has_break, close, line_group, line_group_gap, group_gap, numbered_pieces}
 use Rattle.wasmprinter_spec.specs.Layout.Identifiers.{given_pieces, mark_pieces, leading_mark_pieces, mark_gap_pieces, identifier_gap_pieces, declaration_pieces, index_pieces}
 use Rattle.wasmprinter_spec.specs.Layout.ValTypes.{type_index_pieces, heap_pieces, null_ref_pieces, ref_pieces_by, ref_pieces, val_pieces, type_list}
-use Rattle.wasmprinter_spec.specs.Layout.Variables.{Variables, Alone, Together, grouped, variables_pieces, groups_pieces}
+use Rattle.wasmprinter_spec.specs.Layout.Variables.{Variables, Alone, Together, variable_groups, variables_pieces, groups_pieces}
 use Rattle.wasmprinter_spec.specs.Layout.Types.{parameters_of, list_group, signature_pieces, signature_if_any, type_use_pieces, storage_pieces, field_pieces_by, field_pieces, struct_field_pieces, composite_pieces, final_pieces, supertype_pieces, sub_group, sub_pieces_by, sub_pieces, type_pieces}
 
 -- the line that a piece begins
@@ -70,8 +70,8 @@ pub group_gap_stays : (nesting : ℕ) (w : List ℕ) {ps : List Piece} → IsOne
 unfolding group_gap
 group_gap_stays nesting w h = then_stay refl (both_stay h (close_stays nesting h))
 
-pub numbered_stay : {A : Type 0} (f : ℕ → A → List Piece) → ((i : ℕ) (x : A) → IsOneLine (f i x)) → (i : ℕ) (xs : List A) → IsOneLine (numbered f i xs)
-unfolding numbered
+pub numbered_stay : {A : Type 0} (f : ℕ → A → List Piece) → ((i : ℕ) (x : A) → IsOneLine (f i x)) → (i : ℕ) (xs : List A) → IsOneLine (numbered_pieces f i xs)
+unfolding numbered_pieces
 numbered_stay f h i [] = nothing_stays
 numbered_stay f h i (x ∷ xs) = both_stay (h i x) (numbered_stay f h (i + 1) xs)
 
@@ -165,7 +165,7 @@ module _ (names : Names) where
 
   signature_stays : (f : Option ℕ) (t : FuncType) → IsOneLine (signature_pieces names f t)
   unfolding signature_pieces
-  signature_stays f t = both_stay (groups_stay (codes "param") (grouped (parameters_of names f) 0 t.params)) (list_group_stays (codes "result") t.results)
+  signature_stays f t = both_stay (groups_stay (codes "param") (variable_groups (parameters_of names f) 0 t.params)) (list_group_stays (codes "result") t.results)
 
   signature_if_any_stays : (f : Option ℕ) (t : Option FuncType) → IsOneLine (signature_if_any names f t)
   signature_if_any_stays f None = nothing_stays

@@ -5,7 +5,7 @@ use Rattle.wasmprinter_spec.specs.Placed.{PlacedModule}
 use Rattle.wasmprinter_spec.specs.Binary.{binary}
 use Rattle.wasmprinter_spec.specs.Options.{Answers, defaults}
 use Rattle.wasmprinter_spec.specs.Layout.{layout}
-use Rattle.wasmprinter_spec.specs.Lines.{TextLine, lines_of, line_places, hint_places, kept, place_of}
+use Rattle.wasmprinter_spec.specs.Lines.{TextLine, lines_of, line_places, hint_places, lines_without, place_of}
 use Rattle.wasmprinter_spec.proofs.Samples.{head_bytes, identity_placed, stored_placed}
 use Rattle.wasmprinter_spec.proofs.Computing.{composing, reading}
 
@@ -142,7 +142,7 @@ unfolding composing reading
 hint_is = refl
 
 -- the lines that are kept: those of the function follow one another
-kept_are : option_map (λ m. kept (hint_places m) (line_places (printed_lines m))) (decode hinted)
+kept_are : option_map (λ m. lines_without (hint_places m) (line_places (printed_lines m))) (decode hinted)
     ≡ Some (Some 0 ∷ Some 0xb ∷ Some 0x39 ∷ Some 0x3a ∷ Some 0x3c ∷ Some 0x3e ∷ Some 0x3f ∷ Some 0x40 ∷ [])
 unfolding composing reading
 kept_are = refl

@@ -5,8 +5,8 @@ use Rattle.wasmprinter_spec.specs.Types.{signature_at}
 use Rattle.wasmprinter_spec.specs.Operator.{Operator}
 use Rattle.wasmprinter_spec.specs.Table.{table}
 use Rattle.wasmprinter_spec.specs.Instructions.{expression}
-use Rattle.wasmprinter_spec.specs.Forest.{forest, cut}
-use Rattle.wasmprinter_spec.specs.Code.{unfolded}
+use Rattle.wasmprinter_spec.specs.Forest.{forest, without_annotations}
+use Rattle.wasmprinter_spec.specs.Code.{chunks_of_forest}
 use Rattle.wasmprinter_spec.specs.IndexSpaces.{Context}
 use Rattle.wasmprinter_spec.specs.Text.Operators.{read_operators}
 use Rattle.wasmprinter_spec.specs.Call.{text_of}
@@ -45,7 +45,7 @@ abbrev pub around : Context
 around = record { spaces = no_spaces; signature = signature_at sample_types; fields = λ n. [] }
 
 abbrev pub ops : List ℕ → Option (List Operator)
-ops text = forest text >>= λ f. unfolded (cut f) >>= read_operators around
+ops text = forest text >>= λ f. chunks_of_forest (without_annotations f) >>= read_operators around
 
 samples_read : map (λ ss. map (λ s. ops s.text) ss) all_samples ≡ map (λ ss. map (λ s. Some (s.operator ∷ [])) ss) all_samples
 unfolding reading

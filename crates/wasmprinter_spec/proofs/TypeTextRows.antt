@@ -10,7 +10,7 @@ use Rattle.wasmprinter_spec.specs.Binary.{binary}
 use Rattle.wasmprinter_spec.specs.Module.{Module}
 use Rattle.wasmprinter_spec.specs.Call.{Call, Style, Text, Start, Name, Keyword, TypeName, Reset, text_of, atoms}
 use Rattle.wasmprinter_spec.specs.Options.{Options, defaults}
-use Rattle.wasmprinter_spec.specs.Piece.{Piece, repeated, left_in, place_text, all_calls}
+use Rattle.wasmprinter_spec.specs.Piece.{Piece, repetition_of, left_in, place_text, all_calls}
 use Rattle.wasmprinter_spec.specs.Layout.{layout}
 use Rattle.wasmprinter_spec.specs.Layout.Types.{composite_pieces, type_pieces}
 use Rattle.wasmprinter_spec.specs.Layout.ValTypes.{val_pieces}
@@ -48,7 +48,7 @@ group_of_one : printed (with_types (0x01 ∷ 0x4e ∷ 0x01 ∷ 0x60 ∷ 0x00 ∷
     ∷ codes "    (type (;0;) (func))"
     ∷ codes "  )"
     ∷ []))
-unfolding composing repeated digits
+unfolding composing repetition_of digits
 group_of_one = refl
 
 -- each type of a group has the place behind two bytes, whatever the bytes before it are
@@ -62,15 +62,15 @@ group_with_offsets : printed_by (record defaults { offsets = true }) (with_types
     ∷ codes "(;@18    ;)  (rec)"
     ∷ codes "(;@1a    ;))"
     ∷ []))
-unfolding composing repeated left_in place_text digits
+unfolding composing repetition_of left_in place_text digits
 group_with_offsets = refl
 
 structure : printed (with_types (0x01 ∷ 0x5f ∷ 0x02 ∷ 0x78 ∷ 0x01 ∷ 0x7f ∷ 0x00 ∷ [])) ≡ Some (module_text (codes "  (type (;0;) (struct (field (mut i8)) (field i32)))" ∷ []))
-unfolding composing repeated digits
+unfolding composing repetition_of digits
 structure = refl
 
 open_array : printed (with_types (0x01 ∷ 0x50 ∷ 0x00 ∷ 0x5e ∷ 0x7f ∷ 0x00 ∷ [])) ≡ Some (module_text (codes "  (type (;0;) (sub (array i32)))" ∷ []))
-unfolding composing repeated digits
+unfolding composing repetition_of digits
 open_array = refl
 
 -- a final type with a supertype, and one without
@@ -79,7 +79,7 @@ final_types : printed (with_types (0x03 ∷ 0x50 ∷ 0x00 ∷ 0x60 ∷ 0x00 ∷ 
     ∷ codes "  (type (;1;) (sub final 0 (func)))"
     ∷ codes "  (type (;2;) (func))"
     ∷ []))
-unfolding composing repeated digits
+unfolding composing repetition_of digits
 final_types = refl
 
 -- supertypes, of which the second stands behind
@@ -87,7 +87,7 @@ two_supertypes : printed (with_types (0x02 ∷ 0x50 ∷ 0x02 ∷ 0x00 ∷ 0x01 �
     codes "  (type (;0;) (sub 0 1 (struct)))"
     ∷ codes "  (type (;1;) (array (mut i16)))"
     ∷ []))
-unfolding composing repeated digits
+unfolding composing repetition_of digits
 two_supertypes = refl
 
 abbrev value_bytes : List ℕ
@@ -104,7 +104,7 @@ each_type_text = module_text ((
     ++ codes " (result (ref exn) (ref array) (ref struct) (ref i31) (ref eq) (ref any) (ref extern) (ref func) (ref none) (ref noextern) (ref nofunc) (ref noexn) (ref null 0) (ref 0))))") ∷ [])
 
 each_type : printed (with_types (0x01 ∷ 0x60 ∷ 0x13 ∷ (value_bytes ++ 0x0e ∷ reference_bytes))) ≡ Some each_type_text
-unfolding composing repeated digits
+unfolding composing repetition_of digits
 each_type = refl
 
 -- functions use types of groups: one of a function type behind a group, and one of a structure
@@ -122,7 +122,7 @@ functions_of_groups : printed (head_bytes
     ∷ codes "  )"
     ∷ codes "  (func (;1;) (type 0))"
     ∷ []))
-unfolding composing repeated digits table
+unfolding composing repetition_of digits table
 functions_of_groups = refl
 
 -- ---- calls

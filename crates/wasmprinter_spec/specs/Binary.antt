@@ -3,7 +3,7 @@ use Rattle.std.specs.Prelude.{◌≡◌, ℕ, ◌<◌, Bool, true, ◌&&◌, ◌
 use Rattle.std.specs.List.{AllByRecursion}
 use Rattle.wasmprinter_spec.specs.Grammar.{Grammar, Remainder, ◌>>=◌, try_map, Placed}
 use Rattle.wasmprinter_spec.specs.Repeated.{until_end}
-use Rattle.wasmprinter_spec.specs.Sized.{take_bytes, headed, concluded}
+use Rattle.wasmprinter_spec.specs.Sized.{take_bytes, seq_to_end, try_map_by_end}
 use Rattle.wasmprinter_spec.specs.Types.{MemoryType}
 use Rattle.wasmprinter_spec.specs.Operator.{Operator}
 use Rattle.wasmprinter_spec.specs.Placed.{TypeGroup, Import, Table, Global, ElementEntry, Data, Body, Export, CustomEntry, PlacedFunction, PlacedModule}
@@ -112,7 +112,7 @@ module_of_sections size ss =
     then (function_pairs (type_indices_in ss) (bodies_in ss) >>= λ fs. Some (module_from size ss fs)) else None
 
 abbrev pub binary : Remainder PlacedModule
-binary = concluded (λ size x. module_of_sections size x.1) (headed preamble (until_end section))
+binary = try_map_by_end (λ size x. module_of_sections size x.1) (seq_to_end preamble (until_end section))
 
 -- numbers that are bytes
 abbrev pub AreBytes : List ℕ → Type 0

@@ -33,12 +33,12 @@ text_of [] = []
 text_of (c ∷ cs) = call_text c ++ text_of cs
 
 -- a call, with a text cut into its bytes
-abbrev pub cut_call : Call → List Call
-cut_call (Text s) = map (λ b. Text (b ∷ [])) s
-cut_call c = c ∷ []
+abbrev pub calls_of_bytes : Call → List Call
+calls_of_bytes (Text s) = map (λ b. Text (b ∷ [])) s
+calls_of_bytes c = c ∷ []
 
 -- The calls with each text cut into its bytes. Two lists of calls are alike, that is, they differ only in how text is cut into
 -- pieces, if their atoms are equal.
 abbrev pub atoms : List Call → List Call
 atoms [] = []
-atoms (c ∷ cs) = cut_call c ++ atoms cs
+atoms (c ∷ cs) = calls_of_bytes c ++ atoms cs

@@ -54,11 +54,11 @@ abbrev pub word_chunk : List ℕ → Chunk
 word_chunk w = chunk (rows_of w) End
 
 -- code holds flat and folded operators, and no group `then` or `else`
-abbrev pub flattened : List Instruction → Option (List Chunk)
-flattened [] = Some []
-flattened (Flat c ∷ is) = option_map (λ cs. c ∷ cs) (flattened is)
-flattened (Folded before own behind ∷ is) = option_map (λ cs. before ++ (own ∷ (behind ++ cs))) (flattened is)
-flattened (_ ∷ is) = None
+abbrev pub chunks_of_instructions : List Instruction → Option (List Chunk)
+chunks_of_instructions [] = Some []
+chunks_of_instructions (Flat c ∷ is) = option_map (λ cs. c ∷ cs) (chunks_of_instructions is)
+chunks_of_instructions (Folded before own behind ∷ is) = option_map (λ cs. before ++ (own ∷ (behind ++ cs))) (chunks_of_instructions is)
+chunks_of_instructions (_ ∷ is) = None
 
 -- operands are folded too
 abbrev pub operands : List Instruction → Option (List Chunk)
@@ -84,11 +84,11 @@ branches _ = None
 
 -- The operator of these rows, folded: operands and the operator; the opening operator of a block, what the block holds, and its `end`; for
 -- `if` its operands stand in front. The older `try` isn't folded.
-abbrev pub folded_as : Role → List Row → Code → Option Instruction
-folded_as Plain rs c = option_map (λ cs. Folded cs (chunk rs c.front) []) (operands c.instructions)
-folded_as Opens rs c = option_map (λ cs. Folded [] (chunk rs c.front) (cs ++ (word_chunk (codes "end") ∷ []))) (flattened c.instructions >>= if_nested)
-folded_as OpensIf rs c = option_map (λ x. Folded x.0 (chunk rs c.front) (x.1 ++ (word_chunk (codes "end") ∷ []))) (branches c.instructions)
-folded_as _ rs c = None
+abbrev pub folded_instruction : Role → List Row → Code → Option Instruction
+folded_instruction Plain rs c = option_map (λ cs. Folded cs (chunk rs c.front) []) (operands c.instructions)
+folded_instruction Opens rs c = option_map (λ cs. Folded [] (chunk rs c.front) (cs ++ (word_chunk (codes "end") ∷ []))) (chunks_of_instructions c.instructions >>= if_nested)
+folded_instruction OpensIf rs c = option_map (λ x. Folded x.0 (chunk rs c.front) (x.1 ++ (word_chunk (codes "end") ∷ []))) (branches c.instructions)
+folded_instruction _ rs c = None
 
 -- the words of groups that are parts of the operator in front of them or around them, though the word may be an operator's too
 abbrev pub part_words : List (List ℕ)
@@ -113,32 +113,32 @@ head w =
     (if bytes_eq w (codes "then") then ThenHead else (if bytes_eq w (codes "else") then ElseHead else head_by (rows_of w)))
 
 -- nothing but instructions stands behind a folded one
-abbrev pub before : Instruction → Code → Option Code
-before i c = option_map (λ is. code_of End (i ∷ is)) (only_instructions c)
+abbrev pub with_instruction : Instruction → Code → Option Code
+with_instruction i c = option_map (λ is. code_of End (i ∷ is)) (only_instructions c)
 
 -- what a group holds, as a case of an `if`
 abbrev pub branch : (List Chunk → Instruction) → Option Code → Option Code → Option Code
-branch make inner rest = inner >>= only_instructions >>= flattened >>= if_nested >>= λ cs. rest >>= before (make cs)
+branch make inner rest = inner >>= only_instructions >>= chunks_of_instructions >>= if_nested >>= λ cs. rest >>= with_instruction (make cs)
 
 abbrev pub with_group : Head → (Forest → Forest) → Option Code → Option Code → Option Code
 with_group PartHead item inner rest = with_front item rest
 with_group ThenHead item inner rest = branch Then inner rest
 with_group ElseHead item inner rest = branch Else inner rest
-with_group (OperatorHead r rs) item inner rest = inner >>= folded_as r.role (r ∷ rs) >>= λ i. rest >>= before i
+with_group (OperatorHead r rs) item inner rest = inner >>= folded_instruction r.role (r ∷ rs) >>= λ i. rest >>= with_instruction i
 
 -- ---- hints
 
 abbrev pub is_hint : List ℕ → Bool
 is_hint id = bytes_eq id (codes "metadata.code.branch_hint")
 
-abbrev pub hinted : Forest → Chunk → Chunk
-hinted h c = record c { hints = h ∷ c.hints }
+abbrev pub with_hint_group : Forest → Chunk → Chunk
+with_hint_group h c = record c { hints = h ∷ c.hints }
 
 -- a hint in front of a group is that of the group's own operator
 abbrev pub hint_first : Forest → List Instruction → List Instruction
 hint_first h [] = []
-hint_first h (Flat c ∷ is) = Flat (hinted h c) ∷ is
-hint_first h (Folded before own behind ∷ is) = Folded before (hinted h own) behind ∷ is
+hint_first h (Flat c ∷ is) = Flat (with_hint_group h c) ∷ is
+hint_first h (Folded before own behind ∷ is) = Folded before (with_hint_group h own) behind ∷ is
 hint_first h is = is
 
 -- a hint in front of anything but an operator or a group of one is nothing
@@ -163,5 +163,5 @@ code (Group g f) = with_front (Group g) (code f)
 code (Note id g f) = with_note (is_hint id) g (code f)
 
 -- the operators of a row, folded ones in their flat order
-abbrev pub unfolded : Forest → Option (List Chunk)
-unfolded f = code f >>= only_instructions >>= flattened
+abbrev pub chunks_of_forest : Forest → Option (List Chunk)
+chunks_of_forest f = code f >>= only_instructions >>= chunks_of_instructions

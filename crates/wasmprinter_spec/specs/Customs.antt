@@ -6,7 +6,7 @@ use Rattle.wasmprinter_spec.specs.Kinds.{Kind}
 use Rattle.wasmprinter_spec.specs.Placed.{Custom, CustomEntry}
 use Rattle.wasmprinter_spec.specs.Customs.Producers as p
 use Rattle.wasmprinter_spec.specs.Customs.Producers.{Field, are_runs}
-use Rattle.wasmprinter_spec.specs.Customs.Dylink.{Subsection, Judged, Whole, Faulty, Unknown, judged}
+use Rattle.wasmprinter_spec.specs.Customs.Dylink.{Subsection, Judged, Whole, Faulty, Unknown, judgement_of}
 pub mod Producers
 pub mod Dylink
 pub mod Hints
@@ -46,7 +46,7 @@ role_of c =
     if bytes_eq c.name name_section then Silent else
     (if bytes_eq c.name hint_section then Silent else
     (if bytes_eq c.name producers_section then producers_role (p.producers.parse (input c.bytes.place c.bytes.value)) else
-    (if bytes_eq c.name dylink_section then dylink_role (judged (input c.bytes.place c.bytes.value)) else Raw)))
+    (if bytes_eq c.name dylink_section then dylink_role (judgement_of (input c.bytes.place c.bytes.value)) else Raw)))
 
 -- a custom section that a text has to say again: what it stands behind, its name and its bytes
 pub record RawCustom : Type 0 where

@@ -12,8 +12,8 @@ abbrev pub only : ℕ → Grammar ℕ
 only c = try_map (λ b. if b == c then Some b else None) byte
 
 -- a byte is taken, and says what stands behind it
-abbrev pub announced : {A : Type 0} → (ℕ → Grammar A) → Grammar A
-announced h = map_value (λ x. x.1) (seq byte h)
+abbrev pub behind_first_byte : {A : Type 0} → (ℕ → Grammar A) → Grammar A
+behind_first_byte h = map_value (λ x. x.1) (seq byte h)
 
 -- the first byte says what stands there, itself among it
 module _ {A : Type 0} (h : ℕ → Grammar A) where
@@ -25,18 +25,18 @@ module _ {A : Type 0} (h : ℕ → Grammar A) where
   abbrev pub shorter : ℕ → A × Input → Option (A × Input)
   shorter n x = if nat_lt (length x.1.bytes) n then Some x else None
 
-  abbrev pub peeked_of : ℕ → List ℕ → Option (A × Input)
-  peeked_of p [] = None
-  peeked_of p (b ∷ bs) = (h b).parse (input p (b ∷ bs)) >>= shorter (length (b ∷ bs))
+  abbrev pub by_first_byte_of : ℕ → List ℕ → Option (A × Input)
+  by_first_byte_of p [] = None
+  by_first_byte_of p (b ∷ bs) = (h b).parse (input p (b ∷ bs)) >>= shorter (length (b ∷ bs))
 
-  abbrev pub peeked_at : Input → Option (A × Input)
-  peeked_at at = peeked_of at.place at.bytes
+  abbrev pub by_first_byte_at : Input → Option (A × Input)
+  by_first_byte_at at = by_first_byte_of at.place at.bytes
 
   head_of : (b : ℕ) (bs text rest : List ℕ) (p : ℕ) (a : A) → b ∷ bs ≡ text ++ rest → length rest < length (b ∷ bs) → (h b).spells p text a → Peeked p text a
   head_of b bs [] rest p a e lt s = absurd (omega (arith, ap length e, lt))
   head_of b bs (c ∷ cs) rest p a e lt s = let same : b ≡ c = cc in subst (λ (x : ℕ). (h x).spells p (c ∷ cs) a) same s
 
-  sound_of : (p : ℕ) (bytes : List ℕ) (x : A × Input) → peeked_of p bytes ≡ Some x → Spans Peeked (input p bytes) x
+  sound_of : (p : ℕ) (bytes : List ℕ) (x : A × Input) → by_first_byte_of p bytes ≡ Some x → Spans Peeked (input p bytes) x
   sound_of p [] x e = absurd cc
   sound_of p (b ∷ bs) x e =
       let y = bind_some ((h b).parse (input p (b ∷ bs))) (shorter (length (b ∷ bs))) x e in
@@ -45,10 +45,10 @@ module _ {A : Type 0} (h : ℕ → Grammar A) where
       subst (λ (z : A × Input). Spans Peeked (input p (b ∷ bs)) z) (some_is y.0 x t.1)
       (record { text = s.text; parts = s.parts; ends = s.ends; spelled = head_of b bs s.text y.0.1.bytes p y.0.0 s.parts (ltb-true _ _ t.0) s.spelled })
 
-  pub peeked_sound : (at : Input) (x : A × Input) → peeked_at at ≡ Some x → Spans Peeked at x
-  peeked_sound at x e = sound_of at.place at.bytes x e
+  pub by_first_byte_sound : (at : Input) (x : A × Input) → by_first_byte_at at ≡ Some x → Spans Peeked at x
+  by_first_byte_sound at x e = sound_of at.place at.bytes x e
 
-  complete_of : (p : ℕ) (text rest : List ℕ) (a : A) → Peeked p text a → peeked_of p (text ++ rest) ≡ Some (a, input (p + length text) rest)
+  complete_of : (p : ℕ) (text rest : List ℕ) (a : A) → Peeked p text a → by_first_byte_of p (text ++ rest) ≡ Some (a, input (p + length text) rest)
   complete_of p [] rest a s = absurd s
   complete_of p (b ∷ bs) rest a s =
       let after : Input = input (p + length (b ∷ bs)) rest in
@@ -57,9 +57,9 @@ module _ {A : Type 0} (h : ℕ → Grammar A) where
       let lt : length rest < length (b ∷ (bs ++ rest)) = omega (arith, length-append bs rest) in
       rw (e, lt-ltb (length rest) (length (b ∷ (bs ++ rest))) lt) refl
 
-  pub peeked_complete : (at : Input) (x : A × Input) → Spans Peeked at x → peeked_at at ≡ Some x
-  peeked_complete at x s =
-      ap (peeked_of at.place) s.parts ∙ complete_of at.place s.text x.1.bytes x.0 s.spelled ∙ ap (λ (q : ℕ). Some (x.0, input q x.1.bytes)) (sym s.ends)
+  pub by_first_byte_complete : (at : Input) (x : A × Input) → Spans Peeked at x → by_first_byte_at at ≡ Some x
+  by_first_byte_complete at x s =
+      ap (by_first_byte_of at.place) s.parts ∙ complete_of at.place s.text x.1.bytes x.0 s.spelled ∙ ap (λ (q : ℕ). Some (x.0, input q x.1.bytes)) (sym s.ends)
 
-  abbrev pub peeked : Grammar A
-  peeked = record { spells = Peeked; parse = peeked_at; sound = peeked_sound; complete = peeked_complete }
+  abbrev pub by_first_byte : Grammar A
+  by_first_byte = record { spells = Peeked; parse = by_first_byte_at; sound = by_first_byte_sound; complete = by_first_byte_complete }

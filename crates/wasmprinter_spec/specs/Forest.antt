@@ -57,14 +57,14 @@ abbrev pub forest : List ℕ → Option Forest
 forest text = the_one (grow (tokens text))
 
 -- without annotations
-abbrev pub cut : Forest → Forest
-cut End = End
-cut (Word s f) = Word s (cut f)
-cut (Name s f) = Name s (cut f)
-cut (String s f) = String s (cut f)
-cut (Reserved f) = Reserved (cut f)
-cut (Group g f) = Group (cut g) (cut f)
-cut (Note id g f) = cut f
+abbrev pub without_annotations : Forest → Forest
+without_annotations End = End
+without_annotations (Word s f) = Word s (without_annotations f)
+without_annotations (Name s f) = Name s (without_annotations f)
+without_annotations (String s f) = String s (without_annotations f)
+without_annotations (Reserved f) = Reserved (without_annotations f)
+without_annotations (Group g f) = Group (without_annotations g) (without_annotations f)
+without_annotations (Note id g f) = without_annotations f
 
 -- what each annotation `custom` holds that stands directly in this row
 abbrev pub row_customs : Forest → List Forest

@@ -127,24 +127,24 @@ module _ {A B : Type 0} (f : A → Option B) (g : Grammar A) where
   abbrev pub Mapped : ℕ → List ℕ → B → Type 0
   Mapped p text b = (a : A) × (f a ≡ Some b) × g.spells p text a
 
-  abbrev pub mapped_at : Input → Option (B × Input)
-  mapped_at at = g.parse at >>= λ a. f a.0 >>= λ b. Some (b, a.1)
+  abbrev pub try_map_at : Input → Option (B × Input)
+  try_map_at at = g.parse at >>= λ a. f a.0 >>= λ b. Some (b, a.1)
 
-  pub mapped_sound : (at : Input) (x : B × Input) → mapped_at at ≡ Some x → Spans Mapped at x
-  mapped_sound at x e =
+  pub try_map_sound : (at : Input) (x : B × Input) → try_map_at at ≡ Some x → Spans Mapped at x
+  try_map_sound at x e =
       let a = bind_some (g.parse at) (λ a. f a.0 >>= λ b. Some (b, a.1)) x e in
       let b = bind_some (f a.0.0) (λ b. Some (b, a.0.1)) x a.2 in
       let s = g.sound at a.0 a.1 in
       subst (λ (y : B × Input). Spans Mapped at y) (some_is (b.0, a.0.1) x b.2)
       (record { text = s.text; parts = s.parts; ends = s.ends; spelled = (a.0.0, b.1, s.spelled) })
 
-  pub mapped_complete : (at : Input) (x : B × Input) → Spans Mapped at x → mapped_at at ≡ Some x
-  mapped_complete at x s =
+  pub try_map_complete : (at : Input) (x : B × Input) → Spans Mapped at x → try_map_at at ≡ Some x
+  try_map_complete at x s =
       let e : g.parse at ≡ Some (s.spelled.0, x.1) = g.complete at (s.spelled.0, x.1) (record { text = s.text; parts = s.parts; ends = s.ends; spelled = s.spelled.2 }) in
       rw (e, s.spelled.1) refl
 
   abbrev pub try_map : Grammar B
-  try_map = record { spells = Mapped; parse = mapped_at; sound = mapped_sound; complete = mapped_complete }
+  try_map = record { spells = Mapped; parse = try_map_at; sound = try_map_sound; complete = try_map_complete }
 
 -- the values under a function
 abbrev pub map_value : {A B : Type 0} → (A → B) → Grammar A → Grammar B
@@ -200,36 +200,36 @@ module _ {A : Type 0} (g : Grammar A) where
   abbrev pub IsPlaced : ℕ → List ℕ → Placed A → Type 0
   IsPlaced p text x = (x.place ≡ p) × g.spells p text x.value
 
-  abbrev pub placed_at : Input → Option (Placed A × Input)
-  placed_at at = g.parse at >>= λ a. Some (record { place = at.place; value = a.0 }, a.1)
+  abbrev pub value_with_place_at : Input → Option (Placed A × Input)
+  value_with_place_at at = g.parse at >>= λ a. Some (record { place = at.place; value = a.0 }, a.1)
 
-  pub placed_sound : (at : Input) (x : Placed A × Input) → placed_at at ≡ Some x → Spans IsPlaced at x
-  placed_sound at x e =
+  pub value_with_place_sound : (at : Input) (x : Placed A × Input) → value_with_place_at at ≡ Some x → Spans IsPlaced at x
+  value_with_place_sound at x e =
       let with_place : A × Input → Placed A × Input = λ a. (record { place = at.place; value = a.0 }, a.1) in
       let a = bind_some (g.parse at) (λ a. Some (with_place a)) x e in
       let s = g.sound at a.0 a.1 in
       subst (λ (y : Placed A × Input). Spans IsPlaced at y) (some_is (with_place a.0) x a.2)
       (record { text = s.text; parts = s.parts; ends = s.ends; spelled = (refl, s.spelled) })
 
-  pub placed_complete : (at : Input) (x : Placed A × Input) → Spans IsPlaced at x → placed_at at ≡ Some x
-  placed_complete at x s =
+  pub value_with_place_complete : (at : Input) (x : Placed A × Input) → Spans IsPlaced at x → value_with_place_at at ≡ Some x
+  value_with_place_complete at x s =
       let e : g.parse at ≡ Some (x.0.value, x.1) = g.complete at (x.0.value, x.1) (record { text = s.text; parts = s.parts; ends = s.ends; spelled = s.spelled.1 }) in
       let moved : ℕ → Option (Placed A × Input) = λ p. Some (record { place = p; value = x.0.value }, x.1) in
       rw e (ap moved (sym s.spelled.0))
 
-  abbrev pub placed : Grammar (Placed A)
-  placed = record { spells = IsPlaced; parse = placed_at; sound = placed_sound; complete = placed_complete }
+  abbrev pub value_with_place : Grammar (Placed A)
+  value_with_place = record { spells = IsPlaced; parse = value_with_place_at; sound = value_with_place_sound; complete = value_with_place_complete }
 
 -- ---- another relation that says the same: the standard's words in front, a reading behind
 
 module _ {A : Type 0} (g : Grammar A) (S : ℕ → List ℕ → A → Type 0)
     (says : (p : ℕ) (text : List ℕ) (a : A) → g.spells p text a → S p text a)
     (said : (p : ℕ) (text : List ℕ) (a : A) → S p text a → g.spells p text a) where
-  pub restated_sound : (at : Input) (x : A × Input) → g.parse at ≡ Some x → Spans S at x
-  restated_sound at x e = let s = g.sound at x e in record { text = s.text; parts = s.parts; ends = s.ends; spelled = says at.place s.text x.0 s.spelled }
+  pub with_spelling_sound : (at : Input) (x : A × Input) → g.parse at ≡ Some x → Spans S at x
+  with_spelling_sound at x e = let s = g.sound at x e in record { text = s.text; parts = s.parts; ends = s.ends; spelled = says at.place s.text x.0 s.spelled }
 
-  pub restated_complete : (at : Input) (x : A × Input) → Spans S at x → g.parse at ≡ Some x
-  restated_complete at x s = g.complete at x (record { text = s.text; parts = s.parts; ends = s.ends; spelled = said at.place s.text x.0 s.spelled })
+  pub with_spelling_complete : (at : Input) (x : A × Input) → Spans S at x → g.parse at ≡ Some x
+  with_spelling_complete at x s = g.complete at x (record { text = s.text; parts = s.parts; ends = s.ends; spelled = said at.place s.text x.0 s.spelled })
 
-  abbrev pub restated : Grammar A
-  restated = record { spells = S; parse = g.parse; sound = restated_sound; complete = restated_complete }
+  abbrev pub with_spelling : Grammar A
+  with_spelling = record { spells = S; parse = g.parse; sound = with_spelling_sound; complete = with_spelling_complete }

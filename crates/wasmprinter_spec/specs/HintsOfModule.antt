@@ -3,7 +3,7 @@ use Rattle.std.specs.Prelude.{ℕ, ◌+◌, ◌-◌, List, [], ◌∷◌, ◌++�
 use Rattle.wasmprinter_spec.specs.Grammar.{◌>>=◌, Placed}
 use Rattle.wasmprinter_spec.specs.Operator.{Operator}
 use Rattle.wasmprinter_spec.specs.Placed.{Body, PlacedFunction, PlacedModule}
-use Rattle.wasmprinter_spec.specs.Module.{without_places, imported, func_import}
+use Rattle.wasmprinter_spec.specs.Module.{without_places, imported_types, func_import}
 use Rattle.wasmprinter_spec.specs.Customs.Hints.{Hint, FunctionHints, hints_of}
 use Rattle.wasmprinter_spec.specs.Text.Items.{each}
 
@@ -51,4 +51,4 @@ offsets_rise (e ∷ es) = rise (map (λ h. h.value.offset) e.hints) && offsets_r
 abbrev pub module_hints : PlacedModule → Option (List OperatorHint)
 module_hints m =
     let es : List FunctionHints = hints_of m.customs in
-    if rise (map (λ e. e.function) es) && offsets_rise es then all_hints (length (imported func_import (without_places m.imports))) m.functions es else None
+    if rise (map (λ e. e.function) es) && offsets_rise es then all_hints (length (imported_types func_import (without_places m.imports))) m.functions es else None

@@ -4,7 +4,7 @@ use Rattle.std.specs.Prelude.{ℕ, ◌+◌, List, [], ◌∷◌, Bool, true, fal
 use Rattle.wasmprinter_spec.specs.Row.{Space, Types, Func, Table, Memory, Tag, Global, Elem, Data, Local, Label}
 use Rattle.wasmprinter_spec.specs.Grammar.{◌>>=◌}
 use Rattle.wasmprinter_spec.specs.Types.{FuncType}
-use Rattle.wasmprinter_spec.specs.Numeral.{natural, below}
+use Rattle.wasmprinter_spec.specs.Numeral.{natural, number_below}
 use Rattle.wasmprinter_spec.specs.Forest.{Forest, End, Word, Name}
 
 -- the identifiers of declarations, of which some have none
@@ -37,7 +37,7 @@ resolve id (d ∷ ds) = if declares id d then Some 0 else option_map (λ n. n + 
 
 -- one item that is an index
 abbrev pub index : Identifiers → Forest → Option ℕ
-index ids (Word w End) = natural w >>= below 32
+index ids (Word w End) = natural w >>= number_below 32
 index ids (Name s End) = resolve s ids
 index ids _ = None
 

@@ -9,7 +9,7 @@ use Rattle.wasmprinter_spec.specs.Operator as operator
 use Rattle.wasmprinter_spec.specs.Table.{by_opcode}
 use Rattle.wasmprinter_spec.specs.Placed as placed
 use Rattle.wasmprinter_spec.specs.Placed.{Export, Import, Mode, Passive, Declared, Active, Items, Functions, Expressions, Element, DataMode, PassiveData, ActiveData}
-use Rattle.wasmprinter_spec.specs.Module.{Function, Module, imported, func_import, table_import, memory_import, global_import, tag_import}
+use Rattle.wasmprinter_spec.specs.Module.{Function, Module, imported_types, func_import, table_import, memory_import, global_import, tag_import}
 
 -- ---- types: each type index in them is below the number of types
 
@@ -145,11 +145,11 @@ type_count m = length (all_types m.types)
 abbrev pub counts_of : Module → Counts
 counts_of m = record {
   types = type_count m;
-  functions = length (imported func_import m.imports) + length m.functions;
-  tables = length (imported table_import m.imports) + length m.tables;
-  memories = length (imported memory_import m.imports) + length m.memories;
-  tags = length (imported tag_import m.imports) + length m.tags;
-  globals = length (imported global_import m.imports) + length m.globals;
+  functions = length (imported_types func_import m.imports) + length m.functions;
+  tables = length (imported_types table_import m.imports) + length m.tables;
+  memories = length (imported_types memory_import m.imports) + length m.memories;
+  tags = length (imported_types tag_import m.imports) + length m.tags;
+  globals = length (imported_types global_import m.imports) + length m.globals;
   elems = length m.elements;
   datas = length m.datas;
   locals = 0;

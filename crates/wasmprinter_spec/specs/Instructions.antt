@@ -3,18 +3,18 @@ use Rattle.std.specs.Prelude.{◌≡◌, ◌⊎◌, ℕ, ◌+◌, ◌-◌, ◌*�
 use Rattle.std.proofs.Common.{sym, ap, ◌∙◌, subst, arith, append-nil, inl, inr, eqb}
 use Rattle.std.proofs.lemmas.Bool.{and_parts, eqb-true}
 use Rattle.std.proofs.lemmas.List.{length-append}
-use Rattle.wasmprinter_spec.specs.Grammar.{input, Grammar, byte, seq, try_map, map_value, succeed, fail, choose, Placed, placed, restated, some_is}
+use Rattle.wasmprinter_spec.specs.Grammar.{input, Grammar, byte, seq, try_map, map_value, succeed, fail, choose, Placed, value_with_place, with_spelling, some_is}
 use Rattle.wasmprinter_spec.specs.Repeated.{Items}
 use Rattle.wasmprinter_spec.specs.Leb.{signed, unsigned}
 use Rattle.wasmprinter_spec.specs.Name.{u32, vec}
 use Rattle.wasmprinter_spec.specs.Sized.{take_bytes}
-use Rattle.wasmprinter_spec.specs.FirstByte.{only, announced, peeked}
+use Rattle.wasmprinter_spec.specs.FirstByte.{only, behind_first_byte, by_first_byte}
 use Rattle.wasmprinter_spec.specs.Types.{ref_type}
 use Rattle.wasmprinter_spec.specs.Binary.ValTypes.{lookup, signed_index, heap_type, val_type, begins_val_type}
 use Rattle.wasmprinter_spec.specs.Operator.{Opcode, opcode, BlockType, Empty, Value, OfType, Catch, One, OneRef, All, AllRef, MemArg, mem_arg_of, Immediates, NoImmediates, Block, TryTable, Index, Indices, BranchTable, Types, Heap, Cast, Memory, MemoryLane, Lane, I32, I64, F32, F64, Bytes, Operator}
 use Rattle.wasmprinter_spec.specs.Row.{Row, Shape, NoneShape, FenceShape, BlockShape, TryTableShape, IndexShape, DefaultIndexShape, PairShape, FieldShape, CountShape, CallShape, SegmentShape, CopyShape, BranchTableShape, SelectShape, HeapShape, RefShape, CastShape, MemoryShape, MemoryLaneShape, LaneShape, I32Shape, I64Shape, F32Shape, F64Shape, VectorShape, LanesShape, Role, Ends}
 use Rattle.wasmprinter_spec.specs.Table.{table, first, has_opcode, by_opcode, role_of, role_of_row}
-use Rattle.wasmprinter_spec.specs.Stepped.{Move, On, Stop, Never, by_move, stops, Ended, list_with_last, stepped}
+use Rattle.wasmprinter_spec.specs.Stepped.{Move, On, Stop, Never, by_move, stops, Ended, list_with_last, items_by_steps}
 use Rattle.wasmprinter_spec.specs.Nesting.{Nests, Sequence, Open, advance, at_start}
 use Rattle.wasmprinter_spec.specs.NestingSteps.{stops_at_end, nested_to_end}
 
@@ -35,7 +35,7 @@ block_type_by b =
     choose (b == 0x40) (map_value (λ x. Empty) byte) (choose (begins_val_type b) (map_value Value val_type) (map_value OfType signed_index))
 
 abbrev pub block_type : Grammar BlockType
-block_type = peeked block_type_by
+block_type = by_first_byte block_type_by
 
 -- a tag and a label
 abbrev pub tag_and_label : (ℕ → ℕ → Catch) → Grammar Catch
@@ -48,7 +48,7 @@ catch_by k =
     (choose (k == 1) (tag_and_label OneRef) (choose (k == 2) (map_value All u32) (choose (k == 3) (map_value AllRef u32) fail)))
 
 abbrev pub catch : Grammar Catch
-catch = announced catch_by
+catch = behind_first_byte catch_by
 
 abbrev pub u64 : Grammar ℕ
 u64 = unsigned 64
@@ -114,13 +114,13 @@ immediates F64Shape = map_value F64 (float_bits 8)
 immediates VectorShape = map_value Bytes (take_bytes 16)
 immediates LanesShape = map_value Bytes (take_bytes 16)
 
-abbrev pub listed : Option Row → Grammar Immediates
-listed None = fail
-listed (Some r) = immediates r.shape
+abbrev pub immediates_of_row : Option Row → Grammar Immediates
+immediates_of_row None = fail
+immediates_of_row (Some r) = immediates r.shape
 
 -- an opcode that the table lists, and its immediates
 abbrev pub operator : Grammar Operator
-operator = map_value (λ x. record { opcode = x.0; immediates = x.1 }) (seq opcode_grammar (λ o. listed (by_opcode o)))
+operator = map_value (λ x. record { opcode = x.0; immediates = x.1 }) (seq opcode_grammar (λ o. immediates_of_row (by_opcode o)))
 
 -- ---- expressions
 
@@ -141,12 +141,12 @@ roles ops = map role_at ops
 
 -- operators one after the other, well nested, and the byte 0B behind them
 abbrev pub IsExpression : ℕ → List ℕ → Closed (Placed Operator) → Type 0
-IsExpression p text x = (t : List ℕ) × (text ≡ t ++ end_byte ∷ []) × Items (placed operator) p t x.items × Nests Sequence (roles x.items) × (x.end ≡ p + length t)
+IsExpression p text x = (t : List ℕ) × (text ≡ t ++ end_byte ∷ []) × Items (value_with_place operator) p t x.items × Nests Sequence (roles x.items) × (x.end ≡ p + length t)
 
 -- ---- reading keeps which blocks are open
 
 -- an operator takes a byte
-pub operator_takes : (p : ℕ) (text : List ℕ) (o : Placed Operator) → (placed operator).spells p text o → 0 < length text
+pub operator_takes : (p : ℕ) (text : List ℕ) (o : Placed Operator) → (value_with_place operator).spells p text o → 0 < length text
 operator_takes p text o s =
     let parts = s.1.2 in
     let bytes = parts.3.2 in
@@ -156,13 +156,13 @@ abbrev pub advance_by : Open → Placed Operator → Move Open
 advance_by s o = advance s (role_at o)
 
 abbrev pub up_to_end : Grammar (Ended (Placed Operator))
-up_to_end = stepped (placed operator) advance_by operator_takes at_start
+up_to_end = items_by_steps (value_with_place operator) advance_by operator_takes at_start
 
-abbrev pub closed_as : Ended (Placed Operator) → Closed (Placed Operator)
-closed_as x = record { items = x.items; end = x.last.place }
+abbrev pub closed_of_ended : Ended (Placed Operator) → Closed (Placed Operator)
+closed_of_ended x = record { items = x.items; end = x.last.place }
 
 abbrev pub closed_grammar : Grammar (Closed (Placed Operator))
-closed_grammar = map_value closed_as up_to_end
+closed_grammar = map_value closed_of_ended up_to_end
 
 same_move : {X : Type 0} (m : Move Open) (f h : Open → X) (x y : X) → ((t : Open) → f t ≡ h t) → by_move m f x y ≡ by_move m h x y
 same_move (On t) f h x y e = e t
@@ -226,7 +226,7 @@ code_text true b p t o c s e =
     absurd cc
 code_text false b p t o c s e = (s.0, ap (λ (x : Opcode). x.number) (sym s.1 ∙ e))
 
-no_immediates : (p : ℕ) (t : List ℕ) (i : Immediates) → (listed (by_opcode (opcode 0 end_byte))).spells p t i → (t ≡ []) × (i ≡ NoImmediates)
+no_immediates : (p : ℕ) (t : List ℕ) (i : Immediates) → (immediates_of_row (by_opcode (opcode 0 end_byte))).spells p t i → (t ≡ []) × (i ≡ NoImmediates)
 unfolding table
 no_immediates p t i s = s
 
@@ -244,7 +244,7 @@ end_text p text o s e =
     let same : inner.0.1 ≡ x.0 = some_is inner.0.1 x.0 inner.1 in
     let bytes = inner.2 in
     let c = code_text (is_prefix inner.0.0) inner.0.0 _ bytes.1 inner.0.1 refl bytes.4 (same ∙ is) in
-    let behind : (listed (by_opcode (opcode 0 end_byte))).spells (p + length parts.0) parts.1 x.1 = subst (λ (k : Opcode). (listed (by_opcode k)).spells (p + length parts.0) parts.1 x.1) is parts.4 in
+    let behind : (immediates_of_row (by_opcode (opcode 0 end_byte))).spells (p + length parts.0) parts.1 x.1 = subst (λ (k : Opcode). (immediates_of_row (by_opcode k)).spells (p + length parts.0) parts.1 x.1) is parts.4 in
     let n = no_immediates (p + length parts.0) parts.1 x.1 behind in
     let front : parts.0 ≡ end_byte ∷ [] = bytes.2 ∙ ap (λ (r : List ℕ). r ++ bytes.1) bytes.3 ∙ ap (λ (r : List ℕ). (inner.0.0 ∷ []) ++ r) c.0 ∙ ap (λ (b : ℕ). b ∷ []) c.1 in
     parts.2 ∙ ap (λ (r : List ℕ). r ++ parts.1) front ∙ ap (λ (r : List ℕ). (end_byte ∷ []) ++ r) n.0
@@ -270,7 +270,7 @@ says p text x s =
     let st = s.2 in
     let n = nested_to_end (roles a.items) (role_at a.last) (sym (stops-roles a.items a.last at_start) ∙ st.5) in
     let e : st.1 ≡ end_byte ∷ [] = end_text (p + length st.0) st.1 a.last.value st.4.1 n.1 in
-    subst (λ (y : Closed (Placed Operator)). IsExpression p text y) (some_is (closed_as a) x s.1)
+    subst (λ (y : Closed (Placed Operator)). IsExpression p text y) (some_is (closed_of_ended a) x s.1)
     (st.0, st.2 ∙ ap (λ (r : List ℕ). st.0 ++ r) e, st.3, n.0, st.4.0)
 
 pub said : (p : ℕ) (text : List ℕ) (x : Closed (Placed Operator)) → IsExpression p text x → closed_grammar.spells p text x
@@ -285,7 +285,7 @@ said p text x s =
 
 -- operators, each with its place, and the byte 0B of the last `end`, whose place is kept
 abbrev pub expression : Grammar (Closed (Placed Operator))
-expression = restated closed_grammar IsExpression says said
+expression = with_spelling closed_grammar IsExpression says said
 
 -- an expression without the place of its `end`
 abbrev pub constant : Grammar (List (Placed Operator))

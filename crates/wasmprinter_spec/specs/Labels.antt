@@ -49,8 +49,8 @@ target (suc l) [] = Nothing
 target zero (x ∷ xs) = Around x []
 target (suc l) (x ∷ xs) = behind x (target l xs)
 
--- the labels that are open behind an operator, the innermost first; x is the one that it opens
-abbrev pub labels_after : Role → Label → List Label → List Label
+-- what is known of the labels that are open behind an operator, of the innermost first; x is of the one that it opens
+abbrev pub labels_after : {A : Type 0} → Role → A → List A → List A
 labels_after Opens x xs = x ∷ xs
 labels_after OpensIf x xs = x ∷ xs
 labels_after OpensTry x xs = x ∷ xs
@@ -66,11 +66,11 @@ count_after OpensTry n = suc n
 count_after _ n = n
 
 -- the labels that an operator's immediates may mean: for `delegate` those outside its block
-abbrev pub outside : Role → List Label → List Label
-outside Delegates (x ∷ xs) = xs
-outside _ xs = xs
+abbrev pub labels_outside : Role → List Label → List Label
+labels_outside Delegates (x ∷ xs) = xs
+labels_outside _ xs = xs
 
 -- those further in than all these, whose names can't be used
-abbrev pub inside : Role → List Label → List Label
-inside Delegates (x ∷ xs) = x ∷ []
-inside _ xs = []
+abbrev pub labels_inside : Role → List Label → List Label
+labels_inside Delegates (x ∷ xs) = x ∷ []
+labels_inside _ xs = []

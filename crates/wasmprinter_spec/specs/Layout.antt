@@ -9,11 +9,11 @@ use Rattle.wasmprinter_spec.specs.Customs.Hints.{hints_of}
 use Rattle.wasmprinter_spec.specs.Names.{Names}
 use Rattle.wasmprinter_spec.specs.ModuleNames.{module_names}
 use Rattle.wasmprinter_spec.specs.Placed.{Import, PlacedModule}
-use Rattle.wasmprinter_spec.specs.Module.{groups_of, imported, func_import, table_import, memory_import, global_import, tag_import, without_places}
+use Rattle.wasmprinter_spec.specs.Module.{groups_of, imported_types, func_import, table_import, memory_import, global_import, tag_import, without_places}
 use Rattle.wasmprinter_spec.specs.Call.{Call}
 use Rattle.wasmprinter_spec.specs.Options.{Options, Answers}
 use Rattle.wasmprinter_spec.specs.Piece.{Piece, Begin, Feed, Break, Open, all_calls}
-use Rattle.wasmprinter_spec.specs.Layout.Groups.{group_at, line_group_gap, numbered}
+use Rattle.wasmprinter_spec.specs.Layout.Groups.{group_at, line_group_gap, numbered_pieces}
 use Rattle.wasmprinter_spec.specs.Layout.Identifiers.{leading_mark_pieces}
 use Rattle.wasmprinter_spec.specs.Layout.Declarations.{Scope, scope_of, folding_of, item_index}
 use Rattle.wasmprinter_spec.specs.Layout.Types.{type_section_pieces}
@@ -59,10 +59,10 @@ start_pieces s (Some start) = Break (Some start.place) 1 ∷ line_group_gap (cod
 -- Expressions in front of the functions mean the labels and locals of the first function that is defined, those behind them of the one that
 -- would be next. (In a valid module no such expression has any.)
 abbrev pub early_scope : Options → Names → PlacedModule → Scope
-early_scope o names m = scope_of (all_types (groups_of m.types)) names (length (imported func_import (without_places m.imports))) (folding_of o m)
+early_scope o names m = scope_of (all_types (groups_of m.types)) names (length (imported_types func_import (without_places m.imports))) (folding_of o m)
 
 abbrev pub late_scope : Options → Names → PlacedModule → Scope
-late_scope o names m = record (early_scope o names m) { function = length (imported func_import (without_places m.imports)) + length m.functions }
+late_scope o names m = record (early_scope o names m) { function = length (imported_types func_import (without_places m.imports)) + length m.functions }
 
 -- the fields in the order of their sections, and the custom sections at their places among them
 abbrev pub module_parts : Options → Answers → Names → PlacedModule → List Part
@@ -74,15 +74,15 @@ module_parts o answers names m =
     ++ (Shown (type_section_pieces names 0 m.types) ∷ customs (Some TypeSection))
     ++ (Shown (imports_pieces s no_numbers m.imports) ∷ customs (Some ImportSection))
     ++ customs (Some FunctionSection)
-    ++ (Shown (numbered (table_pieces s) (length (imported table_import is)) m.tables) ∷ customs (Some TableSection))
-    ++ (Shown (numbered (memory_pieces s) (length (imported memory_import is)) m.memories) ∷ customs (Some MemorySection))
-    ++ (Shown (numbered (tag_pieces s) (length (imported tag_import is)) m.tags) ∷ customs (Some TagSection))
-    ++ (Shown (numbered (global_pieces s) (length (imported global_import is)) m.globals) ∷ customs (Some GlobalSection))
-    ++ (Shown (numbered (λ i e. export_pieces s e) 0 m.exports) ∷ customs (Some ExportSection))
+    ++ (Shown (numbered_pieces (table_pieces s) (length (imported_types table_import is)) m.tables) ∷ customs (Some TableSection))
+    ++ (Shown (numbered_pieces (memory_pieces s) (length (imported_types memory_import is)) m.memories) ∷ customs (Some MemorySection))
+    ++ (Shown (numbered_pieces (tag_pieces s) (length (imported_types tag_import is)) m.tags) ∷ customs (Some TagSection))
+    ++ (Shown (numbered_pieces (global_pieces s) (length (imported_types global_import is)) m.globals) ∷ customs (Some GlobalSection))
+    ++ (Shown (numbered_pieces (λ i e. export_pieces s e) 0 m.exports) ∷ customs (Some ExportSection))
     ++ (Shown (start_pieces s m.start) ∷ customs (Some StartSection))
-    ++ (Shown (numbered (element_pieces o.skeleton s) 0 m.elements) ∷ customs (Some ElementSection))
-    ++ (Shown (functions_pieces o s (hints_of m.customs) (length (imported func_import is)) m.functions) ∷ customs (Some CodeSection))
-    ++ (Shown (numbered (data_pieces o.skeleton (late_scope o names m)) 0 m.datas) ∷ customs (Some DataSection))
+    ++ (Shown (numbered_pieces (element_pieces o.skeleton s) 0 m.elements) ∷ customs (Some ElementSection))
+    ++ (Shown (functions_pieces o s (hints_of m.customs) (length (imported_types func_import is)) m.functions) ∷ customs (Some CodeSection))
+    ++ (Shown (numbered_pieces (data_pieces o.skeleton (late_scope o names m)) 0 m.datas) ∷ customs (Some DataSection))
 
 -- whole, or up to the refusal of a custom section
 abbrev pub module_pieces_of : Options → Names → ℕ → List Piece → Option ℕ → List Piece

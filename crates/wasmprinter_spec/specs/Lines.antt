@@ -62,16 +62,16 @@ is_among [] line = false
 is_among (p ∷ ps) line = has_place p line || is_among ps line
 
 -- the lines that begin with none of these places
-abbrev pub kept : List ℕ → List (Option ℕ) → List (Option ℕ)
-kept ps [] = []
-kept ps (line ∷ lines) = cond (is_among ps line) (kept ps lines) (line ∷ kept ps lines)
+abbrev pub lines_without : List ℕ → List (Option ℕ) → List (Option ℕ)
+lines_without ps [] = []
+lines_without ps (line ∷ lines) = cond (is_among ps line) (lines_without ps lines) (line ∷ lines_without ps lines)
 
 -- ---- the lines of a function
 
 -- Where the lines of hints are left out, the line with this number begins with this place, and no other line does. Where they are not, one
 -- line begins with this place too.
 pub record IsItsLine (hints : List ℕ) (lines : List (Option ℕ)) (place number : ℕ) : Type 0 where
-  pub among_kept : IsOnlyLine (kept hints lines) place number
+  pub among_kept : IsOnlyLine (lines_without hints lines) place number
   pub among_all : (n : ℕ) × IsOnlyLine lines place n
 
 -- locals stand on one line, none on no line

@@ -95,13 +95,13 @@ module_of m = record {
 
 -- ---- what is imported of each kind: in each index space imports come first (section 2.5.1 of the standard, "Indices")
 
-abbrev pub selected_first : {A : Type 0} → Option A → List A → List A
-selected_first None xs = xs
-selected_first (Some x) xs = x ∷ xs
+abbrev pub with_first_if_any : {A : Type 0} → Option A → List A → List A
+with_first_if_any None xs = xs
+with_first_if_any (Some x) xs = x ∷ xs
 
-abbrev pub selected : {A B : Type 0} → (A → Option B) → List A → List B
-selected f [] = []
-selected f (x ∷ xs) = selected_first (f x) (selected f xs)
+abbrev pub values_some : {A B : Type 0} → (A → Option B) → List A → List B
+values_some f [] = []
+values_some f (x ∷ xs) = with_first_if_any (f x) (values_some f xs)
 
 abbrev pub func_import : ExternType → Option ℕ
 func_import (FuncExtern i) = Some i
@@ -123,5 +123,5 @@ abbrev pub tag_import : ExternType → Option ℕ
 tag_import (TagExtern i) = Some i
 tag_import _ = None
 
-abbrev pub imported : {A : Type 0} → (ExternType → Option A) → List Import → List A
-imported f is = selected (λ i. f i.type) is
+abbrev pub imported_types : {A : Type 0} → (ExternType → Option A) → List Import → List A
+imported_types f is = values_some (λ i. f i.type) is

@@ -61,23 +61,23 @@ pub record Open : Type 0 where
   pub innermost : Frame
   pub outer : List Frame
 
-abbrev pub opened : Frame → List Frame → Open
-opened f fs = record { innermost = f; outer = fs }
+abbrev pub open_frames : Frame → List Frame → Open
+open_frames f fs = record { innermost = f; outer = fs }
 
 -- the expression itself alone is open
 abbrev pub at_start : Open
-at_start = opened InBlock []
+at_start = open_frames InBlock []
 
-abbrev pub left : List Frame → Move Open
-left [] = Stop
-left (f ∷ fs) = On (opened f fs)
+abbrev pub move_outwards : List Frame → Move Open
+move_outwards [] = Stop
+move_outwards (f ∷ fs) = On (open_frames f fs)
 
-abbrev pub turned : Turn → Open → Move Open
-turned Stay s = On s
-turned (Enter f) s = On (opened f (s.innermost ∷ s.outer))
-turned (Become f) s = On (opened f s.outer)
-turned Leave s = left s.outer
-turned Refuse s = Never
+abbrev pub move_by_turn : Turn → Open → Move Open
+move_by_turn Stay s = On s
+move_by_turn (Enter f) s = On (open_frames f (s.innermost ∷ s.outer))
+move_by_turn (Become f) s = On (open_frames f s.outer)
+move_by_turn Leave s = move_outwards s.outer
+move_by_turn Refuse s = Never
 
 abbrev pub advance : Open → Role → Move Open
-advance s r = turned (turn r s.innermost) s
+advance s r = move_by_turn (turn r s.innermost) s

@@ -5,12 +5,12 @@ use Rattle.std.proofs.Common.{sym, ap, subst, ◌∙◌, append_assoc, append-ni
 use Rattle.std.proofs.lemmas.List.{same_from_push}
 use Rattle.wasmprinter_spec.specs.Row.{Role, Plain, Opens, OpensIf, Turns, OpensTry, Catches, CatchesAll, Delegates, Ends}
 use Rattle.wasmprinter_spec.specs.Stepped.{Move, On, Stop, Never, by_move, stops}
-use Rattle.wasmprinter_spec.specs.Nesting.{Part, Sequence, Handlers, Nests, none, plain, block, one_armed, two_armed, tried, delegated, no_handler, caught, caught_all, Frame, InBlock, InIf, InTry, InCatch, Open, opened, at_start, left, advance}
+use Rattle.wasmprinter_spec.specs.Nesting.{Part, Sequence, Handlers, Nests, none, plain, block, one_armed, two_armed, tried, delegated, no_handler, caught, caught_all, Frame, InBlock, InIf, InTry, InCatch, Open, open_frames, at_start, move_outwards, advance}
 
 -- ---- what is well nested leaves the blocks as they are
 
 abbrev runs : Frame → List Frame → List Role → Role → Bool
-runs f fs xs last = stops advance (opened f fs) xs last
+runs f fs xs last = stops advance (open_frames f fs) xs last
 
 abbrev Handles : Frame → Type 0
 Handles InBlock = ⊥
@@ -21,7 +21,7 @@ Handles InCatch = Unit {0}
 -- behind operators the blocks are the same; behind the catches and the `end` of a `try` it is left
 abbrev Goes : Part → List Role → Type 0
 Goes Sequence xs = (f : Frame) (fs : List Frame) (more : List Role) (last : Role) → runs f fs (xs ++ more) last ≡ runs f fs more last
-Goes Handlers xs = (f : Frame) → Handles f → (fs : List Frame) (more : List Role) (last : Role) → runs f fs (xs ++ Ends ∷ more) last ≡ by_move (left fs) (λ t. stops advance t more last) false false
+Goes Handlers xs = (f : Frame) → Handles f → (fs : List Frame) (more : List Role) (last : Role) → runs f fs (xs ++ Ends ∷ more) last ≡ by_move (move_outwards fs) (λ t. stops advance t more last) false false
 
 catches : (f : Frame) → Handles f → (fs : List Frame) (more : List Role) (last : Role) → runs f fs (Catches ∷ more) last ≡ runs InCatch fs more last
 catches InBlock h fs more last = absurd h
@@ -190,11 +190,11 @@ After (On s) xs = Closes (s.innermost ∷ s.outer) xs
 After Stop xs = xs ≡ []
 After Never xs = ⊥
 
-left_closes : (fs : List Frame) (xs : List Role) → After (left fs) xs → Closes fs xs
+left_closes : (fs : List Frame) (xs : List Role) → After (move_outwards fs) xs → Closes fs xs
 left_closes [] xs a = a
 left_closes (f ∷ fs) xs a = a
 
-one : (x : Role) (f : Frame) (fs : List Frame) (xs : List Role) → After (advance (opened f fs) x) xs → Closes (f ∷ fs) (x ∷ xs)
+one : (x : Role) (f : Frame) (fs : List Frame) (xs : List Role) → After (advance (open_frames f fs) x) xs → Closes (f ∷ fs) (x ∷ xs)
 one Plain f fs xs a = (a.0, grown (Plain ∷ []) (λ ys n. plain n) f xs a.0 a.1, a.2)
 one Opens f fs xs a = entered Opens f InBlock fs xs (block_group xs) a
 one OpensIf f fs xs a = entered OpensIf f InIf fs xs (λ mid c. if_tail xs mid c.body c.tail c.nested c.is c.ends) a

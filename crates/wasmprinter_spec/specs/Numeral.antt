@@ -40,18 +40,18 @@ natural (b ∷ []) = numeral 10 (b ∷ [])
 natural (b ∷ c ∷ bs) = if (b == 48) && (c == 120) then numeral 16 bs else numeral 10 (b ∷ c ∷ bs)
 
 -- a number below 2 ^ bits
-abbrev pub below : ℕ → ℕ → Option ℕ
-below bits n = if nat_lt n (2 ^ bits) then Some n else None
+abbrev pub number_below : ℕ → ℕ → Option ℕ
+number_below bits n = if nat_lt n (2 ^ bits) then Some n else None
 
 -- whole numbers without a sign, of so many bits
 abbrev pub u8 : List ℕ → Option ℕ
-u8 w = natural w >>= below 8
+u8 w = natural w >>= number_below 8
 
 abbrev pub u32 : List ℕ → Option ℕ
-u32 w = natural w >>= below 32
+u32 w = natural w >>= number_below 32
 
 abbrev pub u64 : List ℕ → Option ℕ
-u64 w = natural w >>= below 64
+u64 w = natural w >>= number_below 64
 
 -- the exponent below n of a power of two
 abbrev pub exponent_below : ℕ → ℕ → Option ℕ

@@ -51,9 +51,9 @@ abbrev pub most_indents : ℕ
 most_indents = 50
 
 -- so many times
-unfoldable pub repeated : ℕ → List ℕ → List ℕ
-repeated zero text = []
-repeated (suc n) text = text ++ repeated n text
+unfoldable pub repetition_of : ℕ → List ℕ → List ℕ
+repetition_of zero text = []
+repetition_of (suc n) text = text ++ repetition_of n text
 
 -- text filled with blanks to a width
 unfoldable pub left_in : ℕ → List ℕ → List ℕ
@@ -69,8 +69,8 @@ place_calls false place = []
 place_calls true (Some p) = Start Comment ∷ (Text (place_text (Some p)) ∷ (Start Reset ∷ []))
 place_calls true None = Text (place_text None) ∷ []
 
-abbrev pub styled : Style → List ℕ → List Call
-styled style s = Start style ∷ (Text s ∷ (Start Reset ∷ []))
+abbrev pub calls_in_style : Style → List ℕ → List Call
+calls_in_style style s = Start style ∷ (Text s ∷ (Start Reset ∷ []))
 
 -- words, with a blank before each
 abbrev pub behind_blanks : List (List ℕ) → List ℕ
@@ -87,38 +87,38 @@ flag_byte false = 0
 abbrev pub calls : Options → Piece → List Call
 calls o (Begin place) = Line (Some place) ∷ []
 calls o Feed = Newline ∷ []
-calls o (Break place nesting) = Newline ∷ (Line place ∷ (place_calls o.offsets place ++ (Text (repeated (min nesting most_indents) o.indent) ∷ [])))
+calls o (Break place nesting) = Newline ∷ (Line place ∷ (place_calls o.offsets place ++ (Text (repetition_of (min nesting most_indents) o.indent) ∷ [])))
 calls o Gap = Text (codes " ") ∷ []
-calls o (Open w) = Text (codes "(") ∷ styled Keyword w
-calls o (OpenGap w) = Text (codes "(") ∷ styled Keyword (w ++ codes " ")
+calls o (Open w) = Text (codes "(") ∷ calls_in_style Keyword w
+calls o (OpenGap w) = Text (codes "(") ∷ calls_in_style Keyword (w ++ codes " ")
 calls o (OpenPlain w) = Text (codes "(" ++ w) ∷ []
-calls o OpenBare = Text (codes "(") ∷ styled Keyword []
-calls o (OpenTypeGap w) = Text (codes "(") ∷ styled TypeName (w ++ codes " ")
-calls o (OpenNote w) = Text (codes "(") ∷ styled Keyword (64 ∷ w)
-calls o (OpenNoteGap w) = Text (codes "(") ∷ styled Keyword (64 ∷ (w ++ codes " "))
-calls o (OpenRun w) = Text (codes "(") ∷ styled Keyword w
+calls o OpenBare = Text (codes "(") ∷ calls_in_style Keyword []
+calls o (OpenTypeGap w) = Text (codes "(") ∷ calls_in_style TypeName (w ++ codes " ")
+calls o (OpenNote w) = Text (codes "(") ∷ calls_in_style Keyword (64 ∷ w)
+calls o (OpenNoteGap w) = Text (codes "(") ∷ calls_in_style Keyword (64 ∷ (w ++ codes " "))
+calls o (OpenRun w) = Text (codes "(") ∷ calls_in_style Keyword w
 calls o Shut = Text (codes ")") ∷ []
 calls o (Word w) = Text w ∷ []
-calls o (TypeWord w) = styled TypeName w
-calls o (TypeWordGap w) = styled TypeName (w ++ codes " ")
-calls o (GapTypeWord w) = styled TypeName (32 ∷ w)
-calls o (Number n) = styled Name (decimal n)
-calls o (Constant z) = styled Literal (32 ∷ signed_decimal z)
-calls o (Literals w ws) = styled Literal (w ++ behind_blanks ws)
-calls o (GapLiterals ws) = styled Literal (behind_blanks ws)
+calls o (TypeWord w) = calls_in_style TypeName w
+calls o (TypeWordGap w) = calls_in_style TypeName (w ++ codes " ")
+calls o (GapTypeWord w) = calls_in_style TypeName (32 ∷ w)
+calls o (Number n) = calls_in_style Name (decimal n)
+calls o (Constant z) = calls_in_style Literal (32 ∷ signed_decimal z)
+calls o (Literals w ws) = calls_in_style Literal (w ++ behind_blanks ws)
+calls o (GapLiterals ws) = calls_in_style Literal (behind_blanks ws)
 calls o (Float w bits) = float_calls w bits
 calls o (NumberRemark n) = Text (codes "(;" ++ (decimal n ++ codes ";)")) ∷ []
 calls o BeginName = Start Name ∷ []
 calls o EndStyle = Start Reset ∷ []
-calls o (Quoted cs) = styled Literal (quoted_text cs)
-calls o (QuotedBytes bs) = styled Literal (quoted_bytes bs)
+calls o (Quoted cs) = calls_in_style Literal (quoted_text cs)
+calls o (QuotedBytes bs) = calls_in_style Literal (quoted_bytes bs)
 calls o (Identifier cs) = Text (identifier_text cs) ∷ []
-calls o (NameNote cs) = Text (codes "(") ∷ (styled Keyword (codes "@name \"") ++ (Text (flat_map char_text cs) ∷ (Text (codes "\")") ∷ [])))
-calls o (Remark true s) = styled Comment (codes " (;" ++ (s ++ codes ";)"))
+calls o (NameNote cs) = Text (codes "(") ∷ (calls_in_style Keyword (codes "@name \"") ++ (Text (flat_map char_text cs) ∷ (Text (codes "\")") ∷ [])))
+calls o (Remark true s) = calls_in_style Comment (codes " (;" ++ (s ++ codes ";)"))
 calls o (Remark false s) = Text (codes " (;" ++ (s ++ codes ";)")) ∷ []
-calls o (Ending s) = styled Comment (codes ";; " ++ s)
+calls o (Ending s) = calls_in_style Comment (codes ";; " ++ s)
 calls o (PlainEnding s) = Text (codes ";; " ++ s) ∷ []
-calls o (HintNote taken) = styled Comment (codes "(@metadata.code.branch_hint " ++ (quoted_bytes (flag_byte taken ∷ []) ++ codes ")"))
+calls o (HintNote taken) = calls_in_style Comment (codes "(@metadata.code.branch_hint " ++ (quoted_bytes (flag_byte taken ∷ []) ++ codes ")"))
 calls o (Claimed name place bytes answer) = Claim name place bytes answer ∷ []
 
 abbrev pub piece_tokens : Piece → List Token

@@ -5,11 +5,11 @@ use Rattle.std.specs.Prelude.{ℕ, List, [], ◌∷◌, ◌++◌, Bool, true, fa
 use Rattle.std.specs.List.{filter}
 use Rattle.std.specs.Str.{is_utf8}
 use Rattle.wasmprinter_spec.specs.Grammar.{◌>>=◌}
-use Rattle.wasmprinter_spec.specs.Forest.{Forest, End, Word, Group, forest, cut, customs}
+use Rattle.wasmprinter_spec.specs.Forest.{Forest, End, Word, Group, forest, without_annotations, customs}
 use Rattle.wasmprinter_spec.specs.Types.{SubType, ExternKind, FuncKind, TableKind, MemoryKind, GlobalKind, TagKind, concat, all_types, signature_at}
 use Rattle.wasmprinter_spec.specs.Module.{Module}
 use Rattle.wasmprinter_spec.specs.IndexSpaces.{Identifiers, index_space, index, Spaces, Context}
-use Rattle.wasmprinter_spec.specs.Text.Items.{each, identified}
+use Rattle.wasmprinter_spec.specs.Text.Items.{each, identifier_in_front}
 use Rattle.wasmprinter_spec.specs.Text.Types.{Declared, group_members, group_types, field_space, read_group}
 use Rattle.wasmprinter_spec.specs.Text.Functions.{read_function}
 use Rattle.wasmprinter_spec.specs.Text.Imports.{ImportField, import_field, read_import}
@@ -60,9 +60,9 @@ with_start f m None = Some (record m { start = Some f })
 with_start f m (Some g) = None
 
 -- imports stand before all that is defined in the index spaces which they share
-abbrev pub defining : Fields → List ImportField → Option Fields
-defining m [] = Some m
-defining m (i ∷ is) = None
+abbrev pub fields_without_imports : Fields → List ImportField → Option Fields
+fields_without_imports m [] = Some m
+fields_without_imports m (i ∷ is) = None
 
 -- A field before others, by its word: none where it can't stand before them.
 abbrev pub with_field : List ℕ → Forest → Fields → Option Fields
@@ -70,11 +70,11 @@ with_field w f m =
     if bytes_eq w (codes "type") then Some (record m { types = (f ∷ []) ∷ m.types }) else
     (if bytes_eq w (codes "rec") then option_map (λ fs. record m { types = fs ∷ m.types }) (group_members f) else
     (if bytes_eq w (codes "import") then option_map (λ i. record m { imports = i ∷ m.imports }) (import_field f) else
-    (if bytes_eq w (codes "func") then defining (record m { functions = f ∷ m.functions }) m.imports else
-    (if bytes_eq w (codes "table") then defining (record m { tables = f ∷ m.tables }) m.imports else
-    (if bytes_eq w (codes "memory") then defining (record m { memories = f ∷ m.memories }) m.imports else
-    (if bytes_eq w (codes "tag") then defining (record m { tags = f ∷ m.tags }) m.imports else
-    (if bytes_eq w (codes "global") then defining (record m { globals = f ∷ m.globals }) m.imports else
+    (if bytes_eq w (codes "func") then fields_without_imports (record m { functions = f ∷ m.functions }) m.imports else
+    (if bytes_eq w (codes "table") then fields_without_imports (record m { tables = f ∷ m.tables }) m.imports else
+    (if bytes_eq w (codes "memory") then fields_without_imports (record m { memories = f ∷ m.memories }) m.imports else
+    (if bytes_eq w (codes "tag") then fields_without_imports (record m { tags = f ∷ m.tags }) m.imports else
+    (if bytes_eq w (codes "global") then fields_without_imports (record m { globals = f ∷ m.globals }) m.imports else
     (if bytes_eq w (codes "export") then Some (record m { exports = f ∷ m.exports }) else
     (if bytes_eq w (codes "start") then with_start f m m.start else
     (if bytes_eq w (codes "elem") then Some (record m { elements = f ∷ m.elements }) else
@@ -88,8 +88,8 @@ fields _ = None
 -- ---- identifiers
 
 -- the identifiers of declarations
-abbrev pub declared : List Forest → Identifiers
-declared fs = map (λ f. (identified f).0) fs
+abbrev pub identifiers_of : List Forest → Identifiers
+identifiers_of fs = map (λ f. (identifier_in_front f).0) fs
 
 abbrev pub same_kind : ExternKind → ExternKind → Bool
 same_kind FuncKind FuncKind = true
@@ -101,23 +101,23 @@ same_kind _ _ = false
 
 -- the identifiers of imports of a kind
 abbrev pub imported_ids : ExternKind → List ImportField → Identifiers
-imported_ids kind is = declared (map (λ i. i.item) (filter (λ i. same_kind kind i.kind) is))
+imported_ids kind is = identifiers_of (map (λ i. i.item) (filter (λ i. same_kind kind i.kind) is))
 
 -- an index space counts imports first
 abbrev pub space_behind : ExternKind → List ImportField → List Forest → Option Identifiers
-space_behind kind is fs = index_space (imported_ids kind is ++ declared fs)
+space_behind kind is fs = index_space (imported_ids kind is ++ identifiers_of fs)
 
 -- the index spaces outside functions
 abbrev pub spaces_of : Fields → Option Spaces
 spaces_of m = do
-  types ← index_space (declared (concat m.types))
+  types ← index_space (identifiers_of (concat m.types))
   functions ← space_behind FuncKind m.imports m.functions
   tables ← space_behind TableKind m.imports m.tables
   memories ← space_behind MemoryKind m.imports m.memories
   tags ← space_behind TagKind m.imports m.tags
   globals ← space_behind GlobalKind m.imports m.globals
-  elems ← index_space (declared m.elements)
-  datas ← index_space (declared m.datas)
+  elems ← index_space (identifiers_of m.elements)
+  datas ← index_space (identifiers_of m.datas)
   Some (record {
     types = types;
     functions = functions;
@@ -171,7 +171,7 @@ module_of_fields m = do
 
 -- what a group `module` holds behind its identifier
 abbrev pub module_fields : Forest → Option Forest
-module_fields (Group (Word w f) End) = if bytes_eq w (codes "module") then Some (identified f).1 else None
+module_fields (Group (Word w f) End) = if bytes_eq w (codes "module") then Some (identifier_in_front f).1 else None
 module_fields _ = None
 
 abbrev pub read_forest : Forest → Option Module
@@ -179,10 +179,10 @@ read_forest f = module_fields f >>= fields >>= module_of_fields
 
 -- the custom sections of a text, each without the annotations in it
 abbrev pub read_customs : Forest → Option (List RawCustom)
-read_customs f = each (λ c. read_custom (cut c)) (customs f)
+read_customs f = each (λ c. read_custom (without_annotations c)) (customs f)
 
 abbrev pub read_groups : Forest → Option Module
-read_groups f = read_forest (cut f) >>= λ m. read_customs f >>= λ cs. Some (record m { customs = cs })
+read_groups f = read_forest (without_annotations f) >>= λ m. read_customs f >>= λ cs. Some (record m { customs = cs })
 
 -- the module that a text writes
 abbrev pub read : List ℕ → Option Module

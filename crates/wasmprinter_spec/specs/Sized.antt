@@ -96,80 +96,80 @@ module _ {A B : Type 0} (g : Grammar A) (w : Remainder B) where
   abbrev pub Headed : ℕ → List ℕ → A × B → Type 0
   Headed p text x = (t u : List ℕ) × (text ≡ t ++ u) × g.spells p t x.0 × w.spells (p + length t) u x.1
 
-  abbrev pub headed_at : Input → Option (A × B)
-  headed_at at = g.parse at >>= λ a. w.parse a.1 >>= λ b. Some (a.0, b)
+  abbrev pub seq_to_end_at : Input → Option (A × B)
+  seq_to_end_at at = g.parse at >>= λ a. w.parse a.1 >>= λ b. Some (a.0, b)
 
-  pub headed_sound : (at : Input) (x : A × B) → headed_at at ≡ Some x → Headed at.place at.bytes x
-  headed_sound at x e =
+  pub seq_to_end_sound : (at : Input) (x : A × B) → seq_to_end_at at ≡ Some x → Headed at.place at.bytes x
+  seq_to_end_sound at x e =
       let a = bind_some (g.parse at) (λ a. w.parse a.1 >>= λ b. Some (a.0, b)) x e in
       let b = bind_some (w.parse a.0.1) (λ b. Some (a.0.0, b)) x a.2 in
       let s = g.sound at a.0 a.1 in
       subst (λ (y : A × B). Headed at.place at.bytes y) (some_is (a.0.0, b.0) x b.2)
       (s.text, a.0.1.bytes, s.parts, s.spelled, subst (λ (p : ℕ). w.spells p a.0.1.bytes b.0) s.ends (w.sound a.0.1 b.0 b.1))
 
-  pub headed_complete : (at : Input) (x : A × B) → Headed at.place at.bytes x → headed_at at ≡ Some x
-  headed_complete at x s =
+  pub seq_to_end_complete : (at : Input) (x : A × B) → Headed at.place at.bytes x → seq_to_end_at at ≡ Some x
+  seq_to_end_complete at x s =
       let after : Input = input (at.place + length s.0) s.1 in
       let e : g.parse at ≡ Some (x.0, after) = g.complete at (x.0, after) (record { text = s.0; parts = s.2; ends = refl; spelled = s.3 }) in
       let f : w.parse after ≡ Some x.1 = w.complete after x.1 s.4 in
       rw (e, f) refl
 
-  abbrev pub headed : Remainder (A × B)
-  headed = record { spells = Headed; parse = headed_at; sound = headed_sound; complete = headed_complete }
+  abbrev pub seq_to_end : Remainder (A × B)
+  seq_to_end = record { spells = Headed; parse = seq_to_end_at; sound = seq_to_end_sound; complete = seq_to_end_complete }
 
 -- all bytes that are left, with the place of the first
 abbrev pub AllLeft : ℕ → List ℕ → Placed (List ℕ) → Type 0
 AllLeft p text x = (x.place ≡ p) × (x.value ≡ text)
 
-abbrev pub left_at : Input → Option (Placed (List ℕ))
-left_at at = Some (record { place = at.place; value = at.bytes })
+abbrev pub remaining_bytes_at : Input → Option (Placed (List ℕ))
+remaining_bytes_at at = Some (record { place = at.place; value = at.bytes })
 
-pub left_sound : (at : Input) (x : Placed (List ℕ)) → left_at at ≡ Some x → AllLeft at.place at.bytes x
-left_sound at x e =
+pub remaining_bytes_sound : (at : Input) (x : Placed (List ℕ)) → remaining_bytes_at at ≡ Some x → AllLeft at.place at.bytes x
+remaining_bytes_sound at x e =
     let s = some_is (record { place = at.place; value = at.bytes }) x e in
     (sym (ap (λ (y : Placed (List ℕ)). y.place) s), sym (ap (λ (y : Placed (List ℕ)). y.value) s))
 
-pub left_complete : (at : Input) (x : Placed (List ℕ)) → AllLeft at.place at.bytes x → left_at at ≡ Some x
-left_complete at x s = rw (← s.0, ← s.1) refl
+pub remaining_bytes_complete : (at : Input) (x : Placed (List ℕ)) → AllLeft at.place at.bytes x → remaining_bytes_at at ≡ Some x
+remaining_bytes_complete at x s = rw (← s.0, ← s.1) refl
 
-abbrev pub left : Remainder (Placed (List ℕ))
-left = record { spells = AllLeft; parse = left_at; sound = left_sound; complete = left_complete }
+abbrev pub remaining_bytes : Remainder (Placed (List ℕ))
+remaining_bytes = record { spells = AllLeft; parse = remaining_bytes_at; sound = remaining_bytes_sound; complete = remaining_bytes_complete }
 
 -- a value that takes all bytes, with the place of the first
 module _ {A : Type 0} (w : Remainder A) where
   abbrev pub PlacedWhole : ℕ → List ℕ → Placed A → Type 0
   PlacedWhole p text x = (x.place ≡ p) × w.spells p text x.value
 
-  abbrev pub placed_whole_at : Input → Option (Placed A)
-  placed_whole_at at = w.parse at >>= λ a. Some (record { place = at.place; value = a })
+  abbrev pub whole_with_place_at : Input → Option (Placed A)
+  whole_with_place_at at = w.parse at >>= λ a. Some (record { place = at.place; value = a })
 
-  pub placed_whole_sound : (at : Input) (x : Placed A) → placed_whole_at at ≡ Some x → PlacedWhole at.place at.bytes x
-  placed_whole_sound at x e =
+  pub whole_with_place_sound : (at : Input) (x : Placed A) → whole_with_place_at at ≡ Some x → PlacedWhole at.place at.bytes x
+  whole_with_place_sound at x e =
       let with_place : A → Placed A = λ a. record { place = at.place; value = a } in
       let a = bind_some (w.parse at) (λ a. Some (with_place a)) x e in
       subst (λ (y : Placed A). PlacedWhole at.place at.bytes y) (some_is (with_place a.0) x a.2) (refl, w.sound at a.0 a.1)
 
-  pub placed_whole_complete : (at : Input) (x : Placed A) → PlacedWhole at.place at.bytes x → placed_whole_at at ≡ Some x
-  placed_whole_complete at x s = rw (w.complete at x.value s.1, ← s.0) refl
+  pub whole_with_place_complete : (at : Input) (x : Placed A) → PlacedWhole at.place at.bytes x → whole_with_place_at at ≡ Some x
+  whole_with_place_complete at x s = rw (w.complete at x.value s.1, ← s.0) refl
 
-  abbrev pub placed_whole : Remainder (Placed A)
-  placed_whole = record { spells = PlacedWhole; parse = placed_whole_at; sound = placed_whole_sound; complete = placed_whole_complete }
+  abbrev pub whole_with_place : Remainder (Placed A)
+  whole_with_place = record { spells = PlacedWhole; parse = whole_with_place_at; sound = whole_with_place_sound; complete = whole_with_place_complete }
 
 -- the values of a whole under a function, which may refuse and is told where the bytes end
 module _ {A B : Type 0} (f : ℕ → A → Option B) (w : Remainder A) where
   abbrev pub Concluded : ℕ → List ℕ → B → Type 0
   Concluded p text b = (a : A) × (f (p + length text) a ≡ Some b) × w.spells p text a
 
-  abbrev pub concluded_at : Input → Option B
-  concluded_at at = w.parse at >>= λ a. f (at.place + length at.bytes) a
+  abbrev pub try_map_by_end_at : Input → Option B
+  try_map_by_end_at at = w.parse at >>= λ a. f (at.place + length at.bytes) a
 
-  pub concluded_sound : (at : Input) (b : B) → concluded_at at ≡ Some b → Concluded at.place at.bytes b
-  concluded_sound at b e =
+  pub try_map_by_end_sound : (at : Input) (b : B) → try_map_by_end_at at ≡ Some b → Concluded at.place at.bytes b
+  try_map_by_end_sound at b e =
       let a = bind_some (w.parse at) (λ a. f (at.place + length at.bytes) a) b e in
       (a.0, a.2, w.sound at a.0 a.1)
 
-  pub concluded_complete : (at : Input) (b : B) → Concluded at.place at.bytes b → concluded_at at ≡ Some b
-  concluded_complete at b s = rw (w.complete at s.0 s.2) s.1
+  pub try_map_by_end_complete : (at : Input) (b : B) → Concluded at.place at.bytes b → try_map_by_end_at at ≡ Some b
+  try_map_by_end_complete at b s = rw (w.complete at s.0 s.2) s.1
 
-  abbrev pub concluded : Remainder B
-  concluded = record { spells = Concluded; parse = concluded_at; sound = concluded_sound; complete = concluded_complete }
+  abbrev pub try_map_by_end : Remainder B
+  try_map_by_end = record { spells = Concluded; parse = try_map_by_end_at; sound = try_map_by_end_sound; complete = try_map_by_end_complete }

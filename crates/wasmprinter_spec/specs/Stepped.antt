@@ -41,9 +41,9 @@ module _ {A S : Type 0} (g : Grammar A) (step : S → A → Move S) (takes : (p 
   Stepped s p text x = (t u : List ℕ) × (text ≡ t ++ u) × Items g p t x.items × g.spells (p + length t) u x.last × (stops step s x.items x.last ≡ true)
 
   -- no more than n items with the last, since each takes a byte
-  abbrev pub stepped_of : ℕ → S → Input → Option (Ended A × Input)
-  stepped_of zero s at = None
-  stepped_of (suc n) s at = g.parse at >>= λ x. by_move (step s x.0) (λ t. in_front x.0 (stepped_of n t x.1)) (Some (list_with_last [] x.0, x.1)) None
+  abbrev pub items_by_steps_of : ℕ → S → Input → Option (Ended A × Input)
+  items_by_steps_of zero s at = None
+  items_by_steps_of (suc n) s at = g.parse at >>= λ x. by_move (step s x.0) (λ t. in_front x.0 (items_by_steps_of n t x.1)) (Some (list_with_last [] x.0, x.1)) None
 
   push : (s t : S) (at : Input) (x : A × Input) (y : Ended A × Input) → (f : Spans g.spells at x) → step s x.0 ≡ On t → (r : Spans (Stepped t) x.1 y) → Spans (Stepped s) at (list_with_last (x.0 ∷ y.0.items) y.0.last, y.1)
   push s t at x y f e r =
@@ -74,22 +74,22 @@ module _ {A S : Type 0} (g : Grammar A) (step : S → A → Move S) (takes : (p 
         spelled = ([], f.text, refl, refl, subst (λ (q : ℕ). g.spells q f.text x.0) l f.spelled, ap (λ (m : Move S). by_move m (λ t. false) true false) e);
       }
 
-  by_cases : (n : ℕ) (more : (s : S) (at : Input) (x : Ended A × Input) → stepped_of n s at ≡ Some x → Spans (Stepped s) at x) (s : S) (at : Input) (x : Ended A × Input)
-      (y : A × Input) (f : Spans g.spells at y) (m : Move S) → step s y.0 ≡ m → by_move m (λ t. in_front y.0 (stepped_of n t y.1)) (Some (list_with_last [] y.0, y.1)) None ≡ Some x → Spans (Stepped s) at x
+  by_cases : (n : ℕ) (more : (s : S) (at : Input) (x : Ended A × Input) → items_by_steps_of n s at ≡ Some x → Spans (Stepped s) at x) (s : S) (at : Input) (x : Ended A × Input)
+      (y : A × Input) (f : Spans g.spells at y) (m : Move S) → step s y.0 ≡ m → by_move m (λ t. in_front y.0 (items_by_steps_of n t y.1)) (Some (list_with_last [] y.0, y.1)) None ≡ Some x → Spans (Stepped s) at x
   by_cases n more s at x y f (On t) same h =
-      let r = bind_some (stepped_of n t y.1) (λ z. Some (list_with_last (y.0 ∷ z.0.items) z.0.last, z.1)) x h in
+      let r = bind_some (items_by_steps_of n t y.1) (λ z. Some (list_with_last (y.0 ∷ z.0.items) z.0.last, z.1)) x h in
       subst (λ (z : Ended A × Input). Spans (Stepped s) at z) (some_is (list_with_last (y.0 ∷ r.0.0.items) r.0.0.last, r.0.1) x r.2)
       (push s t at y r.0 f same (more t y.1 r.0 r.1))
   by_cases n more s at x y f Stop same h =
       subst (λ (z : Ended A × Input). Spans (Stepped s) at z) (some_is (list_with_last [] y.0, y.1) x h) (stay s at y f same)
   by_cases n more s at x y f Never same h = absurd cc
 
-  stepped_sound_of : (n : ℕ) (s : S) (at : Input) (x : Ended A × Input) → stepped_of n s at ≡ Some x → Spans (Stepped s) at x
-  stepped_sound_of zero s at x e = absurd cc
-  stepped_sound_of (suc n) s at x e =
-      let rest : A × Input → Option (Ended A × Input) = λ y. by_move (step s y.0) (λ t. in_front y.0 (stepped_of n t y.1)) (Some (list_with_last [] y.0, y.1)) None in
+  items_by_steps_sound_of : (n : ℕ) (s : S) (at : Input) (x : Ended A × Input) → items_by_steps_of n s at ≡ Some x → Spans (Stepped s) at x
+  items_by_steps_sound_of zero s at x e = absurd cc
+  items_by_steps_sound_of (suc n) s at x e =
+      let rest : A × Input → Option (Ended A × Input) = λ y. by_move (step s y.0) (λ t. in_front y.0 (items_by_steps_of n t y.1)) (Some (list_with_last [] y.0, y.1)) None in
       let y = bind_some (g.parse at) rest x e in
-      by_cases n (stepped_sound_of n) s at x y.0 (g.sound at y.0 y.1) (step s y.0.0) refl y.2
+      by_cases n (items_by_steps_sound_of n) s at x y.0 (g.sound at y.0 y.1) (step s y.0.0) refl y.2
 
   stop_case : {X : Type 0} (m : Move S) (f : S → X) (x y : X) → by_move m (λ t. false) true false ≡ true → by_move m f x y ≡ x
   stop_case (On t) f x y e = absurd cc
@@ -97,26 +97,26 @@ module _ {A S : Type 0} (g : Grammar A) (step : S → A → Move S) (takes : (p 
   stop_case Never f x y e = absurd cc
 
   on_case : (m : Move S) (n : ℕ) (x : A) (xs : List A) (last : A) (mid : Input) (y : Option (Ended A × Input)) (r : Ended A × Input) → by_move m (λ t. stops step t xs last) false false ≡ true
-      → ((t : S) → stops step t xs last ≡ true → stepped_of n t mid ≡ Some r) → by_move m (λ t. in_front x (stepped_of n t mid)) y None ≡ Some (list_with_last (x ∷ r.0.items) r.0.last, r.1)
+      → ((t : S) → stops step t xs last ≡ true → items_by_steps_of n t mid ≡ Some r) → by_move m (λ t. in_front x (items_by_steps_of n t mid)) y None ≡ Some (list_with_last (x ∷ r.0.items) r.0.last, r.1)
   on_case (On t) n x xs last mid y r e more = rw (more t e) refl
   on_case Stop n x xs last mid y r e more = absurd cc
   on_case Never n x xs last mid y r e more = absurd cc
 
-  stepped_complete_of : (xs : List A) (last : A) (n : ℕ) (s : S) (p : ℕ) (t u rest : List ℕ) → length t < n → Items g p t xs → g.spells (p + length t) u last → stops step s xs last ≡ true →
-      stepped_of n s (input p (t ++ (u ++ rest))) ≡ Some (list_with_last xs last, input (p + length t + length u) rest)
-  stepped_complete_of [] last zero s p t u rest lt i l h = absurd (omega arith)
-  stepped_complete_of [] last (suc n) s p t u rest lt i l h =
+  items_by_steps_complete_of : (xs : List A) (last : A) (n : ℕ) (s : S) (p : ℕ) (t u rest : List ℕ) → length t < n → Items g p t xs → g.spells (p + length t) u last → stops step s xs last ≡ true →
+      items_by_steps_of n s (input p (t ++ (u ++ rest))) ≡ Some (list_with_last xs last, input (p + length t + length u) rest)
+  items_by_steps_complete_of [] last zero s p t u rest lt i l h = absurd (omega arith)
+  items_by_steps_complete_of [] last (suc n) s p t u rest lt i l h =
       let at : Input = input (p + length t) (u ++ rest) in
       let after : Input = input (p + length t + length u) rest in
       let e : g.parse at ≡ Some (last, after) = g.complete at (last, after) (record { text = u; parts = refl; ends = refl; spelled = l }) in
       let places : p ≡ p + length t = omega (arith, ap length i) in
-      let next : A × Input → Option (Ended A × Input) = λ x. by_move (step s x.0) (λ t. in_front x.0 (stepped_of n t x.1)) (Some (list_with_last [] x.0, x.1)) None in
-      ap (λ (r : List ℕ). stepped_of (suc n) s (input p (r ++ (u ++ rest)))) i
-      ∙ ap (λ (q : ℕ). stepped_of (suc n) s (input q (u ++ rest))) places
+      let next : A × Input → Option (Ended A × Input) = λ x. by_move (step s x.0) (λ t. in_front x.0 (items_by_steps_of n t x.1)) (Some (list_with_last [] x.0, x.1)) None in
+      ap (λ (r : List ℕ). items_by_steps_of (suc n) s (input p (r ++ (u ++ rest)))) i
+      ∙ ap (λ (q : ℕ). items_by_steps_of (suc n) s (input q (u ++ rest))) places
       ∙ ap (λ (r : Option (A × Input)). r >>= next) e
-      ∙ stop_case (step s last) (λ t. in_front last (stepped_of n t after)) (Some (list_with_last [] last, after)) None h
-  stepped_complete_of (x ∷ xs) last zero s p t u rest lt i l h = absurd (omega arith)
-  stepped_complete_of (x ∷ xs) last (suc n) s p t u rest lt i l h =
+      ∙ stop_case (step s last) (λ t. in_front last (items_by_steps_of n t after)) (Some (list_with_last [] last, after)) None h
+  items_by_steps_complete_of (x ∷ xs) last zero s p t u rest lt i l h = absurd (omega arith)
+  items_by_steps_complete_of (x ∷ xs) last (suc n) s p t u rest lt i l h =
       let a : List ℕ = i.0 in
       let b : List ℕ = i.1 in
       let mid : Input = input (p + length a) (b ++ (u ++ rest)) in
@@ -125,31 +125,31 @@ module _ {A S : Type 0} (g : Grammar A) (step : S → A → Move S) (takes : (p 
       let joins : t ++ (u ++ rest) ≡ a ++ (b ++ (u ++ rest)) = ap (λ (r : List ℕ). r ++ (u ++ rest)) i.2 ∙ append_assoc a b (u ++ rest) in
       let len : length t ≡ length a + length b = ap length i.2 ∙ length-append a b in
       let e : g.parse (input p (a ++ (b ++ (u ++ rest)))) ≡ Some (x, mid) = g.complete (input p (a ++ (b ++ (u ++ rest)))) (x, mid) (record { text = a; parts = refl; ends = refl; spelled = i.3 }) in
-      let next : A × Input → Option (Ended A × Input) = λ y. by_move (step s y.0) (λ t. in_front y.0 (stepped_of n t y.1)) (Some (list_with_last [] y.0, y.1)) None in
+      let next : A × Input → Option (Ended A × Input) = λ y. by_move (step s y.0) (λ t. in_front y.0 (items_by_steps_of n t y.1)) (Some (list_with_last [] y.0, y.1)) None in
       let there : p + length t ≡ p + length a + length b = omega arith in
       let last_there : g.spells (p + length a + length b) u last = subst (λ (q : ℕ). g.spells q u last) there l in
       let places : p + length a + length b + length u ≡ p + length t + length u = omega arith in
-      ap (λ (r : List ℕ). stepped_of (suc n) s (input p r)) joins
+      ap (λ (r : List ℕ). items_by_steps_of (suc n) s (input p r)) joins
       ∙ ap (λ (r : Option (A × Input)). r >>= next) e
-      ∙ on_case (step s x) n x xs last mid (Some (list_with_last [] x, mid)) (list_with_last xs last, after) h (λ t k. stepped_complete_of xs last n t (p + length a) b u rest (omega arith) i.4 last_there k)
+      ∙ on_case (step s x) n x xs last mid (Some (list_with_last [] x, mid)) (list_with_last xs last, after) h (λ t k. items_by_steps_complete_of xs last n t (p + length a) b u rest (omega arith) i.4 last_there k)
       ∙ ap (λ (q : ℕ). Some (list_with_last (x ∷ xs) last, input q rest)) places
 
-  abbrev pub stepped_at : S → Input → Option (Ended A × Input)
-  stepped_at s at = stepped_of (suc (length at.bytes)) s at
+  abbrev pub items_by_steps_at : S → Input → Option (Ended A × Input)
+  items_by_steps_at s at = items_by_steps_of (suc (length at.bytes)) s at
 
-  pub stepped_sound : (s : S) (at : Input) (x : Ended A × Input) → stepped_at s at ≡ Some x → Spans (Stepped s) at x
-  stepped_sound s at x e = stepped_sound_of (suc (length at.bytes)) s at x e
+  pub items_by_steps_sound : (s : S) (at : Input) (x : Ended A × Input) → items_by_steps_at s at ≡ Some x → Spans (Stepped s) at x
+  items_by_steps_sound s at x e = items_by_steps_sound_of (suc (length at.bytes)) s at x e
 
-  pub stepped_complete : (s : S) (at : Input) (x : Ended A × Input) → Spans (Stepped s) at x → stepped_at s at ≡ Some x
-  stepped_complete s at x r =
+  pub items_by_steps_complete : (s : S) (at : Input) (x : Ended A × Input) → Spans (Stepped s) at x → items_by_steps_at s at ≡ Some x
+  items_by_steps_complete s at x r =
       let t : List ℕ = r.spelled.0 in
       let u : List ℕ = r.spelled.1 in
       let whole : at.bytes ≡ t ++ (u ++ x.1.bytes) = r.parts ∙ ap (λ (v : List ℕ). v ++ x.1.bytes) r.spelled.2 ∙ append_assoc t u x.1.bytes in
       let lt : length t < suc (length at.bytes) = omega (arith, ap length whole, length-append t (u ++ x.1.bytes)) in
       let there : at.place + length t + length u ≡ x.1.place = omega (arith, r.ends, ap length r.spelled.2, length-append t u) in
-      ap (λ (v : List ℕ). stepped_of (suc (length at.bytes)) s (input at.place v)) whole
-      ∙ stepped_complete_of x.0.items x.0.last (suc (length at.bytes)) s at.place t u x.1.bytes lt r.spelled.3 r.spelled.4 r.spelled.5
+      ap (λ (v : List ℕ). items_by_steps_of (suc (length at.bytes)) s (input at.place v)) whole
+      ∙ items_by_steps_complete_of x.0.items x.0.last (suc (length at.bytes)) s at.place t u x.1.bytes lt r.spelled.3 r.spelled.4 r.spelled.5
       ∙ ap (λ (q : ℕ). Some (x.0, input q x.1.bytes)) there
 
-  abbrev pub stepped : S → Grammar (Ended A)
-  stepped s = record { spells = Stepped s; parse = stepped_at s; sound = stepped_sound s; complete = stepped_complete s }
+  abbrev pub items_by_steps : S → Grammar (Ended A)
+  items_by_steps s = record { spells = Stepped s; parse = items_by_steps_at s; sound = items_by_steps_sound s; complete = items_by_steps_complete s }

@@ -59,7 +59,7 @@ fn makes_no_call_before_a_refusal(rt: HostRuntime) -> Result<(), Fail> {
     let refused = print_to(&Config::new(), rt.alloc(), &IDENTITY[..34], &mut recorder);
     assert!(rt; matches!(refused, Err(Error::Malformed { .. })));
     expect_text(recorder.calls(), "")?;
-    assert!(rt; recorder.made() == 0);
+    assert!(rt; recorder.call_count() == 0);
     assert!(rt; recorder.is_complete());
     Ok(())
 }
@@ -81,8 +81,8 @@ fn stops_at_the_call_that_fails_and_answers_its_error(rt: HostRuntime) -> Result
     let mut whole = Recorder::new(alloc);
     print_to(&Config::new(), alloc, &IDENTITY, &mut whole)?;
     let mut seen: usize = 0;
-    for call in 1..=whole.made() {
-        let mut recorder = Recorder::refusing(alloc, call, ErrorKind::BrokenPipe);
+    for call in 1..=whole.call_count() {
+        let mut recorder = Recorder::with_refusal(alloc, call, ErrorKind::BrokenPipe);
         let refused = print_to(&Config::new(), alloc, &IDENTITY, &mut recorder);
         assert!(rt;
             matches!(refused, Err(Error::Printer(e)) if e.kind() == ErrorKind::BrokenPipe),
@@ -111,7 +111,7 @@ fn answers_each_kind_of_error_as_it_is(rt: HostRuntime) {
         ErrorKind::Interrupted,
         ErrorKind::Other,
     ] {
-        let mut recorder = Recorder::refusing(rt.alloc(), 3, kind);
+        let mut recorder = Recorder::with_refusal(rt.alloc(), 3, kind);
         let refused = print_to(&Config::default(), rt.alloc(), &PREAMBLE, &mut recorder);
         assert!(rt; matches!(refused, Err(Error::Printer(e)) if e.kind() == kind));
     }

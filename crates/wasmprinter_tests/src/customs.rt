@@ -352,7 +352,7 @@ fn prints_nothing_of_what_the_printer_takes(rt: HostRuntime) -> Result<(), Fail>
     add_custom(alloc, &mut wasm, "a", &[])?;
     add_custom(alloc, &mut wasm, "dylink.0", &[0x09, 0x00])?;
     add_custom(alloc, &mut wasm, "b", &[])?;
-    let mut recorder = Recorder::taking(alloc, "dylink.0");
+    let mut recorder = Recorder::with_section_taken(alloc, "dylink.0");
     print_to(&Config::new(), alloc, &wasm, &mut recorder)?;
     expect_text(
         recorder.calls(),
@@ -381,7 +381,7 @@ fn asks_for_the_same_section_twice(rt: HostRuntime) -> Result<(), Fail> {
 )
 "#,
     )?;
-    let mut recorder = Recorder::taking(alloc, "a");
+    let mut recorder = Recorder::with_section_taken(alloc, "a");
     print_to(&Config::new(), alloc, &wasm, &mut recorder)?;
     expect_text(
         recorder.calls(),
@@ -395,7 +395,7 @@ fn keeps_the_names_of_a_section_that_is_taken(rt: HostRuntime) -> Result<(), Fai
     let alloc = rt.alloc();
     let mut wasm = Vec::from_slice(alloc, &PREAMBLE)?;
     add_custom(alloc, &mut wasm, "name", b"\x00\x02\x01m")?;
-    let mut recorder = Recorder::taking(alloc, "name");
+    let mut recorder = Recorder::with_section_taken(alloc, "name");
     print_to(&Config::new(), alloc, &wasm, &mut recorder)?;
     expect_text(
         recorder.calls(),

@@ -12,7 +12,7 @@ use wasmprinter_samples::{PREAMBLE, expect_text};
 const HINTS: &str = "metadata.code.branch_hint";
 
 /// A module with a function of one parameter, which it tests in an `if`, and a hint section with this data.
-fn hinted(alloc: Global, data: &[u8]) -> Result<Vec<u8>, AllocError> {
+fn module_with_hints(alloc: Global, data: &[u8]) -> Result<Vec<u8>, AllocError> {
     let mut wasm = Vec::from_slice(alloc, &PREAMBLE)?;
     add_section(&mut wasm, 1, &[0x01, 0x60, 0x01, 0x7f, 0x00])?;
     add_section(&mut wasm, 3, &[0x01, 0x00])?;
@@ -70,7 +70,7 @@ const ROWS: [(&[u8], &str); 9] = [
 #[test]
 fn prints_hints_in_front_of_their_operators(rt: HostRuntime) -> Result<(), Fail> {
     for (data, line) in ROWS {
-        let wasm = hinted(rt.alloc(), data)?;
+        let wasm = module_with_hints(rt.alloc(), data)?;
         let text = print_bytes(rt.alloc(), &wasm)?;
         let expected = text_with(rt.alloc(), line)?;
         expect_text(text.as_str(), expected.as_str())?;
@@ -129,7 +129,7 @@ fn stands_as_deep_as_the_operators_of_its_block(rt: HostRuntime) -> Result<(), F
 #[test]
 fn takes_the_last_hint_section_alone(rt: HostRuntime) -> Result<(), Fail> {
     let alloc = rt.alloc();
-    let mut wasm = hinted(alloc, &[0x01, 0x00, 0x01, 0x03, 0x01, 0x01])?;
+    let mut wasm = module_with_hints(alloc, &[0x01, 0x00, 0x01, 0x03, 0x01, 0x01])?;
     let first = print_bytes(alloc, &wasm)?;
     let hint = text_with(alloc, TAKEN)?;
     expect_text(first.as_str(), hint.as_str())?;
@@ -144,7 +144,7 @@ fn takes_the_last_hint_section_alone(rt: HostRuntime) -> Result<(), Fail> {
 #[test]
 fn makes_the_calls_of_a_hint(rt: HostRuntime) -> Result<(), Fail> {
     let alloc = rt.alloc();
-    let wasm = hinted(alloc, &[0x01, 0x00, 0x01, 0x03, 0x01, 0x01])?;
+    let wasm = module_with_hints(alloc, &[0x01, 0x00, 0x01, 0x03, 0x01, 0x01])?;
     // the section is asked for behind the function section, of which no line stands; taken or not, its hints are printed
     let calls = r#"[0x0]({K}module{R}
 [0xb]  ({K}type {R}{N}(;0;){R} ({K}func{R} ({K}param{R} {T}i32{R}))){? "metadata.code.branch_hint" 0x2f [1, 0, 1, 3, 1, 1]}
@@ -157,7 +157,7 @@ fn makes_the_calls_of_a_hint(rt: HostRuntime) -> Result<(), Fail> {
 [0x40])
 "#;
     for taken in ["", HINTS] {
-        let mut recorder = Recorder::taking(alloc, taken);
+        let mut recorder = Recorder::with_section_taken(alloc, taken);
         print_to(&Config::new(), alloc, &wasm, &mut recorder)?;
         expect_text(recorder.calls(), calls)?;
         assert!(rt; recorder.is_complete());
@@ -166,7 +166,7 @@ fn makes_the_calls_of_a_hint(rt: HostRuntime) -> Result<(), Fail> {
 }
 
 /// A module that imports a function and defines two, each of which tests its parameter in an `if`, with a hint for each of these.
-fn doubly_hinted(alloc: Global) -> Result<Vec<u8>, AllocError> {
+fn module_with_two_hint_sections(alloc: Global) -> Result<Vec<u8>, AllocError> {
     let mut wasm = Vec::from_slice(alloc, &PREAMBLE)?;
     add_section(&mut wasm, 1, &[0x01, 0x60, 0x01, 0x7f, 0x00])?;
     add_section(&mut wasm, 2, &[0x01, 0x01, b'a', 0x01, b'f', 0x00, 0x00])?;
@@ -189,7 +189,7 @@ fn doubly_hinted(alloc: Global) -> Result<Vec<u8>, AllocError> {
 
 #[test]
 fn numbers_functions_behind_the_imported_ones(rt: HostRuntime) -> Result<(), Fail> {
-    let wasm = doubly_hinted(rt.alloc())?;
+    let wasm = module_with_two_hint_sections(rt.alloc())?;
     let text = print_bytes(rt.alloc(), &wasm)?;
     expect_text(
         text.as_str(),
@@ -216,7 +216,7 @@ fn numbers_functions_behind_the_imported_ones(rt: HostRuntime) -> Result<(), Fai
 
 #[test]
 fn leaves_hints_out_with_bodies(rt: HostRuntime) -> Result<(), Fail> {
-    let wasm = doubly_hinted(rt.alloc())?;
+    let wasm = module_with_two_hint_sections(rt.alloc())?;
     let mut config = Config::new();
     config.print_skeleton(true);
     let text = config.print_to_string(rt.alloc(), &wasm)?;

@@ -10,7 +10,7 @@ use wasmprinter_samples::{
 };
 
 /// The text of a module with identifiers made up for what has no name.
-fn invented(alloc: Global, wasm: &[u8]) -> Result<String, Error> {
+fn text_with_invented(alloc: Global, wasm: &[u8]) -> Result<String, Error> {
     Config::new()
         .name_unnamed(true)
         .print_to_string(alloc, wasm)
@@ -89,7 +89,7 @@ fn passes_over_a_name_that_is_cut(rt: HostRuntime) -> Result<(), Fail> {
 
 #[test]
 fn makes_up_identifiers(rt: HostRuntime) -> Result<(), Fail> {
-    let text = invented(rt.alloc(), &IDENTITY)?;
+    let text = text_with_invented(rt.alloc(), &IDENTITY)?;
     expect_text(
         text.as_str(),
         r#"(module
@@ -174,7 +174,7 @@ fn takes_the_label_off_behind_delegate(rt: HostRuntime) -> Result<(), Fail> {
 "#
             )
     );
-    let made_up = invented(alloc, &wasm)?;
+    let made_up = text_with_invented(alloc, &wasm)?;
     assert!(rt;
         body_of(&made_up)
             == Some(
@@ -196,7 +196,7 @@ fn takes_the_label_off_behind_delegate(rt: HostRuntime) -> Result<(), Fail> {
 fn makes_up_labels(rt: HostRuntime) -> Result<(), Fail> {
     let alloc = rt.alloc();
     let wasm = one_function(alloc, b"\x02\x40\x0c\x00\x0c\x01\x0b")?;
-    let text = invented(alloc, &wasm)?;
+    let text = text_with_invented(alloc, &wasm)?;
     assert!(rt;
         body_of(&text)
             == Some(
@@ -359,7 +359,7 @@ fn names_an_item_of_each_space(rt: HostRuntime) -> Result<(), Fail> {
 
 #[test]
 fn makes_up_identifiers_in_each_space(rt: HostRuntime) -> Result<(), Fail> {
-    let text = invented(rt.alloc(), &EVERY_SPACE[..EVERY_SPACE_NAMES])?;
+    let text = text_with_invented(rt.alloc(), &EVERY_SPACE[..EVERY_SPACE_NAMES])?;
     expect_text(text.as_str(), EVERY_SPACE_INVENTED)?;
     Ok(())
 }

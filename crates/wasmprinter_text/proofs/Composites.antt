@@ -5,7 +5,7 @@ use Rattle.std.proofs.Math.Dec.{eqb-suc-zero}
 use Rattle.wasmprinter_spec.specs.Types.{FieldType as DefinedField, CompositeType, SubType}
 use Rattle.wasmprinter_spec.specs.Names.{Names}
 use Rattle.wasmprinter_spec.specs.Piece.{Piece, Gap, Open, Shut}
-use Rattle.wasmprinter_spec.specs.Layout.Groups.{line_group, numbered}
+use Rattle.wasmprinter_spec.specs.Layout.Groups.{line_group, numbered_pieces}
 use Rattle.wasmprinter_spec.specs.Layout.ValTypes.{type_index_pieces}
 use Rattle.wasmprinter_spec.specs.Layout.Types.{struct_field_pieces, composite_pieces, final_pieces, supertype_pieces, sub_group, sub_pieces_by, sub_pieces}
 use Rattle.wasmprinter_ops.specs.Types.{field_view, fields_view}
@@ -17,15 +17,15 @@ field_of names owner k f = struct_field_pieces names (names.fields owner k) f
 
 module _ (f : ℕ → DefinedField → List Piece) where
   -- no field is left
-  pub fields-none : (n : ℕ) (fs : List FieldType) → fs ≡ [] → numbered f n (fields_view fs) ≡ []
-  unfolding numbered
-  fields-none n fs e = ap (λ xs. numbered f n (fields_view xs)) e
+  pub fields-none : (n : ℕ) (fs : List FieldType) → fs ≡ [] → numbered_pieces f n (fields_view fs) ≡ []
+  unfolding numbered_pieces
+  fields-none n fs e = ap (λ xs. numbered_pieces f n (fields_view xs)) e
 
   -- the next field, and the others
   pub fields-next : (n : ℕ) (fs rest : List FieldType) (x : FieldType) → fs ≡ x ∷ rest →
-      numbered f n (fields_view fs) ≡ f n (field_view x) ++ numbered f (n + 1) (fields_view rest)
-  unfolding numbered
-  fields-next n fs rest x e = ap (λ xs. numbered f n (fields_view xs)) e
+      numbered_pieces f n (fields_view fs) ≡ f n (field_view x) ++ numbered_pieces f (n + 1) (fields_view rest)
+  unfolding numbered_pieces
+  fields-next n fs rest x e = ap (λ xs. numbered_pieces f n (fields_view xs)) e
 
 module _ (names : Names) where
   -- no supertype is left

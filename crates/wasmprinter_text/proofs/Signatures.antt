@@ -9,7 +9,7 @@ use Rattle.wasmprinter_spec.specs.Piece.{Piece, Gap, Shut, NameNote, NumberRemar
 use Rattle.wasmprinter_spec.specs.Layout.Groups.{has_break, line_group, line_group_gap}
 use Rattle.wasmprinter_spec.specs.Layout.Identifiers.{given_pieces, mark_pieces, mark_gap_pieces, declaration_pieces, index_pieces}
 use Rattle.wasmprinter_spec.specs.Layout.ValTypes.{type_index_pieces, heap_pieces, null_ref_pieces, ref_pieces_by, ref_pieces, val_pieces, type_list}
-use Rattle.wasmprinter_spec.specs.Layout.Variables.{Variables, Alone, Together, grouped, variables_pieces, groups_pieces}
+use Rattle.wasmprinter_spec.specs.Layout.Variables.{Variables, Alone, Together, variable_groups, variables_pieces, groups_pieces}
 use Rattle.wasmprinter_spec.specs.Layout.Types.{parameters_of, list_group, signature_pieces, signature_if_any, type_use_pieces}
 use Rattle.wasmprinter_lines.proofs.Groups.{line-append}
 
@@ -112,8 +112,8 @@ module _ (names : Names) where
   pub signature-line : (f : Option ℕ) (t : FuncType) → has_break (signature_pieces names f t) ≡ false
   unfolding signature_pieces
   signature-line f t =
-      line-append (groups_pieces names (codes "param") (grouped (parameters_of names f) 0 t.params)) (list_group names (codes "result") t.results)
-      (groups-line (codes "param") (grouped (parameters_of names f) 0 t.params)) (list_group-line (codes "result") t.results)
+      line-append (groups_pieces names (codes "param") (variable_groups (parameters_of names f) 0 t.params)) (list_group names (codes "result") t.results)
+      (groups-line (codes "param") (variable_groups (parameters_of names f) 0 t.params)) (list_group-line (codes "result") t.results)
 
   signature_if_any-line : (f : Option ℕ) (t : Option FuncType) → has_break (signature_if_any names f t) ≡ false
   signature_if_any-line f None = refl

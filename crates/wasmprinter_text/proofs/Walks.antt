@@ -7,7 +7,7 @@ use Rattle.wasmprinter_spec.specs.Names.{Names}
 use Rattle.wasmprinter_spec.specs.Piece.{Piece, Break, Gap, Open, Shut}
 use Rattle.wasmprinter_spec.specs.Layout.Groups.{line_group}
 use Rattle.wasmprinter_spec.specs.Layout.ValTypes.{type_list}
-use Rattle.wasmprinter_spec.specs.Layout.Variables.{Variables, Alone, Together, with_variable, grouped, variables_pieces, groups_pieces}
+use Rattle.wasmprinter_spec.specs.Layout.Variables.{Variables, Alone, Together, with_variable, variable_groups, variables_pieces, groups_pieces}
 use Rattle.wasmprinter_spec.specs.Layout.Functions.{local_line}
 use Rattle.wasmprinter_ops.specs.ValTypes.{type_view, types_view}
 use Rattle.wasmprinter_ops.specs.declared.types.ValType.{ValType as GivenType}
@@ -57,17 +57,17 @@ module _ (names : Names) (w : List ℕ) where
   step b None t (Alone n u ∷ gs) = together b t [] (Alone n u ∷ gs)
 
   walk-rest : (named : ℕ → Option Named) (b : Before) (k : ℕ) (ts : List ValType) →
-      walk_pieces names w named b k ts ≡ rest_pieces b (grouped named k ts)
+      walk_pieces names w named b k ts ≡ rest_pieces b (variable_groups named k ts)
   unfolding rest_pieces groups_pieces
   walk-rest named before.Line k [] = refl
   walk-rest named before.Shut k [] = refl
   walk-rest named before.Open k [] = refl
   walk-rest named b k (t ∷ ts) =
-      ap (λ ps. variable_pieces names w b (named k) t ++ ps) (walk-rest named (before_next (named k)) (k + 1) ts) ∙ step b (named k) t (grouped named (k + 1) ts)
+      ap (λ ps. variable_pieces names w b (named k) t ++ ps) (walk-rest named (before_next (named k)) (k + 1) ts) ∙ step b (named k) t (variable_groups named (k + 1) ts)
 
   -- groups, a blank before each
   pub walk-groups : (named : ℕ → Option Named) (k : ℕ) (ts : List ValType) →
-      walk_pieces names w named before.Shut k ts ≡ groups_pieces names w (grouped named k ts)
+      walk_pieces names w named before.Shut k ts ≡ groups_pieces names w (variable_groups named k ts)
   unfolding rest_pieces
   walk-groups named k ts = walk-rest named before.Shut k ts
 
@@ -92,6 +92,6 @@ module _ (names : Names) (place : Option ℕ) where
 
   -- the line of locals, of which there is one at least
   pub walk-line : (named : ℕ → Option Named) (k : ℕ) (t : ValType) (ts : List ValType) →
-      Break place 2 ∷ walk_pieces names (codes "local") named before.Line k (t ∷ ts) ≡ local_line names place (grouped named k (t ∷ ts))
+      Break place 2 ∷ walk_pieces names (codes "local") named before.Line k (t ∷ ts) ≡ local_line names place (variable_groups named k (t ∷ ts))
   walk-line named k t ts =
-      ap (λ ps. Break place 2 ∷ ps) (walk-rest names (codes "local") named before.Line k (t ∷ ts)) ∙ line_by (named k) t (grouped named (k + 1) ts)
+      ap (λ ps. Break place 2 ∷ ps) (walk-rest names (codes "local") named before.Line k (t ∷ ts)) ∙ line_by (named k) t (variable_groups named (k + 1) ts)

@@ -6,7 +6,7 @@ ghost use Rattle.wasmprinter_spec.specs.Layout.Groups.{line_group_gap};
 ghost use Rattle.wasmprinter_spec.specs.Layout.ValTypes.{type_index_pieces};
 ghost use Rattle.wasmprinter_spec.specs.Layout.Types.{signature_if_any, type_use_pieces};
 ghost use Rattle.wasmprinter_print.specs.Prints.{Prints};
-ghost use Rattle.wasmprinter_names.specs.Shown.{shown};
+ghost use Rattle.wasmprinter_names.specs.Shown.{names_of_identifiers};
 
 use crate::indices::write_index_group;
 use crate::types::signature;
@@ -39,7 +39,7 @@ fn write_signature<P: Print, S: Signatures>(
     index: u32,
 ) -> io::Result<()>
     ensures { (o : Options) → Prints P.meaning o p.old p.new result
-        (signature_if_any (shown identifiers.now) owner (S.signature_at types.now index)) }
+        (signature_if_any (names_of_identifiers identifiers.now) owner (S.signature_at types.now index)) }
 {
     match types.signature(index) {
         Some(found) => signature(p, identifiers, owner, &found),
@@ -55,7 +55,7 @@ pub fn write_type_index<P: Print>(
     index: u32,
 ) -> io::Result<()>
     ensures { (o : Options) → Prints P.meaning o p.old p.new result
-        (Gap ∷ line_group_gap (codes "type") (type_index_pieces (shown identifiers.now) index)) }
+        (Gap ∷ line_group_gap (codes "type") (type_index_pieces (names_of_identifiers identifiers.now) index)) }
 {
     gap(p)?;
     write_index_group(p, identifiers, "type", Space::Types, index)
@@ -71,7 +71,7 @@ pub fn write_type_use<P: Print, S: Signatures>(
     index: u32,
 ) -> io::Result<()>
     ensures { (o : Options) → Prints P.meaning o p.old p.new result
-        (Gap ∷ type_use_pieces (shown identifiers.now) owner index (S.signature_at types.now index)) }
+        (Gap ∷ type_use_pieces (names_of_identifiers identifiers.now) owner index (S.signature_at types.now index)) }
 {
     write_type_index(p, identifiers, index)?;
     write_signature(p, identifiers, owner, types, index)

@@ -9,7 +9,7 @@ ghost use Rattle.wasmprinter_spec.specs.Layout.ValTypes.{ref_pieces_by, ref_piec
 ghost use Rattle.wasmprinter_spec.specs.Layout.Types.{list_group as group_of_types, signature_pieces};
 ghost use Rattle.wasmprinter_spec.specs.Layout.Groups.{line_group, line_group_gap};
 ghost use Rattle.wasmprinter_print.specs.Prints.{Prints};
-ghost use Rattle.wasmprinter_names.specs.Shown.{shown};
+ghost use Rattle.wasmprinter_names.specs.Shown.{names_of_identifiers};
 ghost use Rattle.wasmprinter_ops.specs.ValTypes.{heap_view, ref_view, type_view, types_view};
 
 pub mod composite;
@@ -73,7 +73,7 @@ pub fn write_type_number<P: Print>(
     identifiers: &Identifiers<'_, '_>,
     index: u32,
 ) -> io::Result<()>
-    ensures { (o : Options) → Prints P.meaning o p.old p.new result (type_index_pieces (shown identifiers.now) index) }
+    ensures { (o : Options) → Prints P.meaning o p.old p.new result (type_index_pieces (names_of_identifiers identifiers.now) index) }
 {
     write_index_of(p, identifiers, Space::Types, 0, u64::from(index))
 }
@@ -85,7 +85,7 @@ pub fn write_heap_type<P: Print>(
     identifiers: &Identifiers<'_, '_>,
     heap: HeapType,
 ) -> io::Result<()>
-    ensures { (o : Options) → Prints P.meaning o p.old p.new result (heap_pieces (shown identifiers.now) (heap_view heap)) }
+    ensures { (o : Options) → Prints P.meaning o p.old p.new result (heap_pieces (names_of_identifiers identifiers.now) (heap_view heap)) }
 {
     match heap {
         HeapType::Index(index) => write_type_number(p, identifiers, index),
@@ -100,7 +100,7 @@ fn write_null_index<P: Print>(
     identifiers: &Identifiers<'_, '_>,
     index: u32,
 ) -> io::Result<()>
-    ensures { (o : Options) → Prints P.meaning o p.old p.new result (null_ref_pieces (shown identifiers.now) (Index index)) }
+    ensures { (o : Options) → Prints P.meaning o p.old p.new result (null_ref_pieces (names_of_identifiers identifiers.now) (Index index)) }
 {
     open(p, "ref")?;
     gap(p)?;
@@ -117,7 +117,7 @@ fn write_null_ref<P: Print>(
     identifiers: &Identifiers<'_, '_>,
     heap: HeapType,
 ) -> io::Result<()>
-    ensures { (o : Options) → Prints P.meaning o p.old p.new result (null_ref_pieces (shown identifiers.now) (heap_view heap)) }
+    ensures { (o : Options) → Prints P.meaning o p.old p.new result (null_ref_pieces (names_of_identifiers identifiers.now) (heap_view heap)) }
 {
     match heap {
         HeapType::Index(index) => write_null_index(p, identifiers, index),
@@ -133,7 +133,7 @@ fn write_some_ref<P: Print>(
     heap: HeapType,
 ) -> io::Result<()>
     ensures { (o : Options) → Prints P.meaning o p.old p.new result
-        (line_group_gap (codes "ref") (heap_pieces (shown identifiers.now) (heap_view heap))) }
+        (line_group_gap (codes "ref") (heap_pieces (names_of_identifiers identifiers.now) (heap_view heap))) }
 {
     open_gap(p, "ref")?;
     write_heap_type(p, identifiers, heap)?;
@@ -147,7 +147,7 @@ pub fn write_ref_type<P: Print>(
     identifiers: &Identifiers<'_, '_>,
     ref_type: RefType,
 ) -> io::Result<()>
-    ensures { (o : Options) → Prints P.meaning o p.old p.new result (ref_pieces (shown identifiers.now) (ref_view ref_type)) }
+    ensures { (o : Options) → Prints P.meaning o p.old p.new result (ref_pieces (names_of_identifiers identifiers.now) (ref_view ref_type)) }
 {
     if ref_type.nullable {
         write_null_ref(p, identifiers, ref_type.heap)
@@ -163,7 +163,7 @@ pub fn write_val_type<P: Print>(
     identifiers: &Identifiers<'_, '_>,
     value_type: ValType,
 ) -> io::Result<()>
-    ensures { (o : Options) → Prints P.meaning o p.old p.new result (val_pieces (shown identifiers.now) (type_view value_type)) }
+    ensures { (o : Options) → Prints P.meaning o p.old p.new result (val_pieces (names_of_identifiers identifiers.now) (type_view value_type)) }
 {
     match value_type {
         ValType::I32 => type_word(p, "i32"),
@@ -182,7 +182,7 @@ pub(crate) fn write_type<P: Print>(
     value_type: ValType,
 ) -> io::Result<()>
     ensures { (o : Options) → Prints P.meaning o p.old p.new result
-        (list_of_types (shown identifiers.now) (type_view value_type ∷ [])) }
+        (list_of_types (names_of_identifiers identifiers.now) (type_view value_type ∷ [])) }
 {
     gap(p)?;
     write_val_type(p, identifiers, value_type)
@@ -194,7 +194,7 @@ fn type_list<P: Print>(
     identifiers: &Identifiers<'_, '_>,
     types: &ValTypes<'_>,
 ) -> io::Result<()>
-    ensures { (o : Options) → Prints P.meaning o p.old p.new result (list_of_types (shown identifiers.now) (types_view types.now)) }
+    ensures { (o : Options) → Prints P.meaning o p.old p.new result (list_of_types (names_of_identifiers identifiers.now) (types_view types.now)) }
 {
     for value_type in types.iter() {
         write_type(p, identifiers, value_type)?;
@@ -211,7 +211,7 @@ pub fn write_group<P: Print>(
     types: &ValTypes<'_>,
 ) -> io::Result<()>
     ensures { (o : Options) → Prints P.meaning o p.old p.new result
-        (Gap ∷ line_group keyword.now (list_of_types (shown identifiers.now) (types_view types.now))) }
+        (Gap ∷ line_group keyword.now (list_of_types (names_of_identifiers identifiers.now) (types_view types.now))) }
 {
     gap(p)?;
     open(p, keyword)?;
@@ -227,7 +227,7 @@ fn list_group<P: Print>(
     types: &ValTypes<'_>,
 ) -> io::Result<()>
     ensures { (o : Options) → Prints P.meaning o p.old p.new result
-        (group_of_types (shown identifiers.now) keyword.now (types_view types.now)) }
+        (group_of_types (names_of_identifiers identifiers.now) keyword.now (types_view types.now)) }
 {
     if types.len() == 0 {
         Ok(())
@@ -245,7 +245,7 @@ pub fn signature<P: Print>(
     owner: Option<u64>,
     func_type: &FuncType<'_>,
 ) -> io::Result<()>
-    ensures { (o : Options) → Prints P.meaning o p.old p.new result (signature_pieces (shown identifiers.now) owner func_type.now) }
+    ensures { (o : Options) → Prints P.meaning o p.old p.new result (signature_pieces (names_of_identifiers identifiers.now) owner func_type.now) }
 {
     write_params(p, identifiers, owner, &func_type.params())?;
     list_group(p, identifiers, "result", &func_type.results())

@@ -93,7 +93,7 @@ fn answers_the_error_of_the_printer(rt: HostRuntime) -> Result<(), Fail> {
     let mut whole = Recorder::new(rt.alloc());
     write_f64(&mut whole, 0xfff0_0000_0000_0001)?;
     for call in 1..=whole.made() {
-        let mut recorder = Recorder::refusing(rt.alloc(), call, ErrorKind::BrokenPipe);
+        let mut recorder = Recorder::with_refusal(rt.alloc(), call, ErrorKind::BrokenPipe);
         let refused = write_f64(&mut recorder, 0xfff0_0000_0000_0001);
         assert!(rt;
             matches!(refused, Err(Error::Printer(e)) if e.kind() == ErrorKind::BrokenPipe),

@@ -21,7 +21,7 @@ fn writes_a_string_in_quotes(rt: HostRuntime) -> Result<(), Fail> {
 
 #[test]
 fn answers_the_error_of_the_printer(rt: HostRuntime) -> Result<(), Fail> {
-    let mut recorder = Recorder::refusing(rt.alloc(), 2, ErrorKind::BrokenPipe);
+    let mut recorder = Recorder::with_refusal(rt.alloc(), 2, ErrorKind::BrokenPipe);
     let refused = write_quoted(&mut recorder, "a");
     assert!(rt; matches!(refused, Err(Error::Printer(e)) if e.kind() == ErrorKind::BrokenPipe));
     expect_text(recorder.calls(), r#"{L}"{!}"#)?;
@@ -54,7 +54,7 @@ fn writes_no_bytes_in_quotes(rt: HostRuntime) -> Result<(), Fail> {
 
 #[test]
 fn answers_the_error_of_the_printer_for_bytes(rt: HostRuntime) -> Result<(), Fail> {
-    let mut recorder = Recorder::refusing(rt.alloc(), 4, ErrorKind::BrokenPipe);
+    let mut recorder = Recorder::with_refusal(rt.alloc(), 4, ErrorKind::BrokenPipe);
     let refused = write_bytes(&mut recorder, b"ab");
     assert!(rt; matches!(refused, Err(Error::Printer(e)) if e.kind() == ErrorKind::BrokenPipe));
     expect_text(recorder.calls(), r#"{L}"ab{!}"#)?;

@@ -6,8 +6,8 @@ use Rattle.std.specs.Str.{IsCharBoundary, IsUtf8}
 use Rattle.std.proofs.lemmas.Str.{IsCharBoundary-from_take, IsUtf8-append, IsUtf8-take, IsCharBoundary-end}
 use Rattle.std.proofs.lemmas.List.{take-append-le, drop-append-le}
 use Rattle.wasmprinter_spec.specs.Lines.{TextLine}
-use Rattle.wasmprinter_tracker.specs.Cuts.{cut, first_at, IsCuttable}
-use Rattle.wasmprinter_tracker.specs.Tracked.{Tracked, waiting_start, extend_last, shown, with_line, with_text}
+use Rattle.wasmprinter_tracker.specs.Cuts.{lines_at_starts, first_at, IsCuttable}
+use Rattle.wasmprinter_tracker.specs.Tracked.{Tracked, waiting_start, extend_last, tracked_of, with_line, with_text}
 use Rattle.wasmprinter_tracker.specs.declared.lines.LineStart.{LineStart}
 
 -- a place where a text may be cut stays one
@@ -44,21 +44,21 @@ part-longer i j t s le within =
     let short : j - i ≤ length (drop i t) = omega (arith, length-drop i t) in
     rw (drop-append-le i t s le) (take-append-le (j - i) (drop i t) s short)
 
-pub cut-longer : (starts : List LineStart) (t s : List ℕ) → IsCuttable starts t → cut starts (t ++ s) ≡ extend_last (cut starts t) s
-cut-longer [] t s h = refl
-cut-longer (x ∷ []) t s h =
+pub lines_at_starts-longer : (starts : List LineStart) (t s : List ℕ) → IsCuttable starts t → lines_at_starts starts (t ++ s) ≡ extend_last (lines_at_starts starts t) s
+lines_at_starts-longer [] t s h = refl
+lines_at_starts-longer (x ∷ []) t s h =
     ap (λ (l : List ℕ). (x.place, l) ∷ [])
     (whole x.at (t ++ s) ∙ drop-append-le x.at t s h.0.0 ∙ ap (λ l. l ++ s) (sym (whole x.at t)))
-cut-longer (x ∷ y ∷ starts) t s h =
+lines_at_starts-longer (x ∷ y ∷ starts) t s h =
     let within : y.at ≤ length t = h.2.0.0 in
-    ap₂ (λ (l : List ℕ) (m : List TextLine). (x.place, l) ∷ m) (part-longer x.at y.at t s h.0.0 within) (cut-longer (y ∷ starts) t s h.2)
+    ap₂ (λ (l : List ℕ) (m : List TextLine). (x.place, l) ∷ m) (part-longer x.at y.at t s h.0.0 within) (lines_at_starts-longer (y ∷ starts) t s h.2)
 
-pub cut-more : (starts : List LineStart) (t : List ℕ) (p : Option ℕ) → IsCuttable starts t →
-    cut (starts ++ record { place = p; at = length t } ∷ []) t ≡ cut starts t ++ (p, []) ∷ []
-cut-more [] t p h = ap (λ (l : List ℕ). (p, l) ∷ []) (rw drop-length (take-nil (length t - length t)))
-cut-more (x ∷ []) t p h = ap (λ (l : List TextLine). (x.place, take (length t - x.at) (drop x.at t)) ∷ l) (cut-more [] t p tt)
-cut-more (x ∷ y ∷ starts) t p h =
-    ap (λ (l : List TextLine). (x.place, take (y.at - x.at) (drop x.at t)) ∷ l) (cut-more (y ∷ starts) t p h.2)
+pub lines_at_starts-more : (starts : List LineStart) (t : List ℕ) (p : Option ℕ) → IsCuttable starts t →
+    lines_at_starts (starts ++ record { place = p; at = length t } ∷ []) t ≡ lines_at_starts starts t ++ (p, []) ∷ []
+lines_at_starts-more [] t p h = ap (λ (l : List ℕ). (p, l) ∷ []) (rw drop-length (take-nil (length t - length t)))
+lines_at_starts-more (x ∷ []) t p h = ap (λ (l : List TextLine). (x.place, take (length t - x.at) (drop x.at t)) ∷ l) (lines_at_starts-more [] t p tt)
+lines_at_starts-more (x ∷ y ∷ starts) t p h =
+    ap (λ (l : List TextLine). (x.place, take (y.at - x.at) (drop x.at t)) ∷ l) (lines_at_starts-more (y ∷ starts) t p h.2)
 
 -- what a tracker keeps where a line begins
 pub IsCuttable-begun : (starts : List LineStart) (w : Option (Option ℕ)) (t : List ℕ) (p : Option ℕ) → is_some w ≡ false →
@@ -74,18 +74,18 @@ IsCuttable-pushed starts None t s u v x e f h =
 IsCuttable-pushed starts (Some q) t s u v x e f h = absurd (true≢false e)
 
 -- a line that begins, as the tracker shows it
-pub shown-begun : (t : List ℕ) (starts : List LineStart) (w : Option (Option ℕ)) (lost : Bool) (p : Option ℕ) → is_some w ≡ false →
-    IsCuttable (starts ++ waiting_start w (length t)) t → shown t starts (Some p) lost ≡ with_line (shown t starts w lost) p
-shown-begun t starts None lost p e h =
-    let same : cut (starts ++ record { place = p; at = length t } ∷ []) t ≡ cut (starts ++ []) t ++ (p, []) ∷ [] =
-    cut-more starts t p (rw append-nil at h) ∙ ap (λ (x : List LineStart). cut x t ++ (p, []) ∷ []) (sym (append-nil starts)) in
+pub tracked_of-begun : (t : List ℕ) (starts : List LineStart) (w : Option (Option ℕ)) (lost : Bool) (p : Option ℕ) → is_some w ≡ false →
+    IsCuttable (starts ++ waiting_start w (length t)) t → tracked_of t starts (Some p) lost ≡ with_line (tracked_of t starts w lost) p
+tracked_of-begun t starts None lost p e h =
+    let same : lines_at_starts (starts ++ record { place = p; at = length t } ∷ []) t ≡ lines_at_starts (starts ++ []) t ++ (p, []) ∷ [] =
+    lines_at_starts-more starts t p (rw append-nil at h) ∙ ap (λ (x : List LineStart). lines_at_starts x t ++ (p, []) ∷ []) (sym (append-nil starts)) in
     let show : List TextLine → Tracked = λ l. record { text = t; lines = l; new_line = true; lost = lost } in
     ap show same
-shown-begun t starts (Some q) lost p e h = absurd (true≢false e)
+tracked_of-begun t starts (Some q) lost p e h = absurd (true≢false e)
 
 -- text that is added, as the tracker shows it
-pub shown-pushed : (t s u : List ℕ) (starts : List LineStart) (w : Option (Option ℕ)) (lost : Bool) → is_some w ≡ false → u ≡ t ++ s →
-    IsCuttable (starts ++ waiting_start w (length t)) t → shown u starts w lost ≡ with_text (shown t starts w lost) s
-shown-pushed t s u starts None lost e f h =
-    rw (f, append-nil) (let same : cut starts (t ++ s) ≡ extend_last (cut starts t) s = cut-longer starts t s (rw append-nil at h) in cc)
-shown-pushed t s u starts (Some q) lost e f h = absurd (true≢false e)
+pub tracked_of-pushed : (t s u : List ℕ) (starts : List LineStart) (w : Option (Option ℕ)) (lost : Bool) → is_some w ≡ false → u ≡ t ++ s →
+    IsCuttable (starts ++ waiting_start w (length t)) t → tracked_of u starts w lost ≡ with_text (tracked_of t starts w lost) s
+tracked_of-pushed t s u starts None lost e f h =
+    rw (f, append-nil) (let same : lines_at_starts starts (t ++ s) ≡ extend_last (lines_at_starts starts t) s = lines_at_starts-longer starts t s (rw append-nil at h) in cc)
+tracked_of-pushed t s u starts (Some q) lost e f h = absurd (true≢false e)

@@ -8,7 +8,7 @@ use Rattle.wasmprinter_spec.specs.Lines.{TextLine, lines_of}
 use Rattle.wasmprinter_spec.specs.Meaning.{Run}
 use Rattle.wasmprinter_print.specs.Emits.{Broken}
 use Rattle.wasmprinter_tracker.specs.Tracked.{Tracked, without_lines, extend_last, with_line_if}
-use Rattle.wasmprinter_tracker.specs.Tracking.{after, tracked_meaning, BeginsWith, IsUnclaimed, Tracks}
+use Rattle.wasmprinter_tracker.specs.Tracking.{tracked_after, tracked_meaning, BeginsWith, IsUnclaimed, Tracks}
 use Rattle.wasmprinter_tracker.proofs.LineLaws.{text_of-append, lines_of-text, lines_of-line}
 
 -- a line that begins adds no text, and is there unless it is lost
@@ -29,36 +29,36 @@ extend_last-nil (x ∷ y ∷ lines) = ap (λ (l : List TextLine). x ∷ l) (exte
 
 -- ---- a call
 
-after-text : (t : Tracked) (c : Call) → (after t c).text ≡ t.text ++ call_text c
-after-text t (Text s) = refl
-after-text t Newline = refl
-after-text t (Line p) = line-text t.new_line t p ∙ sym (append-nil t.text)
-after-text t (Start style) = sym (append-nil t.text)
-after-text t (Claim name place bytes answer) = sym (append-nil t.text)
+tracked_after-text : (t : Tracked) (c : Call) → (tracked_after t c).text ≡ t.text ++ call_text c
+tracked_after-text t (Text s) = refl
+tracked_after-text t Newline = refl
+tracked_after-text t (Line p) = line-text t.new_line t p ∙ sym (append-nil t.text)
+tracked_after-text t (Start style) = sym (append-nil t.text)
+tracked_after-text t (Claim name place bytes answer) = sym (append-nil t.text)
 
 -- no text more
 idle-lines : (k : List Call) (c : Call) (lines : List TextLine) → lines ≡ lines_of k → lines_of (k ++ c ∷ []) ≡ extend_last (lines_of k) [] →
     lines ≡ lines_of (k ++ c ∷ [])
 idle-lines k c lines e more = e ∙ sym (extend_last-nil (lines_of k)) ∙ sym more
 
-after-lines : (k : List Call) (c : Call) (t : Tracked) → (t.lost ≡ false → t.lines ≡ lines_of k) → (after t c).lost ≡ false →
-    (after t c).lines ≡ lines_of (k ++ c ∷ [])
-after-lines k (Text s) t h kept =
+tracked_after-lines : (k : List Call) (c : Call) (t : Tracked) → (t.lost ≡ false → t.lines ≡ lines_of k) → (tracked_after t c).lost ≡ false →
+    (tracked_after t c).lines ≡ lines_of (k ++ c ∷ [])
+tracked_after-lines k (Text s) t h kept =
     ap (λ x. extend_last x s) (h kept) ∙ ap (λ x. extend_last (lines_of k) x) (sym (append-nil s)) ∙ sym (lines_of-text k (Text s ∷ []) refl)
-after-lines k Newline t h kept = ap (λ x. extend_last x (10 ∷ [])) (h kept) ∙ sym (lines_of-text k (Newline ∷ []) refl)
-after-lines k (Line p) t h kept =
+tracked_after-lines k Newline t h kept = ap (λ x. extend_last x (10 ∷ [])) (h kept) ∙ sym (lines_of-text k (Newline ∷ []) refl)
+tracked_after-lines k (Line p) t h kept =
     let there = line-lines t.new_line t p kept in
     there.1 ∙ ap (λ x. x ++ (p, []) ∷ []) (h there.0) ∙ sym (lines_of-line k p)
-after-lines k (Start style) t h kept = idle-lines k (Start style) t.lines (h kept) (lines_of-text k (Start style ∷ []) refl)
-after-lines k (Claim name place bytes answer) t h kept =
+tracked_after-lines k (Start style) t h kept = idle-lines k (Start style) t.lines (h kept) (lines_of-text k (Start style ∷ []) refl)
+tracked_after-lines k (Claim name place bytes answer) t h kept =
     idle-lines k (Claim name place bytes answer) t.lines (h kept) (lines_of-text k (Claim name place bytes answer ∷ []) refl)
 
 -- a call more
-Tracks-after : (base : List ℕ) (k : List Call) (c : Call) (t : Tracked) → Tracks base k t → Tracks base (k ++ c ∷ []) (after t c)
-Tracks-after base k c t h = record {
-  text = after-text t c ∙ ap (λ x. x ++ call_text c) h.text ∙ append_assoc base (text_of k) (call_text c)
+Tracks-tracked_after : (base : List ℕ) (k : List Call) (c : Call) (t : Tracked) → Tracks base k t → Tracks base (k ++ c ∷ []) (tracked_after t c)
+Tracks-tracked_after base k c t h = record {
+  text = tracked_after-text t c ∙ ap (λ x. x ++ call_text c) h.text ∙ append_assoc base (text_of k) (call_text c)
       ∙ ap (λ x. base ++ (text_of k ++ x)) (sym (append-nil (call_text c))) ∙ ap (λ x. base ++ x) (sym (text_of-append k (c ∷ [])));
-  lines = λ kept. after-lines k c t h.lines kept;
+  lines = λ kept. tracked_after-lines k c t h.lines kept;
 }
 
 -- ---- a run
@@ -67,7 +67,7 @@ tracks_more : (base : List ℕ) (k cs : List Call) (s t : Tracked) → Tracks ba
 tracks_more base k [] s t h r =
     subst (λ (u : Tracked). Tracks base (k ++ []) u) r (subst (λ (l : List Call). Tracks base l s) (sym (append-nil k)) h)
 tracks_more base k (c ∷ cs) s t h r =
-    let more : Tracks base (k ++ c ∷ []) r.0 = subst (λ (u : Tracked). Tracks base (k ++ c ∷ []) u) (sym r.1.step.0) (Tracks-after base k c s h) in
+    let more : Tracks base (k ++ c ∷ []) r.0 = subst (λ (u : Tracked). Tracks base (k ++ c ∷ []) u) (sym r.1.step.0) (Tracks-tracked_after base k c s h) in
     subst (λ (l : List Call). Tracks base l t) (append_assoc k (c ∷ []) cs) (tracks_more base (k ++ c ∷ []) cs r.0 t more r.2)
 
 -- A tracker in which no line had begun has the text of the calls behind its old text, and their lines, unless one was lost.
@@ -79,7 +79,7 @@ run_tracks base calls t r =
 pub run_text : (s : Tracked) (calls : List Call) (t : Tracked) → Run tracked_meaning s calls t → t.text ≡ s.text ++ text_of calls
 run_text s [] t r = sym (ap (λ (u : Tracked). u.text) r) ∙ sym (append-nil s.text)
 run_text s (c ∷ cs) t r =
-    run_text r.0 cs t r.2 ∙ ap (λ (u : Tracked). u.text ++ text_of cs) r.1.step.0 ∙ ap (λ x. x ++ text_of cs) (after-text s c)
+    run_text r.0 cs t r.2 ∙ ap (λ (u : Tracked). u.text ++ text_of cs) r.1.step.0 ∙ ap (λ x. x ++ text_of cs) (tracked_after-text s c)
     ∙ append_assoc s.text (call_text c) (text_of cs)
 
 claims_never : (s : Tracked) (c : Call) (t : Tracked) → tracked_meaning.after s c t → IsUnclaimed c

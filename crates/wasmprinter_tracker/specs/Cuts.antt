@@ -10,9 +10,9 @@ first_at [] text = length text
 first_at (s ∷ starts) text = s.at
 
 -- the lines that begin at these places of a text
-abbrev pub cut : List LineStart → List ℕ → List TextLine
-cut [] text = []
-cut (s ∷ starts) text = (s.place, take (first_at starts text - s.at) (drop s.at text)) ∷ cut starts text
+abbrev pub lines_at_starts : List LineStart → List ℕ → List TextLine
+lines_at_starts [] text = []
+lines_at_starts (s ∷ starts) text = (s.place, take (first_at starts text - s.at) (drop s.at text)) ∷ lines_at_starts starts text
 
 -- each line begins where the text may be cut, and not behind the next one's beginning
 abbrev pub IsCuttable : List LineStart → List ℕ → Type 0

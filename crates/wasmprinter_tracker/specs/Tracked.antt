@@ -1,7 +1,7 @@
 -- What a tracker shows: the text that was printed to it, and its lines.
 use Rattle.std.specs.Prelude.{ℕ, List, [], ◌∷◌, ◌++◌, Bool, true, false, Option, Some, None, is_some, length}
 use Rattle.wasmprinter_spec.specs.Lines.{TextLine}
-use Rattle.wasmprinter_tracker.specs.Cuts.{cut}
+use Rattle.wasmprinter_tracker.specs.Cuts.{lines_at_starts}
 use Rattle.wasmprinter_tracker.specs.declared.lines.LineStart.{LineStart}
 
 -- the text, its lines, whether the last line is new and no piece of text came behind its beginning, and whether a line was lost
@@ -21,10 +21,10 @@ waiting_start None at = []
 waiting_start (Some place) at = record { place = place; at = at } ∷ []
 
 -- what a text with these starts, and this line that waits, shows
-abbrev pub shown : List ℕ → List LineStart → Option (Option ℕ) → Bool → Tracked
-shown text starts waiting lost = record {
+abbrev pub tracked_of : List ℕ → List LineStart → Option (Option ℕ) → Bool → Tracked
+tracked_of text starts waiting lost = record {
   text = text;
-  lines = cut (starts ++ waiting_start waiting (length text)) text;
+  lines = lines_at_starts (starts ++ waiting_start waiting (length text)) text;
   new_line = is_some waiting;
   lost = lost;
 }

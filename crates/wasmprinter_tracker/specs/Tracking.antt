@@ -8,12 +8,12 @@ use Rattle.wasmprinter_spec.specs.Meaning.{Meaning}
 use Rattle.wasmprinter_tracker.specs.Tracked.{Tracked, with_text, with_line}
 
 -- what a call makes of a tracker
-abbrev pub after : Tracked → Call → Tracked
-after t (Text bytes) = with_text t bytes
-after t Newline = with_text t (10 ∷ [])
-after t (Line place) = with_line t place
-after t (Start style) = t
-after t (Claim name place bytes answer) = t
+abbrev pub tracked_after : Tracked → Call → Tracked
+tracked_after t (Text bytes) = with_text t bytes
+tracked_after t Newline = with_text t (10 ∷ [])
+tracked_after t (Line place) = with_line t place
+tracked_after t (Start style) = t
+tracked_after t (Claim name place bytes answer) = t
 
 -- what a call that succeeded promises besides: where text was written no line was lost, and no custom section is taken
 abbrev pub KeepsAll : Call → Tracked → Type 0
@@ -31,7 +31,7 @@ WantsMemory _ = ⊥
 -- the meaning of a tracker: a call that fails wants memory, and leaves the text and its lines as they were
 abbrev pub tracked_meaning : Meaning Tracked
 tracked_meaning = record {
-  after = λ old call new. (new ≡ after old call) × KeepsAll call new;
+  after = λ old call new. (new ≡ tracked_after old call) × KeepsAll call new;
   may_fail = λ old call. WantsMemory call;
   partly = λ old call error new. (error_kind error ≡ OutOfMemory) × (new.text ≡ old.text) × (new.lines ≡ old.lines);
   faults = λ t. None;

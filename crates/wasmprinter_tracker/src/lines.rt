@@ -29,21 +29,21 @@ impl<'a> Model for OffsetsAndLines<'a> {
 
     ghost Value = { Lined };
 
-    ghost use Rattle.wasmprinter_tracker.specs.Cuts.{cut, IsCuttable};
+    ghost use Rattle.wasmprinter_tracker.specs.Cuts.{lines_at_starts, IsCuttable};
 
-    ghost view = { λ it. record { storage = it.text.now; lines = cut (drop it.next it.starts.items) it.text.now } };
+    ghost view = { λ it. record { storage = it.text.now; lines = lines_at_starts (drop it.next it.starts.items) it.text.now } };
 
     ghost invariant = { λ it. IsCuttable (drop it.next it.starts.items) it.text.now };
 }
 
 impl<'a> OffsetsAndLines<'a> {
     ghost use Rattle.std.specs.Prelude.{◌≡◌};
-    ghost use Rattle.wasmprinter_tracker.specs.Cuts.{cut, IsCuttable};
+    ghost use Rattle.wasmprinter_tracker.specs.Cuts.{lines_at_starts, IsCuttable};
 
     /// The lines of `text` that begin at `starts`. Takes no memory.
     pub fn new(text: &'a str, starts: Vec<LineStart>) -> OffsetsAndLines<'a>
         requires { IsCuttable starts.items text.now }
-        ensures { result ≡ record { storage = text.now; lines = cut starts.items text.now } }
+        ensures { result ≡ record { storage = text.now; lines = lines_at_starts starts.items text.now } }
     {
         OffsetsAndLines {
             text,

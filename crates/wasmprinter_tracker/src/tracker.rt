@@ -28,12 +28,12 @@ pub struct Tracker {
 impl Model for Tracker {
     ghost use Rattle.std.specs.String.{string_bytes};
     ghost use Rattle.std.specs.Prelude.{◌++◌, length};
-    ghost use Rattle.wasmprinter_tracker.specs.Tracked.{Tracked, waiting_start, shown};
+    ghost use Rattle.wasmprinter_tracker.specs.Tracked.{Tracked, waiting_start, tracked_of};
     ghost use Rattle.wasmprinter_tracker.specs.Cuts.{IsCuttable};
 
     ghost Value = { Tracked };
 
-    ghost view = { λ t. shown (string_bytes t.text) t.starts.items t.waiting t.lost };
+    ghost view = { λ t. tracked_of (string_bytes t.text) t.starts.items t.waiting t.lost };
 
     ghost invariant = { λ t. IsCuttable (t.starts.items ++ waiting_start t.waiting (length (string_bytes t.text))) (string_bytes t.text) };
 }
@@ -42,7 +42,7 @@ impl Tracker {
     ghost use Rattle.std.specs.Prelude.{◌≡◌, false, OnOk, OnErr, IfOk};
     ghost use Rattle.std.specs.String.{string_bytes};
     ghost use Rattle.wasmprinter_tracker.specs.Tracked.{without_lines, with_text};
-    ghost use Rattle.wasmprinter_tracker.specs.Cuts.{cut, IsCuttable};
+    ghost use Rattle.wasmprinter_tracker.specs.Cuts.{lines_at_starts, IsCuttable};
 
     /// A tracker that appends to `text`, in which no line has begun. Takes no memory.
     pub fn new(alloc: Global, text: String) -> Tracker
@@ -93,7 +93,7 @@ impl Tracker {
     /// Where memory is refused to the last beginning of a line, or a line was lost before. The text is given back all the same.
     pub fn finish(mut self) -> (String, Result<Vec<LineStart>, AllocError>)
         ensures text { string_bytes result.0 ≡ self.text }
-        ensures lines { IfOk result.1 (λ starts. cut starts.items self.text ≡ self.lines) }
+        ensures lines { IfOk result.1 (λ starts. lines_at_starts starts.items self.text ≡ self.lines) }
         ensures cuttable { IfOk result.1 (λ starts. IsCuttable starts.items self.text) }
         ensures kept { OnOk result.1 (self.lost ≡ false) }
     {

@@ -7,7 +7,7 @@ use Rattle.std.specs.List.{AllByRecursion}
 use Rattle.wasmprinter_spec.specs.Grammar.{Input, input, ◌>>=◌, bind_some, some_is, Placed}
 use Rattle.wasmprinter_spec.specs.Choices.{tested}
 use Rattle.wasmprinter_spec.specs.Repeated.{until_end}
-use Rattle.wasmprinter_spec.specs.Sized.{headed}
+use Rattle.wasmprinter_spec.specs.Sized.{seq_to_end}
 use Rattle.wasmprinter_spec.specs.Operator.{Operator}
 use Rattle.wasmprinter_spec.specs.Types.{MemoryType}
 use Rattle.wasmprinter_spec.specs.Placed.{TypeGroup, Import, Global, Export, ElementEntry, Data, CustomEntry, PlacedFunction, PlacedModule}
@@ -87,7 +87,7 @@ module _ (bytes pre : List ℕ) (at : Input) (first : preamble.parse (input 0 by
   spelled_of : (m : PlacedModule) → Spells bytes m → Spelled at m size
   spelled_of m s =
       let read = binary.complete (input 0 bytes) m s.spelled in
-      let a = bind_some ((headed preamble (until_end section)).parse (input 0 bytes)) (λ x. module_of_sections size x.1) m read in
+      let a = bind_some ((seq_to_end preamble (until_end section)).parse (input 0 bytes)) (λ x. module_of_sections size x.1) m read in
       let b = bind_some (preamble.parse (input 0 bytes)) (λ a. sections_at a.1 >>= λ ss. Some (a.0, ss)) a.0 a.1 in
       let c = bind_some (sections_at b.0.1) (λ ss. Some (b.0.0, ss)) a.0 b.2 in
       let there : b.0.1 ≡ at = ap (λ (x : List ℕ × Input). x.1) (some_is b.0 (pre, at) (sym b.1 ∙ first)) in

@@ -12,7 +12,7 @@ use Rattle.wasmprinter_error.proofs.Reasons.{reason_implied}
 use Rattle.wasmprinter_entries.specs.Refusals.{AnyIsOver, FirstIsEmpty}
 use Rattle.wasmprinter_entries.specs.Contents.{IsSmall, HasCount, HasOver, HasEmpty, item_count}
 use Rattle.wasmprinter_wasm.specs.Sections.{section_reasons}
-use Rattle.wasmprinter_wasm.specs.Gathering.{Gathered, none_gathered, Kept, kept, with_section, IsHeld, sections_at, item_count_in, HoldsSections, sections_reasons}
+use Rattle.wasmprinter_wasm.specs.Gathering.{Gathered, none_gathered, Kept, gathered_items, with_section, IsHeld, sections_at, item_count_in, HoldsSections, sections_reasons}
 use Rattle.wasmprinter_entries.proofs.LaterPlaces.{IsLater, later_none, later_more, many_later, empty_later, section_later, kept_later, custom_read}
 use Rattle.wasmprinter_wasm.proofs.ItemsToEnd.{in_front, until_item, until_fault, until_done}
 use Rattle.wasmprinter_wasm.proofs.OrderedSections.{custom_kind, last_place, last_place_push, kept_none, kept_with, kept_push, kept_added, some_midst, count_midst, over_midst, empty_midst}
@@ -50,7 +50,7 @@ gathering_none at g same = record {
   small = tt;
   rank = ap (λ (x : Gathered). x.rank) same;
   behind = ap (λ (x : Gathered). x.behind) same;
-  held = λ kind. ap (kept kind) same ∙ kept_none kind;
+  held = λ kind. ap (gathered_items kind) same ∙ kept_none kind;
   later = later_none at;
   ends = refl;
 }
@@ -81,7 +81,7 @@ module _ (start at after : Input) (g : Gathered) (s : Section) (read : section.p
     rank = ap (λ (x : Gathered). x.rank) same ∙ ap (λ (r : ℕ). rank_behind r (rank (section_kind s))) k.rank ∙ sym (last_rank_push 0 k.sections s);
     behind = ap (λ (x : Gathered). x.behind) same ∙ ap (λ (last : Option Kind). place_behind last s) k.behind ∙ sym (last_place_push None k.sections s);
     held = λ kind.
-        ap (kept kind) same ∙ kept_added kind g s ∙ ap₂ (λ (last : Option Kind) (c : Kept kind). kept_with kind last c s) k.behind (k.held kind)
+        ap (gathered_items kind) same ∙ kept_added kind g s ∙ ap₂ (λ (last : Option Kind) (c : Kept kind). kept_with kind last c s) k.behind (k.held kind)
         ∙ sym (kept_push kind k.sections s);
     later = later_more section start at after s read k.later;
     ends = ends ∙ k.ends;

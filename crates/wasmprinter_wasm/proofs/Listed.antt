@@ -1,7 +1,7 @@
 -- Lists have fewer than 2 ^ 32 items, since a count of 32 bits stands in front of them.
 use Rattle.std.proofs.Common.{◌≡◌, ℕ, ◌+◌, ◌-◌, ◌^◌, ◌<◌, lit≤, List, [], ◌∷◌, ◌++◌, length, Some, sym, ap, subst, ◌∙◌, inl, inr, arith}
 use Rattle.std.specs.List.{AllByRecursion}
-use Rattle.wasmprinter_spec.specs.Grammar.{Input, Grammar, some_is, placed}
+use Rattle.wasmprinter_spec.specs.Grammar.{Input, Grammar, some_is, value_with_place}
 use Rattle.wasmprinter_spec.specs.Repeated.{Entries, until_end}
 use Rattle.wasmprinter_spec.specs.Leb.{IsUnsigned}
 use Rattle.wasmprinter_spec.specs.Name.{u32, vec}
@@ -53,19 +53,19 @@ IsListed s = item_count s < 2 ^ 32
 -- what a section of each kind holds
 content_listed : (kind : Kind) (p : ℕ) (text : List ℕ) (c : Content kind) → AreBytes text → (content kind).spells p text c → IsListed (holds kind c)
 content_listed CustomSection p text c all s = lit≤ tt
-content_listed TypeSection p text c all s = vec_listed (placed group) p text c all s
-content_listed ImportSection p text c all s = vec_listed (placed import) p text c all s
+content_listed TypeSection p text c all s = vec_listed (value_with_place group) p text c all s
+content_listed ImportSection p text c all s = vec_listed (value_with_place import) p text c all s
 content_listed FunctionSection p text c all s = vec_listed u32 p text c all s
-content_listed TableSection p text c all s = vec_listed (placed table) p text c all s
-content_listed MemorySection p text c all s = vec_listed (placed memory_type) p text c all s
-content_listed TagSection p text c all s = vec_listed (placed tag) p text c all s
-content_listed GlobalSection p text c all s = vec_listed (placed global) p text c all s
-content_listed ExportSection p text c all s = vec_listed (placed export) p text c all s
+content_listed TableSection p text c all s = vec_listed (value_with_place table) p text c all s
+content_listed MemorySection p text c all s = vec_listed (value_with_place memory_type) p text c all s
+content_listed TagSection p text c all s = vec_listed (value_with_place tag) p text c all s
+content_listed GlobalSection p text c all s = vec_listed (value_with_place global) p text c all s
+content_listed ExportSection p text c all s = vec_listed (value_with_place export) p text c all s
 content_listed StartSection p text c all s = lit≤ tt
-content_listed ElementSection p text c all s = vec_listed (placed element) p text c all s
+content_listed ElementSection p text c all s = vec_listed (value_with_place element) p text c all s
 content_listed DataCountSection p text c all s = lit≤ tt
 content_listed CodeSection p text c all s = vec_listed code_entry p text c all s
-content_listed DataSection p text c all s = vec_listed (placed segment) p text c all s
+content_listed DataSection p text c all s = vec_listed (value_with_place segment) p text c all s
 
 -- a section
 section_listed : (p : ℕ) (text : List ℕ) (s : Section) → AreBytes text → section.spells p text s → IsListed s

@@ -15,7 +15,7 @@ use Rattle.wasmprinter_entries.specs.Refusals.{AnyIsOver, FirstIsEmpty}
 use Rattle.wasmprinter_entries.specs.Contents.{HasFew, HasNoEmpty, IsSmall, HasCount, HasOver, HasEmpty, item_count}
 use Rattle.wasmprinter_entries.specs.declared.places.SectionKind.{SectionKind}
 use Rattle.wasmprinter_entries.specs.Places.{place_view}
-use Rattle.wasmprinter_wasm.specs.Gathering.{Gathered, none_gathered, Kept, kept, kept_in, with_section, IsHeld, item_count_in}
+use Rattle.wasmprinter_wasm.specs.Gathering.{Gathered, none_gathered, Kept, gathered_items, section_items, with_section, IsHeld, item_count_in}
 
 -- ---- custom sections
 
@@ -70,7 +70,7 @@ custom_kind (holds _ x) e = absurd cc
 -- ---- of each kind
 
 -- before any section nothing is kept
-pub kept_none : (kind : Kind) → kept kind none_gathered ≡ kept_in kind []
+pub kept_none : (kind : Kind) → gathered_items kind none_gathered ≡ section_items kind []
 kept_none CustomSection = refl
 kept_none _ = refl
 
@@ -80,12 +80,12 @@ kept_with CustomSection last cs s = cs ++ customs_behind last (s ∷ [])
 kept_with kind last c s = with_one kind c s
 
 -- it is what sections hold with one more behind them
-pub kept_push : (kind : Kind) (ss : List Section) (s : Section) → kept_in kind (ss ++ s ∷ []) ≡ kept_with kind (last_place None ss) (kept_in kind ss) s
+pub kept_push : (kind : Kind) (ss : List Section) (s : Section) → section_items kind (ss ++ s ∷ []) ≡ kept_with kind (last_place None ss) (section_items kind ss) s
 kept_push CustomSection ss s = customs_push None ss s
-kept_push kind ss s = held_push kind (kept kind none_gathered) ss s
+kept_push kind ss s = held_push kind (gathered_items kind none_gathered) ss s
 
 -- a section sets what is kept of its kind, or adds to it, and leaves the rest
-pub kept_added : (kind : Kind) (g : Gathered) (s : Section) → kept kind (with_section g s) ≡ kept_with kind g.behind (kept kind g) s
+pub kept_added : (kind : Kind) (g : Gathered) (s : Section) → gathered_items kind (with_section g s) ≡ kept_with kind g.behind (gathered_items kind g) s
 kept_added CustomSection g (holds CustomSection x) = refl
 kept_added CustomSection g (holds _ x) = sym (append-nil g.customs)
 kept_added TypeSection g (holds TypeSection x) = refl

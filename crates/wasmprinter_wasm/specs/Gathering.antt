@@ -62,38 +62,38 @@ abbrev pub Kept : Kind → Type 0
 Kept CustomSection = List CustomEntry
 Kept kind = Content kind
 
-abbrev pub kept : (kind : Kind) → Gathered → Kept kind
-kept CustomSection g = g.customs
-kept TypeSection g = g.types
-kept ImportSection g = g.imports
-kept FunctionSection g = g.type_indices
-kept TableSection g = g.tables
-kept MemorySection g = g.memories
-kept TagSection g = g.tags
-kept GlobalSection g = g.globals
-kept ExportSection g = g.exports
-kept StartSection g = g.start
-kept ElementSection g = g.elements
-kept DataCountSection g = g.data_count
-kept CodeSection g = g.bodies
-kept DataSection g = g.datas
+abbrev pub gathered_items : (kind : Kind) → Gathered → Kept kind
+gathered_items CustomSection g = g.customs
+gathered_items TypeSection g = g.types
+gathered_items ImportSection g = g.imports
+gathered_items FunctionSection g = g.type_indices
+gathered_items TableSection g = g.tables
+gathered_items MemorySection g = g.memories
+gathered_items TagSection g = g.tags
+gathered_items GlobalSection g = g.globals
+gathered_items ExportSection g = g.exports
+gathered_items StartSection g = g.start
+gathered_items ElementSection g = g.elements
+gathered_items DataCountSection g = g.data_count
+gathered_items CodeSection g = g.bodies
+gathered_items DataSection g = g.datas
 
 -- what sections hold of each kind
-abbrev pub kept_in : (kind : Kind) → List Section → Kept kind
-kept_in CustomSection ss = customs_in ss
-kept_in TypeSection ss = types_in ss
-kept_in ImportSection ss = imports_in ss
-kept_in FunctionSection ss = type_indices_in ss
-kept_in TableSection ss = tables_in ss
-kept_in MemorySection ss = memories_in ss
-kept_in TagSection ss = tags_in ss
-kept_in GlobalSection ss = globals_in ss
-kept_in ExportSection ss = exports_in ss
-kept_in StartSection ss = start_in ss
-kept_in ElementSection ss = elements_in ss
-kept_in DataCountSection ss = data_count_in ss
-kept_in CodeSection ss = bodies_in ss
-kept_in DataSection ss = datas_in ss
+abbrev pub section_items : (kind : Kind) → List Section → Kept kind
+section_items CustomSection ss = customs_in ss
+section_items TypeSection ss = types_in ss
+section_items ImportSection ss = imports_in ss
+section_items FunctionSection ss = type_indices_in ss
+section_items TableSection ss = tables_in ss
+section_items MemorySection ss = memories_in ss
+section_items TagSection ss = tags_in ss
+section_items GlobalSection ss = globals_in ss
+section_items ExportSection ss = exports_in ss
+section_items StartSection ss = start_in ss
+section_items ElementSection ss = elements_in ss
+section_items DataCountSection ss = data_count_in ss
+section_items CodeSection ss = bodies_in ss
+section_items DataSection ss = datas_in ss
 
 -- with what one more section holds, in place of what one of its kind held; a custom section stands behind those that were kept
 abbrev pub with_content : Gathered → Section → Gathered
@@ -118,7 +118,7 @@ with_section g s = record (with_content g s) { rank = rank_behind g.rank (rank (
 
 -- what is gathered is what the sections hold of each kind
 abbrev pub IsHeld : Gathered → List Section → Type 0
-IsHeld g ss = (kind : Kind) → kept kind g ≡ kept_in kind ss
+IsHeld g ss = (kind : Kind) → gathered_items kind g ≡ section_items kind ss
 
 -- there are as many bodies as type indices, and as many data segments as are counted
 pub record IsWhole (g : Gathered) : Type 0 where

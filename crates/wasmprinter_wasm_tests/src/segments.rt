@@ -215,7 +215,7 @@ fn active(mode: &ElementMode) -> Option<(u32, usize)> {
 }
 
 /// How many functions, and how many expressions.
-fn counted(items: &ElementItems) -> (u32, usize) {
+fn counts_of(items: &ElementItems) -> (u32, usize) {
     match items {
         ElementItems::Functions(indices) => (indices.len(), 0),
         ElementItems::Expressions(_, expressions) => (0, expressions.len()),
@@ -298,7 +298,7 @@ fn flags_say_what_an_element_segment_is(rt: HostRuntime) -> Result<(), Fail> {
             assert!(rt; element.place() == FIRST);
             assert!(rt; element.names_table() == names_table);
             assert!(rt; active(element.mode()) == table.map(|index| (index, 1)));
-            assert!(rt; counted(element.items()) == (functions, expressions));
+            assert!(rt; counts_of(element.items()) == (functions, expressions));
         }
     }
     Ok(())

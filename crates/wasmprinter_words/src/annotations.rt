@@ -6,16 +6,16 @@ ghost use Rattle.wasmprinter_spec.specs.Piece.{OpenNote, OpenNoteGap, OpenRun, P
 ghost use Rattle.wasmprinter_print.specs.Prints.{Prints};
 
 use crate::comments::write_between;
-use crate::words::styled_pair;
+use crate::words::two_texts_in_style;
 use std::io;
-use wasmprinter_print::{Print, Style, reset, start, styled, text};
+use wasmprinter_print::{Print, Style, reset, start, text, text_in_style};
 
 /// Opens an annotation: a parenthesis, the sign `@` and a name.
 pub fn open_note<P: Print>(p: &mut P, name: &str) -> io::Result<()>
     ensures { (o : Options) → Prints P.meaning o p.old p.new result (OpenNote name.now ∷ []) }
 {
     text(p, "(")?;
-    styled_pair(p, Style::Keyword, "@", name)
+    two_texts_in_style(p, Style::Keyword, "@", name)
 }
 
 /// Opens an annotation with a blank behind its name.
@@ -33,7 +33,7 @@ pub fn open_run<P: Print>(p: &mut P, word: &str) -> io::Result<()>
     ensures { (o : Options) → Prints P.meaning o p.old p.new result (OpenRun word.now ∷ []) }
 {
     text(p, "(")?;
-    styled(p, Style::Keyword, word)
+    text_in_style(p, Style::Keyword, word)
 }
 
 /// Writes a text between two others as a comment up to the end of the line, without a style.

@@ -2,7 +2,7 @@
 ghost use Rattle.std.specs.Prelude.{[], ◌∷◌, ◌++◌, codes, decimal, true, false};
 ghost use Rattle.wasmprinter_spec.specs.Call.{Text, Comment};
 ghost use Rattle.wasmprinter_spec.specs.Options.{Options};
-ghost use Rattle.wasmprinter_spec.specs.Piece.{NumberRemark, Remark, Ending, styled};
+ghost use Rattle.wasmprinter_spec.specs.Piece.{NumberRemark, Remark, Ending, calls_in_style};
 ghost use Rattle.wasmprinter_print.specs.Emits.{Emits};
 ghost use Rattle.wasmprinter_print.specs.Prints.{Prints};
 
@@ -40,7 +40,7 @@ pub fn number_remark<P: Print>(p: &mut P, n: u64) -> io::Result<()>
 
 /// Writes a number between two texts, in the style of comments.
 fn write_number_comment<P: Print>(p: &mut P, before: &str, n: u64, after: &str) -> io::Result<()>
-    ensures { Emits P.meaning p.old p.new result (styled Comment (before.now ++ (decimal n ++ after.now))) }
+    ensures { Emits P.meaning p.old p.new result (calls_in_style Comment (before.now ++ (decimal n ++ after.now))) }
 {
     start(p, Style::Comment)?;
     write_decimal_between(p, before, n, after)?;

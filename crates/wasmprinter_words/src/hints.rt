@@ -5,7 +5,7 @@ ghost use Rattle.wasmprinter_spec.specs.Piece.{HintNote};
 ghost use Rattle.wasmprinter_print.specs.Prints.{Prints};
 
 use std::io;
-use wasmprinter_print::{Print, Style, styled};
+use wasmprinter_print::{Print, Style, text_in_style};
 
 /// Says that an operator is likely to branch.
 const TAKEN_NOTE: &str = "(@metadata.code.branch_hint \"\\01\")";
@@ -18,7 +18,7 @@ const NOT_TAKEN_NOTE: &str = "(@metadata.code.branch_hint \"\\00\")";
 pub fn hint_note<P: Print>(p: &mut P, taken: bool) -> io::Result<()>
     ensures { (o : Options) → Prints P.meaning o p.old p.new result (HintNote taken ∷ []) }
 {
-    styled(
+    text_in_style(
         p,
         Style::Comment,
         if taken { TAKEN_NOTE } else { NOT_TAKEN_NOTE },

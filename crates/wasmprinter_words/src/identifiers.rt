@@ -13,7 +13,7 @@ ghost use Rattle.wasmprinter_print.specs.Prints.{Prints};
 use crate::numbers::write_decimal;
 use crate::strings::write_chars;
 use std::io;
-use wasmprinter_print::{Print, Style, styled, text};
+use wasmprinter_print::{Print, Style, text, text_in_style};
 
 /// Whether a character stands in an identifier.
 #[tactic(auto, unfolding(wasmprinter_spec::specs::Character::class))]
@@ -92,7 +92,7 @@ pub fn name_note<P: Print>(p: &mut P, name: &str) -> io::Result<()>
     ensures { (o : Options) → Prints P.meaning o p.old p.new result (NameNote (chars name.now) ∷ []) }
 {
     text(p, "(")?;
-    styled(p, Style::Keyword, "@name \"")?;
+    text_in_style(p, Style::Keyword, "@name \"")?;
     write_chars(p, name)?;
     text(p, "\")")
 }

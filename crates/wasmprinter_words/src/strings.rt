@@ -2,7 +2,7 @@
 ghost use Rattle.std.specs.Prelude.{◌≡◌, [], ◌∷◌, flat_map, chars};
 ghost use Rattle.wasmprinter_spec.specs.Call.{Text, Literal};
 ghost use Rattle.wasmprinter_spec.specs.Options.{Options};
-ghost use Rattle.wasmprinter_spec.specs.Piece.{Quoted, QuotedBytes, styled};
+ghost use Rattle.wasmprinter_spec.specs.Piece.{Quoted, QuotedBytes, calls_in_style};
 ghost use Rattle.wasmprinter_spec.specs.Quoted.{is_plain, char_text, byte_text, quoted_text, quoted_bytes};
 ghost use Rattle.wasmprinter_print.specs.Emits.{Emits, EmitsOrFails};
 ghost use Rattle.wasmprinter_print.specs.Prints.{Prints};
@@ -43,7 +43,7 @@ pub(crate) fn write_chars<P: Print>(p: &mut P, s: &str) -> io::Result<()>
 /// Writes a text in quotes, with what isn't printable by its number.
 #[tactic(auto, unfolding(wasmprinter_spec::specs::Quoted::quoted_text))]
 pub fn write_string<P: Print>(p: &mut P, s: &str) -> io::Result<()>
-    ensures calls { Emits P.meaning p.old p.new result (styled Literal (quoted_text (chars s.now))) }
+    ensures calls { Emits P.meaning p.old p.new result (calls_in_style Literal (quoted_text (chars s.now))) }
     ensures pieces { (o : Options) → Prints P.meaning o p.old p.new result (Quoted (chars s.now) ∷ []) }
 {
     start(p, Style::Literal)?;
@@ -60,7 +60,7 @@ pub fn write_string<P: Print>(p: &mut P, s: &str) -> io::Result<()>
 ///
 /// `Printer` where a call on the printer failed, with that call's error, and no other.
 pub fn write_quoted<P: Print>(p: &mut P, s: &str) -> Result<(), Error>
-    ensures { EmitsOrFails P.meaning p.old p.new result (styled Literal (quoted_text (chars s.now))) }
+    ensures { EmitsOrFails P.meaning p.old p.new result (calls_in_style Literal (quoted_text (chars s.now))) }
 {
     write_string(p, s)?;
     Ok(())
@@ -92,7 +92,7 @@ fn write_each_byte<P: Print>(p: &mut P, bytes: &[u8]) -> io::Result<()>
 /// Writes bytes in quotes, with what isn't printable by its hexadecimal digits.
 #[tactic(auto, unfolding(wasmprinter_spec::specs::Quoted::quoted_bytes))]
 pub fn write_byte_string<P: Print>(p: &mut P, bytes: &[u8]) -> io::Result<()>
-    ensures calls { Emits P.meaning p.old p.new result (styled Literal (quoted_bytes bytes.now)) }
+    ensures calls { Emits P.meaning p.old p.new result (calls_in_style Literal (quoted_bytes bytes.now)) }
     ensures pieces { (o : Options) → Prints P.meaning o p.old p.new result (QuotedBytes bytes.now ∷ []) }
 {
     start(p, Style::Literal)?;
@@ -109,7 +109,7 @@ pub fn write_byte_string<P: Print>(p: &mut P, bytes: &[u8]) -> io::Result<()>
 ///
 /// `Printer` where a call on the printer failed, with that call's error, and no other.
 pub fn write_bytes<P: Print>(p: &mut P, bytes: &[u8]) -> Result<(), Error>
-    ensures { EmitsOrFails P.meaning p.old p.new result (styled Literal (quoted_bytes bytes.now)) }
+    ensures { EmitsOrFails P.meaning p.old p.new result (calls_in_style Literal (quoted_bytes bytes.now)) }
 {
     write_byte_string(p, bytes)?;
     Ok(())

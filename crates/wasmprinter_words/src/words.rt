@@ -2,16 +2,16 @@
 ghost use Rattle.std.specs.Prelude.{[], ◌∷◌, ◌++◌};
 ghost use Rattle.wasmprinter_spec.specs.Options.{Options};
 ghost use Rattle.wasmprinter_spec.specs.Piece.{Gap, Open, OpenBare, OpenGap, OpenPlain, OpenTypeGap, Shut, BeginName, EndStyle};
-ghost use Rattle.wasmprinter_spec.specs.Piece.{Word, TypeWord, TypeWordGap, GapTypeWord, styled as in_style};
+ghost use Rattle.wasmprinter_spec.specs.Piece.{Word, TypeWord, TypeWordGap, GapTypeWord, calls_in_style as in_style};
 ghost use Rattle.wasmprinter_print.specs.Emits.{Emits};
 ghost use Rattle.wasmprinter_print.specs.Prints.{Prints};
 ghost use Rattle.wasmprinter_print.specs.Styles.{style_of};
 
 use std::io;
-use wasmprinter_print::{Print, Style, reset, start, styled, text};
+use wasmprinter_print::{Print, Style, reset, start, text, text_in_style};
 
 /// Writes two texts as one in a style.
-pub(crate) fn styled_pair<P: Print>(
+pub(crate) fn two_texts_in_style<P: Print>(
     p: &mut P,
     style: Style,
     first: &str,
@@ -30,7 +30,7 @@ pub fn open<P: Print>(p: &mut P, keyword: &str) -> io::Result<()>
     ensures { (o : Options) → Prints P.meaning o p.old p.new result (Open keyword.now ∷ []) }
 {
     text(p, "(")?;
-    styled(p, Style::Keyword, keyword)
+    text_in_style(p, Style::Keyword, keyword)
 }
 
 /// Opens a group with a blank behind its keyword.
@@ -38,7 +38,7 @@ pub fn open_gap<P: Print>(p: &mut P, keyword: &str) -> io::Result<()>
     ensures { (o : Options) → Prints P.meaning o p.old p.new result (OpenGap keyword.now ∷ []) }
 {
     text(p, "(")?;
-    styled_pair(p, Style::Keyword, keyword, " ")
+    two_texts_in_style(p, Style::Keyword, keyword, " ")
 }
 
 /// Opens a group whose keyword has no style.
@@ -62,7 +62,7 @@ pub fn open_bare<P: Print>(p: &mut P) -> io::Result<()>
     ensures { (o : Options) → Prints P.meaning o p.old p.new result (OpenBare ∷ []) }
 {
     text(p, "(")?;
-    styled(p, Style::Keyword, "")
+    text_in_style(p, Style::Keyword, "")
 }
 
 /// Closes a group on the line where it ends.
@@ -90,21 +90,21 @@ pub fn word<P: Print>(p: &mut P, word: &str) -> io::Result<()>
 pub fn type_word<P: Print>(p: &mut P, word: &str) -> io::Result<()>
     ensures { (o : Options) → Prints P.meaning o p.old p.new result (TypeWord word.now ∷ []) }
 {
-    styled(p, Style::TypeName, word)
+    text_in_style(p, Style::TypeName, word)
 }
 
 /// Writes the word of a type and a blank.
 pub fn type_word_gap<P: Print>(p: &mut P, word: &str) -> io::Result<()>
     ensures { (o : Options) → Prints P.meaning o p.old p.new result (TypeWordGap word.now ∷ []) }
 {
-    styled_pair(p, Style::TypeName, word, " ")
+    two_texts_in_style(p, Style::TypeName, word, " ")
 }
 
 /// Writes a blank and the word of a type.
 pub fn gap_type_word<P: Print>(p: &mut P, word: &str) -> io::Result<()>
     ensures { (o : Options) → Prints P.meaning o p.old p.new result (GapTypeWord word.now ∷ []) }
 {
-    styled_pair(p, Style::TypeName, " ", word)
+    two_texts_in_style(p, Style::TypeName, " ", word)
 }
 
 /// Text in the style of names follows.

@@ -62,7 +62,7 @@ impl<'a> Run<'a> {
 
     /// Whether printing stops at a write that fails, with its error, and nothing is written behind it.
     fn stops_at(&self, alloc: Global, write: usize, kind: ErrorKind) -> bool {
-        let mut writer = Scripted::failing(alloc, self.most, write, kind);
+        let mut writer = Scripted::with_failure(alloc, self.most, write, kind);
         let refused = self.print(alloc, &mut writer);
         let wanted = self.wanted.as_bytes();
         matches!(refused, Err(Error::Printer(e)) if e.kind() == kind)
@@ -112,7 +112,7 @@ fn tries_a_write_again_that_was_interrupted(rt: HostRuntime) -> Result<(), Fail>
     for run in runs() {
         let mut whole = Scripted::new(alloc, run.most);
         run.print(alloc, &mut whole)?;
-        let mut writer = Scripted::failing(
+        let mut writer = Scripted::with_failure(
             alloc,
             run.most,
             whole.calls.len(),
@@ -148,7 +148,7 @@ fn leaves_the_sequences_up_to_the_one_that_failed(rt: HostRuntime) {
         (3, "\x1b[0m\x1b[1m"),
         (4, "\x1b[0m\x1b[1m\x1b[38;5;10m"),
     ] {
-        let mut writer = Ansi::new(Scripted::failing(
+        let mut writer = Ansi::new(Scripted::with_failure(
             rt.alloc(),
             usize::MAX,
             write,
@@ -171,7 +171,7 @@ fn leaves_the_sequences_up_to_the_one_that_failed(rt: HostRuntime) {
 
 #[test]
 fn fails_only_where_it_writes(rt: HostRuntime) -> Result<(), Fail> {
-    let mut printer = PrintIoWrite(Scripted::failing(
+    let mut printer = PrintIoWrite(Scripted::with_failure(
         rt.alloc(),
         usize::MAX,
         1,
@@ -196,7 +196,7 @@ fn fails_only_where_it_writes(rt: HostRuntime) -> Result<(), Fail> {
 
 #[test]
 fn fails_at_a_style_where_it_writes_a_sequence(rt: HostRuntime) -> Result<(), Fail> {
-    let mut printer = PrintTermcolor(Ansi::new(Scripted::failing(
+    let mut printer = PrintTermcolor(Ansi::new(Scripted::with_failure(
         rt.alloc(),
         usize::MAX,
         1,

@@ -52,18 +52,18 @@ impl Way {
 }
 
 /// Whether a call that succeeded came to the writer alone, and left just these bytes.
-fn took(writer: &Scripted, call: Asked, bytes: &[u8]) -> bool {
+fn has_taken(writer: &Scripted, call: Asked, bytes: &[u8]) -> bool {
     writer.calls.as_slice() == [call].as_slice() && writer.bytes.as_slice() == bytes
 }
 
 /// A writer that takes all bytes at once.
-fn taking(alloc: Global) -> Scripted {
+fn writer_that_takes(alloc: Global) -> Scripted {
     Scripted::new(alloc, usize::MAX)
 }
 
 /// A writer whose first call fails.
-fn refusing(alloc: Global, kind: ErrorKind) -> Scripted {
-    Scripted::failing(alloc, usize::MAX, 1, kind)
+fn writer_that_refuses(alloc: Global, kind: ErrorKind) -> Scripted {
+    Scripted::with_failure(alloc, usize::MAX, 1, kind)
 }
 
 #[test]
@@ -71,14 +71,14 @@ fn hands_on_a_piece_of_each_length_whole(rt: HostRuntime) -> Result<(), Fail> {
     for way in WAYS {
         for len in 1..=LONGEST {
             let piece = &PIECES[..len];
-            let mut writer = taking(rt.alloc());
+            let mut writer = writer_that_takes(rt.alloc());
             way.write_all(&mut writer, piece)?;
             assert!(rt;
-                took(&writer, Asked::Write(len), piece),
+                has_taken(&writer, Asked::Write(len), piece),
                 "{way:?}: {len} bytes"
             );
         }
-        let mut writer = taking(rt.alloc());
+        let mut writer = writer_that_takes(rt.alloc());
         way.write_all(&mut writer, b"")?;
         assert!(rt; writer.calls.is_empty());
     }
@@ -90,17 +90,17 @@ fn hands_on_a_part_of_a_piece_of_each_length(rt: HostRuntime) -> Result<(), Fail
     for way in WAYS {
         for len in 0..=LONGEST {
             let piece = &PIECES[..len];
-            let mut writer = taking(rt.alloc());
+            let mut writer = writer_that_takes(rt.alloc());
             assert!(rt; way.write(&mut writer, piece)? == len);
             assert!(rt;
-                took(&writer, Asked::Write(len), piece),
+                has_taken(&writer, Asked::Write(len), piece),
                 "{way:?}: {len} bytes"
             );
             let half = len / 2;
             let mut writer = Scripted::new(rt.alloc(), half);
             assert!(rt; way.write(&mut writer, piece)? == half);
             assert!(rt;
-                took(&writer, Asked::Write(len), &piece[..half]),
+                has_taken(&writer, Asked::Write(len), &piece[..half]),
                 "{way:?}: {len} bytes"
             );
         }
@@ -113,24 +113,24 @@ fn answers_the_error_of_the_writer_for_a_piece_of_each_length(rt: HostRuntime) {
     for way in WAYS {
         for len in 1..=LONGEST {
             for kind in [ErrorKind::BrokenPipe, ErrorKind::StorageFull] {
-                let mut writer = refusing(rt.alloc(), kind);
+                let mut writer = writer_that_refuses(rt.alloc(), kind);
                 let refused = way.write_all(&mut writer, &PIECES[..len]);
                 assert!(rt;
                     matches!(refused, Err(e) if e.kind() == kind),
                     "{way:?}: {len} bytes"
                 );
                 assert!(rt;
-                    took(&writer, Asked::Write(len), b""),
+                    has_taken(&writer, Asked::Write(len), b""),
                     "{way:?}: {len} bytes"
                 );
-                let mut writer = refusing(rt.alloc(), kind);
+                let mut writer = writer_that_refuses(rt.alloc(), kind);
                 let refused = way.write(&mut writer, &PIECES[..len]);
                 assert!(rt;
                     matches!(refused, Err(e) if e.kind() == kind),
                     "{way:?}: {len} bytes"
                 );
                 assert!(rt;
-                    took(&writer, Asked::Write(len), b""),
+                    has_taken(&writer, Asked::Write(len), b""),
                     "{way:?}: {len} bytes"
                 );
             }
@@ -141,16 +141,16 @@ fn answers_the_error_of_the_writer_for_a_piece_of_each_length(rt: HostRuntime) {
 #[test]
 fn flushes_the_writer_and_answers_as_it_does(rt: HostRuntime) -> Result<(), Fail> {
     for way in WAYS {
-        let mut writer = taking(rt.alloc());
+        let mut writer = writer_that_takes(rt.alloc());
         way.flush(&mut writer)?;
-        assert!(rt; took(&writer, Asked::Flush, b""), "{way:?}");
-        let mut writer = refusing(rt.alloc(), ErrorKind::BrokenPipe);
+        assert!(rt; has_taken(&writer, Asked::Flush, b""), "{way:?}");
+        let mut writer = writer_that_refuses(rt.alloc(), ErrorKind::BrokenPipe);
         let refused = way.flush(&mut writer);
         assert!(rt;
             matches!(refused, Err(e) if e.kind() == ErrorKind::BrokenPipe),
             "{way:?}"
         );
-        assert!(rt; took(&writer, Asked::Flush, b""), "{way:?}");
+        assert!(rt; has_taken(&writer, Asked::Flush, b""), "{way:?}");
     }
     Ok(())
 }
@@ -162,16 +162,19 @@ fn hands_on_a_long_piece_whole(rt: HostRuntime) -> Result<(), Fail> {
         piece.extend_from_slice(&PIECES)?;
     }
     for way in WAYS {
-        let mut writer = taking(rt.alloc());
+        let mut writer = writer_that_takes(rt.alloc());
         way.write_all(&mut writer, &piece)?;
-        assert!(rt; took(&writer, Asked::Write(300_000), &piece), "{way:?}");
-        let mut writer = refusing(rt.alloc(), ErrorKind::BrokenPipe);
+        assert!(rt;
+            has_taken(&writer, Asked::Write(300_000), &piece),
+            "{way:?}"
+        );
+        let mut writer = writer_that_refuses(rt.alloc(), ErrorKind::BrokenPipe);
         let refused = way.write_all(&mut writer, &piece);
         assert!(rt;
             matches!(refused, Err(e) if e.kind() == ErrorKind::BrokenPipe),
             "{way:?}"
         );
-        assert!(rt; took(&writer, Asked::Write(300_000), b""), "{way:?}");
+        assert!(rt; has_taken(&writer, Asked::Write(300_000), b""), "{way:?}");
     }
     Ok(())
 }

@@ -47,7 +47,7 @@ impl Scripted {
         }
     }
 
-    pub fn failing(alloc: Global, most: usize, call: usize, kind: ErrorKind) -> Scripted {
+    pub fn with_failure(alloc: Global, most: usize, call: usize, kind: ErrorKind) -> Scripted {
         let mut writer = Scripted::new(alloc, most);
         writer.failure = Some((call, kind));
         writer

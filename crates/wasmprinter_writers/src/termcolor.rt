@@ -13,7 +13,7 @@ use wasmprinter_print::Print;
 pub struct PrintTermcolor<T>(pub T);
 
 /// Text in a colour.
-fn colored(color: Color) -> ColorSpec
+fn spec_of_color(color: Color) -> ColorSpec
     ensures { result ≡ colour_look (number_of color) }
 {
     let mut spec = ColorSpec::new();
@@ -25,7 +25,7 @@ fn colored(color: Color) -> ColorSpec
 fn strong(color: Color) -> ColorSpec
     ensures { result ≡ strong_look (number_of color) }
 {
-    let mut spec = colored(color);
+    let mut spec = spec_of_color(color);
     spec.set_bold(true).set_intense(true);
     spec
 }
@@ -55,11 +55,11 @@ impl<T: WriteColor + WriteBytes> Print for PrintTermcolor<T> {
     }
 
     fn start_literal(&mut self) -> io::Result<()> {
-        self.0.set_color(&colored(Color::Red))
+        self.0.set_color(&spec_of_color(Color::Red))
     }
 
     fn start_name(&mut self) -> io::Result<()> {
-        self.0.set_color(&colored(Color::Magenta))
+        self.0.set_color(&spec_of_color(Color::Magenta))
     }
 
     fn start_keyword(&mut self) -> io::Result<()> {
@@ -71,7 +71,7 @@ impl<T: WriteColor + WriteBytes> Print for PrintTermcolor<T> {
     }
 
     fn start_comment(&mut self) -> io::Result<()> {
-        self.0.set_color(&colored(Color::Cyan))
+        self.0.set_color(&spec_of_color(Color::Cyan))
     }
 
     fn reset_color(&mut self) -> io::Result<()> {

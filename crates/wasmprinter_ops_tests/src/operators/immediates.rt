@@ -27,7 +27,7 @@ fn assert_operators(rt: &impl Abort, rows: &[(&[u8], &'static str, Wanted)]) {
 }
 
 /// The place at which the bytes are refused, none if an operator stands there.
-fn refused_at(bytes: &[u8]) -> Option<u64> {
+fn place_of_refusal(bytes: &[u8]) -> Option<u64> {
     match Operator::read(&mut Cursor::new(0, bytes)) {
         Ok(_) => None,
         Err(Malformed { place }) => Some(place),
@@ -60,7 +60,7 @@ fn indices_are_read_in_order(rt: HostRuntime) {
             (&[0xfc, 14, 11, 12], "table.copy", Wanted::Indices(11, 12)),
         ],
     );
-    assert!(rt; refused_at(&[0xfc, 14, 11]) == Some(3));
+    assert!(rt; place_of_refusal(&[0xfc, 14, 11]) == Some(3));
 }
 
 /// References to exceptions, which may be null.
@@ -84,8 +84,8 @@ fn types_are_read(rt: HostRuntime) {
             (&[0xfb, 23, 0], "ref.cast", Wanted::Heap(HeapType::Index(0))),
         ],
     );
-    assert!(rt; refused_at(&[0x1c, 1, 0x40]) == Some(2));
-    assert!(rt; refused_at(&[0xd0, 0x40]) == Some(1));
+    assert!(rt; place_of_refusal(&[0x1c, 1, 0x40]) == Some(2));
+    assert!(rt; place_of_refusal(&[0xd0, 0x40]) == Some(1));
 }
 
 #[test]
@@ -99,8 +99,8 @@ fn casts_are_read(rt: HostRuntime) {
             (&[0xfb, 25, 2, 0, 3, 0x6c], "br_on_cast_fail", second),
         ],
     );
-    assert!(rt; refused_at(&[0xfb, 24, 3, 0, 0x6e, 0x6e]) == None);
-    assert!(rt; refused_at(&[0xfb, 24, 4, 0, 0x6e, 0x6e]) == Some(2));
+    assert!(rt; place_of_refusal(&[0xfb, 24, 3, 0, 0x6e, 0x6e]) == None);
+    assert!(rt; place_of_refusal(&[0xfb, 24, 4, 0, 0x6e, 0x6e]) == Some(2));
 }
 
 #[test]
@@ -146,8 +146,8 @@ fn memory_operands_are_read(rt: HostRuntime) {
             ),
         ],
     );
-    assert!(rt; refused_at(&[0x28, 0x80, 0x01, 0]) == Some(1));
-    assert!(rt; refused_at(&[0x28, 64, 0]) == Some(3));
+    assert!(rt; place_of_refusal(&[0x28, 0x80, 0x01, 0]) == Some(1));
+    assert!(rt; place_of_refusal(&[0x28, 64, 0]) == Some(3));
 }
 
 /// Sixteen bytes.
@@ -171,7 +171,7 @@ fn lanes_are_read(rt: HostRuntime) {
             (&lanes, "i8x16.shuffle", Wanted::Bytes(LANES)),
         ],
     );
-    assert!(rt; refused_at(&lanes[..17]) == Some(2));
+    assert!(rt; place_of_refusal(&lanes[..17]) == Some(2));
 }
 
 #[test]
@@ -190,13 +190,13 @@ fn constants_are_read(rt: HostRuntime) {
             (&double, "f64.const", Wanted::F64(0x8877_6655_4433_2211)),
         ],
     );
-    assert!(rt; refused_at(&[0x43, 0x11, 0x22, 0x33]) == Some(1));
+    assert!(rt; place_of_refusal(&[0x43, 0x11, 0x22, 0x33]) == Some(1));
 }
 
 #[test]
 fn behind_a_fence_stands_zero(rt: HostRuntime) {
     assert_operators(&rt, &[(&[0xfe, 3, 0], "atomic.fence", Wanted::None)]);
-    assert!(rt; refused_at(&[0xfe, 3, 1]) == Some(2));
+    assert!(rt; place_of_refusal(&[0xfe, 3, 1]) == Some(2));
 }
 
 #[test]

@@ -7,7 +7,7 @@ use Rattle.wasmprinter_spec.specs.Character.{class}
 use Rattle.wasmprinter_spec.specs.Grammar.{◌>>=◌, bind_some, some_is}
 use Rattle.wasmprinter_spec.specs.Kinds.{Kind, CustomSection, TypeSection, ImportSection, FunctionSection, TableSection, MemorySection, TagSection, GlobalSection, ExportSection, StartSection, ElementSection, DataCountSection, CodeSection, DataSection}
 use Rattle.wasmprinter_spec.specs.Placed.{CustomEntry}
-use Rattle.wasmprinter_spec.specs.Forest.{Forest, End, Word, String, Group, Note, onto, cut, row_customs}
+use Rattle.wasmprinter_spec.specs.Forest.{Forest, End, Word, String, Group, Note, onto, without_annotations, row_customs}
 use Rattle.wasmprinter_spec.specs.Customs.{Role, Silent, Listed, Linked, Refused, Raw, Faulted, role_of, RawCustom, raw_custom, is_raw, raw_customs}
 use Rattle.wasmprinter_spec.specs.Options.{Answers, AreUnclaimed}
 use Rattle.wasmprinter_spec.specs.Piece as piece
@@ -126,7 +126,7 @@ read_custom-items : (c : CustomEntry) → is_any_place c.behind ≡ true → IsR
 read_custom-items c is h =
     rw (is_utf8-from_IsUtf8 c.section.value.name h.name, custom_place-items c.behind is, append-nil c.section.value.bytes.value)
 
-place_cut : (place : Option Kind) → cut (place_items place) ≡ place_items place
+place_cut : (place : Option Kind) → without_annotations (place_items place) ≡ place_items place
 place_cut None = refl
 place_cut (Some kind) = refl
 
@@ -143,7 +143,7 @@ each-append f (x ∷ xs) ys rs ts e g =
 
 pub both_rows : (f g : Forest) (rs ts : List RawCustom) → RowReads f rs → RowReads g ts → RowReads (onto f g) (rs ++ ts)
 both_rows f g rs ts e h =
-    ap (each read_custom) (ap (map cut) (row_customs-onto f g) ∙ map-append cut (row_customs f) (row_customs g)) ∙ each-append read_custom (raw_row f) (raw_row g) rs ts e h
+    ap (each read_custom) (ap (map without_annotations) (row_customs-onto f g) ∙ map-append without_annotations (row_customs f) (row_customs g)) ∙ each-append read_custom (raw_row f) (raw_row g) rs ts e h
 
 -- ---- each section
 

@@ -11,10 +11,10 @@ use Rattle.wasmprinter_spec.specs.Lenient.{Lenient, give, one, unless_ended}
 use Rattle.wasmprinter_spec.specs.Placed.{Custom}
 use Rattle.wasmprinter_spec.specs.Customs.{Role, Silent, Listed, Linked, Raw, Faulted, producers_role, dylink_role, role_of, name_section, hint_section, producers_section, dylink_section}
 use Rattle.wasmprinter_spec.specs.Customs.Producers.{Value, Field, value, field, producers, are_runs}
-use Rattle.wasmprinter_spec.specs.Customs.Dylink.{MemInfo, Content, Sizes, Needed, Exports, Imports, Paths, Other, Subsection, mem_info, export_info, import_info, known, is_known, content, subsection, subsections, first_other, judged_by, judged}
+use Rattle.wasmprinter_spec.specs.Customs.Dylink.{MemInfo, Content, Sizes, Needed, Exports, Imports, Paths, Other, Subsection, mem_info, export_info, import_info, content_by_id, is_known, content, subsection, subsections, first_other, judgement_by, judgement_of}
 use Rattle.wasmprinter_lexical.proofs.Printed.{is_remark}
 use Rattle.wasmprinter_reading.proofs.Bytes.{bytes_same}
-use Rattle.wasmprinter_reading.proofs.AllSpelled.{AllSpelled, AllSpelled-any, AllSpelled-seq, AllSpelled-map_value, AllSpelled-choose, AllSpelled-placed, AllSpelled-exactly}
+use Rattle.wasmprinter_reading.proofs.AllSpelled.{AllSpelled, AllSpelled-any, AllSpelled-seq, AllSpelled-map_value, AllSpelled-choose, AllSpelled-value_with_place, AllSpelled-exactly}
 use Rattle.wasmprinter_reading.proofs.AllGiven.{AllGiven, AllGiven-give, AllGiven-follow, AllGiven-repeat, AllGiven-unless_ended}
 use Rattle.wasmprinter_reading.proofs.Vectors.{AllSpelled-u32, AllSpelled-vec}
 use Rattle.wasmprinter_reading.proofs.PartRanges.{AllSpelled-name}
@@ -37,7 +37,7 @@ AllSpelled-value : AllSpelled value IsRangedValue
 AllSpelled-value = AllSpelled-map_value (AllSpelled-seq AllSpelled-name (λ _. AllSpelled-name)) (λ x h. record { name = h.0; version = h.1 })
 
 AllSpelled-field : AllSpelled field AreRangedValues
-AllSpelled-field = AllSpelled-map_value (AllSpelled-seq AllSpelled-name (λ _. AllSpelled-vec (AllSpelled-placed AllSpelled-value))) (λ x h. h.1.each)
+AllSpelled-field = AllSpelled-map_value (AllSpelled-seq AllSpelled-name (λ _. AllSpelled-vec (AllSpelled-value_with_place AllSpelled-value))) (λ x h. h.1.each)
 
 fields_ranged : (fs : List Field) → AllByRecursion AreRangedValues fs → are_runs fs ≡ true → AllByRecursion IsRangedField fs
 fields_ranged [] h r = tt
@@ -67,8 +67,8 @@ AllSpelled-mem_info =
     AllSpelled-map_value (AllSpelled-seq AllSpelled-u32 (λ _. AllSpelled-seq AllSpelled-u32 (λ _. AllSpelled-seq AllSpelled-u32 (λ _. AllSpelled-u32))))
     (λ x h. record { memory_size = h.0; memory_alignment = h.1.0; table_size = h.1.1.0; table_alignment = h.1.1.1 })
 
-AllSpelled-known : (id : ℕ) → AllSpelled (known id) IsRangedContent
-AllSpelled-known id =
+AllSpelled-content_by_id : (id : ℕ) → AllSpelled (content_by_id id) IsRangedContent
+AllSpelled-content_by_id id =
     AllSpelled-choose (id == 1) (AllSpelled-map_value AllSpelled-mem_info (λ m h. h))
     (AllSpelled-choose (id == 2) (AllSpelled-map_value (AllSpelled-vec AllSpelled-name) (λ ns h. h.each))
     (AllSpelled-choose (id == 3) (AllSpelled-map_value (AllSpelled-vec AllSpelled-export_info) (λ es h. h.each))
@@ -83,11 +83,11 @@ AllSpelled-known id =
 
 AllSpelled-content : (id size : ℕ) → AllSpelled (content id size) IsRangedContent
 AllSpelled-content id size =
-    AllSpelled-choose (is_known id) (AllSpelled-exactly (AllSpelled-known id) size) (AllSpelled-map_value (AllSpelled-any (take_bytes size)) (λ _ h. tt))
+    AllSpelled-choose (is_known id) (AllSpelled-exactly (AllSpelled-content_by_id id) size) (AllSpelled-map_value (AllSpelled-any (take_bytes size)) (λ _ h. tt))
 
 AllSpelled-subsection : AllSpelled subsection (λ s. IsRangedContent s.value)
 AllSpelled-subsection =
-    AllSpelled-placed (AllSpelled-map_value (AllSpelled-seq (AllSpelled-any byte) (λ id. AllSpelled-seq AllSpelled-u32 (λ size. AllSpelled-content id size)))
+    AllSpelled-value_with_place (AllSpelled-map_value (AllSpelled-seq (AllSpelled-any byte) (λ id. AllSpelled-seq AllSpelled-u32 (λ size. AllSpelled-content id size)))
     (λ x h. h.1.1))
 
 AllGiven-subsections : (n : ℕ) → AllGiven (λ s. IsRangedContent s.value) (subsections n)
@@ -125,14 +125,14 @@ module _ (c : Custom) (h : IsRangedCustom c) where
       by true r = fields_ranged fields values r
       by false r = tt
 
-  dylink_ranged : c.name ≡ dylink_section → IsRangedRole c (dylink_role (judged at))
+  dylink_ranged : c.name ≡ dylink_section → IsRangedRole c (dylink_role (judgement_of at))
   unfolding class
   dylink_ranged same =
       let l = subsections (length at.bytes) in
       let ss : List Subsection = (l.read at).0 in
       by ss ((AllGiven-subsections (length at.bytes)).has at ss (l.read at).1 h.bytes (l.sound at)).0 (first_other ss) (l.read at).1
     where
-      by : (ss : List Subsection) → AreRangedSubsections ss → (o : Option ℕ) (end : Option Input) → IsRangedRole c (dylink_role (judged_by ss o end))
+      by : (ss : List Subsection) → AreRangedSubsections ss → (o : Option ℕ) (end : Option Input) → IsRangedRole c (dylink_role (judgement_by ss o end))
       by ss r (Some id) end = tt
       by ss r None (Some behind) = r
       by ss r None None = subst (λ n. is_remark n ≡ true) (sym same) refl
@@ -141,7 +141,7 @@ module _ (c : Custom) (h : IsRangedCustom c) where
   role_ranged = by (bytes_eq c.name name_section) (bytes_eq c.name hint_section) (bytes_eq c.name producers_section) refl (bytes_eq c.name dylink_section) refl
     where
       by : (a b d : Bool) → bytes_eq c.name producers_section ≡ d → (e : Bool) → bytes_eq c.name dylink_section ≡ e →
-          IsRangedRole c (cond a Silent (cond b Silent (cond d (producers_role (producers.parse at)) (cond e (dylink_role (judged at)) Raw))))
+          IsRangedRole c (cond a Silent (cond b Silent (cond d (producers_role (producers.parse at)) (cond e (dylink_role (judgement_of at)) Raw))))
       by true b d p e q = tt
       by false true d p e q = tt
       by false false true p e q = producers_ranged (bytes_same c.name producers_section p) (producers.parse at) refl

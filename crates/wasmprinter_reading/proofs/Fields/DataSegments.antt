@@ -17,7 +17,7 @@ use Rattle.wasmprinter_spec.specs.Piece as piece
 use Rattle.wasmprinter_spec.specs.Layout.Groups.{line_group_gap}
 use Rattle.wasmprinter_spec.specs.Layout.Declarations.{Scope, item_index}
 use Rattle.wasmprinter_spec.specs.Layout.DataSegments.{named_memory, data_mode_pieces, shown_bytes, data_pieces}
-use Rattle.wasmprinter_spec.specs.Text.Items.{identified}
+use Rattle.wasmprinter_spec.specs.Text.Items.{identifier_in_front}
 use Rattle.wasmprinter_spec.specs.Text.DataSegments.{strings, with_bytes, active_in, segment, read_data}
 use Rattle.wasmprinter_lexical.proofs.Pieces.{Free, Bound}
 use Rattle.wasmprinter_lexical.proofs.Writes.{Writes, both_write, nothing_writes, gap_writes, break_writes, word_writes, quoted_bytes_writes, line_group_gap_writes, group_gap_writes}
@@ -111,20 +111,20 @@ strings-items : (bs : List ℕ) → strings (String bs End) ≡ Some bs
 strings-items bs = ap (λ x. Some x) (append-nil bs)
 
 -- no identifier stands in front of the mode
-identified-segment : (s : Scope) (d : Data (Placed Operator)) → identified (segment_items s false d) ≡ (None, segment_items s false d)
-identified-segment s d = by d.mode
+identifier_in_front-segment : (s : Scope) (d : Data (Placed Operator)) → identifier_in_front (segment_items s false d) ≡ (None, segment_items s false d)
+identifier_in_front-segment s d = by d.mode
   where
-    active : (t : Bool) (m : ℕ) (g f : Forest) → identified (named_memory_items_by s t m (Group g f)) ≡ (None, named_memory_items_by s t m (Group g f))
+    active : (t : Bool) (m : ℕ) (g f : Forest) → identifier_in_front (named_memory_items_by s t m (Group g f)) ≡ (None, named_memory_items_by s t m (Group g f))
     active true m g f = refl
     active false m g f = refl
 
-    by : (m : DataMode (Placed Operator)) → identified (data_mode_items s m (String d.bytes End)) ≡ (None, data_mode_items s m (String d.bytes End))
+    by : (m : DataMode (Placed Operator)) → identifier_in_front (data_mode_items s m (String d.bytes End)) ≡ (None, data_mode_items s m (String d.bytes End))
     by PassiveData = refl
     by (ActiveData m offset) = active (m == 0) m (constant_held s (codes "offset") offset) (String d.bytes End)
 
 -- the identifier of a data segment, and what it is
-pub identified-data : (s : Scope) (i : ℕ) (d : Data (Placed Operator)) → identified (data_items s false i d) ≡ (id (s.names.items row.Data i), segment_items s false d)
-identified-data s i d = declaration-items (s.names.items row.Data i) (segment_items s false d) (identified-segment s d)
+pub identifier_in_front-data : (s : Scope) (i : ℕ) (d : Data (Placed Operator)) → identifier_in_front (data_items s false i d) ≡ (id (s.names.items row.Data i), segment_items s false d)
+identifier_in_front-data s i d = declaration-items (s.names.items row.Data i) (segment_items s false d) (identifier_in_front-segment s d)
 
 module _ (s : Scope) (c : Context) (n : Counts) (scoped : AreScoped s c n) where
   -- every index in the mode is declared
@@ -165,6 +165,6 @@ module _ (s : Scope) (c : Context) (n : Counts) (scoped : AreScoped s c n) where
   pub read_data-items : (i : ℕ) (d : Data (Placed Operator)) → IsRangedData d → IsIndexedMode d.mode →
       read_data c (data_items s false i d) ≡ Some (data_without_places d)
   read_data-items i d h k =
-      ap (λ x. segment c x.1) (identified-data s i d)
+      ap (λ x. segment c x.1) (identifier_in_front-data s i d)
       ∙ segment-items d.mode d.bytes h.mode k
       ∙ ap (option_map (data_of (data_mode_without_places d.mode))) (strings-items d.bytes)

@@ -18,7 +18,7 @@ use Rattle.wasmprinter_spec.specs.Layout.Declarations.{Scope}
 use Rattle.wasmprinter_spec.specs.Layout.Expressions.{constant_group}
 use Rattle.wasmprinter_spec.specs.Layout.Elements as layout
 use Rattle.wasmprinter_spec.specs.Layout.Elements.{named_table, mode_pieces, items_pieces, shown_items, element_pieces}
-use Rattle.wasmprinter_spec.specs.Text.Items.{identified}
+use Rattle.wasmprinter_spec.specs.Text.Items.{identifier_in_front}
 use Rattle.wasmprinter_spec.specs.Text.Types.{ref_named, ref_group}
 use Rattle.wasmprinter_spec.specs.Text.Elements.{function_indices, expressions, typed_items, items, with_mode, active_in, segment, read_element}
 use Rattle.wasmprinter_lexical.proofs.Pieces.{Free, Bound}
@@ -31,7 +31,7 @@ use Rattle.wasmprinter_reading.proofs.Folded.Lists.{IsUnpainted}
 use Rattle.wasmprinter_reading.proofs.Fields.Scopes.{own_id, own_index, AreScoped, own_index-reads, type_bound, type_indices-read, heap_bounded}
 use Rattle.wasmprinter_reading.proofs.Ranged.{IsRangedExpression, IsNamedTable, IsRangedMode, AreRangedItems, IsRangedElement}
 use Rattle.wasmprinter_reading.proofs.Types.Trees.{ref_items_by, ref_items, ref_writes}
-use Rattle.wasmprinter_reading.proofs.Types.Back.{ref_item, identified-ref}
+use Rattle.wasmprinter_reading.proofs.Types.Back.{ref_item, identifier_in_front-ref}
 use Rattle.wasmprinter_reading.proofs.Fields.Expressions.{constant_held, constant_group_writes, AreIndexed, constant_group-items, IsOffset, offset_stands, no_offset, no_item}
 
 -- ---- what element segments are written as
@@ -132,24 +132,24 @@ module _ (s : Scope) (named : AreNamed s.names) (ranged : AreSignaturesInRange (
 -- ---- they read back
 
 -- no identifier stands in front of the items
-identified-items : (s : Scope) (is : Items (Placed Operator)) → identified (items_items s is) ≡ (None, items_items s is)
-identified-items s (Functions is) = refl
-identified-items s (Expressions t es) = identified-ref s.names t.nullable t.heap (expressions_items s es)
+identifier_in_front-items : (s : Scope) (is : Items (Placed Operator)) → identifier_in_front (items_items s is) ≡ (None, items_items s is)
+identifier_in_front-items s (Functions is) = refl
+identifier_in_front-items s (Expressions t es) = identifier_in_front-ref s.names t.nullable t.heap (expressions_items s es)
 
-identified-segment : (s : Scope) (e : ElementEntry) → identified (segment_items s false e) ≡ (None, segment_items s false e)
-identified-segment s e = by e.names_table e.element.mode
+identifier_in_front-segment : (s : Scope) (e : ElementEntry) → identifier_in_front (segment_items s false e) ≡ (None, segment_items s false e)
+identifier_in_front-segment s e = by e.names_table e.element.mode
   where
     by : (names : Bool) (m : Mode (Placed Operator)) →
-        identified (mode_items s names m (items_items s e.element.items)) ≡
+        identifier_in_front (mode_items s names m (items_items s e.element.items)) ≡
         (None, mode_items s names m (items_items s e.element.items))
-    by names Passive = identified-items s e.element.items
+    by names Passive = identifier_in_front-items s e.element.items
     by names Declared = refl
     by true (Active t offset) = refl
     by false (Active t offset) = refl
 
 -- the identifier of an element segment, and what it is
-pub identified-element : (s : Scope) (i : ℕ) (e : ElementEntry) → identified (element_items s false i e) ≡ (id (s.names.items row.Elem i), segment_items s false e)
-identified-element s i e = declaration-items (s.names.items row.Elem i) (segment_items s false e) (identified-segment s e)
+pub identifier_in_front-element : (s : Scope) (i : ℕ) (e : ElementEntry) → identifier_in_front (element_items s false i e) ≡ (id (s.names.items row.Elem i), segment_items s false e)
+identifier_in_front-element s i e = declaration-items (s.names.items row.Elem i) (segment_items s false e) (identifier_in_front-segment s e)
 
 -- functions in a row, read one by one
 first_function : (c : Context) (o : Option Named) (i : ℕ) (f : Forest) (is : List ℕ) → index c.spaces.functions (index_items o i) ≡ Some i →
@@ -253,6 +253,6 @@ module _ (s : Scope) (c : Context) (n : Counts) (scoped : AreScoped s c n) where
   pub read_element-items : (i : ℕ) (e : ElementEntry) → IsRangedElement e → IsIndexedMode e.element.mode → AreIndexedItems e.element.items →
       read_element c (element_items s false i e) ≡ Some (element_without_places e)
   read_element-items i e h d k =
-      ap (λ x. segment c x.1) (identified-element s i e)
+      ap (λ x. segment c x.1) (identifier_in_front-element s i e)
       ∙ segment-items e.names_table e.element.mode e.element.items h.mode d
       ∙ ap (option_map (element_of (mode_without_places e.element.mode))) (items-items e.element.items h.items k)

@@ -8,7 +8,7 @@ use Rattle.wasmprinter_spec.specs.Names.{AreNamed}
 use Rattle.wasmprinter_spec.specs.Operator.{Operator}
 use Rattle.wasmprinter_spec.specs.Row.{Role}
 use Rattle.wasmprinter_spec.specs.Table.{word_of_row, word_of, role_of, shape_of}
-use Rattle.wasmprinter_spec.specs.Labels.{Label, outside, inside}
+use Rattle.wasmprinter_spec.specs.Labels.{Label, labels_outside, labels_inside}
 use Rattle.wasmprinter_spec.specs.Module.{without_places}
 use Rattle.wasmprinter_spec.specs.Indexed.{Counts, IsIndexedOperator}
 use Rattle.wasmprinter_spec.specs.Layout.Declarations.{Scope, Folding}
@@ -27,11 +27,11 @@ use Rattle.wasmprinter_reading.proofs.Bytes.{same_bytes}
 use Rattle.wasmprinter_reading.proofs.Tabled.{HasRow, row_for, StandsAlone}
 use Rattle.wasmprinter_reading.proofs.Ranged.{IsRangedExpression}
 use Rattle.wasmprinter_reading.proofs.Operators.Arguments.{AreArguments}
-use Rattle.wasmprinter_reading.proofs.Operators.Alone.{IsAlone, alone_for, unfolded-alone}
+use Rattle.wasmprinter_reading.proofs.Operators.Alone.{IsAlone, alone_for, chunks_of_forest-alone}
 use Rattle.wasmprinter_reading.proofs.Operators.Immediates.{arguments_by, writes_by}
 use Rattle.wasmprinter_reading.proofs.Operators.Open.{outside_labels}
 use Rattle.wasmprinter_reading.proofs.Operators.Lists.{arguments_items, expression_items, chunks_of, expression_writes, expression_reads}
-use Rattle.wasmprinter_reading.proofs.Folded.Lists.{IsUnpainted, AreFoldable, list_items, unhinted_list_writes, unfolded-list}
+use Rattle.wasmprinter_reading.proofs.Folded.Lists.{IsUnpainted, AreFoldable, list_items, unhinted_list_writes, chunks_of_forest-list}
 use Rattle.wasmprinter_reading.proofs.Fields.Scopes.{AreScoped}
 
 -- ---- what they are written as
@@ -66,7 +66,7 @@ module _ (s : Scope) (named : AreNamed s.names) (ranged : AreSignaturesInRange (
       let r : HasRow o.value = row_for o.value h.listed.0 in
       let own : Label = s.names.labels s.function 0 0 in
       both_write (opened_word_writes (ap is_word (ap word_of_row r.found) ∙ r.is_its_word)
-      (writes_by (in_line s 3) named ranged (inside role []) (outside role []) own (outside_labels role [] tt) (named.labels s.function 0 0) (shape_of o.value.opcode) o.value.immediates h.listed.0.range))
+      (writes_by (in_line s 3) named ranged (labels_inside role []) (labels_outside role []) own (outside_labels role [] tt) (named.labels s.function 0 0) (shape_of o.value.opcode) o.value.immediates h.listed.0.range))
       nothing_writes
 
   -- a word and operators
@@ -111,7 +111,7 @@ module _ (s : Scope) (c : Context) (n : Counts) (scoped : AreScoped s c n) (nest
       expression c (constant_items s nesting os) ≡ Some (without_places os)
   expression-items os h d =
       ap (λ cs. cs >>= read_operators c)
-      (unfolded-list s.folding (Some 0) (in_line s nesting) scoped.named scoped.types.in_range [] os h.listed h.nested d.1) ∙ chunks-read os h d
+      (chunks_of_forest-list s.folding (Some 0) (in_line s nesting) scoped.named scoped.types.in_range [] os h.listed h.nested d.1) ∙ chunks-read os h d
 
 module _ (s : Scope) (c : Context) (n : Counts) (scoped : AreScoped s c n) where
   -- behind the word of the group
@@ -131,10 +131,10 @@ module _ (s : Scope) (c : Context) (n : Counts) (scoped : AreScoped s c n) where
       let v : List ℕ = word_of o.value.opcode in
       let role : Role = role_of o.value.opcode in
       let its : IsAlone o.value = alone_for o.value h.listed.0 h.nested in
-      let args : AreArguments a = arguments_by (in_line s 3) (inside role []) (outside role []) own
+      let args : AreArguments a = arguments_by (in_line s 3) (labels_inside role []) (labels_outside role []) own
       (shape_of o.value.opcode) o.value.immediates h.listed.0.range in
       ap (λ t. cond t (expression c (onto a End)) (expression c (Group (Word v (onto a End)) End))) (apart v its.alone)
-      ∙ ap (λ cs. cs >>= read_operators c) (unfolded-alone o.value a its args)
+      ∙ ap (λ cs. cs >>= read_operators c) (chunks_of_forest-alone o.value a its args)
       ∙ chunks-read s c n scoped 3 (o ∷ []) h d
 
   pub constant_group-items : (w : List ℕ) → ((v : List ℕ) → StandsAlone v → bytes_eq v w ≡ false) → (os : List (Placed Operator)) → IsRangedExpression os →

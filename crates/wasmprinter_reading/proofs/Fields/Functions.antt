@@ -17,13 +17,13 @@ use Rattle.wasmprinter_spec.specs.Indexed.{Counts, IsDeclaredVal, IsIndexedOpera
 use Rattle.wasmprinter_spec.specs.Piece as piece
 use Rattle.wasmprinter_spec.specs.Piece.{Piece, Gap}
 use Rattle.wasmprinter_spec.specs.Layout.Groups.{group_gap_at, breaks, has_break}
-use Rattle.wasmprinter_spec.specs.Layout.Variables.{Variables, grouped}
+use Rattle.wasmprinter_spec.specs.Layout.Variables.{Variables, variable_groups}
 use Rattle.wasmprinter_spec.specs.Layout.Declarations.{Scope, Folding}
 use Rattle.wasmprinter_spec.specs.Layout.Types.{parameters_of}
 use Rattle.wasmprinter_spec.specs.Layout.Operators.{Setting, hint_pieces, operator_pieces, operators_pieces}
 use Rattle.wasmprinter_spec.specs.Layout.Functions.{locals_place, local_line, local_pieces, header_pieces, over_lines, result_count, body_by, body_pieces, inner_pieces, function_group}
 use Rattle.wasmprinter_spec.specs.IndexSpaces.{Identifiers, index_space, space_in, index, Context}
-use Rattle.wasmprinter_spec.specs.Text.Items.{identified, groups, ids_of}
+use Rattle.wasmprinter_spec.specs.Text.Items.{identifier_in_front, groups, ids_of}
 use Rattle.wasmprinter_spec.specs.Text.Types.{val_types, variables, signature}
 use Rattle.wasmprinter_spec.specs.Text.Functions.{function_of_type, read_function}
 use Rattle.wasmprinter_spec.specs.Text.Operators.{read_operators}
@@ -39,16 +39,16 @@ use Rattle.wasmprinter_reading.proofs.Types.Trees.{groups_items, signature_items
 use Rattle.wasmprinter_reading.proofs.Types.Back.{variables_leave, variables_take, IsBehindSignature, printed_signature, signature-items, own_parameters}
 use Rattle.wasmprinter_reading.proofs.Operators.Lists.{expression_items, hinted_items, chunks_of, hinted_write, expression_reads}
 use Rattle.wasmprinter_reading.proofs.Tabled.{StandsAlone}
-use Rattle.wasmprinter_reading.proofs.Folded.Lists.{IsUnpainted, AreFoldable, list_items, folded_list_writes, unfolded-list}
+use Rattle.wasmprinter_reading.proofs.Folded.Lists.{IsUnpainted, AreFoldable, list_items, folded_list_writes, chunks_of_forest-list}
 use Rattle.wasmprinter_reading.proofs.Folded.Begins.{BeginsCode, list_begins}
 use Rattle.wasmprinter_reading.proofs.Fields.Scopes.{own_index, AreScoped, own_index-reads, type_bound, type_indices-read, vals_bounded, signature_bounded, signature_declared}
-use Rattle.wasmprinter_reading.proofs.Fields.Headers.{header_items, header_writes, identified-header}
+use Rattle.wasmprinter_reading.proofs.Fields.Headers.{header_items, header_writes, identifier_in_front-header}
 
 -- ---- what functions are written as
 
 -- the locals behind so many parameters
 abbrev local_items : Scope → ℕ → List ValType → Forest
-local_items s count ls = groups_items s.names (codes "local") (grouped (s.names.locals s.function) count ls)
+local_items s count ls = groups_items s.names (codes "local") (variable_groups (s.names.locals s.function) count ls)
 
 -- the operators, with their hints or without
 abbrev pub body_items : Bool → Scope → List (Placed Hint) → PlacedFunction → Forest
@@ -127,7 +127,7 @@ module _ (s : Scope) (named : AreNamed s.names) (ranged : AreSignaturesInRange (
   unfolding local_pieces
   local_writes count es r =
       let own : ℕ → Option Named = s.names.locals s.function in
-      local_line_writes (locals_place es) (grouped own count (locals_of es))
+      local_line_writes (locals_place es) (variable_groups own count (locals_of es))
       (grouped_names own (named.locals s.function) count (locals_of es))
       (grouped_types IsRangedVal own count (locals_of es) (locals_ranged es r))
 
@@ -311,7 +311,7 @@ module _ (s : Scope) (c : Context) (n : Counts) (scoped : AreScoped s c n) where
       let code : Forest = body_items false (function_scope s i) hs f in
       let begins : BeginsCode code =
       list_begins s.folding (result_count (function_scope s i) f.type_index) setting scoped.named scoped.types.in_range hs f.body.value.operators h.body.listed in
-      let gs : List Variables = grouped named count ls in
+      let gs : List Variables = variable_groups named count ls in
       let rest : Forest = onto (groups_items s.names (codes "local") gs) code in
       let bound : ℕ = type_bound s c n scoped in
       let reads = type_indices-read s c n scoped in
@@ -331,7 +331,7 @@ module _ (s : Scope) (c : Context) (n : Counts) (scoped : AreScoped s c n) where
         type,
         sig,
         variables,
-        unfolded-list s.folding (result_count (function_scope s i) f.type_index) setting scoped.named scoped.types.in_range hs f.body.value.operators h.body.listed h.body.nested foldable,
+        chunks_of_forest-list s.folding (result_count (function_scope s i) f.type_index) setting scoped.named scoped.types.in_range hs f.body.value.operators h.body.listed h.body.nested foldable,
         read,
         own_parameters (parameters_of s.names (Some i)) t,
         variables_space named (scoped.apart.locals i) count ls few,
@@ -346,13 +346,13 @@ module _ (s : Scope) (c : Context) (n : Counts) (scoped : AreScoped s c n) where
   read_function-items i hs t f own h locals few d foldable =
       let rest : Option FuncType → Forest = λ x. inner_items false (function_scope s i) hs (parameter_count x) f in
       let os : List Operator = without_places f.body.value.operators in
-      ap (λ x. function_of_type c x.1) (identified-header (function_scope s i) Func (Some i) i f.type_index (rest (signature_at s.types f.type_index)))
+      ap (λ x. function_of_type c x.1) (identifier_in_front-header (function_scope s i) Func (Some i) i f.type_index (rest (signature_at s.types f.type_index)))
       ∙ ap (λ x. function_of_type c (onto (type_use_items s.names (Some i) f.type_index x) (rest x))) own
       ∙ typed-items i hs t f own h locals (subst (λ x. variable_count x f ≤ 2 ^ 64) own few)
       (subst (λ x. AllByRecursion (IsIndexedOperator (counts_with n x f)) os) own d) foldable
 
 -- the identifier of a function
-pub identified-function : (s : Scope) (i : ℕ) (hs : List (Placed Hint)) (f : PlacedFunction) → (identified (function_items false s i hs f)).0 ≡ id (s.names.items Func i)
-identified-function s i hs f =
+pub identifier_in_front-function : (s : Scope) (i : ℕ) (hs : List (Placed Hint)) (f : PlacedFunction) → (identifier_in_front (function_items false s i hs f)).0 ≡ id (s.names.items Func i)
+identifier_in_front-function s i hs f =
     ap (λ x. x.0)
-    (identified-header (function_scope s i) Func (Some i) i f.type_index (inner_items false (function_scope s i) hs (parameter_count (signature_at s.types f.type_index)) f))
+    (identifier_in_front-header (function_scope s i) Func (Some i) i f.type_index (inner_items false (function_scope s i) hs (parameter_count (signature_at s.types f.type_index)) f))

@@ -14,7 +14,7 @@ use Rattle.wasmprinter_spec.specs.IndexSpaces.{Context}
 use Rattle.wasmprinter_spec.specs.Layout.ValTypes.{val_pieces}
 use Rattle.wasmprinter_spec.specs.Layout.Declarations.{Scope}
 use Rattle.wasmprinter_spec.specs.Layout.Globals.{mutable_pieces, global_type_pieces, global_pieces}
-use Rattle.wasmprinter_spec.specs.Text.Items.{identified}
+use Rattle.wasmprinter_spec.specs.Text.Items.{identifier_in_front}
 use Rattle.wasmprinter_spec.specs.Text.Types.{val_named, val_group, val_type}
 use Rattle.wasmprinter_spec.specs.Text.Globals.{global_named, global_group, global_type, read_global}
 use Rattle.wasmprinter_lexical.proofs.Pieces.{Free, Bound}
@@ -24,7 +24,7 @@ use Rattle.wasmprinter_reading.proofs.Items.{ReadsItem, one_item-reads, leading_
 use Rattle.wasmprinter_reading.proofs.Ranged.{IsRangedGlobal}
 use Rattle.wasmprinter_reading.proofs.Types.Ranged.{IsRangedVal}
 use Rattle.wasmprinter_reading.proofs.Types.Trees.{val_items, val_writes}
-use Rattle.wasmprinter_reading.proofs.Types.Back.{identified-val, IsValItem, val_is_item, val_item}
+use Rattle.wasmprinter_reading.proofs.Types.Back.{identifier_in_front-val, IsValItem, val_is_item, val_item}
 use Rattle.wasmprinter_reading.proofs.Declarations.{id}
 use Rattle.wasmprinter_reading.proofs.Identifiers.{declaration-items, declaration_writes}
 use Rattle.wasmprinter_reading.proofs.Folded.Lists.{IsUnpainted}
@@ -69,20 +69,20 @@ global_writes s named ranged bare i g small h =
 -- ---- they read back
 
 -- no identifier stands in front of the type
-identified-mutable : (names : Names) (mut : Bool) (t : ValType) (f : Forest) → identified (onto (mutable_items names mut t) f) ≡ (None, onto (mutable_items names mut t) f)
-identified-mutable names true t f = refl
-identified-mutable names false t f = identified-val names t f
+identifier_in_front-mutable : (names : Names) (mut : Bool) (t : ValType) (f : Forest) → identifier_in_front (onto (mutable_items names mut t) f) ≡ (None, onto (mutable_items names mut t) f)
+identifier_in_front-mutable names true t f = refl
+identifier_in_front-mutable names false t f = identifier_in_front-val names t f
 
-pub identified-global_type : (names : Names) (t : GlobalType) (f : Forest) →
-    identified (onto (global_type_items names t) f) ≡ (None, onto (global_type_items names t) f)
-identified-global_type names t f = identified-mutable names t.mutable t.type f
+pub identifier_in_front-global_type : (names : Names) (t : GlobalType) (f : Forest) →
+    identifier_in_front (onto (global_type_items names t) f) ≡ (None, onto (global_type_items names t) f)
+identifier_in_front-global_type names t f = identifier_in_front-mutable names t.mutable t.type f
 
 -- the identifier of a global, and what it is
-pub identified-global : (s : Scope) (i : ℕ) (g : Global (Placed Operator)) →
-    identified (global_items s i g) ≡ (id (s.names.items row.Global i), onto (global_type_items s.names g.type) (constant_items s 2 g.init))
-identified-global s i g =
+pub identifier_in_front-global : (s : Scope) (i : ℕ) (g : Global (Placed Operator)) →
+    identifier_in_front (global_items s i g) ≡ (id (s.names.items row.Global i), onto (global_type_items s.names g.type) (constant_items s 2 g.init))
+identifier_in_front-global s i g =
     declaration-items (s.names.items row.Global i) (onto (global_type_items s.names g.type) (constant_items s 2 g.init))
-    (identified-global_type s.names g.type (constant_items s 2 g.init))
+    (identifier_in_front-global_type s.names g.type (constant_items s 2 g.init))
 
 module _ (s : Scope) (c : Context) (n : Counts) (scoped : AreScoped s c n) where
   as_global : (f : Forest) (t : ValType) → IsValItem s.names c.spaces.types (type_bound s c n scoped) (type_indices-read s c n scoped) f t →
@@ -108,4 +108,4 @@ module _ (s : Scope) (c : Context) (n : Counts) (scoped : AreScoped s c n) where
       read_global c (global_items s i g) ≡ Some (global_without_places g)
   read_global-items i g h d e =
       let rest : Forest = constant_items s 2 g.init in
-      rw (identified-global s i g, global_type-items g.type rest h.type d, expression-items s c n scoped 2 g.init h.init e)
+      rw (identifier_in_front-global s i g, global_type-items g.type rest h.type d, expression-items s c n scoped 2 g.init h.init e)

@@ -12,7 +12,7 @@ use Rattle.wasmprinter_spec.specs.Piece.{Piece}
 use Rattle.wasmprinter_spec.specs.Layout.Declarations.{Scope}
 use Rattle.wasmprinter_spec.specs.Layout.Types.{parameters_of}
 use Rattle.wasmprinter_spec.specs.Layout.Functions.{header_pieces}
-use Rattle.wasmprinter_spec.specs.Text.Items.{identified}
+use Rattle.wasmprinter_spec.specs.Text.Items.{identifier_in_front}
 use Rattle.wasmprinter_spec.specs.Text.Types.{signature}
 use Rattle.wasmprinter_spec.specs.Text.TypeIndices.{type_index}
 use Rattle.wasmprinter_lexical.proofs.Grown.{onto_assoc}
@@ -54,9 +54,9 @@ module _ (s : Scope) (named : AreNamed s.names) (ranged : AreSignaturesInRange (
   header_alone_writes space f i type_index h r = rw append-nil at (header_writes space f i type_index [] End End h r nothing_writes)
 
 -- the identifier, and the rest
-pub identified-header : (s : Scope) (space : Space) (f : Option ℕ) (i type_index : ℕ) (rest : Forest) →
-    identified (header_items s space f i type_index rest) ≡ (id (s.names.items space i), onto (use_items s f type_index) rest)
-identified-header s space f i type_index rest = declaration-items (s.names.items space i) (onto (use_items s f type_index) rest) refl
+pub identifier_in_front-header : (s : Scope) (space : Space) (f : Option ℕ) (i type_index : ℕ) (rest : Forest) →
+    identifier_in_front (header_items s space f i type_index rest) ≡ (id (s.names.items space i), onto (use_items s f type_index) rest)
+identifier_in_front-header s space f i type_index rest = declaration-items (s.names.items space i) (onto (use_items s f type_index) rest) refl
 
 -- ---- they read back
 

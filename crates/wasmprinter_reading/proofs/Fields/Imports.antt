@@ -15,7 +15,7 @@ use Rattle.wasmprinter_spec.specs.IndexSpaces.{Context}
 use Rattle.wasmprinter_spec.specs.Indexed.{Counts, IsDeclaredHeap, IsDeclaredVal, space_of}
 use Rattle.wasmprinter_spec.specs.Layout.Declarations.{Scope}
 use Rattle.wasmprinter_spec.specs.Layout.Imports.{Numbers, number_of, numbers_behind, extern_pieces, import_pieces, imports_pieces}
-use Rattle.wasmprinter_spec.specs.Text.Items.{identified}
+use Rattle.wasmprinter_spec.specs.Text.Items.{identifier_in_front}
 use Rattle.wasmprinter_spec.specs.Text.Exports.{kind_of_word}
 use Rattle.wasmprinter_spec.specs.Text.Tables.{table_type}
 use Rattle.wasmprinter_spec.specs.Text.Globals.{global_type}
@@ -29,10 +29,10 @@ use Rattle.wasmprinter_reading.proofs.Identifiers.{declaration-items, declaratio
 use Rattle.wasmprinter_reading.proofs.Spaces.{kind_of_extern}
 use Rattle.wasmprinter_reading.proofs.Ranged.{IsRangedExtern, IsRangedImport}
 use Rattle.wasmprinter_reading.proofs.Fields.Scopes.{own_id, AreScoped}
-use Rattle.wasmprinter_reading.proofs.Fields.Headers.{use_items, header_items, header_alone_writes, identified-header, use-items}
-use Rattle.wasmprinter_reading.proofs.Fields.Tables.{table_type_items, table_type_writes, table_type-items, identified-table_type}
-use Rattle.wasmprinter_reading.proofs.Fields.Memories.{memory_type_items, memory_type_writes, memory_type-items, identified-memory_type}
-use Rattle.wasmprinter_reading.proofs.Fields.Globals.{global_type_items, global_type_writes, global_type-items, identified-global_type}
+use Rattle.wasmprinter_reading.proofs.Fields.Headers.{use_items, header_items, header_alone_writes, identifier_in_front-header, use-items}
+use Rattle.wasmprinter_reading.proofs.Fields.Tables.{table_type_items, table_type_writes, table_type-items, identifier_in_front-table_type}
+use Rattle.wasmprinter_reading.proofs.Fields.Memories.{memory_type_items, memory_type_writes, memory_type-items, identifier_in_front-memory_type}
+use Rattle.wasmprinter_reading.proofs.Fields.Globals.{global_type_items, global_type_writes, global_type-items, identifier_in_front-global_type}
 
 -- ---- what imports are written as
 
@@ -153,15 +153,15 @@ behind_id s n (MemoryExtern t) = memory_type_items t
 behind_id s n (GlobalExtern t) = global_type_items s.names t
 behind_id s n (TagExtern i) = onto (use_items s None i) End
 
-pub identified-extern : (s : Scope) (n : ℕ) (t : ExternType) →
-    identified (extern_items s n t) ≡ (id (s.names.items (space_of (kind_of_extern t)) n), behind_id s n t)
-identified-extern s n (FuncExtern i) = identified-header s Func (Some n) n i End
-identified-extern s n (TableExtern t) =
-    declaration-items (s.names.items row.Table n) (table_type_items s.names t) (rw onto-End at (identified-table_type s.names t End))
-identified-extern s n (MemoryExtern t) = declaration-items (s.names.items row.Memory n) (memory_type_items t) (identified-memory_type t)
-identified-extern s n (GlobalExtern t) =
-    declaration-items (s.names.items row.Global n) (global_type_items s.names t) (rw onto-End at (identified-global_type s.names t End))
-identified-extern s n (TagExtern i) = identified-header s Tag None n i End
+pub identifier_in_front-extern : (s : Scope) (n : ℕ) (t : ExternType) →
+    identifier_in_front (extern_items s n t) ≡ (id (s.names.items (space_of (kind_of_extern t)) n), behind_id s n t)
+identifier_in_front-extern s n (FuncExtern i) = identifier_in_front-header s Func (Some n) n i End
+identifier_in_front-extern s n (TableExtern t) =
+    declaration-items (s.names.items row.Table n) (table_type_items s.names t) (rw onto-End at (identifier_in_front-table_type s.names t End))
+identifier_in_front-extern s n (MemoryExtern t) = declaration-items (s.names.items row.Memory n) (memory_type_items t) (identifier_in_front-memory_type t)
+identifier_in_front-extern s n (GlobalExtern t) =
+    declaration-items (s.names.items row.Global n) (global_type_items s.names t) (rw onto-End at (identifier_in_front-global_type s.names t End))
+identifier_in_front-extern s n (TagExtern i) = identifier_in_front-header s Tag None n i End
 
 -- every index in the type of what is imported is declared
 abbrev pub IsScopedExtern : Scope → Counts → ExternType → Type 0
@@ -185,4 +185,4 @@ module _ (s : Scope) (c : Context) (n : Counts) (scoped : AreScoped s c n) where
 
   pub read_import-items : (k : ℕ) (i : Import) → IsRangedImport i → IsScopedExtern s n i.type →
       read_import c (field_of i.source i.name (extern_items s k i.type) (kind_of_extern i.type)) ≡ Some i
-  read_import-items k i h d = rw (identified-extern s k i.type, extern_type-items k i.type h.type d)
+  read_import-items k i h d = rw (identifier_in_front-extern s k i.type, extern_type-items k i.type h.type d)

@@ -6,7 +6,7 @@ use Rattle.wasmprinter_spec.specs.Forest.{Forest, End, Word, onto}
 use Rattle.wasmprinter_spec.specs.Numeral.{numeral, natural, u64}
 use Rattle.wasmprinter_spec.specs.Types.{Limits, limits_of}
 use Rattle.wasmprinter_spec.specs.Layout.Limits.{wide_pieces, max_words, limits_pieces}
-use Rattle.wasmprinter_spec.specs.Text.Items.{identified}
+use Rattle.wasmprinter_spec.specs.Text.Items.{identifier_in_front}
 use Rattle.wasmprinter_spec.specs.Text.Limits.{address_type, max_behind, limits}
 use Rattle.wasmprinter_lexical.proofs.Runs.{are_words}
 use Rattle.wasmprinter_lexical.proofs.Numbers.{natural-decimal, is_word-decimal}
@@ -81,7 +81,7 @@ pub limits-items : (l : Limits) (f : Forest) → l.min < 2 ^ 64 → IsRangedMax 
 limits-items l f h k behind = rw (u64-decimal l.min h, max-items l.min l.max f k behind)
 
 -- no identifier stands in front
-pub identified-limits : (wide : Bool) (l : Limits) (f : Forest) →
-    identified (onto (wide_items wide) (onto (limits_items l) f)) ≡ (None, onto (wide_items wide) (onto (limits_items l) f))
-identified-limits true l f = refl
-identified-limits false l f = refl
+pub identifier_in_front-limits : (wide : Bool) (l : Limits) (f : Forest) →
+    identifier_in_front (onto (wide_items wide) (onto (limits_items l) f)) ≡ (None, onto (wide_items wide) (onto (limits_items l) f))
+identifier_in_front-limits true l f = refl
+identifier_in_front-limits false l f = refl

@@ -6,14 +6,14 @@ use Rattle.std.specs.Fmt.{digits}
 use Rattle.wasmprinter_spec.specs.Character.{class}
 use Rattle.wasmprinter_spec.specs.Forest.{Forest, End, Word, Group, onto}
 use Rattle.wasmprinter_spec.specs.Grammar.{Placed, ◌>>=◌}
-use Rattle.wasmprinter_spec.specs.Numeral.{numeral, natural, below, exponent_below, exponent_of}
+use Rattle.wasmprinter_spec.specs.Numeral.{numeral, natural, number_below, exponent_below, exponent_of}
 use Rattle.wasmprinter_spec.specs.Types.{MemoryType}
 use Rattle.wasmprinter_spec.specs.Row.{Memory}
 use Rattle.wasmprinter_spec.specs.Names.{AreNamed}
 use Rattle.wasmprinter_spec.specs.Layout.Declarations.{Scope}
 use Rattle.wasmprinter_spec.specs.Layout.Memories.{shared_pieces, page_pieces, memory_type_pieces, memory_pieces}
-use Rattle.wasmprinter_spec.specs.Text.Items.{identified}
-use Rattle.wasmprinter_spec.specs.Text.Memories.{shared, page, memory_type, read_memory}
+use Rattle.wasmprinter_spec.specs.Text.Items.{identifier_in_front}
+use Rattle.wasmprinter_spec.specs.Text.Memories.{shared_in_front, page, memory_type, read_memory}
 use Rattle.wasmprinter_lexical.proofs.Runs.{is_word}
 use Rattle.wasmprinter_lexical.proofs.Numbers.{natural-hexadecimal, is_word-hexadecimal}
 use Rattle.wasmprinter_lexical.proofs.Pieces.{Free, Bound}
@@ -22,7 +22,7 @@ use Rattle.wasmprinter_reading.proofs.Ranged.{IsRangedPage, IsRangedMemory}
 use Rattle.wasmprinter_reading.proofs.Identifiers.{declaration-items, declaration_writes}
 use Rattle.wasmprinter_reading.proofs.Declarations.{id}
 use Rattle.wasmprinter_reading.proofs.Fields.Scopes.{own_id}
-use Rattle.wasmprinter_reading.proofs.Fields.Limits.{wide_items, limits_items, wide_writes, limits_write, IsNoNumber, address_type-items, limits-items, identified-limits}
+use Rattle.wasmprinter_reading.proofs.Fields.Limits.{wide_items, limits_items, wide_writes, limits_write, IsNoNumber, address_type-items, limits-items, identifier_in_front-limits}
 
 -- ---- what memories are written as
 
@@ -88,10 +88,10 @@ no_number_behind true e min = refl
 no_number_behind false None min = refl
 no_number_behind false (Some e) min = refl
 
-shared-items : (threads : Bool) (e : Option ℕ) → shared (behind_items threads e) ≡ (threads, page_items e)
-shared-items true e = refl
-shared-items false None = refl
-shared-items false (Some e) = refl
+shared_in_front-items : (threads : Bool) (e : Option ℕ) → shared_in_front (behind_items threads e) ≡ (threads, page_items e)
+shared_in_front-items true e = refl
+shared_in_front-items false None = refl
+shared_in_front-items false (Some e) = refl
 
 exponent_below-power : (n e : ℕ) → e < n → exponent_below n (2 ^ e) ≡ Some e
 exponent_below-power zero e h = absurd (omega arith)
@@ -108,7 +108,7 @@ exponent_below-power (suc n) e h = by (cases_lt e n) (exponent_below-power n e)
 exponent_of-size : (e : ℕ) → e < 64 → exponent_of (size_text e) ≡ Some e
 exponent_of-size e h =
     let small : 2 ^ e < 2 ^ 64 = size_fits e h in
-    ap (λ o. o >>= below 64 >>= exponent_below 64) (natural-hexadecimal (2 ^ e) (omega arith))
+    ap (λ o. o >>= number_below 64 >>= exponent_below 64) (natural-hexadecimal (2 ^ e) (omega arith))
     ∙ ap (λ b. cond b (Some (2 ^ e)) None >>= exponent_below 64) (lt-ltb (2 ^ e) (2 ^ 64) small)
     ∙ exponent_below-power 64 e h
 
@@ -117,21 +117,21 @@ page-items None h = refl
 page-items (Some e) h = ap (λ o. o >>= λ n. Some (Some n)) (exponent_of-size e h)
 
 -- no identifier stands in front
-pub identified-memory_type : (m : MemoryType) → identified (memory_type_items m) ≡ (None, memory_type_items m)
-identified-memory_type m = identified-limits m.wide m.limits (behind_items m.shared m.page)
+pub identifier_in_front-memory_type : (m : MemoryType) → identifier_in_front (memory_type_items m) ≡ (None, memory_type_items m)
+identifier_in_front-memory_type m = identifier_in_front-limits m.wide m.limits (behind_items m.shared m.page)
 
 pub memory_type-items : (m : MemoryType) → IsRangedMemory m → memory_type (memory_type_items m) ≡ Some m
 memory_type-items m h =
     rw (
       address_type-items m.wide m.limits (behind_items m.shared m.page) h.min,
       limits-items m.limits (behind_items m.shared m.page) h.min h.max (no_number_behind m.shared m.page),
-      shared-items m.shared m.page,
+      shared_in_front-items m.shared m.page,
       page-items m.page h.page,
     )
 
 -- the identifier of a memory, and what it is
-pub identified-memory : (s : Scope) (i : ℕ) (m : MemoryType) → identified (memory_items s i m) ≡ (id (s.names.items Memory i), memory_type_items m)
-identified-memory s i m = declaration-items (s.names.items Memory i) (memory_type_items m) (identified-memory_type m)
+pub identifier_in_front-memory : (s : Scope) (i : ℕ) (m : MemoryType) → identifier_in_front (memory_items s i m) ≡ (id (s.names.items Memory i), memory_type_items m)
+identifier_in_front-memory s i m = declaration-items (s.names.items Memory i) (memory_type_items m) (identifier_in_front-memory_type m)
 
 pub read_memory-items : (s : Scope) (i : ℕ) (m : MemoryType) → IsRangedMemory m → read_memory (memory_items s i m) ≡ Some m
-read_memory-items s i m h = rw (identified-memory s i m, memory_type-items m h)
+read_memory-items s i m h = rw (identifier_in_front-memory s i m, memory_type-items m h)

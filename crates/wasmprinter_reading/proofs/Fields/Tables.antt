@@ -15,7 +15,7 @@ use Rattle.wasmprinter_spec.specs.Limits.{HasNoEmptyInit}
 use Rattle.wasmprinter_spec.specs.IndexSpaces.{Context}
 use Rattle.wasmprinter_spec.specs.Layout.Declarations.{Scope}
 use Rattle.wasmprinter_spec.specs.Layout.Tables.{table_type_pieces, init_pieces, table_pieces}
-use Rattle.wasmprinter_spec.specs.Text.Items.{identified}
+use Rattle.wasmprinter_spec.specs.Text.Items.{identifier_in_front}
 use Rattle.wasmprinter_spec.specs.Text.Types.{ref_named, ref_group}
 use Rattle.wasmprinter_spec.specs.Text.Expressions.{expression}
 use Rattle.wasmprinter_spec.specs.Text.Tables.{table_type, init, read_table}
@@ -27,7 +27,7 @@ use Rattle.wasmprinter_reading.proofs.Items.{leading_item-reads}
 use Rattle.wasmprinter_reading.proofs.Ranged.{IsRangedTableType, IsRangedInit, IsRangedTable}
 use Rattle.wasmprinter_reading.proofs.Types.Trees.{ref_items_by, ref_items, ref_writes}
 use Rattle.wasmprinter_reading.proofs.Types.Back.{ref_item}
-use Rattle.wasmprinter_reading.proofs.Fields.Limits.{wide_items, limits_items, wide_writes, limits_write, IsNoNumber, address_type-items, limits-items, identified-limits}
+use Rattle.wasmprinter_reading.proofs.Fields.Limits.{wide_items, limits_items, wide_writes, limits_write, IsNoNumber, address_type-items, limits-items, identifier_in_front-limits}
 use Rattle.wasmprinter_reading.proofs.Declarations.{id}
 use Rattle.wasmprinter_reading.proofs.Identifiers.{declaration-items, declaration_writes}
 use Rattle.wasmprinter_reading.proofs.Folded.Lists.{IsUnpainted}
@@ -84,14 +84,14 @@ table_type_onto names t f =
     ∙ ap (onto (wide_items t.wide)) (onto_assoc (limits_items t.limits) (ref_items names t.element) f)
 
 -- no identifier stands in front of the type
-pub identified-table_type : (names : Names) (t : TableType) (f : Forest) → identified (onto (table_type_items names t) f) ≡ (None, onto (table_type_items names t) f)
-identified-table_type names t f = rw (table_type_onto names t f) (identified-limits t.wide t.limits (onto (ref_items names t.element) f))
+pub identifier_in_front-table_type : (names : Names) (t : TableType) (f : Forest) → identifier_in_front (onto (table_type_items names t) f) ≡ (None, onto (table_type_items names t) f)
+identifier_in_front-table_type names t f = rw (table_type_onto names t f) (identifier_in_front-limits t.wide t.limits (onto (ref_items names t.element) f))
 
 -- the identifier of a table, and what it is
-pub identified-table : (s : Scope) (i : ℕ) (t : Table (Placed Operator)) →
-    identified (table_items s i t) ≡ (id (s.names.items row.Table i), onto (table_type_items s.names t.type) (init_items s t.init))
-identified-table s i t =
-    declaration-items (s.names.items row.Table i) (onto (table_type_items s.names t.type) (init_items s t.init)) (identified-table_type s.names t.type (init_items s t.init))
+pub identifier_in_front-table : (s : Scope) (i : ℕ) (t : Table (Placed Operator)) →
+    identifier_in_front (table_items s i t) ≡ (id (s.names.items row.Table i), onto (table_type_items s.names t.type) (init_items s t.init))
+identifier_in_front-table s i t =
+    declaration-items (s.names.items row.Table i) (onto (table_type_items s.names t.type) (init_items s t.init)) (identifier_in_front-table_type s.names t.type (init_items s t.init))
 
 module _ (s : Scope) (c : Context) (n : Counts) (scoped : AreScoped s c n) where
   pub table_type-items : (t : TableType) (f : Forest) → IsRangedTableType t → IsDeclaredHeap n.types t.element.heap →
@@ -126,4 +126,4 @@ module _ (s : Scope) (c : Context) (n : Counts) (scoped : AreScoped s c n) where
       IsIndexedInit t.init → read_table c (table_items s i t) ≡ Some (table_without_places t)
   read_table-items i t h some d e =
       let rest : Forest = init_items s t.init in
-      rw (identified-table s i t, table_type-items t.type rest h.type d, init-items t.init h.init some e)
+      rw (identifier_in_front-table s i t, table_type-items t.type rest h.type d, init-items t.init h.init some e)

@@ -6,7 +6,7 @@ use Rattle.wasmprinter_spec.specs.Grammar.{Placed}
 use Rattle.wasmprinter_spec.specs.Types.{FuncType, signature_at}
 use Rattle.wasmprinter_spec.specs.Indexed.{Counts}
 use Rattle.wasmprinter_spec.specs.IndexSpaces.{Context}
-use Rattle.wasmprinter_spec.specs.Text.Items.{identified}
+use Rattle.wasmprinter_spec.specs.Text.Items.{identifier_in_front}
 use Rattle.wasmprinter_spec.specs.Text.Tags.{read_tag}
 use Rattle.wasmprinter_spec.specs.Row.{Tag}
 use Rattle.wasmprinter_spec.specs.Names.{AreNamed}
@@ -17,7 +17,7 @@ use Rattle.wasmprinter_lexical.proofs.Writes.{Writes, break_writes, line_group_g
 use Rattle.wasmprinter_reading.specs.Listed.{AreSignaturesInRange}
 use Rattle.wasmprinter_reading.proofs.Declarations.{id}
 use Rattle.wasmprinter_reading.proofs.Fields.Scopes.{AreScoped}
-use Rattle.wasmprinter_reading.proofs.Fields.Headers.{header_items, header_alone_writes, identified-header, use-items}
+use Rattle.wasmprinter_reading.proofs.Fields.Headers.{header_items, header_alone_writes, identifier_in_front-header, use-items}
 
 -- what a tag holds behind its word
 abbrev pub tag_items : Scope → ℕ → ℕ → Forest
@@ -29,10 +29,10 @@ unfolding tag_pieces class
 tag_writes s named ranged i tag h r = break_writes (line_group_gap_writes (codes "tag") _ refl refl (header_alone_writes s named ranged Tag None i tag.value h r))
 
 -- the identifier of a tag
-pub identified-tag : (s : Scope) (i type_index : ℕ) → (identified (tag_items s i type_index)).0 ≡ id (s.names.items Tag i)
-identified-tag s i type_index = ap (λ x. x.0) (identified-header s Tag None i type_index End)
+pub identifier_in_front-tag : (s : Scope) (i type_index : ℕ) → (identifier_in_front (tag_items s i type_index)).0 ≡ id (s.names.items Tag i)
+identifier_in_front-tag s i type_index = ap (λ x. x.0) (identifier_in_front-header s Tag None i type_index End)
 
 -- the type is a function type
 pub read_tag-items : (s : Scope) (c : Context) (n : Counts) → AreScoped s c n → (i : ℕ) (t : FuncType) (type_index : ℕ) → signature_at s.types type_index ≡ Some t →
     type_index < 2 ^ 32 → read_tag c (tag_items s i type_index) ≡ Some type_index
-read_tag-items s c n scoped i t type_index own h = rw (identified-header s Tag None i type_index End, use-items s c n scoped None t type_index own h)
+read_tag-items s c n scoped i t type_index own h = rw (identifier_in_front-header s Tag None i type_index End, use-items s c n scoped None t type_index own h)

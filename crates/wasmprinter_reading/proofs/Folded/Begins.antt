@@ -13,7 +13,7 @@ use Rattle.wasmprinter_spec.specs.Layout.Declarations.{Folding}
 use Rattle.wasmprinter_spec.specs.Layout.Operators.{Form, Setting}
 use Rattle.wasmprinter_spec.specs.Layout.Folded.{items}
 use Rattle.wasmprinter_spec.specs.Folding.Code as folding
-use Rattle.wasmprinter_spec.specs.Folding.Code.{Item, Code, role}
+use Rattle.wasmprinter_spec.specs.Folding.Code.{Item, NestedCode, role}
 use Rattle.wasmprinter_spec.specs.Folding.Tree.{Nodes, tree}
 use Rattle.wasmprinter_reading.specs.Listed.{IsListed, AreSignaturesInRange}
 use Rattle.wasmprinter_reading.proofs.Tabled.{HasRow, row_for, StandsAlone}
@@ -70,8 +70,8 @@ flat_begins s (o ∷ os) = tt
 pub list_begins : (folding : Option Folding) (own : Option ℕ) (s : Setting) → AreNamed s.names → AreSignaturesInRange s.signature → (hs : List (Placed Hint)) (os : List (Placed Operator)) →
     AllByRecursion IsListed (without_places os) → BeginsCode (list_items false folding own s hs os)
 list_begins None own s named ranged hs os l = flat_begins s (without_places os)
-list_begins (Some f) own s named ranged hs os l = by (folding.code_of (items s (f.signatures own) hs 0 [] [] os)) refl
+list_begins (Some f) own s named ranged hs os l = by (folding.nested_code_of (items s (f.signatures own) hs 0 [] [] os)) refl
   where
-    by : (c : Option Code) → folding.code_of (items s (f.signatures own) hs 0 [] [] os) ≡ c → BeginsCode (code_items false c)
+    by : (c : Option NestedCode) → folding.nested_code_of (items s (f.signatures own) hs 0 [] [] os) ≡ c → BeginsCode (code_items false c)
     by None e = tt
     by (Some code) e = row_begins false s.form (tree code) (tree_row s named ranged (f.signatures own) hs os l code e)

@@ -1,23 +1,23 @@
 -- What holds of all operators of code holds of all heads of its tree.
 use Rattle.std.proofs.Common.{◌∷◌, ◌++◌, subst}
 use Rattle.std.specs.List.{AllByRecursion}
-use Rattle.wasmprinter_spec.specs.Folding.Code.{Item, Code, Done, Plain, Block, If, IfElse, flat}
-use Rattle.wasmprinter_spec.specs.Folding.Tree.{Head, Of, Then, Else, Nodes, Nil, Snoc, joined, front, last, Operands, Fit, Passed, Short, operands, with_operands, folded, tree_behind, tree}
-use Rattle.wasmprinter_spec.proofs.Folding.{AreLast, AreLast-operands}
+use Rattle.wasmprinter_spec.specs.Folding.Code.{Item, NestedCode, Done, Plain, Block, If, IfElse, flat}
+use Rattle.wasmprinter_spec.specs.Folding.Tree.{Head, Of, ThenCase, ElseCase, Nodes, Nil, Snoc, row_of_both, front, last, Operands, Fit, Passed, Short, operand_search, with_operands, with_operator, tree_behind, tree}
+use Rattle.wasmprinter_spec.proofs.Folding.{AreLast, AreLast-operand_search}
 use Rattle.wasmprinter_reading.proofs.Each.{all_parts}
 
 module _ (P : Item → Type 0) where
   -- of the operator of a head; `then` has none of its own
   abbrev pub OnHead : Head → Type 0
   OnHead (Of x) = P x
-  OnHead (Then x) = Unit {0}
-  OnHead (Else x) = P x
+  OnHead (ThenCase x) = Unit {0}
+  OnHead (ElseCase x) = P x
 
   abbrev pub AllHeads : Nodes → Type 0
   AllHeads Nil = Unit {0}
   AllHeads (Snoc b h r held) = OnHead h × AllHeads b × AllHeads held
 
-  parts : (a b : Nodes) → AllHeads (joined a b) → AllHeads a × AllHeads b
+  parts : (a b : Nodes) → AllHeads (row_of_both a b) → AllHeads a × AllHeads b
   parts a Nil h = (h, tt)
   parts a (Snoc b g r held) h = let ps = parts a b h.1 in (ps.0, (h.0, ps.1, h.2))
 
@@ -25,29 +25,29 @@ module _ (P : Item → Type 0) where
   ends Nil h = (tt, tt)
   ends (Snoc b g r held) h = (h.1, (h.0, tt, h.2))
 
-  heads-operands : (f : Nodes) (x : Item) (o : Operands) → P x → AreLast f o → AllHeads f → AllHeads (with_operands f (Of x) x.gives o)
-  heads-operands f x (Fit before run) p l h = let ps = parts before run (subst AllHeads l h) in (p, ps.0, ps.1)
-  heads-operands f x Passed p l h = (p, h, tt)
-  heads-operands f x Short p l h = (p, h, tt)
+  heads-operand_search : (f : Nodes) (x : Item) (o : Operands) → P x → AreLast f o → AllHeads f → AllHeads (with_operands f (Of x) x.gives o)
+  heads-operand_search f x (Fit before run) p l h = let ps = parts before run (subst AllHeads l h) in (p, ps.0, ps.1)
+  heads-operand_search f x Passed p l h = (p, h, tt)
+  heads-operand_search f x Short p l h = (p, h, tt)
 
-  heads-tree_behind : (f : Nodes) (code : Code) → AllByRecursion P (flat code) → AllHeads f → AllHeads (tree_behind f code)
+  heads-tree_behind : (f : Nodes) (code : NestedCode) → AllByRecursion P (flat code) → AllHeads f → AllHeads (tree_behind f code)
   heads-tree_behind f Done p h = h
-  heads-tree_behind f (Plain x rest) p h = heads-tree_behind (folded f x) rest p.1 (heads-operands f x (operands x.takes f) p.0 (AreLast-operands x.takes f) h)
+  heads-tree_behind f (Plain x rest) p h = heads-tree_behind (with_operator f x) rest p.1 (heads-operand_search f x (operand_search x.takes f) p.0 (AreLast-operand_search x.takes f) h)
   heads-tree_behind f (Block x body end rest) p h =
       let ps = all_parts P (flat body) (end ∷ flat rest) p.1 in
       heads-tree_behind (Snoc f (Of x) x.gives (tree_behind Nil body)) rest ps.1.1 (p.0, h, heads-tree_behind Nil body ps.0 tt)
   heads-tree_behind f (If x body end rest) p h =
       let ps = all_parts P (flat body) (end ∷ flat rest) p.1 in
       let es = ends f h in
-      heads-tree_behind (Snoc (front f) (Of x) x.gives (Snoc (last f) (Then x) 0 (tree_behind Nil body))) rest ps.1.1
+      heads-tree_behind (Snoc (front f) (Of x) x.gives (Snoc (last f) (ThenCase x) 0 (tree_behind Nil body))) rest ps.1.1
       (p.0, es.0, (tt, es.1, heads-tree_behind Nil body ps.0 tt))
   heads-tree_behind f (IfElse x body turn other end rest) p h =
       let ps = all_parts P (flat body) (turn ∷ (flat other ++ end ∷ flat rest)) p.1 in
       let qs = all_parts P (flat other) (end ∷ flat rest) ps.1.1 in
       let es = ends f h in
       heads-tree_behind
-      (Snoc (front f) (Of x) x.gives (Snoc (Snoc (last f) (Then x) 0 (tree_behind Nil body)) (Else turn) 0 (tree_behind Nil other))) rest qs.1.1
+      (Snoc (front f) (Of x) x.gives (Snoc (Snoc (last f) (ThenCase x) 0 (tree_behind Nil body)) (ElseCase turn) 0 (tree_behind Nil other))) rest qs.1.1
       (p.0, es.0, (ps.1.0, (tt, es.1, heads-tree_behind Nil body ps.0 tt), heads-tree_behind Nil other qs.0 tt))
 
-  pub heads-tree : (code : Code) → AllByRecursion P (flat code) → AllHeads (tree code)
+  pub heads-tree : (code : NestedCode) → AllByRecursion P (flat code) → AllHeads (tree code)
   heads-tree code p = heads-tree_behind Nil code p tt

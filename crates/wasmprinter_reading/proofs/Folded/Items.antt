@@ -3,24 +3,24 @@ use Rattle.std.proofs.Common.{◌≡◌, ℕ, ◌-◌, Bool, true, false, List, 
 use Rattle.std.specs.List.{AllByRecursion}
 use Rattle.wasmprinter_spec.specs.Grammar.{Placed}
 use Rattle.wasmprinter_spec.specs.Token.{Token}
-use Rattle.wasmprinter_spec.specs.Forest.{Forest, End, String, grow, the_one, cut}
+use Rattle.wasmprinter_spec.specs.Forest.{Forest, End, String, grow, the_one, without_annotations}
 use Rattle.wasmprinter_spec.specs.Operator.{Operator}
 use Rattle.wasmprinter_spec.specs.Row.{Role, Plain, Opens, OpensIf, OpensTry, Turns, Catches, CatchesAll, Delegates, Ends}
 use Rattle.wasmprinter_spec.specs.Table.{rows_of, word_of, role_of, shape_of}
-use Rattle.wasmprinter_spec.specs.Labels.{Label, labels_after, count_after, outside, inside}
+use Rattle.wasmprinter_spec.specs.Labels.{Label, labels_after, count_after, labels_outside, labels_inside}
 use Rattle.wasmprinter_spec.specs.Module.{without_places}
 use Rattle.wasmprinter_spec.specs.Customs.Hints.{Hint, next_hint, hint_behind}
 use Rattle.wasmprinter_spec.specs.Names.{IsNamedIfAny, AreNamed}
 use Rattle.wasmprinter_spec.specs.Piece.{Piece, Word, flag_byte}
 use Rattle.wasmprinter_spec.specs.Layout.Operators.{Form, Setting, pieces_by}
 use Rattle.wasmprinter_spec.specs.Layout.Folded.{item, items}
-use Rattle.wasmprinter_spec.specs.Folding.Arities.{Signatures, label_of_block, label_counts_after}
+use Rattle.wasmprinter_spec.specs.Folding.Arities.{Signatures, label_of_block}
 use Rattle.wasmprinter_spec.specs.Folding.Code.{Item, role}
 use Rattle.wasmprinter_spec.specs.Folding.Refusals.{is_hintless}
-use Rattle.wasmprinter_spec.specs.Folding.Unfolding.{Told, told_as, told}
-use Rattle.wasmprinter_spec.specs.Code.{Chunk, chunk, word_chunk, hinted, role_by}
+use Rattle.wasmprinter_spec.specs.Folding.Unfolding.{Told, told_by_role, told_of}
+use Rattle.wasmprinter_spec.specs.Code.{Chunk, chunk, word_chunk, with_hint_group, role_by}
 use Rattle.wasmprinter_lexical.proofs.Grown.{one-flat}
-use Rattle.wasmprinter_lexical.proofs.Noted.{noted-cut}
+use Rattle.wasmprinter_lexical.proofs.Noted.{noted-without_annotations}
 use Rattle.wasmprinter_lexical.proofs.Pieces.{Edge, Bound}
 use Rattle.wasmprinter_lexical.proofs.Respelled.{all_lexed}
 use Rattle.wasmprinter_lexical.proofs.Writes.{Writes, writes_lexed}
@@ -38,14 +38,14 @@ use Rattle.wasmprinter_reading.proofs.Folded.Words.{IsBare, turn_is_bare, end_is
 
 abbrev pub forest_or_end : Option Forest → Forest
 forest_or_end None = End
-forest_or_end (Some f) = cut f
+forest_or_end (Some f) = without_annotations f
 
 -- the items of pieces, without annotations
 abbrev pub items_of : List Piece → Forest
 items_of ps = forest_or_end (the_one (grow (all_lexed ps)))
 
 pub items_of-writes : {a b : Edge} {ps : List Piece} {f : Forest} → Writes a ps b f → items_of ps ≡ f
-items_of-writes w = ap (λ (t : List Token). forest_or_end (the_one (grow t))) (writes_lexed w ∙ w.tokens) ∙ ap forest_or_end (one-flat w.whole) ∙ noted-cut w.noted ∙ w.without
+items_of-writes w = ap (λ (t : List Token). forest_or_end (the_one (grow t))) (writes_lexed w ∙ w.tokens) ∙ ap forest_or_end (one-flat w.whole) ∙ noted-without_annotations w.noted ∙ w.without
 
 -- ---- one operator
 
@@ -84,7 +84,7 @@ item_chunk x = chunk (rows_of (word x)) (arguments x)
 
 -- with its hint, or without
 abbrev pub noted_chunk : Bool → Option (Placed Hint) → Chunk → Chunk
-noted_chunk true (Some h) c = hinted (String (flag_byte h.value.taken ∷ []) End) c
+noted_chunk true (Some h) c = with_hint_group (String (flag_byte h.value.taken ∷ []) End) c
 noted_chunk true None c = c
 noted_chunk false h c = c
 
@@ -119,10 +119,10 @@ end_chunk hints x h k e =
     hintless_chunk hints x k (ap is_hintless e) ∙ ap₂ (λ w f. chunk (rows_of w) f) b.word (h.bare (ap is_bare e))
 
 -- what is told of an operator is its chunk
-told_item : {form : Form} (hints : Bool) (x : Item) → IsPrinted form x → IsHintless hints x → told_chunk hints (told_as (role x) x) ≡ own_chunk hints x
+told_item : {form : Form} (hints : Bool) (x : Item) → IsPrinted form x → IsHintless hints x → told_chunk hints (told_by_role (role x) x) ≡ own_chunk hints x
 told_item hints x h k = by (role x) refl
   where
-    by : (r : Role) → role x ≡ r → told_chunk hints (told_as r x) ≡ own_chunk hints x
+    by : (r : Role) → role x ≡ r → told_chunk hints (told_by_role r x) ≡ own_chunk hints x
     by Ends e = sym (end_chunk hints x h k e)
     by Plain e = refl
     by Opens e = refl
@@ -134,7 +134,7 @@ told_item hints x h k = by (role x) refl
     by Delegates e = refl
 
 pub told_items : (hints : Bool) (form : Form) (xs : List Item) → AllByRecursion (IsPrinted form) xs → AllByRecursion (IsHintless hints) xs →
-    told_chunks hints (told xs) ≡ map (own_chunk hints) xs
+    told_chunks hints (told_of xs) ≡ map (own_chunk hints) xs
 told_items hints form [] h k = refl
 told_items hints form (x ∷ xs) h k = ap₂ (λ c cs. c ∷ cs) (told_item hints x h.0 k.0) (told_items hints form xs h.1 k.1)
 
@@ -164,11 +164,11 @@ bare_by_role s inner xs own o l h = by (role_of o.opcode) refl h
 
 module _ (s : Setting) (named : AreNamed s.names) (ranged : AreSignaturesInRange s.signature) (signatures : Signatures) where
   item_writes : (own : Label) (xs : List Label) (o : Placed Operator) → AllByRecursion IsNamedIfAny xs → IsNamedIfAny own → IsListed o.value →
-      Writes Bound (pieces_by s (inside (role_of o.value.opcode) xs) (outside (role_of o.value.opcode) xs) own (shape_of o.value.opcode) o.value.immediates) (behind s.form)
+      Writes Bound (pieces_by s (labels_inside (role_of o.value.opcode) xs) (labels_outside (role_of o.value.opcode) xs) own (shape_of o.value.opcode) o.value.immediates) (behind s.form)
       (arguments_items s own xs o.value)
   item_writes own xs o h k l =
       let is : Role = role_of o.value.opcode in
-      writes_by s named ranged (inside is xs) (outside is xs) own (outside_labels is xs h) k (shape_of o.value.opcode) o.value.immediates l.range
+      writes_by s named ranged (labels_inside is xs) (labels_outside is xs) own (outside_labels is xs h) k (shape_of o.value.opcode) o.value.immediates l.range
 
   -- what is written of an operator of a list
   pub item_arguments : (hint : Option (Placed Hint)) (own : Label) (xs : List Label) (ls : List (Option ℕ)) (o : Placed Operator) →
@@ -183,10 +183,10 @@ module _ (s : Setting) (named : AreNamed s.names) (ranged : AreSignaturesInRange
       record {
         listed = l;
         pieces = refl;
-        are = subst AreArguments (sym e) (arguments_by s (inside is xs) (outside is xs) own (shape_of o.value.opcode) o.value.immediates l.range);
+        are = subst AreArguments (sym e) (arguments_by s (labels_inside is xs) (labels_outside is xs) own (shape_of o.value.opcode) o.value.immediates l.range);
         writes = subst (Writes Bound (rest (item s signatures hint own xs ls o)) (behind s.form)) (sym e) (item_writes own xs o h k l);
-        bare = λ b. e ∙ bare_by_role s (inside is xs) (outside is xs) own o.value l b;
-        line = then_stay refl (by_shape_stay s (inside is xs) (outside is xs) own (shape_of o.value.opcode) o.value.immediates);
+        bare = λ b. e ∙ bare_by_role s (labels_inside is xs) (labels_outside is xs) own o.value l b;
+        line = then_stay refl (by_shape_stay s (labels_inside is xs) (labels_outside is xs) own (shape_of o.value.opcode) o.value.immediates);
       }
 
   pub items_printed : (hs : List (Placed Hint)) (n : ℕ) (xs : List Label) (ls : List (Option ℕ)) (os : List (Placed Operator)) →
@@ -199,7 +199,7 @@ module _ (s : Setting) (named : AreNamed s.names) (ranged : AreSignaturesInRange
       let k : IsNamedIfAny own = named.labels s.function n (length xs) in
       let offset : ℕ = o.place - s.body in (
         item_printed (next_hint offset hs) own xs ls o h k l.0,
-        items_printed (hint_behind offset hs) (count_after is n) (labels_after is own xs) (label_counts_after is (label_of_block signatures o.value) ls) os
+        items_printed (hint_behind offset hs) (count_after is n) (labels_after is own xs) (labels_after is (label_of_block signatures o.value) ls) os
             (after_labels is own xs k h) l.1,
       )
 
@@ -215,5 +215,5 @@ module _ (s : Setting) (named : AreNamed s.names) (ranged : AreSignaturesInRange
       let k : IsNamedIfAny own = named.labels s.function n (length xs) in
       let offset : ℕ = o.place - s.body in
       ap₂ (λ f cs. chunk (rows_of (word_of o.value.opcode)) f ∷ cs) (item_arguments (next_hint offset hs) own xs ls o h k l.0)
-      (items_chunks (hint_behind offset hs) (count_after is n) (labels_after is own xs) (label_counts_after is (label_of_block signatures o.value) ls) os
+      (items_chunks (hint_behind offset hs) (count_after is n) (labels_after is own xs) (labels_after is (label_of_block signatures o.value) ls) os
       (after_labels is own xs k h) l.1)

@@ -13,21 +13,21 @@ use Rattle.wasmprinter_spec.specs.Labels as labels
 use Rattle.wasmprinter_spec.specs.Names.{AreNamed}
 use Rattle.wasmprinter_spec.specs.Customs.Hints.{Hint}
 use Rattle.wasmprinter_spec.specs.Options.{IsBlank, defaults}
-use Rattle.wasmprinter_spec.specs.Code.{unfolded}
+use Rattle.wasmprinter_spec.specs.Code.{chunks_of_forest}
 use Rattle.wasmprinter_spec.specs.Layout.Declarations.{Folding}
 use Rattle.wasmprinter_spec.specs.Layout.Operators.{Form, OverLines, InLine, Setting}
 use Rattle.wasmprinter_spec.specs.Layout.Folded.{items, node_pieces, folded_pieces, if_folded, folded_list}
 use Rattle.wasmprinter_spec.specs.Folding.Arities.{Signatures}
 use Rattle.wasmprinter_spec.specs.Folding.Code as folding
-use Rattle.wasmprinter_spec.specs.Folding.Code.{Item, Code, flat, role, AreWithoutTry}
-use Rattle.wasmprinter_spec.specs.Folding.Tree.{Of, Then, Else, Nodes, Nil, Snoc, tree}
+use Rattle.wasmprinter_spec.specs.Folding.Code.{Item, NestedCode, flat, role, AreWithoutTry}
+use Rattle.wasmprinter_spec.specs.Folding.Tree.{Of, ThenCase, ElseCase, Nodes, Nil, Snoc, tree}
 use Rattle.wasmprinter_spec.proofs.FoldingItems.{roles-items}
-use Rattle.wasmprinter_spec.proofs.FoldingCode.{code_of-nested, code_of-tree}
+use Rattle.wasmprinter_spec.proofs.FoldingCode.{nested_code_of-nested, nested_code_of-tree}
 use Rattle.wasmprinter_lexical.proofs.Pieces.{Edge, Free, Bound}
 use Rattle.wasmprinter_lexical.proofs.Writes.{Writes, WritesNoted, nothing_writes, free_writes, behind_anything, respelled_write}
 use Rattle.wasmprinter_reading.specs.Listed.{IsListed, AreSignaturesInRange}
 use Rattle.wasmprinter_reading.proofs.Operators.Forms.{hint_items}
-use Rattle.wasmprinter_reading.proofs.Operators.Lists.{expression_items, hinted_items, chunks_of, unfolded-operators}
+use Rattle.wasmprinter_reading.proofs.Operators.Lists.{expression_items, hinted_items, chunks_of, chunks_of_forest-operators}
 use Rattle.wasmprinter_reading.proofs.Folded.Rows.{IsRow}
 use Rattle.wasmprinter_reading.proofs.Folded.Reads.{head_items, row_items}
 use Rattle.wasmprinter_reading.proofs.Folded.Heads.{AllHeads, heads-tree}
@@ -39,13 +39,13 @@ use Rattle.wasmprinter_reading.proofs.Folded.ReadBack.{tree_row, tree_unfolds}
 -- ---- what they are written as
 
 -- nothing where they have no tree
-abbrev pub code_items : Bool → Option Code → Forest
+abbrev pub code_items : Bool → Option NestedCode → Forest
 code_items hints None = End
 code_items hints (Some code) = row_items hints (tree code)
 
 -- folded, with hints in front of them or without
 abbrev pub folded_items : Bool → Setting → Signatures → List (Placed Hint) → List (Placed Operator) → Forest
-folded_items hints s signatures hs os = code_items hints (folding.code_of (items s signatures hs 0 [] [] os))
+folded_items hints s signatures hs os = code_items hints (folding.nested_code_of (items s signatures hs 0 [] [] os))
 
 abbrev pub flat_items : Bool → Setting → List (Placed Hint) → List (Placed Operator) → Forest
 flat_items true s hs os = hinted_items s hs 0 [] os
@@ -95,9 +95,9 @@ pub folded_list_writes : (f : Folding) → f.paints ≡ false → (own : Option 
     (hs : List (Placed Hint)) (os : List (Placed Operator)) → AllByRecursion IsListed (without_places os) →
     WritesNoted (in_front s.form) (folded_list f own s hs os) Bound (folded_items false s (f.signatures own) hs os) (folded_items true s (f.signatures own) hs os)
 unfolding folded_pieces
-folded_list_writes f bare own s named ranged hs os l = by f.paints bare (folding.code_of (items s (f.signatures own) hs 0 [] [] os)) refl
+folded_list_writes f bare own s named ranged hs os l = by f.paints bare (folding.nested_code_of (items s (f.signatures own) hs 0 [] [] os)) refl
   where
-    by : (paints : Bool) → paints ≡ false → (c : Option Code) → folding.code_of (items s (f.signatures own) hs 0 [] [] os) ≡ c →
+    by : (paints : Bool) → paints ≡ false → (c : Option NestedCode) → folding.nested_code_of (items s (f.signatures own) hs 0 [] [] os) ≡ c →
         WritesNoted (in_front s.form) (if_folded (option_map (λ code. node_pieces defaults paints s.form true s.nesting (tree code)) c)) Bound (code_items false c) (code_items true c)
     by true b c e = absurd cc
     by false b None e = no_nodes_write s.form
@@ -118,20 +118,20 @@ row_unhinted Nil h = refl
 row_unhinted (Snoc b (Of x) r held) h =
     ap₂ onto (row_unhinted b h.1)
     (ap₂ (λ i g. hint_items i (Group (head_items (Of x) g) End)) h.0 (row_unhinted held h.2))
-row_unhinted (Snoc b (Then x) r held) h = ap₂ (λ f g. onto f (Group (head_items (Then x) g) End)) (row_unhinted b h.1) (row_unhinted held h.2)
-row_unhinted (Snoc b (Else x) r held) h = ap₂ (λ f g. onto f (Group (head_items (Else x) g) End)) (row_unhinted b h.1) (row_unhinted held h.2)
+row_unhinted (Snoc b (ThenCase x) r held) h = ap₂ (λ f g. onto f (Group (head_items (ThenCase x) g) End)) (row_unhinted b h.1) (row_unhinted held h.2)
+row_unhinted (Snoc b (ElseCase x) r held) h = ap₂ (λ f g. onto f (Group (head_items (ElseCase x) g) End)) (row_unhinted b h.1) (row_unhinted held h.2)
 
 pub folded_unhinted : (s : Setting) (signatures : Signatures) (os : List (Placed Operator)) → folded_items true s signatures [] os ≡ folded_items false s signatures [] os
-folded_unhinted s signatures os = by (folding.code_of xs) refl
+folded_unhinted s signatures os = by (folding.nested_code_of xs) refl
   where
     xs : List Item
     xs = items s signatures [] 0 [] [] os
 
-    by : (c : Option Code) → folding.code_of xs ≡ c → code_items true c ≡ code_items false c
+    by : (c : Option NestedCode) → folding.nested_code_of xs ≡ c → code_items true c ≡ code_items false c
     by None e = refl
     by (Some code) e =
         row_unhinted (tree code)
-        (heads-tree IsUnhinted code (subst (AllByRecursion IsUnhinted) (sym (code_of-tree xs code e).0) (items_unhinted s signatures os 0 [] [])))
+        (heads-tree IsUnhinted code (subst (AllByRecursion IsUnhinted) (sym (nested_code_of-tree xs code e).0) (items_unhinted s signatures os 0 [] [])))
 
 pub unhinted_list_writes : (f : Folding) → f.paints ≡ false → (own : Option ℕ) (s : Setting) → AreNamed s.names → AreSignaturesInRange s.signature →
     (os : List (Placed Operator)) → AllByRecursion IsListed (without_places os) →
@@ -144,21 +144,21 @@ unhinted_list_writes f bare own s named ranged os l =
 
 -- well nested and without the older `try`, they have a tree
 pub has_tree : (s : Setting) (signatures : Signatures) (hs : List (Placed Hint)) (os : List (Placed Operator)) → Nests Sequence (roles os) → AreWithoutTry (roles os) →
-    (code : Code) × (folding.code_of (items s signatures hs 0 [] [] os) ≡ Some code)
+    (code : NestedCode) × (folding.nested_code_of (items s signatures hs 0 [] [] os) ≡ Some code)
 has_tree s signatures hs os n t =
     let xs : List Item = items s signatures hs 0 [] [] os in
     let same : map role xs ≡ roles os = roles-items s signatures os hs 0 [] [] in
-    code_of-nested xs (subst (λ (rs : List Role). Nests Sequence rs) (sym same) n) (subst AreWithoutTry (sym same) t)
+    nested_code_of-nested xs (subst (λ (rs : List Role). Nests Sequence rs) (sym same) n) (subst AreWithoutTry (sym same) t)
 
 folded-unfolds : (s : Setting) (signatures : Signatures) → AreNamed s.names → AreSignaturesInRange s.signature → (hs : List (Placed Hint)) (os : List (Placed Operator)) →
     AllByRecursion IsListed (without_places os) → Nests Sequence (roles os) → AreWithoutTry (roles os) →
-    unfolded (folded_items false s signatures hs os) ≡ Some (chunks_of s 0 [] (without_places os))
+    chunks_of_forest (folded_items false s signatures hs os) ≡ Some (chunks_of s 0 [] (without_places os))
 folded-unfolds s signatures named ranged hs os l n t =
     let code = has_tree s signatures hs os n t in
-    ap (λ c. unfolded (code_items false c)) code.1 ∙ tree_unfolds s named ranged signatures hs os l code.0 code.1
+    ap (λ c. chunks_of_forest (code_items false c)) code.1 ∙ tree_unfolds s named ranged signatures hs os l code.0 code.1
 
-pub unfolded-list : (folding : Option Folding) (own : Option ℕ) (s : Setting) → AreNamed s.names → AreSignaturesInRange s.signature → (hs : List (Placed Hint)) (os : List (Placed Operator)) →
+pub chunks_of_forest-list : (folding : Option Folding) (own : Option ℕ) (s : Setting) → AreNamed s.names → AreSignaturesInRange s.signature → (hs : List (Placed Hint)) (os : List (Placed Operator)) →
     AllByRecursion IsListed (without_places os) → Nests Sequence (roles os) → AreFoldable folding os →
-    unfolded (list_items false folding own s hs os) ≡ Some (chunks_of s 0 [] (without_places os))
-unfolded-list None own s named ranged hs os l n t = unfolded-operators s 0 [] (without_places os) l
-unfolded-list (Some f) own s named ranged hs os l n t = folded-unfolds s (f.signatures own) named ranged hs os l n t
+    chunks_of_forest (list_items false folding own s hs os) ≡ Some (chunks_of s 0 [] (without_places os))
+chunks_of_forest-list None own s named ranged hs os l n t = chunks_of_forest-operators s 0 [] (without_places os) l
+chunks_of_forest-list (Some f) own s named ranged hs os l n t = folded-unfolds s (f.signatures own) named ranged hs os l n t

@@ -3,26 +3,26 @@ use Rattle.std.proofs.Common.{◌≡◌, ℕ, Bool, List, [], ◌∷◌, Some, t
 use Rattle.std.proofs.lemmas.Simd.{map-map}
 use Rattle.std.specs.List.{AllByRecursion}
 use Rattle.wasmprinter_spec.specs.Grammar.{Placed, ◌>>=◌}
-use Rattle.wasmprinter_spec.specs.Forest.{cut}
+use Rattle.wasmprinter_spec.specs.Forest.{without_annotations}
 use Rattle.wasmprinter_spec.specs.Operator.{Operator}
 use Rattle.wasmprinter_spec.specs.Module.{without_places}
 use Rattle.wasmprinter_spec.specs.Names.{AreNamed}
 use Rattle.wasmprinter_spec.specs.Customs.Hints.{Hint}
 use Rattle.wasmprinter_spec.specs.Options.{Options, IsBlank}
-use Rattle.wasmprinter_spec.specs.Code.{unfolded}
+use Rattle.wasmprinter_spec.specs.Code.{chunks_of_forest}
 use Rattle.wasmprinter_spec.specs.Text.Operators.{read_operators}
 use Rattle.wasmprinter_spec.specs.Layout.Operators.{Form, Setting}
 use Rattle.wasmprinter_spec.specs.Layout.Folded.{items, node_pieces}
 use Rattle.wasmprinter_spec.specs.Folding.Arities.{Signatures}
-use Rattle.wasmprinter_spec.specs.Folding.Code.{Item, Code, flat, code_of}
+use Rattle.wasmprinter_spec.specs.Folding.Code.{Item, NestedCode, flat, nested_code_of}
 use Rattle.wasmprinter_spec.specs.Folding.Tree.{Nodes, tree}
-use Rattle.wasmprinter_spec.proofs.Folding.{unfolded-tree}
-use Rattle.wasmprinter_spec.proofs.FoldingCode.{code_of-tree}
-use Rattle.wasmprinter_lexical.proofs.Noted.{noted-cut}
+use Rattle.wasmprinter_spec.proofs.Folding.{unfolding_of-tree}
+use Rattle.wasmprinter_spec.proofs.FoldingCode.{nested_code_of-tree}
+use Rattle.wasmprinter_lexical.proofs.Noted.{noted-without_annotations}
 use Rattle.wasmprinter_lexical.proofs.Pieces.{Free, Bound}
 use Rattle.wasmprinter_lexical.proofs.Writes.{WritesNoted, writes_forest, respelled_write}
 use Rattle.wasmprinter_reading.specs.Listed.{IsListed, AreSignaturesInRange}
-use Rattle.wasmprinter_reading.specs.FoldedLaws.{uncounted, FoldedOperatorsReadBack}
+use Rattle.wasmprinter_reading.specs.FoldedLaws.{without_counts, FoldedOperatorsReadBack}
 use Rattle.wasmprinter_reading.proofs.Operators.Lists.{chunks_of, expression_reads}
 use Rattle.wasmprinter_reading.proofs.Folded.Items.{IsPrinted, own_chunk, IsHintless, unasked, told_chunks, told_items, items_printed, items_chunks}
 use Rattle.wasmprinter_reading.proofs.Folded.Heads.{heads-tree}
@@ -41,29 +41,29 @@ printed_nodes_write o blank form f h nesting =
 -- ---- items that are folded
 
 -- by whatever numbers of operands and results they have
-module _ (form : Form) (xs : List Item) (printed : AllByRecursion (IsPrinted form) xs) (code : Code) (is : code_of xs ≡ Some code) where
+module _ (form : Form) (xs : List Item) (printed : AllByRecursion (IsPrinted form) xs) (code : NestedCode) (is : nested_code_of xs ≡ Some code) where
   code_printed : AllByRecursion (IsPrinted form) (flat code)
-  code_printed = subst (AllByRecursion (IsPrinted form)) (sym (code_of-tree xs code is).0) printed
+  code_printed = subst (AllByRecursion (IsPrinted form)) (sym (nested_code_of-tree xs code is).0) printed
 
   -- their nodes are such as a text may hold
   nodes_row : IsRow form (tree code)
-  nodes_row = row-tree form code (code_of-tree xs code is).1 code_printed
+  nodes_row = row-tree form code (nested_code_of-tree xs code is).1 code_printed
 
   -- The reader takes what they are written as for the operators in their flat order, each with its hint if hints are shown.
-  nodes_unfold : (hints : Bool) → AllByRecursion (IsHintless hints) xs → unfolded (row_items hints (tree code)) ≡ Some (map (own_chunk hints) xs)
+  nodes_unfold : (hints : Bool) → AllByRecursion (IsHintless hints) xs → chunks_of_forest (row_items hints (tree code)) ≡ Some (map (own_chunk hints) xs)
   nodes_unfold hints h =
-      let rule = code_of-tree xs code is in
+      let rule = nested_code_of-tree xs code is in
       let hintless : AllByRecursion (IsHintless hints) (flat code) = subst (AllByRecursion (IsHintless hints)) (sym rule.0) h in
       row_unfolds hints form (tree code) nodes_row (heads-tree (IsHintless hints) code hintless)
-      ∙ ap (λ ts. Some (told_chunks hints ts)) (unfolded-tree code rule.1)
+      ∙ ap (λ ts. Some (told_chunks hints ts)) (unfolding_of-tree code rule.1)
       ∙ ap (λ cs. Some cs) (told_items hints form (flat code) code_printed hintless)
       ∙ ap (λ xs. Some (map (own_chunk hints) xs)) rule.0
 
 -- ---- the list of operators that is folded, by the numbers that signatures give
 
 module _ (s : Setting) (named : AreNamed s.names) (ranged : AreSignaturesInRange s.signature) (signatures : Signatures)
-    (hs : List (Placed Hint)) (os : List (Placed Operator)) (listed : AllByRecursion IsListed (without_places os)) (code : Code)
-    (is : code_of (items s signatures hs 0 [] [] os) ≡ Some code) where
+    (hs : List (Placed Hint)) (os : List (Placed Operator)) (listed : AllByRecursion IsListed (without_places os)) (code : NestedCode)
+    (is : nested_code_of (items s signatures hs 0 [] [] os) ≡ Some code) where
   abbrev own_items : List Item
   own_items = items s signatures hs 0 [] [] os
 
@@ -76,11 +76,11 @@ module _ (s : Setting) (named : AreNamed s.names) (ranged : AreSignaturesInRange
 
   -- The reader takes what they are written as for the operators in their flat order, each with its hint if hints are shown.
   pub tree_unfolds_at : (hints : Bool) → AllByRecursion (IsHintless hints) (items s signatures hs 0 [] [] os) →
-      unfolded (row_items hints (tree code)) ≡ Some (map (own_chunk hints) (items s signatures hs 0 [] [] os))
+      chunks_of_forest (row_items hints (tree code)) ≡ Some (map (own_chunk hints) (items s signatures hs 0 [] [] os))
   tree_unfolds_at hints h = nodes_unfold s.form own_items own_printed code is hints h
 
   -- those of the flat text
-  pub tree_unfolds : unfolded (row_items false (tree code)) ≡ Some (chunks_of s 0 [] (without_places os))
+  pub tree_unfolds : chunks_of_forest (row_items false (tree code)) ≡ Some (chunks_of s 0 [] (without_places os))
   tree_unfolds = tree_unfolds_at false (unasked own_items) ∙ ap (λ cs. Some cs) (items_chunks s named ranged signatures hs 0 [] [] os tt listed)
 
 -- ---- other numbers of operands and results
@@ -89,17 +89,17 @@ module _ (s : Setting) (named : AreNamed s.names) (ranged : AreSignaturesInRange
 recounted : (form : Form) (x : Item) (takes gives : ℕ) → IsPrinted form x → IsPrinted form (record x { takes = takes; gives = gives })
 recounted form x takes gives h = record { listed = h.listed; pieces = h.pieces; are = h.are; writes = h.writes; bare = h.bare; line = h.line }
 
-printed_uncounted : (form : Form) (xs : List Item) → AllByRecursion (IsPrinted form) xs → AllByRecursion (IsPrinted form) (map uncounted xs)
+printed_uncounted : (form : Form) (xs : List Item) → AllByRecursion (IsPrinted form) xs → AllByRecursion (IsPrinted form) (map without_counts xs)
 printed_uncounted form [] h = tt
 printed_uncounted form (x ∷ xs) h = (recounted form x 0 0 h.0, printed_uncounted form xs h.1)
 
-uncounted_printed : (form : Form) (xs : List Item) → AllByRecursion (IsPrinted form) (map uncounted xs) → AllByRecursion (IsPrinted form) xs
+uncounted_printed : (form : Form) (xs : List Item) → AllByRecursion (IsPrinted form) (map without_counts xs) → AllByRecursion (IsPrinted form) xs
 uncounted_printed form [] h = tt
-uncounted_printed form (x ∷ xs) h = (recounted form (uncounted x) x.takes x.gives h.0, uncounted_printed form xs h.1)
+uncounted_printed form (x ∷ xs) h = (recounted form (without_counts x) x.takes x.gives h.0, uncounted_printed form xs h.1)
 
 -- nor has its chunk
-chunks-uncounted : (xs : List Item) → map (own_chunk false) (map uncounted xs) ≡ map (own_chunk false) xs
-chunks-uncounted xs = map-map (own_chunk false) uncounted xs
+chunks-without_counts : (xs : List Item) → map (own_chunk false) (map without_counts xs) ≡ map (own_chunk false) xs
+chunks-without_counts xs = map-map (own_chunk false) without_counts xs
 
 -- ---- the law
 
@@ -109,10 +109,10 @@ folded_operators_read_back s apart named c n types same signatures hs os h xs e 
     let own : AllByRecursion (IsPrinted s.form) ys = items_printed s named types.in_range signatures hs 0 [] [] os tt h.listed in
     let printed : AllByRecursion (IsPrinted s.form) xs = uncounted_printed s.form xs (subst (AllByRecursion (IsPrinted s.form)) (sym e) (printed_uncounted s.form ys own)) in
     let chunks : map (own_chunk false) xs ≡ chunks_of s 0 [] (without_places os) =
-    sym (chunks-uncounted xs) ∙ ap (map (own_chunk false)) e ∙ chunks-uncounted ys ∙ items_chunks s named types.in_range signatures hs 0 [] [] os tt h.listed in
+    sym (chunks-without_counts xs) ∙ ap (map (own_chunk false)) e ∙ chunks-without_counts ys ∙ items_chunks s named types.in_range signatures hs 0 [] [] os tt h.listed in
     let f : Nodes = tree code in
     let w = printed_nodes_write o blank s.form f (nodes_row s.form xs printed code is) s.nesting in
-    ap (λ g. g >>= λ k. unfolded (cut k) >>= read_operators c) (writes_forest o blank (node_pieces o false s.form true s.nesting f) w)
-    ∙ ap (λ g. unfolded g >>= read_operators c) (noted-cut w.noted ∙ w.without)
+    ap (λ g. g >>= λ k. chunks_of_forest (without_annotations k) >>= read_operators c) (writes_forest o blank (node_pieces o false s.form true s.nesting f) w)
+    ∙ ap (λ g. chunks_of_forest g >>= read_operators c) (noted-without_annotations w.noted ∙ w.without)
     ∙ ap (λ cs. cs >>= read_operators c) (nodes_unfold s.form xs printed code is false (unasked xs) ∙ ap (λ cs. Some cs) chunks)
     ∙ expression_reads s c n types same apart os h

@@ -13,10 +13,10 @@ use Rattle.wasmprinter_spec.specs.Piece.{flag_byte}
 use Rattle.wasmprinter_spec.specs.Layout.Operators.{Form}
 use Rattle.wasmprinter_spec.specs.Layout.Folded.{head_hint}
 use Rattle.wasmprinter_spec.specs.Folding.Code.{Item, role}
-use Rattle.wasmprinter_spec.specs.Folding.Tree.{Head, Of, Then, Else, Nodes, Nil, Snoc}
-use Rattle.wasmprinter_spec.specs.Folding.Unfolding.{Told, Elsewhere, Within, unfolded_as, unfold_at, unfolded}
+use Rattle.wasmprinter_spec.specs.Folding.Tree.{Head, Of, ThenCase, ElseCase, Nodes, Nil, Snoc}
+use Rattle.wasmprinter_spec.specs.Folding.Unfolding.{Told, Elsewhere, Within, unfolding_by_role, unfold_at, unfolding_of}
 use Rattle.wasmprinter_spec.specs.Code as code
-use Rattle.wasmprinter_spec.specs.Code.{Chunk, chunk, word_chunk, Instruction, Folded, code_of, flattened, operands, branches, folded_as, before, branch, ThenHead, ElseHead, OperatorHead, head, with_group, with_hint, role_by, code}
+use Rattle.wasmprinter_spec.specs.Code.{Chunk, chunk, word_chunk, Instruction, Folded, code_of, chunks_of_instructions, operands, branches, folded_instruction, with_instruction, branch, ThenHead, ElseHead, OperatorHead, head, with_group, with_hint, role_by, code}
 use Rattle.wasmprinter_lexical.proofs.Grown.{onto-End, onto_assoc}
 use Rattle.wasmprinter_reading.proofs.Operators.Arguments.{arguments_front}
 use Rattle.wasmprinter_reading.proofs.Operators.Forms.{hint_items}
@@ -35,8 +35,8 @@ hint_at false h f = f
 -- what stands in a node, with what it holds
 abbrev pub head_items : Head → Forest → Forest
 head_items (Of x) f = Word (word x) (onto (arguments x) f)
-head_items (Then x) f = Word (codes "then") f
-head_items (Else x) f = Word (codes "else") f
+head_items (ThenCase x) f = Word (codes "then") f
+head_items (ElseCase x) f = Word (codes "else") f
 
 -- each node is a group
 abbrev pub row_items : Bool → Nodes → Forest
@@ -66,9 +66,9 @@ operands-folds : (ns : List Fold) → operands (map as_folded ns) ≡ Some (chun
 operands-folds [] = refl
 operands-folds (n ∷ ns) = rw (operands-folds ns) refl
 
-pub flattened-folds : (ns : List Fold) → flattened (map as_folded ns) ≡ Some (chunks_in ns)
-flattened-folds [] = refl
-flattened-folds (n ∷ ns) = rw (flattened-folds ns) refl
+pub chunks_of_instructions-folds : (ns : List Fold) → chunks_of_instructions (map as_folded ns) ≡ Some (chunks_in ns)
+chunks_of_instructions-folds [] = refl
+chunks_of_instructions-folds (n ∷ ns) = rw (chunks_of_instructions-folds ns) refl
 
 branches-folds : (ns : List Fold) (is : List Instruction) (a b : List Chunk) → branches is ≡ Some (a, b) →
     branches (map as_folded ns ++ is) ≡ Some (chunks_in ns ++ a, b)
@@ -80,32 +80,32 @@ branches-folds (n ∷ ns) is a b e =
 
 -- of an operator
 operator_reads : (form : Form) (x : Item) (h : IsPrinted form x) (held g : Forest) (is js : List Instruction) (i : Instruction) → is_folded (role x) ≡ true →
-    code held ≡ Some (code_of End is) → folded_as (role x) (rows_of (word x)) (code_of (arguments x) is) ≡ Some i → code g ≡ Some (code_of End js) →
+    code held ≡ Some (code_of End is) → folded_instruction (role x) (rows_of (word x)) (code_of (arguments x) is) ≡ Some i → code g ≡ Some (code_of End js) →
     code (Group (Word (word x) (onto (arguments x) held)) g) ≡ Some (code_of End (i ∷ js))
 operator_reads form x h held g is js i p e f eg =
     let o : Operator = x.operator.value in
     let rs : HasRows o = rows_for o h.listed in
     let a : Forest = arguments x in
     let item : Forest → Forest = Group (Word (word x) (onto a held)) in
-    let own : folded_as rs.first.role (rs.first ∷ rs.others) (code_of a is) ≡ Some i =
-    ap (λ r. folded_as r (rs.first ∷ rs.others) (code_of a is)) rs.role ∙ ap (λ l. folded_as (role x) l (code_of a is)) (sym rs.are) ∙ f in
+    let own : folded_instruction rs.first.role (rs.first ∷ rs.others) (code_of a is) ≡ Some i =
+    ap (λ r. folded_instruction r (rs.first ∷ rs.others) (code_of a is)) rs.role ∙ ap (λ l. folded_instruction (role x) l (code_of a is)) (sym rs.are) ∙ f in
     ap (λ t. with_group t item (code (onto a held)) (code g)) (head-folded o h.listed p)
     ∙ ap (λ t. with_group (OperatorHead rs.first rs.others) item t (code g)) (arguments_front a h.are held is e)
-    ∙ ap (λ t. t >>= λ j. code g >>= before j) own
-    ∙ ap (λ t. t >>= before i) eg
+    ∙ ap (λ t. t >>= λ j. code g >>= with_instruction j) own
+    ∙ ap (λ t. t >>= with_instruction i) eg
 
 -- of a case of an `if`
 branch_reads : (make : List Chunk → Instruction) (held g : Forest) (is js : List Instruction) (cs : List Chunk) →
-    code held ≡ Some (code_of End is) → flattened is ≡ Some cs → are_nested cs ≡ true → code g ≡ Some (code_of End js) →
+    code held ≡ Some (code_of End is) → chunks_of_instructions is ≡ Some cs → are_nested cs ≡ true → code g ≡ Some (code_of End js) →
     branch make (code held) (code g) ≡ Some (code_of End (make cs ∷ js))
 branch_reads make held g is js cs e f n eg = rw (e, f, n, eg) refl
 
-then_reads : (held g : Forest) (is js : List Instruction) (cs : List Chunk) → code held ≡ Some (code_of End is) → flattened is ≡ Some cs → are_nested cs ≡ true →
+then_reads : (held g : Forest) (is js : List Instruction) (cs : List Chunk) → code held ≡ Some (code_of End is) → chunks_of_instructions is ≡ Some cs → are_nested cs ≡ true →
     code g ≡ Some (code_of End js) → code (Group (Word (codes "then") held) g) ≡ Some (code_of End (code.Then cs ∷ js))
 unfolding head
 then_reads held g is js cs e f n eg = branch_reads code.Then held g is js cs e f n eg
 
-else_reads : (held g : Forest) (is js : List Instruction) (cs : List Chunk) → code held ≡ Some (code_of End is) → flattened is ≡ Some cs → are_nested cs ≡ true →
+else_reads : (held g : Forest) (is js : List Instruction) (cs : List Chunk) → code held ≡ Some (code_of End is) → chunks_of_instructions is ≡ Some cs → are_nested cs ≡ true →
     code g ≡ Some (code_of End js) → code (Group (Word (codes "else") held) g) ≡ Some (code_of End (code.Else cs ∷ js))
 unfolding head
 else_reads held g is js cs e f n eg = branch_reads code.Else held g is js cs e f n eg
@@ -115,7 +115,7 @@ else_reads held g is js cs e f n eg = branch_reads code.Else held g is js cs e f
 -- They are folded operators, which are those that the nodes say.
 pub record Reads (hints : Bool) (f : Nodes) : Type 0 where
   pub folds : List Fold
-  pub say : chunks_in folds ≡ told_chunks hints (unfolded f)
+  pub say : chunks_in folds ≡ told_chunks hints (unfolding_of f)
   pub reads : (g : Forest) (is : List Instruction) → code g ≡ Some (code_of End is) → code (onto (row_items hints f) g) ≡ Some (code_of End (map as_folded folds ++ is))
 
 alone_reads : (hints : Bool) (f : Nodes) (r : Reads hints f) → code (row_items hints f) ≡ Some (code_of End (map as_folded r.folds))
@@ -140,8 +140,8 @@ same_roles : (hints : Bool) (ts : List Told) → map (λ c. role_by c.rows) (tol
 same_roles hints [] = refl
 same_roles hints (t ∷ ts) = ap₂ (λ rs l. role_by rs ∷ l) (same_rows hints t) (same_roles hints ts)
 
-nested_at : (hints : Bool) (f : Nodes) → IsNested f → are_nested (told_chunks hints (unfolded f)) ≡ true
-nested_at hints f h = ap (λ rs. stops advance at_start rs Ends) (same_roles hints (unfolded f)) ∙ h
+nested_at : (hints : Bool) (f : Nodes) → IsNested f → are_nested (told_chunks hints (unfolding_of f)) ≡ true
+nested_at hints f h = ap (λ rs. stops advance at_start rs Ends) (same_roles hints (unfolding_of f)) ∙ h
 
 -- both cases of an `if`, and its `end`
 told_cases : (hints : Bool) (g h o : List Told) (x y : Item) → own_chunk hints y ≡ word_chunk (codes "else") →
@@ -156,7 +156,7 @@ told_cases hints g h o x y e =
 
 -- what an operator's own node says
 abbrev own_told : Item → Nodes → List Told
-own_told x held = unfolded_as (role x) x (unfold_at Elsewhere held) (unfold_at (Within x) held)
+own_told x held = unfolding_by_role (role x) x (unfold_at Elsewhere held) (unfold_at (Within x) held)
 
 hint_none : (hints : Bool) (f : Forest) → hint_at hints None f ≡ f
 hint_none true f = refl
@@ -188,7 +188,7 @@ module _ (hints : Bool) where
         say =
             chunks_in-append rb.folds (k ∷ [])
             ∙ ap₂ (λ a c. a ++ c) rb.say (ap (λ (l : List Chunk). n.front ++ k.own ∷ l) (append-nil n.behind) ∙ ap (λ c. n.front ++ c ∷ n.behind) own ∙ says)
-            ∙ sym (told_append hints (unfolded b) (own_told x held));
+            ∙ sym (told_append hints (unfolding_of b) (own_told x held));
         reads = λ g is e.
             let inner : Forest = head_items (Of x) (row_items hints held) in
             let mine : Forest = hint_at hints x.hint (Group inner End) in
@@ -206,8 +206,8 @@ module _ (hints : Bool) where
       let n : Fold = record { front = chunks_in k.folds; own = item_chunk x; behind = [] } in
       one_more b x r held (row_reads form b rb a.1) n refl
       (ap (λ (l : List Chunk). l ++ own_chunk hints x ∷ []) k.say
-      ∙ sym (told_append hints (unfolded held) (Some x ∷ []))
-      ∙ ap (λ t. told_chunks hints (unfolded_as t x (unfold_at Elsewhere held) (unfold_at (Within x) held))) (sym p))
+      ∙ sym (told_append hints (unfolding_of held) (Some x ∷ []))
+      ∙ ap (λ t. told_chunks hints (unfolding_by_role t x (unfold_at Elsewhere held) (unfold_at (Within x) held))) (sym p))
       (λ g is e. operator_reads form x h (row_items hints held) g (map as_folded k.folds) is (as_folded n) (ap is_folded p) (alone_reads hints held k) (rw (p, operands-folds k.folds) refl) e)
   row_reads form f (a_block b x r held p h rb rh nested) a =
       let k : Reads hints held = row_reads form held rh a.2 in
@@ -216,10 +216,10 @@ module _ (hints : Bool) where
       let same : are_nested (chunks_in k.folds) ≡ true = ap are_nested k.say ∙ nested_at hints held nested in
       one_more b x r held (row_reads form b rb a.1) n refl
       (ap (λ (l : List Chunk). own_chunk hints x ∷ (l ++ end ∷ [])) k.say
-      ∙ ap (λ (l : List Chunk). own_chunk hints x ∷ l) (sym (told_append hints (unfolded held) (None ∷ [])))
-      ∙ ap (λ t. told_chunks hints (unfolded_as t x (unfold_at Elsewhere held) (unfold_at (Within x) held))) (sym p))
+      ∙ ap (λ (l : List Chunk). own_chunk hints x ∷ l) (sym (told_append hints (unfolding_of held) (None ∷ [])))
+      ∙ ap (λ t. told_chunks hints (unfolding_by_role t x (unfold_at Elsewhere held) (unfold_at (Within x) held))) (sym p))
       (λ g is e. operator_reads form x h (row_items hints held) g (map as_folded k.folds) is (as_folded n) (ap is_folded p) (alone_reads hints held k)
-      (rw (p, flattened-folds k.folds, same) refl) e)
+      (rw (p, chunks_of_instructions-folds k.folds, same) refl) e)
   row_reads form f (an_if b x r given q held p h rb rg rh nested) a =
       let j : Reads hints given = row_reads form given rg a.2.1 in
       let k : Reads hints held = row_reads form held rh a.2.2 in
@@ -227,11 +227,11 @@ module _ (hints : Bool) where
       let yes : List Chunk = chunks_in k.folds in
       let n : Fold = record { front = chunks_in j.folds ++ []; own = item_chunk x; behind = yes ++ end ∷ [] } in
       let same : are_nested yes ≡ true = ap are_nested k.say ∙ nested_at hints held nested in
-      let node : Nodes = Snoc given (Then x) q held in
+      let node : Nodes = Snoc given (ThenCase x) q held in
       let cases : code (row_items hints node) ≡ Some (code_of End (map as_folded j.folds ++ code.Then yes ∷ [])) =
       ap (λ u. code (onto (row_items hints given) u)) (hint_none hints (Group (Word (codes "then") (row_items hints held)) End))
       ∙ j.reads (Group (Word (codes "then") (row_items hints held)) End) (code.Then yes ∷ [])
-      (then_reads (row_items hints held) End (map as_folded k.folds) [] yes (alone_reads hints held k) (flattened-folds k.folds) same refl) in
+      (then_reads (row_items hints held) End (map as_folded k.folds) [] yes (alone_reads hints held k) (chunks_of_instructions-folds k.folds) same refl) in
       one_more b x r node (row_reads form b rb a.1) n refl
       (simp (j.say, k.say, append-nil, append_assoc, told_append hints, p))
       (λ g is e. operator_reads form x h (row_items hints node) g (map as_folded j.folds ++ code.Then yes ∷ []) is (as_folded n) (ap is_folded p) cases
@@ -247,7 +247,7 @@ module _ (hints : Bool) where
       let n : Fold = record { front = chunks_in j.folds ++ []; own = item_chunk x; behind = (yes ++ turn ∷ otherwise) ++ end ∷ [] } in
       let same : are_nested yes ≡ true = ap are_nested k.say ∙ nested_at hints held nested in
       let same_other : are_nested otherwise ≡ true = ap are_nested l.say ∙ nested_at hints other nested_other in
-      let node : Nodes = Snoc (Snoc given (Then x) q held) (Else y) t other in
+      let node : Nodes = Snoc (Snoc given (ThenCase x) q held) (ElseCase y) t other in
       let both : List Instruction = code.Then yes ∷ code.Else otherwise ∷ [] in
       let first : Forest = Group (Word (codes "then") (row_items hints held)) End in
       let second : Forest = Group (Word (codes "else") (row_items hints other)) End in
@@ -255,15 +255,15 @@ module _ (hints : Bool) where
       ap₂ (λ u v. code (onto (onto (row_items hints given) u) v)) (hint_none hints first) (hint_none hints second)
       ∙ ap code (onto_assoc (row_items hints given) first second)
       ∙ j.reads (onto first second) both
-      (then_reads (row_items hints held) second (map as_folded k.folds) (code.Else otherwise ∷ []) yes (alone_reads hints held k) (flattened-folds k.folds) same
-      (else_reads (row_items hints other) End (map as_folded l.folds) [] otherwise (alone_reads hints other l) (flattened-folds l.folds) same_other refl)) in
+      (then_reads (row_items hints held) second (map as_folded k.folds) (code.Else otherwise ∷ []) yes (alone_reads hints held k) (chunks_of_instructions-folds k.folds) same
+      (else_reads (row_items hints other) End (map as_folded l.folds) [] otherwise (alone_reads hints other l) (chunks_of_instructions-folds l.folds) same_other refl)) in
       one_more b x r node (row_reads form b rb a.1) n refl
-      (rw (append-nil (chunks_in j.folds), j.say, k.say, l.say, p) (sym (told_cases hints (unfolded given) (unfolded held) (unfolded other) x y (turn_chunk hints y hy a.2.0 py))))
+      (rw (append-nil (chunks_in j.folds), j.say, k.say, l.say, p) (sym (told_cases hints (unfolding_of given) (unfolding_of held) (unfolding_of other) x y (turn_chunk hints y hy a.2.0 py))))
       (λ g is e. operator_reads form x h (row_items hints node) g (map as_folded j.folds ++ both) is (as_folded n) (ap is_folded p) cases
       (rw (p, branches-folds j.folds both [] (yes ++ turn ∷ otherwise) refl) refl) e)
 
   -- nodes read as the operators that they say
-  pub row_unfolds : (form : Form) (f : Nodes) → IsRow form f → AllHeads (IsHintless hints) f → code.unfolded (row_items hints f) ≡ Some (told_chunks hints (unfolded f))
+  pub row_unfolds : (form : Form) (f : Nodes) → IsRow form f → AllHeads (IsHintless hints) f → code.chunks_of_forest (row_items hints f) ≡ Some (told_chunks hints (unfolding_of f))
   row_unfolds form f h a =
       let r : Reads hints f = row_reads form f h a in
-      rw (alone_reads hints f r, flattened-folds r.folds, r.say) refl
+      rw (alone_reads hints f r, chunks_of_instructions-folds r.folds, r.say) refl

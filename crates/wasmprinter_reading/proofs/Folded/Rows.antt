@@ -7,12 +7,12 @@ use Rattle.wasmprinter_spec.specs.Stepped.{stops}
 use Rattle.wasmprinter_spec.specs.Nesting.{advance, at_start}
 use Rattle.wasmprinter_spec.specs.NestingSteps.{stops_at_end}
 use Rattle.wasmprinter_spec.specs.Layout.Operators.{Form}
-use Rattle.wasmprinter_spec.specs.Folding.Code.{Item, Code, Done, Plain, Block, If, IfElse, flat, role, IsFit}
-use Rattle.wasmprinter_spec.specs.Folding.Tree.{Of, Then, Else, Nodes, Nil, Snoc, joined, front, last, Operands, Fit, Passed, Short, operands, with_operands, folded, tree_behind, tree}
-use Rattle.wasmprinter_spec.specs.Folding.Unfolding.{unfolded}
+use Rattle.wasmprinter_spec.specs.Folding.Code.{Item, NestedCode, Done, Plain, Block, If, IfElse, flat, role, IsFit}
+use Rattle.wasmprinter_spec.specs.Folding.Tree.{Of, ThenCase, ElseCase, Nodes, Nil, Snoc, row_of_both, front, last, Operands, Fit, Passed, Short, operand_search, with_operands, with_operator, tree_behind, tree}
+use Rattle.wasmprinter_spec.specs.Folding.Unfolding.{unfolding_of}
 use Rattle.wasmprinter_spec.specs.Code.{Chunk, role_by}
-use Rattle.wasmprinter_spec.proofs.Folding.{joined-front-last, AreLast, AreLast-operands, unfolded-tree}
-use Rattle.wasmprinter_spec.proofs.FoldingCode.{code_of-flat, code_of-nests}
+use Rattle.wasmprinter_spec.proofs.Folding.{row_of_both-front-last, AreLast, AreLast-operand_search, unfolding_of-tree}
+use Rattle.wasmprinter_spec.proofs.FoldingCode.{nested_code_of-flat, nested_code_of-nests}
 use Rattle.wasmprinter_reading.proofs.Each.{all_parts}
 use Rattle.wasmprinter_reading.proofs.Folded.Items.{IsPrinted, told_chunks, told_items, unasked, told_roles}
 
@@ -21,7 +21,7 @@ are_nested cs = stops advance at_start (map (λ c. role_by c.rows) cs) Ends
 
 -- what a block or a case of an `if` holds is well nested by itself
 abbrev pub IsNested : Nodes → Type 0
-IsNested f = are_nested (told_chunks false (unfolded f)) ≡ true
+IsNested f = are_nested (told_chunks false (unfolding_of f)) ≡ true
 
 -- Nodes in a row, by the last of them: the node of a plain operator with its operands, of a block with what it holds, or of an `if` with
 -- the nodes that are given to it and with its cases.
@@ -31,15 +31,15 @@ pub data IsRow (form : Form) : Nodes → Type 0 where
   a_block : (b : Nodes) (x : Item) (r : ℕ) (held : Nodes) → role x ≡ Opens → IsPrinted form x → IsRow form b → IsRow form held → IsNested held →
       IsRow form (Snoc b (Of x) r held)
   an_if : (b : Nodes) (x : Item) (r : ℕ) (given : Nodes) (q : ℕ) (held : Nodes) → role x ≡ OpensIf → IsPrinted form x → IsRow form b →
-      IsRow form given → IsRow form held → IsNested held → IsRow form (Snoc b (Of x) r (Snoc given (Then x) q held))
+      IsRow form given → IsRow form held → IsNested held → IsRow form (Snoc b (Of x) r (Snoc given (ThenCase x) q held))
   an_if_else : (b : Nodes) (x : Item) (r : ℕ) (given : Nodes) (q : ℕ) (held : Nodes) (y : Item) (p : ℕ) (other : Nodes) → role x ≡ OpensIf → IsPrinted form x → IsRow form b →
       IsRow form given → IsRow form held → IsNested held → role y ≡ Turns → IsPrinted form y → IsRow form other → IsNested other →
-      IsRow form (Snoc b (Of x) r (Snoc (Snoc given (Then x) q held) (Else y) p other))
+      IsRow form (Snoc b (Of x) r (Snoc (Snoc given (ThenCase x) q held) (ElseCase y) p other))
 
 -- ---- rows in parts
 
 module _ (form : Form) where
-  parts : (a b : Nodes) → IsRow form (joined a b) → IsRow form a × IsRow form b
+  parts : (a b : Nodes) → IsRow form (row_of_both a b) → IsRow form a × IsRow form b
   parts a Nil h = (h, no_nodes)
   parts a (Snoc b h r held) (a_plain _ x _ _ e p rb rh) = let ps = parts a b rb in (ps.0, a_plain b x r held e p ps.1 rh)
   parts a (Snoc b h r held) (a_block _ x _ _ e p rb rh n) = let ps = parts a b rb in (ps.0, a_block b x r held e p ps.1 rh n)
@@ -48,7 +48,7 @@ module _ (form : Form) where
       let ps = parts a b rb in (ps.0, an_if_else b x r given q body y t other e p ps.1 rg rh n f py ro m)
 
   ends : (f : Nodes) → IsRow form f → IsRow form (front f) × IsRow form (last f)
-  ends f h = parts (front f) (last f) (subst (IsRow form) (sym (joined-front-last f)) h)
+  ends f h = parts (front f) (last f) (subst (IsRow form) (sym (row_of_both-front-last f)) h)
 
   -- ---- the tree of code
 
@@ -60,17 +60,17 @@ module _ (form : Form) where
   row-with_operands f x Short e p l h = a_plain f x _ Nil e p h no_nodes
 
   -- code is well nested
-  nested-code : (code : Code) → IsFit code → AllByRecursion (IsPrinted form) (flat code) → IsNested (tree code)
+  nested-code : (code : NestedCode) → IsFit code → AllByRecursion (IsPrinted form) (flat code) → IsNested (tree code)
   nested-code code h p =
-      ap (λ ts. are_nested (told_chunks false ts)) (unfolded-tree code h)
+      ap (λ ts. are_nested (told_chunks false ts)) (unfolding_of-tree code h)
       ∙ ap are_nested (told_items false form (flat code) p (unasked (flat code)))
       ∙ ap (λ rs. stops advance at_start rs Ends) (told_roles form (flat code) p)
-      ∙ stops_at_end (map role (flat code)) (code_of-nests (flat code) code (code_of-flat code h)).0
+      ∙ stops_at_end (map role (flat code)) (nested_code_of-nests (flat code) code (nested_code_of-flat code h)).0
 
-  row-tree_behind : (f : Nodes) (code : Code) → IsFit code → AllByRecursion (IsPrinted form) (flat code) → IsRow form f → IsRow form (tree_behind f code)
+  row-tree_behind : (f : Nodes) (code : NestedCode) → IsFit code → AllByRecursion (IsPrinted form) (flat code) → IsRow form f → IsRow form (tree_behind f code)
   row-tree_behind f Done h p r = r
   row-tree_behind f (Plain x rest) h p r =
-      row-tree_behind (folded f x) rest h.1 p.1 (row-with_operands f x (operands x.takes f) h.0 p.0 (AreLast-operands x.takes f) r)
+      row-tree_behind (with_operator f x) rest h.1 p.1 (row-with_operands f x (operand_search x.takes f) h.0 p.0 (AreLast-operand_search x.takes f) r)
   row-tree_behind f (Block x body end rest) h p r =
       let ps = all_parts (IsPrinted form) (flat body) (end ∷ flat rest) p.1 in
       row-tree_behind (Snoc f (Of x) x.gives (tree_behind Nil body)) rest h.3 ps.1.1
@@ -78,16 +78,16 @@ module _ (form : Form) where
   row-tree_behind f (If x body end rest) h p r =
       let ps = all_parts (IsPrinted form) (flat body) (end ∷ flat rest) p.1 in
       let es = ends f r in
-      row-tree_behind (Snoc (front f) (Of x) x.gives (Snoc (last f) (Then x) 0 (tree_behind Nil body))) rest h.3 ps.1.1
+      row-tree_behind (Snoc (front f) (Of x) x.gives (Snoc (last f) (ThenCase x) 0 (tree_behind Nil body))) rest h.3 ps.1.1
       (an_if (front f) x x.gives (last f) 0 (tree_behind Nil body) h.0 p.0 es.0 es.1 (row-tree_behind Nil body h.1 ps.0 no_nodes) (nested-code body h.1 ps.0))
   row-tree_behind f (IfElse x body turn other end rest) h p r =
       let ps = all_parts (IsPrinted form) (flat body) (turn ∷ (flat other ++ end ∷ flat rest)) p.1 in
       let qs = all_parts (IsPrinted form) (flat other) (end ∷ flat rest) ps.1.1 in
       let es = ends f r in
       row-tree_behind
-      (Snoc (front f) (Of x) x.gives (Snoc (Snoc (last f) (Then x) 0 (tree_behind Nil body)) (Else turn) 0 (tree_behind Nil other))) rest h.5 qs.1.1
+      (Snoc (front f) (Of x) x.gives (Snoc (Snoc (last f) (ThenCase x) 0 (tree_behind Nil body)) (ElseCase turn) 0 (tree_behind Nil other))) rest h.5 qs.1.1
       (an_if_else (front f) x x.gives (last f) 0 (tree_behind Nil body) turn 0 (tree_behind Nil other) h.0 p.0 es.0 es.1
       (row-tree_behind Nil body h.1 ps.0 no_nodes) (nested-code body h.1 ps.0) h.2 ps.1.0 (row-tree_behind Nil other h.3 qs.0 no_nodes) (nested-code other h.3 qs.0))
 
-  pub row-tree : (code : Code) → IsFit code → AllByRecursion (IsPrinted form) (flat code) → IsRow form (tree code)
+  pub row-tree : (code : NestedCode) → IsFit code → AllByRecursion (IsPrinted form) (flat code) → IsRow form (tree code)
   row-tree code h p = row-tree_behind Nil code h p no_nodes

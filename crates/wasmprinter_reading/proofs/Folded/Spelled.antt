@@ -8,7 +8,7 @@ use Rattle.wasmprinter_spec.specs.Piece.{Piece, OpenPlain, all_calls, all_tokens
 use Rattle.wasmprinter_spec.specs.Layout.Operators.{Form}
 use Rattle.wasmprinter_spec.specs.Layout.Folded.{head_text}
 use Rattle.wasmprinter_spec.specs.Folding.Code.{Item}
-use Rattle.wasmprinter_spec.specs.Folding.Tree.{Of, Then, Else, Nodes}
+use Rattle.wasmprinter_spec.specs.Folding.Tree.{Of, ThenCase, ElseCase, Nodes}
 use Rattle.wasmprinter_lexical.proofs.Runs.{is_word}
 use Rattle.wasmprinter_lexical.proofs.Pieces.{all_text, text_of-all_calls}
 use Rattle.wasmprinter_lexical.proofs.Respelled.{Respelled, all_lexed, pieces_lexed, first_spelled}
@@ -51,10 +51,10 @@ module _ (o : Options) (blank : IsBlank o.indent) (form : Form) where
     tokens = append-nil (tokens (40 ∷ head_text o (Of x))) ∙ operator_tokens x p;
   })
 
-  then_spelled : (x : Item) → HeadSpelled o (Then x)
+  then_spelled : (x : Item) → HeadSpelled o (ThenCase x)
   then_spelled x = record { text = λ q. refl; tokens = refl }
 
-  else_spelled : (x : Item) → HeadSpelled o (Else x)
+  else_spelled : (x : Item) → HeadSpelled o (ElseCase x)
   else_spelled x = record { text = λ q. refl; tokens = refl }
 
   pub row_spelled : (f : Nodes) → IsRow form f → AreSpelled o f

@@ -9,7 +9,7 @@ use Rattle.wasmprinter_spec.specs.Options.{Options, IsBlank}
 use Rattle.wasmprinter_spec.specs.Piece.{Piece, Word, OpenPlain, Shut, Ending, PlainEnding, HintNote, text}
 use Rattle.wasmprinter_spec.specs.Layout.Operators.{Form, before_word}
 use Rattle.wasmprinter_spec.specs.Layout.Folded.{head_place, head_text, head_hint, has_line_comment, comment_end, node_hint, node_pieces}
-use Rattle.wasmprinter_spec.specs.Folding.Tree.{Head, Of, Then, Else, Nodes, Nil, Snoc, is_nil}
+use Rattle.wasmprinter_spec.specs.Folding.Tree.{Head, Of, ThenCase, ElseCase, Nodes, Nil, Snoc, is_nil}
 use Rattle.wasmprinter_lexical.proofs.Pieces.{Edge, Free, Bound, Opened, Ended, leaves, may_follow, pieces_follow, all_text}
 use Rattle.wasmprinter_lexical.proofs.Respelled.{Respelled, same_spelled, equal_spelled, both_spelled, then_spelled}
 use Rattle.wasmprinter_lexical.proofs.Writes.{pieces_tokens}
@@ -23,8 +23,8 @@ opened ps = OpenPlain [] ∷ ps
 
 abbrev pub head_pieces : Head → List Piece
 head_pieces (Of x) = x.pieces
-head_pieces (Then x) = Word (codes "then") ∷ []
-head_pieces (Else x) = Word (codes "else") ∷ []
+head_pieces (ThenCase x) = Word (codes "then") ∷ []
+head_pieces (ElseCase x) = Word (codes "else") ∷ []
 
 abbrev pub whole_hint : Form → Bool → ℕ → ℕ → Option (Placed Hint) → List Piece
 whole_hint form first place nesting None = []

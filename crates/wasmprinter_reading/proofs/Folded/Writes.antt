@@ -14,7 +14,7 @@ use Rattle.wasmprinter_spec.specs.Piece.{Piece, Break, OpenPlain, Shut, HintNote
 use Rattle.wasmprinter_spec.specs.Layout.Operators.{Form, OverLines, InLine, before_word}
 use Rattle.wasmprinter_spec.specs.Layout.Folded.{head_place, head_text, head_hint, has_line_comment, comment_end}
 use Rattle.wasmprinter_spec.specs.Folding.Code.{Item}
-use Rattle.wasmprinter_spec.specs.Folding.Tree.{Head, Of, Then, Else, Nodes, Nil, Snoc, is_nil}
+use Rattle.wasmprinter_spec.specs.Folding.Tree.{Head, Of, ThenCase, ElseCase, Nodes, Nil, Snoc, is_nil}
 use Rattle.wasmprinter_lexical.proofs.Grown.{onto-End}
 use Rattle.wasmprinter_lexical.proofs.Noted.{no_items, a_word, a_group}
 use Rattle.wasmprinter_lexical.proofs.Runs.{is_word}
@@ -109,11 +109,11 @@ module _ (o : Options) (form : Form) where
       (group_by w (rest x) (head_text o (Of x)) x.operator.place nesting held is
       (λ n. no_comment_behind (piece.text o (piece.Word w)) (all_text o (rest x)) (ap has_line_comment (sym same) ∙ n)) p.writes k)
 
-  then_group : (x : Item) (nesting : ℕ) (held : Nodes) → RowWrites false (nesting + 1) held → HeadWrites (Then x) nesting held
+  then_group : (x : Item) (nesting : ℕ) (held : Nodes) → RowWrites false (nesting + 1) held → HeadWrites (ThenCase x) nesting held
   unfolding class
   then_group x nesting held k = group_by (codes "then") [] (codes "then") x.operator.place nesting held refl (λ n. refl) (may_end form nothing_writes) k
 
-  else_group : (x : Item) (nesting : ℕ) (held : Nodes) → RowWrites false (nesting + 1) held → HeadWrites (Else x) nesting held
+  else_group : (x : Item) (nesting : ℕ) (held : Nodes) → RowWrites false (nesting + 1) held → HeadWrites (ElseCase x) nesting held
   unfolding class
   else_group x nesting held k = group_by (codes "else") [] (codes "else") x.operator.place nesting held refl (λ n. refl) (may_end form nothing_writes) k
 
@@ -155,17 +155,17 @@ module _ (o : Options) (form : Form) where
   row_writes f (a_block b x r held e p rb rh n) first nesting =
       one_more b (Of x) r held first nesting (row_writes b rb first nesting) (operator_group x p nesting held (row_writes held rh false (nesting + 1)))
   row_writes f (an_if b x r given q held e p rb rg rh n) first nesting =
-      let node : Nodes = Snoc given (Then x) q held in
+      let node : Nodes = Snoc given (ThenCase x) q held in
       let cases : RowWrites false (nesting + 1) node =
-      one_more given (Then x) q held false (nesting + 1) (row_writes given rg false (nesting + 1)) (then_group x (nesting + 1) held (row_writes held rh false (nesting + 1 + 1))) in
+      one_more given (ThenCase x) q held false (nesting + 1) (row_writes given rg false (nesting + 1)) (then_group x (nesting + 1) held (row_writes held rh false (nesting + 1 + 1))) in
       one_more b (Of x) r node first nesting (row_writes b rb first nesting) (operator_group x p nesting node cases)
   row_writes f (an_if_else b x r given q held y t other e p rb rg rh n i py ro m) first nesting =
-      let first_case : Nodes = Snoc given (Then x) q held in
-      let node : Nodes = Snoc first_case (Else y) t other in
+      let first_case : Nodes = Snoc given (ThenCase x) q held in
+      let node : Nodes = Snoc first_case (ElseCase y) t other in
       let one : RowWrites false (nesting + 1) first_case =
-      one_more given (Then x) q held false (nesting + 1) (row_writes given rg false (nesting + 1)) (then_group x (nesting + 1) held (row_writes held rh false (nesting + 1 + 1))) in
+      one_more given (ThenCase x) q held false (nesting + 1) (row_writes given rg false (nesting + 1)) (then_group x (nesting + 1) held (row_writes held rh false (nesting + 1 + 1))) in
       let cases : RowWrites false (nesting + 1) node =
-      one_more first_case (Else y) t other false (nesting + 1) one (else_group y (nesting + 1) other (row_writes other ro false (nesting + 1 + 1))) in
+      one_more first_case (ElseCase y) t other false (nesting + 1) one (else_group y (nesting + 1) other (row_writes other ro false (nesting + 1 + 1))) in
       one_more b (Of x) r node first nesting (row_writes b rb first nesting) (operator_group x p nesting node cases)
 
   -- nodes write their groups

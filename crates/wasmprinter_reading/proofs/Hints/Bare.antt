@@ -8,7 +8,7 @@ use Rattle.wasmprinter_spec.specs.Table.{rows_of}
 use Rattle.wasmprinter_spec.specs.Stepped.{stops}
 use Rattle.wasmprinter_spec.specs.Nesting.{advance, at_start}
 use Rattle.wasmprinter_spec.specs.Piece.{flag_byte}
-use Rattle.wasmprinter_spec.specs.Code.{Chunk, chunk, Instruction, Flat, Folded, Then, Else, Code, code_of, with_front, only_instructions, with_word, word_chunk, flattened, operands, role_by, if_nested, branches, folded_as, Head, PartHead, ThenHead, ElseHead, OperatorHead, head, before, branch, with_group, is_hint, hint_first, with_hint, with_note, code, unfolded}
+use Rattle.wasmprinter_spec.specs.Code.{Chunk, chunk, Instruction, Flat, Folded, Then, Else, Code, code_of, with_front, only_instructions, with_word, word_chunk, chunks_of_instructions, operands, role_by, if_nested, branches, folded_instruction, Head, PartHead, ThenHead, ElseHead, OperatorHead, head, with_instruction, branch, with_group, is_hint, hint_first, with_hint, with_note, code, chunks_of_forest}
 use Rattle.wasmprinter_spec.specs.HintsOfModule.{operator_hint}
 use Rattle.wasmprinter_spec.specs.Text.Items.{each}
 use Rattle.wasmprinter_spec.specs.Text.Hints.{hint_flag, chunk_hints}
@@ -77,11 +77,11 @@ flat_before : (c : Chunk) (o : Option (List Chunk)) → option_map (λ cs. bare_
 flat_before c None = refl
 flat_before c (Some cs) = refl
 
-flattened_bare : (is : List Instruction) → flattened (bare_instructions is) ≡ option_map bare_chunks (flattened is)
+flattened_bare : (is : List Instruction) → chunks_of_instructions (bare_instructions is) ≡ option_map bare_chunks (chunks_of_instructions is)
 flattened_bare [] = refl
-flattened_bare (Flat c ∷ is) = ap (option_map (λ cs. bare_chunk c ∷ cs)) (flattened_bare is) ∙ flat_before c (flattened is)
+flattened_bare (Flat c ∷ is) = ap (option_map (λ cs. bare_chunk c ∷ cs)) (flattened_bare is) ∙ flat_before c (chunks_of_instructions is)
 flattened_bare (Folded a own b ∷ is) =
-    ap (option_map (λ cs. bare_chunks a ++ (bare_chunk own ∷ (bare_chunks b ++ cs)))) (flattened_bare is) ∙ folded_before a b own (flattened is)
+    ap (option_map (λ cs. bare_chunks a ++ (bare_chunk own ∷ (bare_chunks b ++ cs)))) (flattened_bare is) ∙ folded_before a b own (chunks_of_instructions is)
 flattened_bare (Then cs ∷ is) = refl
 flattened_bare (Else cs ∷ is) = refl
 
@@ -128,7 +128,7 @@ branches_bare (Then t ∷ Folded a own b ∷ is) = refl
 branches_bare (Then t ∷ Then c ∷ is) = refl
 branches_bare (Else e ∷ is) = refl
 
-before_bare : (i : Instruction) (c : Code) → before (bare_instruction i) (bare_code c) ≡ bare (before i c)
+before_bare : (i : Instruction) (c : Code) → with_instruction (bare_instruction i) (bare_code c) ≡ bare (with_instruction i c)
 before_bare i c = ap (option_map (λ is. code_of End (bare_instruction i ∷ is))) (only_bare c.front c.instructions) ∙ by (only_instructions c)
   where
     by : (o : Option (List Instruction)) → option_map (λ is. code_of End (bare_instruction i ∷ is)) (option_map bare_instructions o) ≡ bare (option_map (λ is. code_of End (i ∷ is)) o)
@@ -150,14 +150,14 @@ word_bare (r ∷ rs) w (Some c) = refl
 
 -- ---- folded operators
 
-held_bare : (is : List Instruction) → (flattened (bare_instructions is) >>= if_nested) ≡ option_map bare_chunks (flattened is >>= if_nested)
-held_bare is = ap (λ o. o >>= if_nested) (flattened_bare is) ∙ by (flattened is)
+held_bare : (is : List Instruction) → (chunks_of_instructions (bare_instructions is) >>= if_nested) ≡ option_map bare_chunks (chunks_of_instructions is >>= if_nested)
+held_bare is = ap (λ o. o >>= if_nested) (flattened_bare is) ∙ by (chunks_of_instructions is)
   where
     by : (o : Option (List Chunk)) → (option_map bare_chunks o >>= if_nested) ≡ option_map bare_chunks (o >>= if_nested)
     by None = refl
     by (Some cs) = nested_bare cs
 
-folded_bare : (r : Role) (rs : List Row) (c : Code) → folded_as r rs (bare_code c) ≡ option_map bare_instruction (folded_as r rs c)
+folded_bare : (r : Role) (rs : List Row) (c : Code) → folded_instruction r rs (bare_code c) ≡ option_map bare_instruction (folded_instruction r rs c)
 folded_bare Plain rs c = ap (option_map (λ cs. Folded cs (chunk rs (bare_items c.front)) [])) (operands_bare c.instructions) ∙ by (operands c.instructions)
   where
     by : (o : Option (List Chunk)) → option_map (λ cs. Folded cs (chunk rs (bare_items c.front)) []) (option_map bare_chunks o)
@@ -165,7 +165,7 @@ folded_bare Plain rs c = ap (option_map (λ cs. Folded cs (chunk rs (bare_items 
     by None = refl
     by (Some cs) = refl
 folded_bare Opens rs c =
-    ap (option_map (λ cs. Folded [] (chunk rs (bare_items c.front)) (cs ++ (word_chunk (codes "end") ∷ [])))) (held_bare c.instructions) ∙ by (flattened c.instructions >>= if_nested)
+    ap (option_map (λ cs. Folded [] (chunk rs (bare_items c.front)) (cs ++ (word_chunk (codes "end") ∷ [])))) (held_bare c.instructions) ∙ by (chunks_of_instructions c.instructions >>= if_nested)
   where
     by : (o : Option (List Chunk)) → option_map (λ cs. Folded [] (chunk rs (bare_items c.front)) (cs ++ (word_chunk (codes "end") ∷ []))) (option_map bare_chunks o)
         ≡ option_map bare_instruction (option_map (λ cs. Folded [] (chunk rs c.front) (cs ++ (word_chunk (codes "end") ∷ []))) o)
@@ -181,7 +181,7 @@ folded_bare OpensIf rs c =
     by (Some x) = ap (λ l. Some (Folded (bare_chunks x.0) (chunk rs (bare_items c.front)) l)) (sym (map-append bare_chunk x.1 (word_chunk (codes "end") ∷ [])))
 folded_bare _ rs c = refl
 
-then_before : (i : Instruction) (rest : Option Code) → bare (rest >>= before i) ≡ (bare rest >>= before (bare_instruction i))
+then_before : (i : Instruction) (rest : Option Code) → bare (rest >>= with_instruction i) ≡ (bare rest >>= with_instruction (bare_instruction i))
 then_before i None = refl
 then_before i (Some c) = sym (before_bare i c)
 
@@ -189,16 +189,16 @@ branch_bare : (make : List Chunk → Instruction) → ((cs : List Chunk) → bar
     bare (branch make inner rest) ≡ branch make (bare inner) (bare rest)
 branch_bare make h None rest = refl
 branch_bare make h (Some c) rest =
-    by (only_instructions c) ∙ sym (ap (λ o. o >>= flattened >>= if_nested >>= λ cs. bare rest >>= before (make cs)) (only_bare c.front c.instructions))
+    by (only_instructions c) ∙ sym (ap (λ o. o >>= chunks_of_instructions >>= if_nested >>= λ cs. bare rest >>= with_instruction (make cs)) (only_bare c.front c.instructions))
   where
-    made : (o : Option (List Chunk)) → bare (o >>= λ cs. rest >>= before (make cs)) ≡ (option_map bare_chunks o >>= λ cs. bare rest >>= before (make cs))
+    made : (o : Option (List Chunk)) → bare (o >>= λ cs. rest >>= with_instruction (make cs)) ≡ (option_map bare_chunks o >>= λ cs. bare rest >>= with_instruction (make cs))
     made None = refl
-    made (Some cs) = then_before (make cs) rest ∙ ap (λ i. bare rest >>= before i) (h cs)
+    made (Some cs) = then_before (make cs) rest ∙ ap (λ i. bare rest >>= with_instruction i) (h cs)
 
-    by : (o : Option (List Instruction)) → bare (o >>= flattened >>= if_nested >>= λ cs. rest >>= before (make cs))
-        ≡ (option_map bare_instructions o >>= flattened >>= if_nested >>= λ cs. bare rest >>= before (make cs))
+    by : (o : Option (List Instruction)) → bare (o >>= chunks_of_instructions >>= if_nested >>= λ cs. rest >>= with_instruction (make cs))
+        ≡ (option_map bare_instructions o >>= chunks_of_instructions >>= if_nested >>= λ cs. bare rest >>= with_instruction (make cs))
     by None = refl
-    by (Some is) = made (flattened is >>= if_nested) ∙ sym (ap (λ o. o >>= λ cs. bare rest >>= before (make cs)) (held_bare is))
+    by (Some is) = made (chunks_of_instructions is >>= if_nested) ∙ sym (ap (λ o. o >>= λ cs. bare rest >>= with_instruction (make cs)) (held_bare is))
 
 group_bare : (h : Head) (item : Forest → Forest) → ((f : Forest) → bare_items (item f) ≡ dull f) → (inner rest : Option Code) →
     bare (with_group h item inner rest) ≡ with_group h dull (bare inner) (bare rest)
@@ -207,9 +207,9 @@ group_bare ThenHead item e inner rest = branch_bare Then (λ cs. refl) inner res
 group_bare ElseHead item e inner rest = branch_bare Else (λ cs. refl) inner rest
 group_bare (OperatorHead r rs) item e None rest = refl
 group_bare (OperatorHead r rs) item e (Some c) rest =
-    by (folded_as r.role (r ∷ rs) c) ∙ sym (ap (λ o. o >>= λ i. bare rest >>= before i) (folded_bare r.role (r ∷ rs) c))
+    by (folded_instruction r.role (r ∷ rs) c) ∙ sym (ap (λ o. o >>= λ i. bare rest >>= with_instruction i) (folded_bare r.role (r ∷ rs) c))
   where
-    by : (o : Option Instruction) → bare (o >>= λ i. rest >>= before i) ≡ (option_map bare_instruction o >>= λ i. bare rest >>= before i)
+    by : (o : Option Instruction) → bare (o >>= λ i. rest >>= with_instruction i) ≡ (option_map bare_instruction o >>= λ i. bare rest >>= with_instruction i)
     by None = refl
     by (Some i) = then_before i rest
 
@@ -289,11 +289,11 @@ noted_code (a_note {id} {h} {i} {f} {g} m n) =
 
 -- ---- the hints of operators
 
-unfolded_bare : (c : Option Code) → option_map bare_chunks (c >>= only_instructions >>= flattened) ≡ (bare c >>= only_instructions >>= flattened)
+unfolded_bare : (c : Option Code) → option_map bare_chunks (c >>= only_instructions >>= chunks_of_instructions) ≡ (bare c >>= only_instructions >>= chunks_of_instructions)
 unfolded_bare None = refl
-unfolded_bare (Some c) = by (only_instructions c) ∙ sym (ap (λ o. o >>= flattened) (only_bare c.front c.instructions))
+unfolded_bare (Some c) = by (only_instructions c) ∙ sym (ap (λ o. o >>= chunks_of_instructions) (only_bare c.front c.instructions))
   where
-    by : (o : Option (List Instruction)) → option_map bare_chunks (o >>= flattened) ≡ (option_map bare_instructions o >>= flattened)
+    by : (o : Option (List Instruction)) → option_map bare_chunks (o >>= chunks_of_instructions) ≡ (option_map bare_instructions o >>= chunks_of_instructions)
     by None = refl
     by (Some is) = sym (flattened_bare is)
 
@@ -312,11 +312,11 @@ hints_bare f n (c ∷ cs) =
     ap₂ (λ o p. o >>= λ flags. p >>= λ rest. Some (map (λ taken. operator_hint f n taken) flags ++ rest)) (each_bare c.hints) (hints_bare f (n + 1) cs)
 
 -- Items have the hints of the same items without annotations behind identifiers.
-pub noted_hints : {z g : Forest} (f n : ℕ) → Noted z g → (unfolded z >>= chunk_hints f n) ≡ (unfolded g >>= chunk_hints f n)
+pub noted_hints : {z g : Forest} (f n : ℕ) → Noted z g → (chunks_of_forest z >>= chunk_hints f n) ≡ (chunks_of_forest g >>= chunk_hints f n)
 noted_hints {z} {g} f n m =
-    by (unfolded z)
-    ∙ ap (λ o. o >>= chunk_hints f n) (unfolded_bare (code z) ∙ ap (λ c. c >>= only_instructions >>= flattened) (noted_code m) ∙ sym (unfolded_bare (code g)))
-    ∙ sym (by (unfolded g))
+    by (chunks_of_forest z)
+    ∙ ap (λ o. o >>= chunk_hints f n) (unfolded_bare (code z) ∙ ap (λ c. c >>= only_instructions >>= chunks_of_instructions) (noted_code m) ∙ sym (unfolded_bare (code g)))
+    ∙ sym (by (chunks_of_forest g))
   where
     by : (o : Option (List Chunk)) → (o >>= chunk_hints f n) ≡ (option_map bare_chunks o >>= chunk_hints f n)
     by None = refl

@@ -6,13 +6,13 @@ use Rattle.wasmprinter_spec.specs.Forest.{Forest, End, Word, Name, String, Group
 use Rattle.wasmprinter_spec.specs.Operator.{Operator}
 use Rattle.wasmprinter_spec.specs.Row.{Role}
 use Rattle.wasmprinter_spec.specs.Table.{rows_of, word_of, role_of, shape_of}
-use Rattle.wasmprinter_spec.specs.Labels.{Label, labels_after, count_after, outside, inside}
+use Rattle.wasmprinter_spec.specs.Labels.{Label, labels_after, count_after, labels_outside, labels_inside}
 use Rattle.wasmprinter_spec.specs.Module.{without_places}
 use Rattle.wasmprinter_spec.specs.Customs.Hints.{Hint, FunctionHints, flag, next_hint, hint_behind, next_hints, hints_behind}
 use Rattle.wasmprinter_spec.specs.Placed.{PlacedFunction}
 use Rattle.wasmprinter_spec.specs.HintsOfModule.{OperatorHint, operator_hint}
 use Rattle.wasmprinter_spec.specs.Piece.{flag_byte}
-use Rattle.wasmprinter_spec.specs.Code.{Chunk, chunk, Flat, code_of, with_word, with_hint, hinted, code, unfolded}
+use Rattle.wasmprinter_spec.specs.Code.{Chunk, chunk, Flat, code_of, with_word, with_hint, with_hint_group, code, chunks_of_forest}
 use Rattle.wasmprinter_spec.specs.Layout.Operators.{Setting}
 use Rattle.wasmprinter_spec.specs.Text.Hints.{header_words, body_of, chunk_hints}
 use Rattle.wasmprinter_lexical.proofs.Noted.{Noted, no_items, a_word, a_name, a_noted_name, a_string, a_group, a_note}
@@ -21,7 +21,7 @@ use Rattle.wasmprinter_reading.proofs.Tabled.{HasRow, row_for}
 use Rattle.wasmprinter_reading.proofs.Operators.Arguments.{AreArguments}
 use Rattle.wasmprinter_reading.proofs.Operators.Forms.{hint_items}
 use Rattle.wasmprinter_reading.proofs.Operators.Immediates.{arguments_by}
-use Rattle.wasmprinter_reading.proofs.Operators.Lists.{arguments_items, hinted_items, flattened-Flat, row_word, word_takes}
+use Rattle.wasmprinter_reading.proofs.Operators.Lists.{arguments_items, hinted_items, chunks_of_instructions-Flat, row_word, word_takes}
 
 -- ---- the hints that operators take, one after the other
 
@@ -112,7 +112,7 @@ operator_noted (Some hint) o l a h g f k rs law _ (a_note (a_string no_items) (a
     let own : code (Word w y) ≡ Some (code_of End (map Flat (chunk (rows_of w) b.front ∷ b.code_is.chunks))) =
     ap (with_word (rows_of w) w) b.code_is.is ∙ word_takes r.row r.in_table w (row_word o r) b.front (map Flat b.code_is.chunks) in
     record {
-      chunks = hinted x (chunk (rows_of w) b.front) ∷ b.code_is.chunks;
+      chunks = with_hint_group x (chunk (rows_of w) b.front) ∷ b.code_is.chunks;
       is = ap (option_map (with_hint x)) own;
       hints = rw (flag-byte hint.value.taken, b.code_is.hints);
     }
@@ -127,7 +127,7 @@ module _ (s : Setting) (f : ℕ) where
       let ys : List Label = labels_after role own xs in
       let behind : List (Placed Hint) = hint_behind (o.place - s.body) hs in
       operator_noted (next_hint (o.place - s.body) hs) o.value l.0 (arguments_items s own xs o.value)
-      (arguments_by s (inside role xs) (outside role xs) own (shape_of o.value.opcode) o.value.immediates l.0.range)
+      (arguments_by s (labels_inside role xs) (labels_outside role xs) own (shape_of o.value.opcode) o.value.immediates l.0.range)
       (hinted_items s behind (count_after role n) ys os) f k (taken_hints f (k + 1) s.body behind os)
       (operators_code behind (count_after role n) ys os (k + 1) l.1) z m
 
@@ -142,10 +142,10 @@ module _ (s : Setting) (f : ℕ) where
 
   -- the operators of a body have these hints
   pub operators_hints : (hs : List (Placed Hint)) (os : List (Placed Operator)) → AllByRecursion IsListed (without_places os) →
-      (z : Forest) → Noted z (hinted_items s hs 0 [] os) → (unfolded (body_of z) >>= chunk_hints f 0) ≡ Some (taken_hints f 0 s.body hs os)
+      (z : Forest) → Noted z (hinted_items s hs 0 [] os) → (chunks_of_forest (body_of z) >>= chunk_hints f 0) ≡ Some (taken_hints f 0 s.body hs os)
   operators_hints hs os l z m =
       let c : IsCode z End f 0 (taken_hints f 0 s.body hs os) = operators_code hs 0 [] os 0 l z m in
-      rw (body_noted hs 0 [] os z m, c.is, flattened-Flat c.chunks, c.hints)
+      rw (body_noted hs 0 [] os z m, c.is, chunks_of_instructions-Flat c.chunks, c.hints)
 
 -- ---- what stands in front of a body
 

@@ -8,18 +8,18 @@ use Rattle.wasmprinter_spec.specs.Row.{Func}
 use Rattle.wasmprinter_spec.specs.Labels.{Named}
 use Rattle.wasmprinter_spec.specs.Names.{Names, AreNamed}
 use Rattle.wasmprinter_spec.specs.Placed.{TypeGroup, Import, PlacedFunction}
-use Rattle.wasmprinter_spec.specs.Module.{without_places, imported, selected_first, func_import, locals_of}
+use Rattle.wasmprinter_spec.specs.Module.{without_places, imported_types, with_first_if_any, func_import, locals_of}
 use Rattle.wasmprinter_spec.specs.Indexed.{parameter_count}
 use Rattle.wasmprinter_spec.specs.Customs.Hints.{Hint, FunctionHints, next_hints, hints_behind}
 use Rattle.wasmprinter_spec.specs.HintsOfModule.{OperatorHint}
-use Rattle.wasmprinter_spec.specs.Code.{unfolded}
-use Rattle.wasmprinter_spec.specs.Layout.Variables.{Variables, Alone, Together, grouped}
+use Rattle.wasmprinter_spec.specs.Code.{chunks_of_forest}
+use Rattle.wasmprinter_spec.specs.Layout.Variables.{Variables, Alone, Together, variable_groups}
 use Rattle.wasmprinter_spec.specs.Layout.Types.{parameters_of}
 use Rattle.wasmprinter_spec.specs.Layout.Declarations.{Scope}
 use Rattle.wasmprinter_spec.specs.Layout.Imports.{Numbers, number_of, numbers_behind}
 use Rattle.wasmprinter_spec.specs.Text.Hints.{header_words, chunk_hints, function_hints_in, field_hints}
 use Rattle.wasmprinter_spec.specs.Layout.Functions.{over_lines, result_count}
-use Rattle.wasmprinter_spec.specs.Folding.Refusals.{misplaced_in, misplaced_from}
+use Rattle.wasmprinter_spec.specs.Folding.Refusals.{misplaced_hints_in, misplaced_hints_from}
 use Rattle.wasmprinter_lexical.proofs.Grown.{onto_assoc}
 use Rattle.wasmprinter_lexical.proofs.Noted.{Noted, no_items, a_word, a_name, a_noted_name, a_string, a_group, a_note}
 use Rattle.wasmprinter_reading.specs.Listed.{AreSignaturesInRange}
@@ -120,7 +120,7 @@ other_import_before m n w x other {i = i} {g = g} {hs = hs} h = record { law = b
     by _ (a_group {f = z} (a_word (a_string (a_string (a_group (a_word y) no_items)))) k) = rw (other, h.law z k)
 
 pub imports_before : (s : Scope) (n : Numbers) (is : List (Placed Import)) {i : ℕ} {g : Forest} {hs : List OperatorHint} →
-    HasHints (i + length (imported func_import (without_places is))) g hs → HasHints i (onto (imports_items s n is) g) hs
+    HasHints (i + length (imported_types func_import (without_places is))) g hs → HasHints i (onto (imports_items s n is) g) hs
 imports_before s n [] {i = i} {g = g} {hs = hs} h = subst (λ k. HasHints k g hs) (omega arith) h
 imports_before s n (x ∷ xs) {i = i} {g = g} {hs = hs} h =
     by x.value.type h (λ j k. imports_before s (numbers_behind x.value.type n) xs {i = j} k)
@@ -128,8 +128,8 @@ imports_before s n (x ∷ xs) {i = i} {g = g} {hs = hs} h =
     behind : Forest
     behind = onto (imports_items s (numbers_behind x.value.type n) xs) g
 
-    by : (t : ExternType) → HasHints (i + length (selected_first (func_import t) (imported func_import (without_places xs)))) g hs →
-        ((j : ℕ) → HasHints (j + length (imported func_import (without_places xs))) g hs → HasHints j behind hs) →
+    by : (t : ExternType) → HasHints (i + length (with_first_if_any (func_import t) (imported_types func_import (without_places xs)))) g hs →
+        ((j : ℕ) → HasHints (j + length (imported_types func_import (without_places xs))) g hs → HasHints j behind hs) →
         HasHints i (Group (import_group x.value.source x.value.name (extern_word t) (extern_items s (number_of x.value.type n) t)) behind) hs
     by (FuncExtern f) k more =
         function_import_before x.value.source x.value.name _ (more (i + 1) (subst (λ j. HasHints j g hs) (omega arith) k))
@@ -152,8 +152,8 @@ results_are names (t ∷ ts) = (refl, tt)
 signature_is : (names : Names) (f : Option ℕ) (t : Option FuncType) → AreHeader (signature_if_any_items names f t)
 signature_is names f None = tt
 signature_is names f (Some t) =
-    header_onto (groups_items names (codes "param") (grouped (parameters_of names f) 0 t.params)) (group_items names (codes "result") t.results)
-    (groups_are names (codes "param") (grouped (parameters_of names f) 0 t.params) refl) (results_are names t.results)
+    header_onto (groups_items names (codes "param") (variable_groups (parameters_of names f) 0 t.params)) (group_items names (codes "result") t.results)
+    (groups_are names (codes "param") (variable_groups (parameters_of names f) 0 t.params) refl) (results_are names t.results)
 
 id_is : (o : Option Named) → AreHeader (id_items o)
 id_is None = tt
@@ -161,12 +161,12 @@ id_is (Some n) = tt
 
 module _ (s : Scope) (named : AreNamed s.names) (ranged : AreSignaturesInRange (signature_at s.types)) where
   function_has : (i : ℕ) (hs : List (Placed Hint)) (f : PlacedFunction) → IsRangedFunction f → AreFoldable s.folding f.body.value.operators →
-      (is_folding s.folding ≡ true → misplaced_in f.body.place hs f.body.value.operators ≡ []) → (y : Forest) → Noted y (function_hinted false s i hs f) →
+      (is_folding s.folding ≡ true → misplaced_hints_in f.body.place hs f.body.value.operators ≡ []) → (y : Forest) → Noted y (function_hinted false s i hs f) →
       function_hints_in i y ≡ Some (taken_hints i 0 f.body.place hs f.body.value.operators)
   function_has i hs f h foldable fit y n =
       let rs : List OperatorHint = taken_hints i 0 f.body.place hs f.body.value.operators in
-      let P : Forest → Type 0 = λ b. (unfolded b >>= chunk_hints i 0) ≡ Some rs in
-      let ls : List Variables = grouped (s.names.locals i) (parameter_count (signature_at s.types f.type_index)) (locals_of f.body.value.locals) in
+      let P : Forest → Type 0 = λ b. (chunks_of_forest b >>= chunk_hints i 0) ≡ Some rs in
+      let ls : List Variables = variable_groups (s.names.locals i) (parameter_count (signature_at s.types f.type_index)) (locals_of f.body.value.locals) in
       header_noted P (id_items (s.names.items Func i)) (id_is (s.names.items Func i)) _
       (header_noted P (type_use_items s.names (Some i) f.type_index (signature_at s.types f.type_index)) (refl, signature_is s.names (Some i) (signature_at s.types f.type_index)) _
       (header_noted P (groups_items s.names (codes "local") ls) (groups_are s.names (codes "local") ls refl) _
@@ -181,13 +181,13 @@ module _ (s : Scope) (named : AreNamed s.names) (ranged : AreSignaturesInRange (
       by _ (a_group {f = z} (a_word {f = y} m) n) = rw (has y m, h.law z n)
 
   pub functions_before : (es : List FunctionHints) (i : ℕ) (fs : List PlacedFunction) → AllByRecursion IsRangedFunction fs →
-      AllByRecursion (λ f. AreFoldable s.folding f.body.value.operators) fs → (is_folding s.folding ≡ true → misplaced_from es i fs ≡ []) → {g : Forest} {hs : List OperatorHint} →
+      AllByRecursion (λ f. AreFoldable s.folding f.body.value.operators) fs → (is_folding s.folding ≡ true → misplaced_hints_from es i fs ≡ []) → {g : Forest} {hs : List OperatorHint} →
       HasHints (i + length fs) g hs → HasHints i (onto (functions_hinted false s es i fs) g) (all_taken es i fs ++ hs)
   functions_before es i [] k l fit {g = g} {hs = hs} h = subst (λ j. HasHints j g hs) (omega arith) h
   functions_before es i (f ∷ fs) k l fit {g = g} {hs = hs} h =
       let rs : List OperatorHint = taken_hints i 0 f.body.place (next_hints i es) f.body.value.operators in
       let behind : List OperatorHint = all_taken (hints_behind i es) (i + 1) fs in
-      let parts = λ (e : is_folding s.folding ≡ true). nothing_joined (misplaced_in f.body.place (next_hints i es) f.body.value.operators) (misplaced_from (hints_behind i es) (i + 1) fs) (fit e) in
+      let parts = λ (e : is_folding s.folding ≡ true). nothing_joined (misplaced_hints_in f.body.place (next_hints i es) f.body.value.operators) (misplaced_hints_from (hints_behind i es) (i + 1) fs) (fit e) in
       let rest = functions_before (hints_behind i es) (i + 1) fs k.1 l.1 (λ e. (parts e).1) {g = g} {hs = hs} (subst (λ j. HasHints j g hs) (omega arith) h) in
       subst (HasHints i (onto (functions_hinted false s es i (f ∷ fs)) g)) (sym (append_assoc rs behind hs))
       (function_before i (function_hinted false s i (next_hints i es) f) rs (function_has i (next_hints i es) f k.0 l.0 (λ e. (parts e).0)) rest)

@@ -14,14 +14,14 @@ use Rattle.wasmprinter_spec.specs.Labels.{labels_after, count_after}
 use Rattle.wasmprinter_spec.specs.Names.{AreNamed}
 use Rattle.wasmprinter_spec.specs.Customs.Hints.{Hint, next_hint, hint_behind}
 use Rattle.wasmprinter_spec.specs.HintsOfModule.{OperatorHint}
-use Rattle.wasmprinter_spec.specs.Code.{Chunk, unfolded}
+use Rattle.wasmprinter_spec.specs.Code.{Chunk, chunks_of_forest}
 use Rattle.wasmprinter_spec.specs.Layout.Declarations.{Folding}
 use Rattle.wasmprinter_spec.specs.Layout.Operators.{Setting}
 use Rattle.wasmprinter_spec.specs.Layout.Folded.{item, items}
-use Rattle.wasmprinter_spec.specs.Folding.Arities.{Signatures, label_of_block, label_counts_after}
+use Rattle.wasmprinter_spec.specs.Folding.Arities.{Signatures, label_of_block}
 use Rattle.wasmprinter_spec.specs.Folding.Code.{AreWithoutTry}
 use Rattle.wasmprinter_spec.specs.Folding.Tree.{tree}
-use Rattle.wasmprinter_spec.specs.Folding.Refusals.{is_hintless, misplaced, misplaced_in}
+use Rattle.wasmprinter_spec.specs.Folding.Refusals.{is_hintless, place_if_misplaced, misplaced_hints_in}
 use Rattle.wasmprinter_spec.specs.Text.Hints.{header_words, body_of, chunk_hints}
 use Rattle.wasmprinter_lexical.proofs.Noted.{Noted, no_items, a_word, a_group, a_note}
 use Rattle.wasmprinter_reading.specs.Listed.{IsListed, AreSignaturesInRange}
@@ -70,7 +70,7 @@ chunk_with : (f k : ℕ) (hint : Option (Placed Hint)) (c : Chunk) → c.hints �
 chunk_with f k None c none cs rs e = rw (none, e)
 chunk_with f k (Some h) c none cs rs e = rw (none, flag-byte h.value.taken, e)
 
-not_misplaced : (r : Role) (h : Option (Placed Hint)) → misplaced r h ≡ [] → is_hintless r ≡ true → h ≡ None
+not_misplaced : (r : Role) (h : Option (Placed Hint)) → place_if_misplaced r h ≡ [] → is_hintless r ≡ true → h ≡ None
 not_misplaced r None e k = refl
 not_misplaced r (Some h) e k =
     let wrong : ◌≡◌ {A = List ℕ} (h.place ∷ []) [] = ap (λ t. cond t (h.place ∷ []) []) (sym k) ∙ e in
@@ -85,29 +85,29 @@ module _ (s : Setting) (signatures : Signatures) (f : ℕ) where
       let r : Role = role_of o.value.opcode in
       let own : labels.Label = s.names.labels s.function n (length xs) in
       let offset : ℕ = o.place - s.body in
-      let ls2 : List (Option ℕ) = label_counts_after r (label_of_block signatures o.value) ls in
+      let ls2 : List (Option ℕ) = labels_after r (label_of_block signatures o.value) ls in
       chunk_with f k (next_hint offset hs) (item_chunk (item s signatures (next_hint offset hs) own xs ls o)) refl
       (map (own_chunk true) (items s signatures (hint_behind offset hs) (count_after r n) (labels_after r own xs) ls2 os)) (taken_hints f (k + 1) s.body (hint_behind offset hs) os)
       (items_hints os (hint_behind offset hs) (count_after r n) (labels_after r own xs) ls2 (k + 1))
 
-  all_hintless : (os : List (Placed Operator)) (hs : List (Placed Hint)) (n : ℕ) (xs : List labels.Label) (ls : List (Option ℕ)) → misplaced_in s.body hs os ≡ [] →
+  all_hintless : (os : List (Placed Operator)) (hs : List (Placed Hint)) (n : ℕ) (xs : List labels.Label) (ls : List (Option ℕ)) → misplaced_hints_in s.body hs os ≡ [] →
       AllByRecursion (IsHintless true) (items s signatures hs n xs ls os)
   unfolding items
   all_hintless [] hs n xs ls e = tt
   all_hintless (o ∷ os) hs n xs ls e =
       let r : Role = role_of o.value.opcode in
       let hint : Option (Placed Hint) = next_hint (o.place - s.body) hs in
-      let parts = nothing_joined (misplaced r hint) (misplaced_in s.body (hint_behind (o.place - s.body) hs) os) e in
+      let parts = nothing_joined (place_if_misplaced r hint) (misplaced_hints_in s.body (hint_behind (o.place - s.body) hs) os) e in
       (not_misplaced r hint parts.0, all_hintless os (hint_behind (o.place - s.body) hs) _ _ _ parts.1)
 
   folded_hints : AreNamed s.names → AreSignaturesInRange s.signature → (hs : List (Placed Hint)) (os : List (Placed Operator)) → AllByRecursion IsListed (without_places os) →
-      Nests Sequence (roles os) → AreWithoutTry (roles os) → misplaced_in s.body hs os ≡ [] → (z : Forest) → Noted z (folded_items true s signatures hs os) →
-      (unfolded (body_of z) >>= chunk_hints f 0) ≡ Some (taken_hints f 0 s.body hs os)
+      Nests Sequence (roles os) → AreWithoutTry (roles os) → misplaced_hints_in s.body hs os ≡ [] → (z : Forest) → Noted z (folded_items true s signatures hs os) →
+      (chunks_of_forest (body_of z) >>= chunk_hints f 0) ≡ Some (taken_hints f 0 s.body hs os)
   folded_hints named ranged hs os l n t fit z m =
       let code = has_tree s signatures hs os n t in
       let own : Noted z (code_items true (Some code.0)) = subst (λ c. Noted z (code_items true c)) code.1 m in
       let begins : BeginsCode (code_items true (Some code.0)) = row_begins true s.form (tree code.0) (tree_row s named ranged signatures hs os l code.0 code.1) in
-      ap (λ x. unfolded x >>= chunk_hints f 0) (begins_noted own begins)
+      ap (λ x. chunks_of_forest x >>= chunk_hints f 0) (begins_noted own begins)
       ∙ noted_hints f 0 own
       ∙ ap (λ o. o >>= chunk_hints f 0) (tree_unfolds_at s named ranged signatures hs os l code.0 code.1 true (all_hintless os hs 0 [] [] fit))
       ∙ items_hints os hs 0 [] [] 0
@@ -120,7 +120,7 @@ is_folding (Some x) = true
 
 -- the operators of a body have these hints
 pub list_hints : (folding : Option Folding) (own : Option ℕ) (s : Setting) (f : ℕ) → AreNamed s.names → AreSignaturesInRange s.signature → (hs : List (Placed Hint)) (os : List (Placed Operator)) →
-    AllByRecursion IsListed (without_places os) → Nests Sequence (roles os) → AreFoldable folding os → (is_folding folding ≡ true → misplaced_in s.body hs os ≡ []) →
-    (z : Forest) → Noted z (list_items true folding own s hs os) → (unfolded (body_of z) >>= chunk_hints f 0) ≡ Some (taken_hints f 0 s.body hs os)
+    AllByRecursion IsListed (without_places os) → Nests Sequence (roles os) → AreFoldable folding os → (is_folding folding ≡ true → misplaced_hints_in s.body hs os ≡ []) →
+    (z : Forest) → Noted z (list_items true folding own s hs os) → (chunks_of_forest (body_of z) >>= chunk_hints f 0) ≡ Some (taken_hints f 0 s.body hs os)
 list_hints None own s f named ranged hs os l n t fit z m = operators_hints s f hs os l z m
 list_hints (Some x) own s f named ranged hs os l n t fit z m = folded_hints s (x.signatures own) f named ranged hs os l n t (fit refl) z m

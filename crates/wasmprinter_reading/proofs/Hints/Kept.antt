@@ -12,9 +12,9 @@ use Rattle.wasmprinter_spec.specs.HintsOfModule.{OperatorHint, all_hints, rise, 
 use Rattle.wasmprinter_spec.specs.Placed.{PlacedModule}
 use Rattle.wasmprinter_spec.specs.Names.{Names, AreNamed}
 use Rattle.wasmprinter_spec.specs.ModuleNames.{module_names}
-use Rattle.wasmprinter_spec.specs.Module.{without_places, imported, func_import}
+use Rattle.wasmprinter_spec.specs.Module.{without_places, imported_types, func_import}
 use Rattle.wasmprinter_spec.specs.Folding.Arities.{signatures_within}
-use Rattle.wasmprinter_spec.specs.Folding.Refusals.{IsFoldable, misplaced_from, misplaced_hints}
+use Rattle.wasmprinter_spec.specs.Folding.Refusals.{IsFoldable, misplaced_hints_from, misplaced_hints}
 use Rattle.wasmprinter_spec.specs.Layout.Declarations.{folding_of}
 use Rattle.wasmprinter_spec.specs.Layout.Imports.{no_numbers}
 use Rattle.wasmprinter_spec.specs.Layout.{module_pieces_with, module_pieces, layout}
@@ -49,12 +49,12 @@ module _ (o : Options) (whole : o.skeleton ≡ false) (names : Names) (named : A
   place_before place x = notes_before (noted o names named m h plain answers place) (noting o names named m h plain answers place).are x
 
   -- where operators are folded, no hint is on an operator that can't have one
-  hints_fit : is_folding (folding_of o m) ≡ true → misplaced_from (hints_of m.customs) (before o names m FuncKind) m.functions ≡ []
+  hints_fit : is_folding (folding_of o m) ≡ true → misplaced_hints_from (hints_of m.customs) (before o names m FuncKind) m.functions ≡ []
   hints_fit e = by o.folds e foldable.hints
     where
       by : (t : Bool) → is_folding (cond t (Some (record { paints = o.paints; signatures = signatures_within m })) None) ≡ true → (t ≡ true → misplaced_hints o m ≡ []) →
-          misplaced_from (hints_of m.customs) (before o names m FuncKind) m.functions ≡ []
-      by true k f = ap (λ s. cond s [] (misplaced_from (hints_of m.customs) (before o names m FuncKind) m.functions)) (sym whole) ∙ f refl
+          misplaced_hints_from (hints_of m.customs) (before o names m FuncKind) m.functions ≡ []
+      by true k f = ap (λ s. cond s [] (misplaced_hints_from (hints_of m.customs) (before o names m FuncKind) m.functions)) (sym whole) ∙ f refl
       by false k f = absurd cc
 
   -- what stands behind the functions
@@ -102,12 +102,12 @@ module _ (o : Options) (whole : o.skeleton ≡ false) (names : Names) (named : A
 record AreWellFormed (m : PlacedModule) (hs : List OperatorHint) : Type 0 where
   functions_up : rise (map (λ e. e.function) (hints_of m.customs)) ≡ true
   offsets_up : offsets_rise (hints_of m.customs) ≡ true
-  all : all_hints (length (imported func_import (without_places m.imports))) m.functions (hints_of m.customs) ≡ Some hs
+  all : all_hints (length (imported_types func_import (without_places m.imports))) m.functions (hints_of m.customs) ≡ Some hs
 
 well_formed : (m : PlacedModule) (hs : List OperatorHint) → module_hints m ≡ Some hs → AreWellFormed m hs
 well_formed m hs e =
     let es : List FunctionHints = hints_of m.customs in
-    let t = tested (rise (map (λ x. x.function) es) && offsets_rise es) (all_hints (length (imported func_import (without_places m.imports))) m.functions es) hs e in
+    let t = tested (rise (map (λ x. x.function) es) && offsets_rise es) (all_hints (length (imported_types func_import (without_places m.imports))) m.functions es) hs e in
     let parts = and_parts (rise (map (λ x. x.function) es)) (offsets_rise es) t.0 in
     record { functions_up = parts.0; offsets_up = parts.1; all = t.1 }
 

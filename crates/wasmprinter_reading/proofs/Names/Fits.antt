@@ -5,7 +5,7 @@ use Rattle.wasmprinter_spec.specs.Grammar.{Input, byte}
 use Rattle.wasmprinter_spec.specs.Name.{u32, name}
 use Rattle.wasmprinter_spec.specs.Binary.{AreBytes}
 use Rattle.wasmprinter_spec.specs.Lenient.{give, follow, repeat, within, by_test, Groups}
-use Rattle.wasmprinter_spec.specs.Names.Section.{Entry, entry, entry_of, association, name_map, inner_map, indirect_map, module_name, module_subsection, tag_subsection, is_indirect, known, content, subsection, all_of}
+use Rattle.wasmprinter_spec.specs.Names.Section.{Entry, entry, entry_of, association, name_map, inner_map, indirect_map, module_name, module_subsection, tag_subsection, is_indirect, entries_by_id, content, subsection, all_of}
 use Rattle.wasmprinter_reading.specs.NameLaws.{IsEntry, AreEntries, BytesGiveEntries}
 use Rattle.wasmprinter_reading.proofs.AllSpelled.{AllSpelled, AllSpelled-seq}
 use Rattle.wasmprinter_reading.proofs.AllGiven.{all_append, Stays, AllGiven, AllGiven-give, AllGiven-follow, AllGiven-follow_any, AllGiven-repeat, AllGiven-within, AllGiven-by_test}
@@ -36,7 +36,7 @@ fits_module_name =
 
 fits_content : (s : ℕ) → AllGiven IsEntry (content s)
 fits_content s =
-    AllGiven-by_test IsEntry (nat_lt tag_subsection s) (give []) (known s) (AllGiven-give IsEntry [] tt)
+    AllGiven-by_test IsEntry (nat_lt tag_subsection s) (give []) (entries_by_id s) (AllGiven-give IsEntry [] tt)
     (AllGiven-by_test IsEntry (s == module_subsection) module_name (by_test (is_indirect s) (indirect_map s) (name_map s 0)) fits_module_name
     (AllGiven-by_test IsEntry (is_indirect s) (indirect_map s) (name_map s 0) (fits_indirect_map s) (fits_map s 0)))
 

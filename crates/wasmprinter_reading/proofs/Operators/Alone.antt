@@ -8,7 +8,7 @@ use Rattle.wasmprinter_spec.specs.Table.{table, rows_of, word_of_row, word_of, r
 use Rattle.wasmprinter_spec.specs.Stepped.{stops}
 use Rattle.wasmprinter_spec.specs.Nesting.{Nests, Sequence, advance, at_start}
 use Rattle.wasmprinter_spec.specs.NestingSteps.{stops_at_end}
-use Rattle.wasmprinter_spec.specs.Code.{Chunk, chunk, code_of, only_instructions, flattened, folded_as, before, PartHead, ThenHead, ElseHead, OperatorHead, head_by, head, with_group, code, unfolded}
+use Rattle.wasmprinter_spec.specs.Code.{Chunk, chunk, code_of, only_instructions, chunks_of_instructions, folded_instruction, with_instruction, PartHead, ThenHead, ElseHead, OperatorHead, head_by, head, with_group, code, chunks_of_forest}
 use Rattle.wasmprinter_reading.specs.Listed.{IsListed}
 use Rattle.wasmprinter_reading.proofs.Tabled.{HasRow, row_for, StandsAlone, plain_alone, plain_by_word}
 use Rattle.wasmprinter_reading.proofs.Operators.Arguments.{AreArguments, arguments_front}
@@ -51,9 +51,9 @@ alone_for o l n =
     record { row = r; role = plain; alone = rw e a }
 
 -- its group is its code
-pub unfolded-alone : (o : Operator) (a : Forest) → IsAlone o → AreArguments a →
-    unfolded (Group (Word (word_of o.opcode) (onto a End)) End) ≡ Some (chunk (rows_of (word_of o.opcode)) a ∷ [])
-unfolded-alone o a h args =
+pub chunks_of_forest-alone : (o : Operator) (a : Forest) → IsAlone o → AreArguments a →
+    chunks_of_forest (Group (Word (word_of o.opcode) (onto a End)) End) ≡ Some (chunk (rows_of (word_of o.opcode)) a ∷ [])
+chunks_of_forest-alone o a h args =
     let w : List ℕ = word_of o.opcode in
     let r : HasRow o = h.row in
     let word : w ≡ r.row.word = ap word_of_row r.found in
@@ -64,10 +64,10 @@ unfolded-alone o a h args =
     let its : head w ≡ OperatorHead some.first some.others = head-alone w h.alone ∙ ap head_by rows in
     let held : code (onto a End) ≡ Some (code_of a []) = arguments_front a args End [] refl in
     let item : Forest → Forest = Group (Word w (onto a End)) in
-    ap (λ x. with_group x item (code (onto a End)) (Some (code_of End [])) >>= only_instructions >>= flattened) its
-    ∙ ap (λ x. with_group (OperatorHead some.first some.others) item x (Some (code_of End [])) >>= only_instructions >>= flattened) held
+    ap (λ x. with_group x item (code (onto a End)) (Some (code_of End [])) >>= only_instructions >>= chunks_of_instructions) its
+    ∙ ap (λ x. with_group (OperatorHead some.first some.others) item x (Some (code_of End [])) >>= only_instructions >>= chunks_of_instructions) held
     ∙ ap (λ x. folded_code x (some.first ∷ some.others)) plain
     ∙ ap (λ x. Some (chunk x a ∷ [])) (sym rows)
   where
     folded_code : Role → List Row → Option (List Chunk)
-    folded_code x rs = folded_as x rs (code_of a []) >>= (λ i. before i (code_of End [])) >>= only_instructions >>= flattened
+    folded_code x rs = folded_instruction x rs (code_of a []) >>= (λ i. with_instruction i (code_of End [])) >>= only_instructions >>= chunks_of_instructions

@@ -14,7 +14,7 @@ use Rattle.wasmprinter_spec.specs.IndexSpaces.{Context}
 use Rattle.wasmprinter_spec.specs.Text.Items.{ids_of}
 use Rattle.wasmprinter_spec.specs.Text.Types.{signature}
 use Rattle.wasmprinter_spec.specs.Text.Operators.{id_of, behind_id, are_unnamed, type_with, block_type}
-use Rattle.wasmprinter_spec.specs.Layout.Variables.{Variables, Alone, Together, grouped}
+use Rattle.wasmprinter_spec.specs.Layout.Variables.{Variables, Alone, Together, variable_groups}
 use Rattle.wasmprinter_spec.specs.Layout.Types.{parameters_of}
 use Rattle.wasmprinter_spec.specs.Layout.Operators.{Setting, Form, OverLines, InLine, ending_pieces, block_pieces}
 use Rattle.wasmprinter_lexical.proofs.Printed.{is_remark, is_remark-decimal, is_remark-append}
@@ -56,8 +56,8 @@ behind_arguments : (names : Names) (t : Option FuncType) → AreArguments (signa
 unfolding head
 behind_arguments names None = tt
 behind_arguments names (Some t) =
-    arguments_onto (groups_items names (codes "param") (grouped (parameters_of names None) 0 t.params)) (group_items names (codes "result") t.results)
-    (groups_arguments names (codes "param") (grouped (parameters_of names None) 0 t.params) refl) (group_arguments names (codes "result") t.results refl)
+    arguments_onto (groups_items names (codes "param") (variable_groups (parameters_of names None) 0 t.params)) (group_items names (codes "result") t.results)
+    (groups_arguments names (codes "param") (variable_groups (parameters_of names None) 0 t.params) refl) (group_arguments names (codes "result") t.results refl)
 
 pub block_arguments : (s : Setting) (t : BlockType) → AreArguments (block_items s t)
 unfolding head

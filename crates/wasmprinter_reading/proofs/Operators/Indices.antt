@@ -16,7 +16,7 @@ use Rattle.wasmprinter_spec.specs.Code.{head}
 use Rattle.wasmprinter_spec.specs.IndexSpaces.{Identifiers, Context, space_in, index as index_in}
 use Rattle.wasmprinter_spec.specs.Text.Types.{val_types, variables}
 use Rattle.wasmprinter_spec.specs.Text.TypeUses.{no_type, same_func_type, agrees}
-use Rattle.wasmprinter_spec.specs.Text.Operators.{block_type, index, default_index, two_indices, type_and_field, type_and_count, copied, with_segment, call_parts}
+use Rattle.wasmprinter_spec.specs.Text.Operators.{block_type, index, default_index, two_indices, type_and_field, type_and_count, two_indices_or_zeros, with_segment, call_parts}
 use Rattle.wasmprinter_spec.specs.Piece.{Gap}
 use Rattle.wasmprinter_spec.specs.Layout.Groups.{line_group_gap}
 use Rattle.wasmprinter_spec.specs.Layout.ValTypes.{type_index_pieces}
@@ -132,7 +132,7 @@ two_are_not_one is None (Some p) m n = refl
 two_are_not_one is (Some o) None m n = refl
 two_are_not_one is (Some o) (Some p) m n = refl
 
-copied_two : (c : Context) (space : Space) (o : Option Named) (n : ℕ) (f : Forest) → copied c space (onto (index_items o n) f) ≡ two_indices c space space (onto (index_items o n) f)
+copied_two : (c : Context) (space : Space) (o : Option Named) (n : ℕ) (f : Forest) → two_indices_or_zeros c space (onto (index_items o n) f) ≡ two_indices c space space (onto (index_items o n) f)
 copied_two c space None n f = refl
 copied_two c space (Some m) n f = refl
 
@@ -219,10 +219,10 @@ module _ (s : Setting) (c : Context) (k : Counts) (same : HaveSameNames s c k) (
           )
 
   pub copy_reads : (space : Space) (m n : ℕ) → is_item space ≡ true → IsU32 m → IsU32 n → IsIndex k space m → IsIndex k space n →
-      copied c space (copy_items s space m n) ≡ Some (m, n)
+      two_indices_or_zeros c space (copy_items s space m n) ≡ Some (m, n)
   copy_reads space m n a h i d e = by (eqb m 0 && eqb n 0) refl
     where
-      by : (b : Bool) → (eqb m 0 && eqb n 0) ≡ b → copied c space (cond b End (pair_items s space space m n)) ≡ Some (m, n)
+      by : (b : Bool) → (eqb m 0 && eqb n 0) ≡ b → two_indices_or_zeros c space (cond b End (pair_items s space space m n)) ≡ Some (m, n)
       by true none =
           let parts : (eqb m 0 ≡ true) × (eqb n 0 ≡ true) = and_parts (eqb m 0) (eqb n 0) none in
           rw (eqb-true m 0 parts.0, eqb-true n 0 parts.1)

@@ -6,7 +6,7 @@ use Rattle.wasmprinter_spec.specs.Forest.{Forest, End, Word, onto}
 use Rattle.wasmprinter_spec.specs.Operator.{Operator}
 use Rattle.wasmprinter_spec.specs.Row.{Row, Role, Ends}
 use Rattle.wasmprinter_spec.specs.Table.{table, rows_of, by_opcode, word_of_row, word_of, role_of_row, role_of, shape_of_row, shape_of}
-use Rattle.wasmprinter_spec.specs.Labels.{Label, labels_after, count_after, outside, inside}
+use Rattle.wasmprinter_spec.specs.Labels.{Label, labels_after, count_after, labels_outside, labels_inside}
 use Rattle.wasmprinter_spec.specs.Stepped.{stops}
 use Rattle.wasmprinter_spec.specs.Nesting.{Nests, Sequence, advance, at_start}
 use Rattle.wasmprinter_spec.specs.NestingSteps.{stops_at_end}
@@ -14,7 +14,7 @@ use Rattle.wasmprinter_spec.specs.Instructions.{roles}
 use Rattle.wasmprinter_spec.specs.Module.{without_places}
 use Rattle.wasmprinter_spec.specs.Customs.Hints.{Hint, next_hint, hint_behind}
 use Rattle.wasmprinter_spec.specs.Indexed.{Counts, AreDeclared, AreDeclaredBy, IsIndexedOperator}
-use Rattle.wasmprinter_spec.specs.Code.{Chunk, chunk, Instruction, Flat, code_of, with_word, code, flattened, unfolded}
+use Rattle.wasmprinter_spec.specs.Code.{Chunk, chunk, Instruction, Flat, code_of, with_word, code, chunks_of_instructions, chunks_of_forest}
 use Rattle.wasmprinter_spec.specs.Names.{IsNamedIfAny, AreNamed, AreApart}
 use Rattle.wasmprinter_spec.specs.IndexSpaces.{Context}
 use Rattle.wasmprinter_spec.specs.Text.Operators.{id_of, immediates, labels_in_sight, open_behind, operators, are_nested, read_operators}
@@ -35,7 +35,7 @@ use Rattle.wasmprinter_reading.proofs.Operators.Open.{outside_ids, outside_opene
 
 abbrev pub arguments_items : Setting → Label → List Label → Operator → Forest
 arguments_items s own xs o =
-    items_by s (inside (role_of o.opcode) xs) (outside (role_of o.opcode) xs) own (shape_of o.opcode) o.immediates
+    items_by s (labels_inside (role_of o.opcode) xs) (labels_outside (role_of o.opcode) xs) own (shape_of o.opcode) o.immediates
 
 -- n blocks were opened before, and these labels are open
 abbrev pub operators_items : Setting → ℕ → List Label → List Operator → Forest
@@ -94,18 +94,18 @@ code-operators s n xs (o ∷ os) h =
     let ys : List Label = labels_after role own xs in
     let m : ℕ = count_after role n in
     let e : code (onto a (operators_items s m ys os)) ≡ Some (code_of a (map Flat (chunks_of s m ys os))) =
-    arguments_front a (arguments_by s (inside role xs) (outside role xs) own (shape_of o.opcode) o.immediates h.0.range)
+    arguments_front a (arguments_by s (labels_inside role xs) (labels_outside role xs) own (shape_of o.opcode) o.immediates h.0.range)
     (operators_items s m ys os) (map Flat (chunks_of s m ys os)) (code-operators s m ys os h.1) in
     ap (with_word (rows_of (word_of o.opcode)) (word_of o.opcode)) e
     ∙ word_takes r.row r.in_table (word_of o.opcode) (row_word o r) a (map Flat (chunks_of s m ys os))
 
-pub flattened-Flat : (cs : List Chunk) → flattened (map Flat cs) ≡ Some cs
-flattened-Flat [] = refl
-flattened-Flat (c ∷ cs) = rw (flattened-Flat cs)
+pub chunks_of_instructions-Flat : (cs : List Chunk) → chunks_of_instructions (map Flat cs) ≡ Some cs
+chunks_of_instructions-Flat [] = refl
+chunks_of_instructions-Flat (c ∷ cs) = rw (chunks_of_instructions-Flat cs)
 
-pub unfolded-operators : (s : Setting) (n : ℕ) (xs : List Label) (os : List Operator) → AllByRecursion IsListed os →
-    unfolded (operators_items s n xs os) ≡ Some (chunks_of s n xs os)
-unfolded-operators s n xs os h = rw (code-operators s n xs os h, flattened-Flat (chunks_of s n xs os))
+pub chunks_of_forest-operators : (s : Setting) (n : ℕ) (xs : List Label) (os : List Operator) → AllByRecursion IsListed os →
+    chunks_of_forest (operators_items s n xs os) ≡ Some (chunks_of s n xs os)
+chunks_of_forest-operators s n xs os h = rw (code-operators s n xs os h, chunks_of_instructions-Flat (chunks_of s n xs os))
 
 -- ---- they read back
 
@@ -135,22 +135,22 @@ module _ (s : Setting) (c : Context) (k : Counts) (types : HaveSameTypes s c k) 
       let fewer : length xs < 2 ^ 64 = omega (arith, small) in
       let more : length ys + length ps ≤ 2 ^ 64 = omega (arith, small, after_length is own xs) in
       let role : is ≡ r.row.role = ap role_of_row r.found in
-      let written : a ≡ immediate_items s (inside is xs) (outside is xs) own r.row.shape p.immediates =
-      ap (λ x. items_by s (inside is xs) (outside is xs) own (shape_of_row x) p.immediates) r.found in
+      let written : a ≡ immediate_items s (labels_inside is xs) (labels_outside is xs) own r.row.shape p.immediates =
+      ap (λ x. items_by s (labels_inside is xs) (labels_outside is xs) own (shape_of_row x) p.immediates) r.found in
       let i : immediates c (labels_in_sight r.row.role (ids xs)) r.row.shape a ≡ Some p.immediates =
       ap (λ x. immediates c (labels_in_sight x (ids xs)) r.row.shape a) (sym role)
       ∙ ap (λ x. immediates c x r.row.shape a) (outside_ids is xs)
-      ∙ ap (immediates c (ids (outside is xs)) r.row.shape) written
-      ∙ immediates_read s c k types same apart (inside is xs) (outside is xs) (outside_opened (s.names.labels s.function) is xs o) own
+      ∙ ap (immediates c (ids (labels_outside is xs)) r.row.shape) written
+      ∙ immediates_read s c k types same apart (labels_inside is xs) (labels_outside is xs) (outside_opened (s.names.labels s.function) is xs o) own
       r.row.shape p.immediates r.shape r.items h.0.range (declared_by_row k p r.row r.found d.0) in
       let fit : fits is r.row.shape ≡ true = ap (λ x. fits x r.row.shape) role ∙ r.fit in
       let after : open_behind r.row.role (id_of a) (ids xs) ≡ ids ys =
       ap (λ x. open_behind x (id_of a) (ids xs)) (sym role)
       ∙ ap (λ x. open_behind is (id_of x) (ids xs)) written
-      ∙ after_ids s c (inside is xs) (outside is xs) is r.row.shape own xs p.immediates fit r.shape in
+      ∙ after_ids s c (labels_inside is xs) (labels_outside is xs) is r.row.shape own xs p.immediates fit r.shape in
       let refused : (x : Row) → refuses x.shape r.row.shape ≡ true → immediates c (labels_in_sight x.role (ids xs)) x.shape a ≡ None =
       λ x no. ap (immediates c (labels_in_sight x.role (ids xs)) x.shape) written
-      ∙ immediates_refused s c k types same apart (inside is xs) (outside is xs) (outside_opened (s.names.labels s.function) is xs o) own (labels_in_sight x.role (ids xs)) x.shape
+      ∙ immediates_refused s c k types same apart (labels_inside is xs) (labels_outside is xs) (outside_opened (s.names.labels s.function) is xs o) own (labels_in_sight x.role (ids xs)) x.shape
       r.row.shape p.immediates no r.shape h.0.range (declared_by_row k p r.row r.found d.0) in
       rw (
         row_word p r,
@@ -178,7 +178,7 @@ operator_writes s named ranged first own xs o h k l =
     let is : is_word (word_of o.value.opcode) ≡ true = ap is_word (ap word_of_row r.found) ∙ r.is_its_word in
     before_writes s.form first o.place (s.nesting + level role (length xs))
     (word_writes is
-    (writes_by s named ranged (inside role xs) (outside role xs) own (outside_labels role xs h) k (shape_of o.value.opcode) o.value.immediates l.range))
+    (writes_by s named ranged (labels_inside role xs) (labels_outside role xs) own (outside_labels role xs h) k (shape_of o.value.opcode) o.value.immediates l.range))
 
 operators_write : (s : Setting) → AreNamed s.names → AreSignaturesInRange s.signature →
     (hs : List (Placed Hint)) (first : Bool) (n : ℕ) (xs : List Label) (os : List (Placed Operator)) → AllByRecursion IsNamedIfAny xs → AllByRecursion IsListed (without_places os) →

@@ -3,7 +3,7 @@ use Rattle.std.proofs.Common.{◌≡◌, ℕ, suc, ◌<◌, ◌≤◌, ◌^◌, 
 use Rattle.std.specs.List.{AllByRecursion}
 use Rattle.wasmprinter_spec.specs.Operator.{Immediates}
 use Rattle.wasmprinter_spec.specs.Row.{Role, Opens, OpensIf, OpensTry, Delegates, Ends, Shape}
-use Rattle.wasmprinter_spec.specs.Labels.{Label, Naming, labels_after, outside}
+use Rattle.wasmprinter_spec.specs.Labels.{Label, Naming, labels_after, labels_outside}
 use Rattle.wasmprinter_spec.specs.Names.{IsNamedIfAny}
 use Rattle.wasmprinter_spec.specs.IndexSpaces.{Context}
 use Rattle.wasmprinter_spec.specs.Layout.Operators.{Setting}
@@ -15,17 +15,17 @@ use Rattle.wasmprinter_reading.proofs.Operators.Immediates.{immediate_items, id_
 
 -- ---- the labels that immediates may mean
 
-pub outside_ids : (r : Role) (xs : List Label) → labels_in_sight r (ids xs) ≡ ids (outside r xs)
+pub outside_ids : (r : Role) (xs : List Label) → labels_in_sight r (ids xs) ≡ ids (labels_outside r xs)
 outside_ids Delegates [] = refl
 outside_ids Delegates (x ∷ xs) = refl
 outside_ids _ xs = refl
 
-pub outside_opened : (naming : Naming) (r : Role) (xs : List Label) → Opened naming xs → Opened naming (outside r xs)
+pub outside_opened : (naming : Naming) (r : Role) (xs : List Label) → Opened naming xs → Opened naming (labels_outside r xs)
 outside_opened naming Delegates [] o = o
 outside_opened naming Delegates (x ∷ xs) o = o.2
 outside_opened naming _ xs o = o
 
-pub outside_labels : (r : Role) (xs : List Label) → AllByRecursion IsNamedIfAny xs → AllByRecursion IsNamedIfAny (outside r xs)
+pub outside_labels : (r : Role) (xs : List Label) → AllByRecursion IsNamedIfAny xs → AllByRecursion IsNamedIfAny (labels_outside r xs)
 outside_labels Delegates [] h = h
 outside_labels Delegates (x ∷ xs) h = h.1
 outside_labels _ xs h = h

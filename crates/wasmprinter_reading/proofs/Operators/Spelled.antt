@@ -4,7 +4,7 @@ use Rattle.std.proofs.lemmas.Bool.{ltb-true}
 use Rattle.std.proofs.lemmas.List.{length-append}
 use Rattle.std.proofs.Math.Nat.{pow-suc}
 use Rattle.std.specs.List.{AllByRecursion}
-use Rattle.wasmprinter_spec.specs.Grammar.{byte, try_map, map_value, Placed, placed}
+use Rattle.wasmprinter_spec.specs.Grammar.{byte, try_map, map_value, Placed, value_with_place}
 use Rattle.wasmprinter_spec.specs.Repeated.{Items}
 use Rattle.wasmprinter_spec.specs.Sized.{take_bytes}
 use Rattle.wasmprinter_spec.specs.FirstByte.{only}
@@ -13,11 +13,11 @@ use Rattle.wasmprinter_spec.specs.Operator.{Catch, One, OneRef, Immediates, Byte
 use Rattle.wasmprinter_spec.specs.Row.{Row, Shape, NoneShape, FenceShape, BlockShape, TryTableShape, IndexShape, DefaultIndexShape, PairShape, FieldShape, CountShape, CallShape, SegmentShape, CopyShape, BranchTableShape, SelectShape, HeapShape, RefShape, CastShape, MemoryShape, MemoryLaneShape, LaneShape, I32Shape, I64Shape, F32Shape, F64Shape, VectorShape, LanesShape}
 use Rattle.wasmprinter_spec.specs.Table.{by_opcode}
 use Rattle.wasmprinter_spec.specs.Nesting.{Nests, Sequence}
-use Rattle.wasmprinter_spec.specs.Instructions.{opcode_grammar, block_type, tag_and_label, catch_by, catch, u64, mem_arg_by, mem_arg, indices, cast_nulls, cast, little_endian, float_bits, immediates, listed, operator, end_byte, Closed, expression, operator_takes, roles}
+use Rattle.wasmprinter_spec.specs.Instructions.{opcode_grammar, block_type, tag_and_label, catch_by, catch, u64, mem_arg_by, mem_arg, indices, cast_nulls, cast, little_endian, float_bits, immediates, immediates_of_row, operator, end_byte, Closed, expression, operator_takes, roles}
 use Rattle.wasmprinter_spec.specs.Module.{without_places}
 use Rattle.wasmprinter_spec.specs.Binary.{AreBytes}
 use Rattle.wasmprinter_reading.specs.Listed.{IsU32, IsByte, IsBlockInRange, IsCatchInRange, IsMemArgInRange, AreInRange, has_shape, has_row_shape, IsListed}
-use Rattle.wasmprinter_reading.proofs.AllSpelled.{AllSpelled, split_bytes, items_have, AllSpelled-any, AllSpelled-seq, AllSpelled-map_value, AllSpelled-succeed, AllSpelled-fail, AllSpelled-choose, AllSpelled-choose_by, AllSpelled-byte, AllSpelled-take_bytes, AllSpelled-announced, AllSpelled-peeked, AllSpelled-placed}
+use Rattle.wasmprinter_reading.proofs.AllSpelled.{AllSpelled, split_bytes, items_have, AllSpelled-any, AllSpelled-seq, AllSpelled-map_value, AllSpelled-succeed, AllSpelled-fail, AllSpelled-choose, AllSpelled-choose_by, AllSpelled-byte, AllSpelled-take_bytes, AllSpelled-behind_first_byte, AllSpelled-by_first_byte, AllSpelled-value_with_place}
 use Rattle.wasmprinter_reading.proofs.LebRange.{AllSpelled-unsigned, AllSpelled-signed}
 use Rattle.wasmprinter_reading.proofs.Vectors.{AllSpelled-u32, AllSpelled-vec}
 use Rattle.wasmprinter_reading.proofs.Types.Ranges.{AllSpelled-signed_index, AllSpelled-heap_type, AllSpelled-val_type}
@@ -33,7 +33,7 @@ HasRowShape r i = (has_row_shape r i ≡ true) × AreInRange i
 
 -- A block type.
 AllSpelled-block_type : AllSpelled block_type IsBlockInRange
-AllSpelled-block_type = AllSpelled-peeked (λ b.
+AllSpelled-block_type = AllSpelled-by_first_byte (λ b.
     AllSpelled-choose (b == 0x40) (AllSpelled-map_value (AllSpelled-any byte) (λ x h. tt))
     (AllSpelled-choose (begins_val_type b) (AllSpelled-map_value AllSpelled-val_type (λ t h. h)) (AllSpelled-map_value AllSpelled-signed_index (λ n h. h))))
 
@@ -49,7 +49,7 @@ AllSpelled-catch_by k =
     (AllSpelled-choose (k == 3) (AllSpelled-map_value AllSpelled-u32 (λ l h. h)) AllSpelled-fail)))
 
 AllSpelled-catch : AllSpelled catch IsCatchInRange
-AllSpelled-catch = AllSpelled-announced AllSpelled-catch_by
+AllSpelled-catch = AllSpelled-behind_first_byte AllSpelled-catch_by
 
 -- A memory operand: its first number says whether a memory stands behind it.
 AllSpelled-u64 : AllSpelled u64 (λ n. n < 2 ^ 64)
@@ -122,16 +122,16 @@ AllSpelled-immediates VectorShape = AllSpelled-sixteen
 AllSpelled-immediates LanesShape = AllSpelled-sixteen
 
 -- The immediates of an opcode that the table lists; there are none of another.
-AllSpelled-listed : (r : Option Row) → AllSpelled (listed r) (HasRowShape r)
-AllSpelled-listed None = AllSpelled-fail
-AllSpelled-listed (Some r) = AllSpelled-immediates r.shape
+AllSpelled-immediates_of_row : (r : Option Row) → AllSpelled (immediates_of_row r) (HasRowShape r)
+AllSpelled-immediates_of_row None = AllSpelled-fail
+AllSpelled-immediates_of_row (Some r) = AllSpelled-immediates r.shape
 
 -- ---- operators
 
 -- An operator is listed with its immediates.
 AllSpelled-operator : AllSpelled operator IsListed
 AllSpelled-operator =
-    AllSpelled-map_value (AllSpelled-seq (AllSpelled-any opcode_grammar) (λ o. AllSpelled-listed (by_opcode o))) (λ x h. record { shape = h.1.0; range = h.1.1 })
+    AllSpelled-map_value (AllSpelled-seq (AllSpelled-any opcode_grammar) (λ o. AllSpelled-immediates_of_row (by_opcode o))) (λ x h. record { shape = h.1.0; range = h.1.1 })
 
 listed_values : (os : List (Placed Operator)) → AllByRecursion (λ o. IsListed o.value) os → AllByRecursion IsListed (without_places os)
 listed_values [] h = tt
@@ -146,14 +146,14 @@ pub record AreNested (x : Closed (Placed Operator)) : Type 0 where
 pub AllSpelled-expression : AllSpelled expression AreNested
 AllSpelled-expression = record {
   has = λ p text x bytes s. record {
-    listed = listed_values x.items (items_have (AllSpelled-placed AllSpelled-operator) x.items p s.0 (split_bytes s.0 (end_byte ∷ []) (subst AreBytes s.1 bytes)).0 s.2);
+    listed = listed_values x.items (items_have (AllSpelled-value_with_place AllSpelled-operator) x.items p s.0 (split_bytes s.0 (end_byte ∷ []) (subst AreBytes s.1 bytes)).0 s.2);
     nested = s.3;
   };
 }
 
 -- ---- each operator takes a byte
 
-operators_take : (os : List (Placed Operator)) (p : ℕ) (text : List ℕ) → Items (placed operator) p text os → length os ≤ length text
+operators_take : (os : List (Placed Operator)) (p : ℕ) (text : List ℕ) → Items (value_with_place operator) p text os → length os ≤ length text
 operators_take [] p text s = omega arith
 operators_take (o ∷ os) p text s =
     let first : 0 < length s.0 = operator_takes p s.0 o s.3 in

@@ -8,11 +8,11 @@ use Rattle.wasmprinter_spec.specs.Row.{Types}
 use Rattle.wasmprinter_spec.specs.Types.{HeapType, Index, ref_type, ValType, Ref, StorageType, Val, I8, I16, FieldType, field_type, FuncType, CompositeType, FuncComposite, ArrayComposite, StructComposite, SubType, sub_type}
 use Rattle.wasmprinter_spec.specs.Labels.{Named}
 use Rattle.wasmprinter_spec.specs.Names.{Names, AreDistinct, identifiers}
-use Rattle.wasmprinter_spec.specs.Layout.Variables.{Variables, Alone, Together, with_variable, grouped}
+use Rattle.wasmprinter_spec.specs.Layout.Variables.{Variables, Alone, Together, with_variable, variable_groups}
 use Rattle.wasmprinter_spec.specs.Layout.Types.{parameters_of}
 use Rattle.wasmprinter_spec.specs.IndexSpaces.{Identifiers, index}
 use Rattle.wasmprinter_spec.specs.Indexed.{IsDeclaredHeap, IsDeclaredVal, IsDeclaredStorage, IsDeclaredField, IsDeclaredFunc, IsDeclaredComposite, IsDeclaredSub}
-use Rattle.wasmprinter_spec.specs.Text.Items.{identified, groups, Declaration, declaration, declarations}
+use Rattle.wasmprinter_spec.specs.Text.Items.{identifier_in_front, groups, Declaration, declaration, declarations}
 use Rattle.wasmprinter_spec.specs.Text.Types.{heap_of_word, ref_of_word, number_of_word, packed_of_word, val_named, storage_named, field_named, heap_type, ref_named, ref_parts, ref_group, val_group, val_types, storage_group, storage_type, field_group, field, fields, variables, Signature, Declared, with_fields, signature, composite, supertypes, subtype, read_type, read_group, group_members}
 use Rattle.wasmprinter_spec.specs.Text.TypeUses.{heap_number, same_heap, same_flag, same_type, same_types, same_func_type, agrees, parameters}
 use Rattle.wasmprinter_lexical.proofs.Grown.{onto-End, onto_assoc}
@@ -57,14 +57,14 @@ first_supertype ids (Some m) n f x e g = rw (e, g)
 
 -- ---- no identifier stands before a type
 
-pub identified-ref : (names : Names) (null : Bool) (h : HeapType) (f : Forest) → identified (onto (ref_items_by names null h) f) ≡ (None, onto (ref_items_by names null h) f)
-identified-ref names true (Index n) f = refl
-identified-ref names true _ f = refl
-identified-ref names false h f = refl
+pub identifier_in_front-ref : (names : Names) (null : Bool) (h : HeapType) (f : Forest) → identifier_in_front (onto (ref_items_by names null h) f) ≡ (None, onto (ref_items_by names null h) f)
+identifier_in_front-ref names true (Index n) f = refl
+identifier_in_front-ref names true _ f = refl
+identifier_in_front-ref names false h f = refl
 
-pub identified-val : (names : Names) (t : ValType) (f : Forest) → identified (onto (val_items names t) f) ≡ (None, onto (val_items names t) f)
-identified-val names (Ref r) f = identified-ref names r.nullable r.heap f
-identified-val names _ f = refl
+pub identifier_in_front-val : (names : Names) (t : ValType) (f : Forest) → identifier_in_front (onto (val_items names t) f) ≡ (None, onto (val_items names t) f)
+identifier_in_front-val names (Ref r) f = identifier_in_front-ref names r.nullable r.heap f
+identifier_in_front-val names _ f = refl
 
 -- ---- groups of types
 
@@ -84,10 +84,10 @@ held-with_variable None t (Together ts ∷ gs) = refl
 held-with_variable None t (Alone n u ∷ gs) = refl
 
 -- groups declare what stands in them
-pub held-grouped : (named : ℕ → Option Named) (k : ℕ) (ts : List ValType) → held_by_all (grouped named k ts) ≡ declared_from named k ts
-held-grouped named k [] = refl
-held-grouped named k (t ∷ ts) =
-    held-with_variable (named k) t (grouped named (k + 1) ts) ∙ ap (λ ds. declaration (id (named k)) t ∷ ds) (held-grouped named (k + 1) ts)
+pub held-variable_groups : (named : ℕ → Option Named) (k : ℕ) (ts : List ValType) → held_by_all (variable_groups named k ts) ≡ declared_from named k ts
+held-variable_groups named k [] = refl
+held-variable_groups named k (t ∷ ts) =
+    held-with_variable (named k) t (variable_groups named (k + 1) ts) ∙ ap (λ ds. declaration (id (named k)) t ∷ ds) (held-variable_groups named (k + 1) ts)
 
 -- a group of another word is left
 pub groups_leave : {A : Type 0} (names : Names) (read : Forest → Option (List A)) (w v : List ℕ) (ts : List ValType) (f : Forest) → bytes_eq v w ≡ false →
@@ -201,9 +201,9 @@ module _ (names : Names) (ids : Identifiers) (bound : ℕ) (reads : Reads ids (n
 
   -- variables k, k + 1 ..
   pub variables_take : (named : ℕ → Option Named) (k : ℕ) (w : List ℕ) (ts : List ValType) (f : Forest) → AllByRecursion (IsDeclaredVal bound) ts →
-      groups (variables ids) w f ≡ Some ([], f) → groups (variables ids) w (onto (groups_items names w (grouped named k ts)) f) ≡ Some (declared_from named k ts, f)
+      groups (variables ids) w f ≡ Some ([], f) → groups (variables ids) w (onto (groups_items names w (variable_groups named k ts)) f) ≡ Some (declared_from named k ts, f)
   variables_take named k w ts f r h =
-      groups_take w (grouped named k ts) f (grouped_types (IsDeclaredVal bound) named k ts r) h ∙ ap (λ ds. Some (ds, f)) (held-grouped named k ts)
+      groups_take w (variable_groups named k ts) f (grouped_types (IsDeclaredVal bound) named k ts r) h ∙ ap (λ ds. Some (ds, f)) (held-variable_groups named k ts)
 
   -- ---- signatures
 
@@ -215,7 +215,7 @@ module _ (names : Names) (ids : Identifiers) (bound : ℕ) (reads : Reads ids (n
       groups_leave names (variables ids) (codes "param") (codes "result") t.results f refl b.params in
       let params = variables_take (parameters_of names function) 0 (codes "param") t.params (onto (group_items names (codes "result") t.results) f) h.params left in
       let results = results_take (codes "result") t.results f h.results b.results in
-      rw (onto_assoc (groups_items names (codes "param") (grouped (parameters_of names function) 0 t.params)) (group_items names (codes "result") t.results) f, params, results)
+      rw (onto_assoc (groups_items names (codes "param") (variable_groups (parameters_of names function) 0 t.params)) (group_items names (codes "result") t.results) f, params, results)
 
   signature-alone : (t : FuncType) → IsDeclaredFunc bound t → signature ids (signature_items names None t) ≡ Some (printed_signature (λ i. None) t, End)
   signature-alone t h =

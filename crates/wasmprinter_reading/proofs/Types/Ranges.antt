@@ -9,7 +9,7 @@ use Rattle.wasmprinter_spec.specs.Module.{groups_of}
 use Rattle.wasmprinter_spec.specs.Binary.ValTypes.{number_type_of, abstract_heap_of, non_negative, signed_index, heap_type, ref_type_behind, reference_type, val_type_behind, val_type}
 use Rattle.wasmprinter_spec.specs.Binary.Types.{packed_type_of, storage_type, mutability, field, signature, composite_behind, sub_type_parts, sub_type_behind, group}
 use Rattle.wasmprinter_reading.specs.Listed.{IsSigned, IsU32, IsSignatureInRange}
-use Rattle.wasmprinter_reading.proofs.AllSpelled.{AllSpelled, AllSpelled-any, AllSpelled-seq, AllSpelled-try_map, AllSpelled-map_value, AllSpelled-fail, AllSpelled-choose, AllSpelled-given, AllSpelled-announced, AllSpelled-peeked}
+use Rattle.wasmprinter_reading.proofs.AllSpelled.{AllSpelled, AllSpelled-any, AllSpelled-seq, AllSpelled-try_map, AllSpelled-map_value, AllSpelled-fail, AllSpelled-choose, AllSpelled-value_if_any, AllSpelled-behind_first_byte, AllSpelled-by_first_byte}
 use Rattle.wasmprinter_reading.proofs.LebRange.{AllSpelled-signed}
 use Rattle.wasmprinter_reading.proofs.Vectors.{AllSpelled-u32, AllSpelled-vec}
 use Rattle.wasmprinter_reading.proofs.Types.Ranged.{IsRangedHeap, IsRangedVal, IsRangedStorage, IsRangedField, IsRangedFunc, IsRangedComposite, IsRangedSub, IsFewComposite, IsFewSub, IsRangedGroup}
@@ -34,7 +34,7 @@ AllSpelled-signed_index = AllSpelled-try_map (AllSpelled-signed 33) index_ranged
 
 pub AllSpelled-heap_type : AllSpelled heap_type IsRangedHeap
 AllSpelled-heap_type =
-    AllSpelled-peeked (λ b. AllSpelled-choose (is_some (abstract_heap_of b))
+    AllSpelled-by_first_byte (λ b. AllSpelled-choose (is_some (abstract_heap_of b))
     (AllSpelled-try_map (AllSpelled-any byte) (λ c h e _. abstract_ranged c h e))
     (AllSpelled-map_value AllSpelled-signed_index (λ n h. h)))
 
@@ -42,18 +42,18 @@ AllSpelled-ref_type_behind : (b : ℕ) → AllSpelled (ref_type_behind b) (λ r.
 AllSpelled-ref_type_behind b =
     AllSpelled-choose (b == 0x64) (AllSpelled-map_value AllSpelled-heap_type (λ t h. h))
     (AllSpelled-choose (b == 0x63) (AllSpelled-map_value AllSpelled-heap_type (λ t h. h))
-    (AllSpelled-map_value (AllSpelled-given (abstract_heap_of b) (abstract_ranged b)) (λ t h. h)))
+    (AllSpelled-map_value (AllSpelled-value_if_any (abstract_heap_of b) (abstract_ranged b)) (λ t h. h)))
 
 pub AllSpelled-reference_type : AllSpelled reference_type (λ r. IsRangedHeap r.heap)
-AllSpelled-reference_type = AllSpelled-announced AllSpelled-ref_type_behind
+AllSpelled-reference_type = AllSpelled-behind_first_byte AllSpelled-ref_type_behind
 
 AllSpelled-val_type_behind : (b : ℕ) → AllSpelled (val_type_behind b) IsRangedVal
 AllSpelled-val_type_behind b =
-    AllSpelled-choose (is_some (number_type_of b)) (AllSpelled-given (number_type_of b) (number_ranged b))
+    AllSpelled-choose (is_some (number_type_of b)) (AllSpelled-value_if_any (number_type_of b) (number_ranged b))
     (AllSpelled-map_value (AllSpelled-ref_type_behind b) (λ t h. h))
 
 pub AllSpelled-val_type : AllSpelled val_type IsRangedVal
-AllSpelled-val_type = AllSpelled-announced AllSpelled-val_type_behind
+AllSpelled-val_type = AllSpelled-behind_first_byte AllSpelled-val_type_behind
 
 -- ---- composite types
 
@@ -63,7 +63,7 @@ packed_ranged b _ e = tt
 
 AllSpelled-storage_type : AllSpelled storage_type IsRangedStorage
 AllSpelled-storage_type =
-    AllSpelled-announced (λ b. AllSpelled-choose (is_some (packed_type_of b)) (AllSpelled-given (packed_type_of b) (packed_ranged b))
+    AllSpelled-behind_first_byte (λ b. AllSpelled-choose (is_some (packed_type_of b)) (AllSpelled-value_if_any (packed_type_of b) (packed_ranged b))
     (AllSpelled-map_value (AllSpelled-val_type_behind b) (λ t h. h)))
 
 AllSpelled-field : AllSpelled field IsRangedField
@@ -84,7 +84,7 @@ AllSpelled-composite_behind b =
 
 AllSpelled-sub_type_parts : (final : Bool) → AllSpelled (sub_type_parts final) (λ t. IsRangedSub t × IsFewSub t)
 AllSpelled-sub_type_parts final =
-    AllSpelled-map_value (AllSpelled-seq (AllSpelled-vec AllSpelled-u32) (λ _. AllSpelled-announced AllSpelled-composite_behind))
+    AllSpelled-map_value (AllSpelled-seq (AllSpelled-vec AllSpelled-u32) (λ _. AllSpelled-behind_first_byte AllSpelled-composite_behind))
     (λ x h. (record { supertypes = h.0.each; composite = h.1.0 }, h.1.1))
 
 AllSpelled-sub_type_behind : (b : ℕ) → AllSpelled (sub_type_behind b) (λ t. IsRangedSub t × IsFewSub t)
@@ -100,8 +100,8 @@ each_ranged (t ∷ ts) h = let rest = each_ranged ts h.1 in ((h.0.0, rest.0), (h
 
 pub AllSpelled-group : AllSpelled group IsRangedGroup
 AllSpelled-group =
-    AllSpelled-announced (λ b. AllSpelled-choose (b == 0x4e)
-    (AllSpelled-map_value (AllSpelled-vec (AllSpelled-announced AllSpelled-sub_type_behind))
+    AllSpelled-behind_first_byte (λ b. AllSpelled-choose (b == 0x4e)
+    (AllSpelled-map_value (AllSpelled-vec (AllSpelled-behind_first_byte AllSpelled-sub_type_behind))
     (λ ts h. let both = each_ranged ts h.each in record { count = h.count; each = both.0; few = both.1; single = tt }))
     (AllSpelled-map_value (AllSpelled-sub_type_behind b) (λ t h. record { count = omega arith; each = (h.0, tt); few = (h.1, tt); single = tt })))
 

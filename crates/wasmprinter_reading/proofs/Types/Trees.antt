@@ -10,9 +10,9 @@ use Rattle.wasmprinter_spec.specs.Labels.{Named}
 use Rattle.wasmprinter_spec.specs.Names.{Names, IsNamed, IsNamedIfAny, AreNamed}
 use Rattle.wasmprinter_spec.specs.Placed.{TypeGroup}
 use Rattle.wasmprinter_spec.specs.Piece.{Gap}
-use Rattle.wasmprinter_spec.specs.Layout.Groups.{numbered}
+use Rattle.wasmprinter_spec.specs.Layout.Groups.{numbered_pieces}
 use Rattle.wasmprinter_spec.specs.Layout.ValTypes.{heap_word, ref_word, type_index_pieces, heap_pieces, null_ref_pieces, ref_pieces_by, ref_pieces, val_pieces, type_list}
-use Rattle.wasmprinter_spec.specs.Layout.Variables.{Variables, Alone, Together, with_variable, grouped, variables_pieces, groups_pieces}
+use Rattle.wasmprinter_spec.specs.Layout.Variables.{Variables, Alone, Together, with_variable, variable_groups, variables_pieces, groups_pieces}
 use Rattle.wasmprinter_spec.specs.Layout.Types.{parameters_of, list_group, signature_pieces, signature_if_any, type_use_pieces, storage_pieces, field_pieces_by, field_pieces, struct_field_pieces, composite_pieces, final_pieces, supertype_pieces, sub_group, sub_pieces_by, sub_pieces, type_pieces, member_pieces, group_pieces_by, type_group_pieces, type_section_pieces}
 use Rattle.wasmprinter_lexical.proofs.Runs.{is_word}
 use Rattle.wasmprinter_lexical.proofs.Pieces.{Edge, Free, Bound}
@@ -71,7 +71,7 @@ module _ (names : Names) where
 
   -- the signature of a function, or of no function
   abbrev pub signature_items : Option ℕ → FuncType → Forest
-  signature_items f t = onto (groups_items (codes "param") (grouped (parameters_of names f) 0 t.params)) (group_items (codes "result") t.results)
+  signature_items f t = onto (groups_items (codes "param") (variable_groups (parameters_of names f) 0 t.params)) (group_items (codes "result") t.results)
 
   -- nothing where a type is no function type
   abbrev pub signature_if_any_items : Option ℕ → Option FuncType → Forest
@@ -175,13 +175,13 @@ with_name None t [] h k = (tt, k)
 with_name None t (Together ts ∷ gs) h k = (tt, k.1)
 with_name None t (Alone n u ∷ gs) h k = (tt, k)
 
-pub grouped_types : (P : ValType → Type 0) (named : ℕ → Option Named) (k : ℕ) (ts : List ValType) → AllByRecursion P ts → AllByRecursion (HaveTypes P) (grouped named k ts)
+pub grouped_types : (P : ValType → Type 0) (named : ℕ → Option Named) (k : ℕ) (ts : List ValType) → AllByRecursion P ts → AllByRecursion (HaveTypes P) (variable_groups named k ts)
 grouped_types P named k [] h = tt
-grouped_types P named k (t ∷ ts) h = with_type P (named k) t (grouped named (k + 1) ts) h.0 (grouped_types P named (k + 1) ts h.1)
+grouped_types P named k (t ∷ ts) h = with_type P (named k) t (variable_groups named (k + 1) ts) h.0 (grouped_types P named (k + 1) ts h.1)
 
-pub grouped_names : (named : ℕ → Option Named) → ((i : ℕ) → IsNamedIfAny (named i)) → (k : ℕ) (ts : List ValType) → AllByRecursion HaveNames (grouped named k ts)
+pub grouped_names : (named : ℕ → Option Named) → ((i : ℕ) → IsNamedIfAny (named i)) → (k : ℕ) (ts : List ValType) → AllByRecursion HaveNames (variable_groups named k ts)
 grouped_names named h k [] = tt
-grouped_names named h k (t ∷ ts) = with_name (named k) t (grouped named (k + 1) ts) (h k) (grouped_names named h (k + 1) ts)
+grouped_names named h k (t ∷ ts) = with_name (named k) t (variable_groups named (k + 1) ts) (h k) (grouped_names named h (k + 1) ts)
 
 -- ---- their pieces write them
 
@@ -244,7 +244,7 @@ module _ (names : Names) (named : AreNamed names) where
   unfolding signature_pieces class
   signature_writes f t r =
       both_write
-      (groups_write (codes "param") (grouped (parameters_of names f) 0 t.params) refl
+      (groups_write (codes "param") (variable_groups (parameters_of names f) 0 t.params) refl
       (grouped_names (parameters_of names f) (parameters_named f) 0 t.params)
       (grouped_types IsRangedVal (parameters_of names f) 0 t.params r.params))
       (list_group_writes (codes "result") t.results refl r.results)
@@ -281,8 +281,8 @@ module _ (names : Names) (named : AreNamed names) where
   struct_field_writes o f k r = gap_writes refl (plain_group_then {ps = field_pieces names o f} {qs = []} refl refl (field_writes o f k r) nothing_writes)
 
   struct_writes : (i k : ℕ) (fs : List FieldType) → AllByRecursion IsRangedField fs →
-      Writes Bound (numbered (λ k f. struct_field_pieces names (names.fields i k) f) k fs) Bound (struct_items names (names.fields i) k fs)
-  unfolding numbered
+      Writes Bound (numbered_pieces (λ k f. struct_field_pieces names (names.fields i k) f) k fs) Bound (struct_items names (names.fields i) k fs)
+  unfolding numbered_pieces
   struct_writes i k [] r = nothing_writes
   struct_writes i k (f ∷ fs) r = both_write (struct_field_writes (names.fields i k) f (named.fields i k) r.0) (struct_writes i (k + 1) fs r.1)
 
@@ -336,7 +336,7 @@ module _ (names : Names) (named : AreNamed names) where
       Writes Bound (group_pieces_by names written place i ts) Bound (type_group_items_by names written (members_items names i ts))
   unfolding class
   group_by_writes true place i ts h r =
-      let members : Writes Bound (numbered (member_pieces names place) i ts) Bound (members_items names i ts) =
+      let members : Writes Bound (numbered_pieces (member_pieces names place) i ts) Bound (members_items names i ts) =
       numbered_writes IsRangedSub (member_pieces names place) (type_field names) (λ j t k s. member_writes place j t k s) i ts h r in
       group_writes 1 (codes "rec") _ refl refl members
   group_by_writes false place i ts h r =

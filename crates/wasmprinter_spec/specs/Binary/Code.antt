@@ -1,6 +1,6 @@
 -- The code section (section 5.5 of the standard, "Code Section"): a list of bodies of functions, each behind its size.
 use Rattle.std.specs.Prelude.{List}
-use Rattle.wasmprinter_spec.specs.Grammar.{Grammar, Remainder, seq, map_value, Placed, placed}
+use Rattle.wasmprinter_spec.specs.Grammar.{Grammar, Remainder, seq, map_value, Placed, value_with_place}
 use Rattle.wasmprinter_spec.specs.Sized.{exactly, alone}
 use Rattle.wasmprinter_spec.specs.Name.{u32, vec}
 use Rattle.wasmprinter_spec.specs.Binary.ValTypes.{val_type}
@@ -16,11 +16,11 @@ body_from locals code = record { locals = locals; operators = code.items; end = 
 
 -- locals and an expression
 abbrev pub body : Grammar Body
-body = map_value (λ x. body_from x.0 x.1) (seq (vec (placed local_entry)) (λ _. expression))
+body = map_value (λ x. body_from x.0 x.1) (seq (vec (value_with_place local_entry)) (λ _. expression))
 
 -- a size, and a body of exactly so many bytes
 abbrev pub code_entry : Grammar (Placed Body)
-code_entry = map_value (λ x. x.1) (seq u32 (λ size. exactly (alone (placed body)) size))
+code_entry = map_value (λ x. x.1) (seq u32 (λ size. exactly (alone (value_with_place body)) size))
 
 abbrev pub code_section : Remainder (List (Placed Body))
 code_section = alone (vec code_entry)

@@ -1,7 +1,7 @@
 -- The data section (section 5.5 of the standard, "Data Section"): a list of data segments; and the data count
 -- section, which holds their number.
 use Rattle.std.specs.Prelude.{ℕ, List, ◌==◌, Option, Some}
-use Rattle.wasmprinter_spec.specs.Grammar.{Grammar, Remainder, seq, map_value, succeed, fail, choose, Placed, placed}
+use Rattle.wasmprinter_spec.specs.Grammar.{Grammar, Remainder, seq, map_value, succeed, fail, choose, Placed, value_with_place}
 use Rattle.wasmprinter_spec.specs.Sized.{take_bytes, alone}
 use Rattle.wasmprinter_spec.specs.Name.{u32, vec}
 use Rattle.wasmprinter_spec.specs.Operator.{Operator}
@@ -23,7 +23,7 @@ abbrev pub segment : Grammar (Data (Placed Operator))
 segment = map_value (λ x. data_of x.1.0 x.1.1) (seq u32 (λ flags. seq (data_mode flags) (λ _. byte_vec)))
 
 abbrev pub data_section : Remainder (List (Placed (Data (Placed Operator))))
-data_section = alone (vec (placed segment))
+data_section = alone (vec (value_with_place segment))
 
 abbrev pub data_count_section : Remainder (Option ℕ)
 data_count_section = alone (map_value Some u32)

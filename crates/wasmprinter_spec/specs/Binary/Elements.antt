@@ -1,6 +1,6 @@
 -- The element section (section 5.5 of the standard, "Element Section"): a list of element segments.
 use Rattle.std.specs.Prelude.{ℕ, List, Bool, true, false, ◌==◌}
-use Rattle.wasmprinter_spec.specs.Grammar.{Grammar, Remainder, seq, map_value, succeed, fail, choose, Placed, placed}
+use Rattle.wasmprinter_spec.specs.Grammar.{Grammar, Remainder, seq, map_value, succeed, fail, choose, Placed, value_with_place}
 use Rattle.wasmprinter_spec.specs.FirstByte.{only}
 use Rattle.wasmprinter_spec.specs.Sized.{alone}
 use Rattle.wasmprinter_spec.specs.Name.{u32, vec}
@@ -52,4 +52,4 @@ abbrev pub element : Grammar ElementEntry
 element = map_value (λ x. x.1) (seq u32 element_behind)
 
 abbrev pub element_section : Remainder (List (Placed ElementEntry))
-element_section = alone (vec (placed element))
+element_section = alone (vec (value_with_place element))

@@ -1,6 +1,6 @@
 -- The export section (section 5.5 of the standard, "Export Section"): a list of exports.
 use Rattle.std.specs.Prelude.{ℕ, List, [], ◌∷◌, Option}
-use Rattle.wasmprinter_spec.specs.Grammar.{Grammar, Remainder, byte, seq, try_map, map_value, Placed, placed}
+use Rattle.wasmprinter_spec.specs.Grammar.{Grammar, Remainder, byte, seq, try_map, map_value, Placed, value_with_place}
 use Rattle.wasmprinter_spec.specs.Sized.{alone}
 use Rattle.wasmprinter_spec.specs.Name.{name, u32, vec}
 use Rattle.wasmprinter_spec.specs.Types.{ExternKind, FuncKind, TableKind, MemoryKind, GlobalKind, TagKind}
@@ -18,4 +18,4 @@ abbrev pub export : Grammar Export
 export = map_value (λ x. record { name = x.0; kind = x.1.0; index = x.1.1 }) (seq name (λ _. seq extern_kind (λ _. u32)))
 
 abbrev pub export_section : Remainder (List (Placed Export))
-export_section = alone (vec (placed export))
+export_section = alone (vec (value_with_place export))

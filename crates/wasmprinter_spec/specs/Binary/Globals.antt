@@ -1,7 +1,7 @@
 -- How bytes spell the types of globals (section 5.3 of the standard, "Global Types"), and the global section (section 5.5, "Global
 -- Section"): a list of globals with their initialisers.
 use Rattle.std.specs.Prelude.{List}
-use Rattle.wasmprinter_spec.specs.Grammar.{Grammar, Remainder, seq, map_value, Placed, placed}
+use Rattle.wasmprinter_spec.specs.Grammar.{Grammar, Remainder, seq, map_value, Placed, value_with_place}
 use Rattle.wasmprinter_spec.specs.Sized.{alone}
 use Rattle.wasmprinter_spec.specs.Name.{vec}
 use Rattle.wasmprinter_spec.specs.Types.{GlobalType, global_type_of}
@@ -18,4 +18,4 @@ abbrev pub global : Grammar (Global (Placed Operator))
 global = map_value (λ x. global_of x.0 x.1) (seq global_type (λ _. constant))
 
 abbrev pub global_section : Remainder (List (Placed (Global (Placed Operator))))
-global_section = alone (vec (placed global))
+global_section = alone (vec (value_with_place global))

@@ -1,7 +1,7 @@
 -- The import section (section 5.5 of the standard, "Import Section"): a list of imports, each two names and what is imported.
 use Rattle.std.specs.Prelude.{ℕ, List, ◌==◌}
-use Rattle.wasmprinter_spec.specs.Grammar.{Grammar, Remainder, seq, map_value, fail, choose, Placed, placed}
-use Rattle.wasmprinter_spec.specs.FirstByte.{announced}
+use Rattle.wasmprinter_spec.specs.Grammar.{Grammar, Remainder, seq, map_value, fail, choose, Placed, value_with_place}
+use Rattle.wasmprinter_spec.specs.FirstByte.{behind_first_byte}
 use Rattle.wasmprinter_spec.specs.Sized.{alone}
 use Rattle.wasmprinter_spec.specs.Name.{name, u32, vec}
 use Rattle.wasmprinter_spec.specs.Types.{ExternType, FuncExtern, TableExtern, MemoryExtern, GlobalExtern, TagExtern}
@@ -21,10 +21,10 @@ extern_type_behind kind =
     (choose (kind == 4) (map_value TagExtern tag) fail))))
 
 abbrev pub extern_type : Grammar ExternType
-extern_type = announced extern_type_behind
+extern_type = behind_first_byte extern_type_behind
 
 abbrev pub import : Grammar Import
 import = map_value (λ x. import_of x.0 x.1.0 x.1.1) (seq name (λ _. seq name (λ _. extern_type)))
 
 abbrev pub import_section : Remainder (List (Placed Import))
-import_section = alone (vec (placed import))
+import_section = alone (vec (value_with_place import))

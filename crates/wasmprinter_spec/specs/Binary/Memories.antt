@@ -1,8 +1,8 @@
 -- How bytes spell the types of memories (section 5.3 of the standard, "Memory Types", with the sizes of pages that a proposal to the
 -- standard adds), and the memory section (section 5.5, "Memory Section"): a list of these.
 use Rattle.std.specs.Prelude.{ℕ, nat_lt, Bool, true, false, List, Option, Some, None, if◌then◌else◌}
-use Rattle.wasmprinter_spec.specs.Grammar.{Grammar, Remainder, seq, try_map, map_value, succeed, fail, choose, Placed, placed}
-use Rattle.wasmprinter_spec.specs.FirstByte.{announced}
+use Rattle.wasmprinter_spec.specs.Grammar.{Grammar, Remainder, seq, try_map, map_value, succeed, fail, choose, Placed, value_with_place}
+use Rattle.wasmprinter_spec.specs.FirstByte.{behind_first_byte}
 use Rattle.wasmprinter_spec.specs.Sized.{alone}
 use Rattle.wasmprinter_spec.specs.Name.{u32, vec}
 use Rattle.wasmprinter_spec.specs.Types.{MemoryType, memory_type_of}
@@ -24,7 +24,7 @@ memory_type_behind flags =
     (map_value (λ x. memory_type_of (has_bit 2 flags) (has_bit 1 flags) x.0 x.1) (seq (limits (has_bit 0 flags)) (λ _. page (has_bit 3 flags)))) fail
 
 abbrev pub memory_type : Grammar MemoryType
-memory_type = announced memory_type_behind
+memory_type = behind_first_byte memory_type_behind
 
 abbrev pub memory_section : Remainder (List (Placed MemoryType))
-memory_section = alone (vec (placed memory_type))
+memory_section = alone (vec (value_with_place memory_type))

@@ -1,8 +1,8 @@
 -- How bytes spell the types of tables (section 5.3 of the standard, "Table Types"), and the table section (section 5.5, "Table Section"): a
 -- list of tables, with or without an initialiser.
 use Rattle.std.specs.Prelude.{ℕ, List, Bool, ◌==◌, ◌||◌, Some, None}
-use Rattle.wasmprinter_spec.specs.Grammar.{Grammar, Remainder, seq, map_value, fail, choose, Placed, placed}
-use Rattle.wasmprinter_spec.specs.FirstByte.{only, announced, peeked}
+use Rattle.wasmprinter_spec.specs.Grammar.{Grammar, Remainder, seq, map_value, fail, choose, Placed, value_with_place}
+use Rattle.wasmprinter_spec.specs.FirstByte.{only, behind_first_byte, by_first_byte}
 use Rattle.wasmprinter_spec.specs.Sized.{alone}
 use Rattle.wasmprinter_spec.specs.Name.{vec}
 use Rattle.wasmprinter_spec.specs.Types.{Limits, TableType, table_type_of}
@@ -19,7 +19,7 @@ table_limits_behind flags =
 
 -- what the table holds, and its limits
 abbrev pub table_type : Grammar TableType
-table_type = map_value (λ x. table_type_of x.1.0 x.1.1 x.0) (seq reference_type (λ _. announced table_limits_behind))
+table_type = map_value (λ x. table_type_of x.1.0 x.1.1 x.0) (seq reference_type (λ _. behind_first_byte table_limits_behind))
 
 -- 40 00, a type, and an initialiser; or a type alone
 abbrev pub table_by : ℕ → Grammar (Table (Placed Operator))
@@ -29,7 +29,7 @@ table_by b =
     (map_value (λ t. table_of t None) table_type)
 
 abbrev pub table : Grammar (Table (Placed Operator))
-table = peeked table_by
+table = by_first_byte table_by
 
 abbrev pub table_section : Remainder (List (Placed (Table (Placed Operator))))
-table_section = alone (vec (placed table))
+table_section = alone (vec (value_with_place table))

@@ -1,6 +1,6 @@
 -- The tag section (section 5.5 of the standard, "Tag Section"): a list of tags, each a byte 00 and the index of its type.
 use Rattle.std.specs.Prelude.{ℕ, List}
-use Rattle.wasmprinter_spec.specs.Grammar.{Grammar, Remainder, seq, map_value, Placed, placed}
+use Rattle.wasmprinter_spec.specs.Grammar.{Grammar, Remainder, seq, map_value, Placed, value_with_place}
 use Rattle.wasmprinter_spec.specs.FirstByte.{only}
 use Rattle.wasmprinter_spec.specs.Sized.{alone}
 use Rattle.wasmprinter_spec.specs.Name.{u32, vec}
@@ -9,4 +9,4 @@ abbrev pub tag : Grammar ℕ
 tag = map_value (λ x. x.1) (seq (only 0x00) (λ _. u32))
 
 abbrev pub tag_section : Remainder (List (Placed ℕ))
-tag_section = alone (vec (placed tag))
+tag_section = alone (vec (value_with_place tag))

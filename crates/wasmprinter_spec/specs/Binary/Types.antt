@@ -1,12 +1,12 @@
 -- How bytes spell composite types, subtypes and their groups (section 5.3 of the standard), and the type section (section 5.5,
 -- "Type Section"): a list of groups.
 use Rattle.std.specs.Prelude.{ℕ, List, [], ◌∷◌, Bool, true, false, ◌==◌, is_some, Option}
-use Rattle.wasmprinter_spec.specs.Grammar.{Grammar, Remainder, byte, seq, try_map, map_value, fail, choose, Placed, placed}
-use Rattle.wasmprinter_spec.specs.FirstByte.{announced}
+use Rattle.wasmprinter_spec.specs.Grammar.{Grammar, Remainder, byte, seq, try_map, map_value, fail, choose, Placed, value_with_place}
+use Rattle.wasmprinter_spec.specs.FirstByte.{behind_first_byte}
 use Rattle.wasmprinter_spec.specs.Sized.{alone}
 use Rattle.wasmprinter_spec.specs.Name.{u32, vec}
 use Rattle.wasmprinter_spec.specs.Types.{StorageType, Val, I8, I16, FieldType, field_type, FuncType, CompositeType, FuncComposite, ArrayComposite, StructComposite, SubType, sub_type, final_type}
-use Rattle.wasmprinter_spec.specs.Binary.ValTypes.{lookup, given, val_type, val_type_behind}
+use Rattle.wasmprinter_spec.specs.Binary.ValTypes.{lookup, value_if_any, val_type, val_type_behind}
 use Rattle.wasmprinter_spec.specs.Placed.{TypeGroup, type_group}
 
 abbrev pub packed_type_of : ℕ → Option StorageType
@@ -14,10 +14,10 @@ packed_type_of b = lookup ((0x78, I8) ∷ (0x77, I16) ∷ []) b
 
 -- behind its first byte: a packed type, or a value type
 abbrev pub storage_type_behind : ℕ → Grammar StorageType
-storage_type_behind b = choose (is_some (packed_type_of b)) (given (packed_type_of b)) (map_value Val (val_type_behind b))
+storage_type_behind b = choose (is_some (packed_type_of b)) (value_if_any (packed_type_of b)) (map_value Val (val_type_behind b))
 
 abbrev pub storage_type : Grammar StorageType
-storage_type = announced storage_type_behind
+storage_type = behind_first_byte storage_type_behind
 
 -- whether a field can be changed
 abbrev pub mutability : Grammar Bool
@@ -38,7 +38,7 @@ composite_behind b =
     (choose (b == 0x60) (map_value FuncComposite signature) fail))
 
 abbrev pub composite : Grammar CompositeType
-composite = announced composite_behind
+composite = behind_first_byte composite_behind
 
 -- supertypes, and a composite type
 abbrev pub sub_type_parts : Bool → Grammar SubType
@@ -52,7 +52,7 @@ sub_type_behind b =
     (map_value final_type (composite_behind b)))
 
 abbrev pub subtype : Grammar SubType
-subtype = announced sub_type_behind
+subtype = behind_first_byte sub_type_behind
 
 -- behind its first byte: 4E and types, or a type by itself
 abbrev pub group_behind : ℕ → Grammar TypeGroup
@@ -61,7 +61,7 @@ group_behind b =
     (map_value (λ t. type_group false (t ∷ [])) (sub_type_behind b))
 
 abbrev pub group : Grammar TypeGroup
-group = announced group_behind
+group = behind_first_byte group_behind
 
 abbrev pub type_section : Remainder (List (Placed TypeGroup))
-type_section = alone (vec (placed group))
+type_section = alone (vec (value_with_place group))

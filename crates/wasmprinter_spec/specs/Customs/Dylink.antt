@@ -1,6 +1,6 @@
 -- The section `dylink.0` (tool conventions, "Dynamic Linking"): subsections, each an id, a size and so many bytes.
 use Rattle.std.specs.Prelude.{ℕ, List, [], ◌∷◌, Bool, ◌||◌, ◌==◌, length, Option, Some, None}
-use Rattle.wasmprinter_spec.specs.Grammar.{Input, Grammar, Placed, placed, byte, seq, map_value, choose}
+use Rattle.wasmprinter_spec.specs.Grammar.{Input, Grammar, Placed, value_with_place, byte, seq, map_value, choose}
 use Rattle.wasmprinter_spec.specs.Sized.{take_bytes, alone, exactly}
 use Rattle.wasmprinter_spec.specs.Name.{u32, vec, name}
 use Rattle.wasmprinter_spec.specs.Lenient.{Lenient, one, repeat, unless_ended}
@@ -44,8 +44,8 @@ abbrev pub import_info : Grammar ImportInfo
 import_info = map_value (λ x. record { source = x.0; name = x.1.0; flags = x.1.1 }) (seq name (λ _. seq name (λ _. u32)))
 
 -- by the id; nothing else is known
-abbrev pub known : ℕ → Grammar Content
-known id =
+abbrev pub content_by_id : ℕ → Grammar Content
+content_by_id id =
     choose (id == 1) (map_value Sizes mem_info)
     (choose (id == 2) (map_value Needed (vec name))
     (choose (id == 3) (map_value Exports (vec export_info))
@@ -57,10 +57,10 @@ is_known id = (id == 1) || (id == 2) || (id == 3) || (id == 4) || (id == 5)
 
 -- so many bytes: those of a known id hold just what it says, all others anything
 abbrev pub content : ℕ → ℕ → Grammar Content
-content id size = choose (is_known id) (exactly (alone (known id)) size) (map_value (λ _. Other id) (take_bytes size))
+content id size = choose (is_known id) (exactly (alone (content_by_id id)) size) (map_value (λ _. Other id) (take_bytes size))
 
 abbrev pub subsection : Grammar Subsection
-subsection = placed (map_value (λ x. x.1.1) (seq byte (λ id. seq u32 (λ size. content id size))))
+subsection = value_with_place (map_value (λ x. x.1.1) (seq byte (λ id. seq u32 (λ size. content id size))))
 
 -- subsections up to the end of the bytes, or to the first fault
 abbrev pub subsections : ℕ → Lenient Subsection
@@ -84,12 +84,12 @@ abbrev pub first_other : List Subsection → Option ℕ
 first_other [] = None
 first_other (s ∷ ss) = first_some (other_of s.value) (first_other ss)
 
-abbrev pub judged_by : List Subsection → Option ℕ → Option Input → Judged
-judged_by ss (Some id) end = Unknown id
-judged_by ss None (Some behind) = Whole ss
-judged_by ss None None = Faulty
+abbrev pub judgement_by : List Subsection → Option ℕ → Option Input → Judged
+judgement_by ss (Some id) end = Unknown id
+judgement_by ss None (Some behind) = Whole ss
+judgement_by ss None None = Faulty
 
-abbrev pub judged : Input → Judged
-judged at =
+abbrev pub judgement_of : Input → Judged
+judgement_of at =
     let read : List Subsection × Option Input = (subsections (length at.bytes)).read at in
-    judged_by read.0 (first_other read.0) read.1
+    judgement_by read.0 (first_other read.0) read.1

@@ -1,7 +1,7 @@
 -- Branch hints (Code Metadata, a document beside the standard; branch hinting proposal): for functions, which
 -- operators are likely to branch.
 use Rattle.std.specs.Prelude.{ℕ, List, [], ◌∷◌, Bool, true, false, ◌==◌, nat_le, codes, bytes_eq, length, Option, Some, None, if◌then◌else◌}
-use Rattle.wasmprinter_spec.specs.Grammar.{Grammar, Remainder, input, Placed, placed, byte, seq, map_value, try_map}
+use Rattle.wasmprinter_spec.specs.Grammar.{Grammar, Remainder, input, Placed, value_with_place, byte, seq, map_value, try_map}
 use Rattle.wasmprinter_spec.specs.Sized.{alone}
 use Rattle.wasmprinter_spec.specs.FirstByte.{only}
 use Rattle.wasmprinter_spec.specs.Name.{u32, vec}
@@ -35,7 +35,7 @@ abbrev pub at_most : {A : Type 0} → ℕ → List A → Option (List A)
 at_most n xs = if nat_le (length xs) n then Some xs else None
 
 abbrev pub function_hints : Grammar FunctionHints
-function_hints = map_value (λ x. record { function = x.0; hints = x.1 }) (seq u32 (λ _. try_map (at_most most_hints) (vec (placed hint))))
+function_hints = map_value (λ x. record { function = x.0; hints = x.1 }) (seq u32 (λ _. try_map (at_most most_hints) (vec (value_with_place hint))))
 
 abbrev pub hint_section : Remainder (List FunctionHints)
 hint_section = alone (try_map (at_most most_functions) (vec function_hints))

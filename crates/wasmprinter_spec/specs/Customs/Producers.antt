@@ -1,6 +1,6 @@
 -- The section `producers` (tool conventions, "Producers Section"): fields, each with the names and versions of its values.
 use Rattle.std.specs.Prelude.{ℕ, List, [], ◌∷◌, Bool, true, ◌&&◌}
-use Rattle.wasmprinter_spec.specs.Grammar.{Grammar, Remainder, Placed, placed, seq, map_value}
+use Rattle.wasmprinter_spec.specs.Grammar.{Grammar, Remainder, Placed, value_with_place, seq, map_value}
 use Rattle.wasmprinter_spec.specs.Sized.{alone}
 use Rattle.wasmprinter_spec.specs.Name.{vec, name}
 use Rattle.wasmprinter_spec.specs.Quoted.{is_run}
@@ -17,7 +17,7 @@ abbrev pub value : Grammar Value
 value = map_value (λ x. record { name = x.0; version = x.1 }) (seq name (λ _. name))
 
 abbrev pub field : Grammar Field
-field = map_value (λ x. record { name = x.0; values = x.1 }) (seq name (λ _. vec (placed value)))
+field = map_value (λ x. record { name = x.0; values = x.1 }) (seq name (λ _. vec (value_with_place value)))
 
 -- all bytes
 abbrev pub producers : Remainder (List Field)

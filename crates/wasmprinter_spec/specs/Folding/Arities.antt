@@ -5,10 +5,10 @@ use Rattle.std.specs.Prelude.{ℕ, zero, suc, ◌+◌, ◌-◌, ◌^◌, ◌==�
 use Rattle.wasmprinter_spec.specs.Grammar.{◌>>=◌}
 use Rattle.wasmprinter_spec.specs.Types.{FuncType, ValType, SubType, all_types, signature_at, fields_at}
 use Rattle.wasmprinter_spec.specs.Operator.{Opcode, BlockType, Empty, Value, OfType, Immediates, Block, TryTable, Index, Indices, BranchTable, Cast, Operator}
-use Rattle.wasmprinter_spec.specs.Row.{Row, Arity, Fixed, OfCall, OfReturnCall, OfIndirectCall, OfReturnIndirectCall, OfThrow, OfReturn, OfBranch, OfBranchIf, OfBranchTable, OfBranchOnNull, OfBranchOnNonNull, OfBranchOnCast, OfBlock, OfStruct, OfCount, Role, Opens, OpensIf, OpensTry, Delegates, Ends}
+use Rattle.wasmprinter_spec.specs.Row.{Row, Arity, Fixed, OfCall, OfReturnCall, OfIndirectCall, OfReturnIndirectCall, OfThrow, OfReturn, OfBranch, OfBranchIf, OfBranchTable, OfBranchOnNull, OfBranchOnNonNull, OfBranchOnCast, OfBlock, OfStruct, OfCount}
 use Rattle.wasmprinter_spec.specs.Table.{by_opcode}
 use Rattle.wasmprinter_spec.specs.Placed.{PlacedModule}
-use Rattle.wasmprinter_spec.specs.Module.{without_places, groups_of, imported, func_import, tag_import}
+use Rattle.wasmprinter_spec.specs.Module.{without_places, groups_of, imported_types, func_import, tag_import}
 
 -- What operators name, each by its index: the function types, the types of functions and of tags, how many fields a structure type
 -- has; and how many results the function around has, of which a constant expression has none. Nothing is known of an index without an
@@ -26,12 +26,12 @@ pub record Counts : Type 0 where
   pub gives : ℕ
 
 -- so many are taken, and so many given
-abbrev pub taking : ℕ → ℕ → Counts
-taking p q = record { takes = p; gives = q }
+abbrev pub takes_and_gives : ℕ → ℕ → Counts
+takes_and_gives p q = record { takes = p; gives = q }
 
 -- an operator of which nothing is known takes nothing and gives nothing
 abbrev pub if_known : Option Counts → Counts
-if_known None = taking 0 0
+if_known None = takes_and_gives 0 0
 if_known (Some c) = c
 
 -- the greatest number of 32 bits
@@ -39,8 +39,8 @@ abbrev pub greatest : ℕ
 greatest = 2 ^ 32 - 1
 
 -- a sum, or the greatest number where it would be greater
-abbrev pub saturated : ℕ → ℕ → ℕ
-saturated a b = min (a + b) greatest
+abbrev pub saturating_sum : ℕ → ℕ → ℕ
+saturating_sum a b = min (a + b) greatest
 
 -- ---- blocks and labels
 
@@ -75,15 +75,6 @@ label_of_type s false t = block_gives s t
 abbrev pub label_of_block : Signatures → Operator → Option ℕ
 label_of_block s o = elim o.immediates as (λ i. Option ℕ) [ Block t ↦ label_of_type s (is_loop o.opcode) t | TryTable t cs ↦ block_gives s t | _ ↦ None ]
 
--- how many values the labels take that are open behind an operator, the innermost first; x is that of the one that it opens
-abbrev pub label_counts_after : Role → Option ℕ → List (Option ℕ) → List (Option ℕ)
-label_counts_after Opens x xs = x ∷ xs
-label_counts_after OpensIf x xs = x ∷ xs
-label_counts_after OpensTry x xs = x ∷ xs
-label_counts_after Delegates x (y ∷ xs) = xs
-label_counts_after Ends x (y ∷ xs) = xs
-label_counts_after _ x xs = xs
-
 -- How many values a label takes: that of a block around, or behind the last the body's own. A label of nothing has no count.
 abbrev pub label_count : List (Option ℕ) → Option ℕ → ℕ → Option ℕ
 label_count [] own zero = own
@@ -103,32 +94,32 @@ by_count f n = if_known (option_map f n)
 
 -- A line for each arity. P and Q are the numbers of parameters and results of the type that is named, v how many values the label takes.
 abbrev pub counts : Signatures → List (Option ℕ) → Arity → Immediates → Counts
-counts s ls (Fixed p q) i = taking p q
-counts s ls OfCall (Index f) = by_type (λ P Q. taking P Q) (s.functions f)
-counts s ls OfReturnCall (Index f) = by_type (λ P Q. taking P 0) (s.functions f)
-counts s ls OfIndirectCall (Index t) = by_type (λ P Q. taking (saturated P 1) Q) (s.types t)
-counts s ls OfIndirectCall (Indices t n) = by_type (λ P Q. taking (saturated P 1) Q) (s.types t)
-counts s ls OfReturnIndirectCall (Index t) = by_type (λ P Q. taking (saturated P 1) 0) (s.types t)
-counts s ls OfReturnIndirectCall (Indices t n) = by_type (λ P Q. taking (saturated P 1) 0) (s.types t)
-counts s ls OfThrow (Index t) = by_type (λ P Q. taking P 0) (s.tags t)
-counts s ls OfReturn i = by_count (λ n. taking n 0) s.own
-counts s ls OfBranch (Index l) = by_count (λ v. taking v 0) (label_count ls s.own l)
-counts s ls OfBranchIf (Index l) = by_count (λ v. taking (saturated v 1) v) (label_count ls s.own l)
-counts s ls OfBranchTable (BranchTable others l) = by_count (λ v. taking (saturated v 1) 0) (label_count ls s.own l)
-counts s ls OfBranchOnNull (Index l) = by_count (λ v. taking (saturated v 1) (saturated v 1)) (label_count ls s.own l)
+counts s ls (Fixed p q) i = takes_and_gives p q
+counts s ls OfCall (Index f) = by_type (λ P Q. takes_and_gives P Q) (s.functions f)
+counts s ls OfReturnCall (Index f) = by_type (λ P Q. takes_and_gives P 0) (s.functions f)
+counts s ls OfIndirectCall (Index t) = by_type (λ P Q. takes_and_gives (saturating_sum P 1) Q) (s.types t)
+counts s ls OfIndirectCall (Indices t n) = by_type (λ P Q. takes_and_gives (saturating_sum P 1) Q) (s.types t)
+counts s ls OfReturnIndirectCall (Index t) = by_type (λ P Q. takes_and_gives (saturating_sum P 1) 0) (s.types t)
+counts s ls OfReturnIndirectCall (Indices t n) = by_type (λ P Q. takes_and_gives (saturating_sum P 1) 0) (s.types t)
+counts s ls OfThrow (Index t) = by_type (λ P Q. takes_and_gives P 0) (s.tags t)
+counts s ls OfReturn i = by_count (λ n. takes_and_gives n 0) s.own
+counts s ls OfBranch (Index l) = by_count (λ v. takes_and_gives v 0) (label_count ls s.own l)
+counts s ls OfBranchIf (Index l) = by_count (λ v. takes_and_gives (saturating_sum v 1) v) (label_count ls s.own l)
+counts s ls OfBranchTable (BranchTable others l) = by_count (λ v. takes_and_gives (saturating_sum v 1) 0) (label_count ls s.own l)
+counts s ls OfBranchOnNull (Index l) = by_count (λ v. takes_and_gives (saturating_sum v 1) (saturating_sum v 1)) (label_count ls s.own l)
 -- where the label takes nothing, nothing is given either
-counts s ls OfBranchOnNonNull (Index l) = by_count (λ v. taking v (v - 1)) (label_count ls s.own l)
-counts s ls OfBranchOnCast (Cast l from to) = by_count (λ v. taking v v) (label_count ls s.own l)
+counts s ls OfBranchOnNonNull (Index l) = by_count (λ v. takes_and_gives v (v - 1)) (label_count ls s.own l)
+counts s ls OfBranchOnCast (Cast l from to) = by_count (λ v. takes_and_gives v v) (label_count ls s.own l)
 -- a block is folded without operands, whatever its parameters are
-counts s ls OfBlock (Block t) = by_count (λ n. taking 0 n) (block_gives s t)
-counts s ls OfBlock (TryTable t cs) = by_count (λ n. taking 0 n) (block_gives s t)
-counts s ls OfStruct (Index t) = by_count (λ n. taking n 1) (s.fields t)
-counts s ls OfCount (Indices t n) = taking n 1
-counts s ls _ _ = taking 0 0
+counts s ls OfBlock (Block t) = by_count (λ n. takes_and_gives 0 n) (block_gives s t)
+counts s ls OfBlock (TryTable t cs) = by_count (λ n. takes_and_gives 0 n) (block_gives s t)
+counts s ls OfStruct (Index t) = by_count (λ n. takes_and_gives n 1) (s.fields t)
+counts s ls OfCount (Indices t n) = takes_and_gives n 1
+counts s ls _ _ = takes_and_gives 0 0
 
 -- an opcode that isn't listed takes nothing and gives nothing
 abbrev pub counts_by_row : Signatures → List (Option ℕ) → Option Row → Immediates → Counts
-counts_by_row s ls None i = taking 0 0
+counts_by_row s ls None i = takes_and_gives 0 0
 counts_by_row s ls (Some r) i = counts s ls r.arity i
 
 -- an operator, where these labels are open
@@ -143,11 +134,11 @@ types_of m = all_types (groups_of m.types)
 
 -- the functions, by the indices of their types: imports come first
 abbrev pub functions_of : PlacedModule → List ℕ
-functions_of m = imported func_import (without_places m.imports) ++ map (λ f. f.type_index) m.functions
+functions_of m = imported_types func_import (without_places m.imports) ++ map (λ f. f.type_index) m.functions
 
 -- the tags in the same way
 abbrev pub tags_of : PlacedModule → List ℕ
-tags_of m = imported tag_import (without_places m.imports) ++ without_places m.tags
+tags_of m = imported_types tag_import (without_places m.imports) ++ without_places m.tags
 
 -- the type of the function with this index
 abbrev pub function_type : PlacedModule → ℕ → Option FuncType

@@ -22,15 +22,15 @@ pub record Item : Type 0 where
 
 -- Operators whose blocks are closed. Each constructor is the first operator, and its last part is what stands behind it; between them what
 -- the block holds, the `else` if there is one with what it holds, and the `end`.
-pub data Code : Type 0 where
-  Done : Code
-  Plain : Item → Code → Code
-  Block : Item → Code → Item → Code → Code
-  If : Item → Code → Item → Code → Code
-  IfElse : Item → Code → Item → Code → Item → Code → Code
+pub data NestedCode : Type 0 where
+  Done : NestedCode
+  Plain : Item → NestedCode → NestedCode
+  Block : Item → NestedCode → Item → NestedCode → NestedCode
+  If : Item → NestedCode → Item → NestedCode → NestedCode
+  IfElse : Item → NestedCode → Item → NestedCode → Item → NestedCode → NestedCode
 
 -- the operators in order
-abbrev pub flat : Code → List Item
+abbrev pub flat : NestedCode → List Item
 flat Done = []
 flat (Plain x rest) = x ∷ flat rest
 flat (Block x body end rest) = x ∷ (flat body ++ end ∷ flat rest)
@@ -59,12 +59,12 @@ AreWithoutTry rs = AllByRecursion (λ r. is_try r ≡ false) rs
 -- `end`, and what stands behind it; or the code up to the `else` of such a block, the `else`, the code up to the `end`, the
 -- `end`, and what stands behind it.
 pub data Behind : Type 0 where
-  Outside : Code → Behind
-  InBlock : Code → Item → Behind → Behind
-  InIf : Code → Item → Code → Item → Behind → Behind
+  Outside : NestedCode → Behind
+  InBlock : NestedCode → Item → Behind → Behind
+  InIf : NestedCode → Item → NestedCode → Item → Behind → Behind
 
 -- with another code up to the first `else` or `end`
-abbrev pub with_code : (Code → Code) → Behind → Behind
+abbrev pub with_code : (NestedCode → NestedCode) → Behind → Behind
 with_code f (Outside code) = Outside (f code)
 with_code f (InBlock code end behind) = InBlock (f code) end behind
 with_code f (InIf code turn other end behind) = InIf (f code) turn other end behind
@@ -86,16 +86,16 @@ behind_of [] = Some (Outside Done)
 behind_of (x ∷ xs) = behind_of xs >>= in_front (role x) x
 
 -- every `end` has found its block
-abbrev pub whole : Behind → Option Code
+abbrev pub whole : Behind → Option NestedCode
 whole (Outside code) = Some code
 whole _ = None
 
 -- the tree of a list of operators: none where they aren't well nested, or are those of the older `try`
-abbrev pub code_of : List Item → Option Code
-code_of xs = behind_of xs >>= whole
+abbrev pub nested_code_of : List Item → Option NestedCode
+nested_code_of xs = behind_of xs >>= whole
 
 -- each operator stands where its role has it
-abbrev pub IsFit : Code → Type 0
+abbrev pub IsFit : NestedCode → Type 0
 IsFit Done = Unit {0}
 IsFit (Plain x rest) = (role x ≡ row.Plain) × IsFit rest
 IsFit (Block x body end rest) = (role x ≡ Opens) × IsFit body × (role end ≡ Ends) × IsFit rest
@@ -106,16 +106,16 @@ IsFit (IfElse x body turn other end rest) = (role x ≡ OpensIf) × IsFit body �
 
 -- The tree of a list says the list, and each operator stands in it where its role has it.
 abbrev pub CodeRule : Type 0
-CodeRule = (xs : List Item) (code : Code) → code_of xs ≡ Some code → (flat code ≡ xs) × IsFit code
+CodeRule = (xs : List Item) (code : NestedCode) → nested_code_of xs ≡ Some code → (flat code ≡ xs) × IsFit code
 
 -- There is no other such tree.
 abbrev pub UniqueCodeRule : Type 0
-UniqueCodeRule = (code : Code) → IsFit code → code_of (flat code) ≡ Some code
+UniqueCodeRule = (code : NestedCode) → IsFit code → nested_code_of (flat code) ≡ Some code
 
 -- Operators that are well nested have a tree, where none of them is of the older `try`.
 abbrev pub NestedCodeRule : Type 0
-NestedCodeRule = (xs : List Item) → Nests Sequence (map role xs) → AreWithoutTry (map role xs) → (code : Code) × (code_of xs ≡ Some code)
+NestedCodeRule = (xs : List Item) → Nests Sequence (map role xs) → AreWithoutTry (map role xs) → (code : NestedCode) × (nested_code_of xs ≡ Some code)
 
 -- What has a tree is well nested, and none of its operators is of the older `try`.
 abbrev pub NestingCodeRule : Type 0
-NestingCodeRule = (xs : List Item) (code : Code) → code_of xs ≡ Some code → Nests Sequence (map role xs) × AreWithoutTry (map role xs)
+NestingCodeRule = (xs : List Item) (code : NestedCode) → nested_code_of xs ≡ Some code → Nests Sequence (map role xs) × AreWithoutTry (map role xs)

@@ -7,7 +7,7 @@ use Rattle.wasmprinter_spec.specs.Row.{Role, Opens, Turns, Ends}
 use Rattle.wasmprinter_spec.specs.Table.{role_of}
 use Rattle.wasmprinter_spec.specs.Customs.Hints.{Hint, FunctionHints, hints_of, next_hints, hints_behind, next_hint, hint_behind}
 use Rattle.wasmprinter_spec.specs.Placed.{Table, Mode, Passive, Declared, Active, Items, Functions, Expressions, ElementEntry, PassiveData, ActiveData, Data, PlacedFunction, PlacedModule}
-use Rattle.wasmprinter_spec.specs.Module.{without_places, imported, func_import}
+use Rattle.wasmprinter_spec.specs.Module.{without_places, imported_types, func_import}
 use Rattle.wasmprinter_spec.specs.Options.{Options}
 use Rattle.wasmprinter_spec.specs.Folding.Code.{is_try}
 
@@ -70,25 +70,25 @@ is_hintless Ends = true
 is_hintless _ = false
 
 -- the place of the hint, if such an operator has one
-abbrev pub misplaced : Role → Option (Placed Hint) → List ℕ
-misplaced role None = []
-misplaced role (Some h) = cond (is_hintless role) (h.place ∷ []) []
+abbrev pub place_if_misplaced : Role → Option (Placed Hint) → List ℕ
+place_if_misplaced role None = []
+place_if_misplaced role (Some h) = cond (is_hintless role) (h.place ∷ []) []
 
 -- the places of such hints in a body that begins at a place
-abbrev pub misplaced_in : ℕ → List (Placed Hint) → Operators → List ℕ
-misplaced_in body hs [] = []
-misplaced_in body hs (o ∷ os) =
-    misplaced (role_of o.value.opcode) (next_hint (o.place - body) hs) ++ misplaced_in body (hint_behind (o.place - body) hs) os
+abbrev pub misplaced_hints_in : ℕ → List (Placed Hint) → Operators → List ℕ
+misplaced_hints_in body hs [] = []
+misplaced_hints_in body hs (o ∷ os) =
+    place_if_misplaced (role_of o.value.opcode) (next_hint (o.place - body) hs) ++ misplaced_hints_in body (hint_behind (o.place - body) hs) os
 
 -- in functions from number i on
-abbrev pub misplaced_from : List FunctionHints → ℕ → List PlacedFunction → List ℕ
-misplaced_from es i [] = []
-misplaced_from es i (f ∷ fs) =
-    misplaced_in f.body.place (next_hints i es) f.body.value.operators ++ misplaced_from (hints_behind i es) (i + 1) fs
+abbrev pub misplaced_hints_from : List FunctionHints → ℕ → List PlacedFunction → List ℕ
+misplaced_hints_from es i [] = []
+misplaced_hints_from es i (f ∷ fs) =
+    misplaced_hints_in f.body.place (next_hints i es) f.body.value.operators ++ misplaced_hints_from (hints_behind i es) (i + 1) fs
 
 -- in all bodies that are printed
 abbrev pub misplaced_hints : Options → PlacedModule → List ℕ
-misplaced_hints o m = cond o.skeleton [] (misplaced_from (hints_of m.customs) (length (imported func_import (without_places m.imports))) m.functions)
+misplaced_hints o m = cond o.skeleton [] (misplaced_hints_from (hints_of m.customs) (length (imported_types func_import (without_places m.imports))) m.functions)
 
 -- ---- modules
 

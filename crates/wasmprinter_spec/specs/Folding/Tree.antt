@@ -1,14 +1,14 @@
 -- Nodes: what code folds into. A node is a pair of parentheses with an operator and its operands, with a block and what it holds, or with a
 -- case of an `if`. Which operators take which nodes as operands is this printer's own rule.
 use Rattle.std.specs.Prelude.{◌≡◌, ◌≢◌, ◌<◌, ℕ, zero, suc, ◌+◌, nat_lt, ◌==◌, Bool, true, false, if◌then◌else◌}
-use Rattle.wasmprinter_spec.specs.Folding.Arities.{greatest, saturated}
-use Rattle.wasmprinter_spec.specs.Folding.Code.{Item, Code, Done, Plain, Block, If, IfElse}
+use Rattle.wasmprinter_spec.specs.Folding.Arities.{greatest, saturating_sum}
+use Rattle.wasmprinter_spec.specs.Folding.Code.{Item, NestedCode, Done, Plain, Block, If, IfElse}
 
 -- What stands first in a node: an operator, for a block the one that opens it; or the word `then` of this `if`; or this `else`.
 pub data Head : Type 0 where
   Of : Item → Head
-  Then : Item → Head
-  Else : Item → Head
+  ThenCase : Item → Head
+  ElseCase : Item → Head
 
 -- Nodes in a row, with heads of some kind. The last one stands behind the others, with its head, how many results it counts
 -- for, and the nodes that it holds.
@@ -25,9 +25,9 @@ is_nil Nil = true
 is_nil (Snoc before head results held) = false
 
 -- one row, and then another
-abbrev pub joined : {H : Type 0} → NodesOf H → NodesOf H → NodesOf H
-joined a Nil = a
-joined a (Snoc before head results held) = Snoc (joined a before) head results held
+abbrev pub row_of_both : {H : Type 0} → NodesOf H → NodesOf H → NodesOf H
+row_of_both a Nil = a
+row_of_both a (Snoc before head results held) = Snoc (row_of_both a before) head results held
 
 -- all nodes but the last
 abbrev pub front : {H : Type 0} → NodesOf H → NodesOf H
@@ -65,14 +65,14 @@ with_last head results held Short = Short
 abbrev pub operands_from : {H : Type 0} → ℕ → ℕ → NodesOf H → OperandsOf H
 operands_from wanted sum Nil = Short
 operands_from wanted sum (Snoc before head results held) =
-    let next : ℕ = saturated sum results in
+    let next : ℕ = saturating_sum sum results in
     if next == wanted then Fit before (Snoc Nil head results held) else
     (if nat_lt wanted next then Passed else with_last head results held (operands_from wanted next before))
 
 -- what takes nothing has no operands, not even nodes without results
-abbrev pub operands : {H : Type 0} → ℕ → NodesOf H → OperandsOf H
-operands zero f = Short
-operands (suc n) f = operands_from (suc n) 0 f
+abbrev pub operand_search : {H : Type 0} → ℕ → NodesOf H → OperandsOf H
+operand_search zero f = Short
+operand_search (suc n) f = operands_from (suc n) 0 f
 
 -- An operator behind a row of nodes, with those that it takes. Where a sum passed, results that were given together would have to be
 -- parted: the operator takes no node, and counts for so many results that hardly any other takes it.
@@ -82,8 +82,8 @@ with_operands f head gives Passed = Snoc f head greatest Nil
 with_operands f head gives Short = Snoc f head gives Nil
 
 -- an operator behind a row of nodes
-abbrev pub folded : Nodes → Item → Nodes
-folded f x = with_operands f (Of x) x.gives (operands x.takes f)
+abbrev pub with_operator : Nodes → Item → Nodes
+with_operator f x = with_operands f (Of x) x.gives (operand_search x.takes f)
 
 -- ---- the rule for operands, without the search
 
@@ -94,36 +94,36 @@ results_of (Snoc before head results held) = results_of before + results
 
 -- `sum` and the results of each shorter run of last nodes stay below what is wanted
 abbrev pub IsFirst : {H : Type 0} → ℕ → ℕ → NodesOf H → Type 0
-IsFirst {H} wanted sum run = (before last : NodesOf H) → run ≡ joined before last → before ≢ Nil → saturated sum (results_of last) < wanted
+IsFirst {H} wanted sum run = (before last : NodesOf H) → run ≡ row_of_both before last → before ≢ Nil → saturating_sum sum (results_of last) < wanted
 
 -- where `sum` results are there already
 abbrev pub IsAnswer : {H : Type 0} → ℕ → ℕ → NodesOf H → OperandsOf H → Type 0
 -- the shortest run of last nodes whose results are what is wanted
-IsAnswer wanted sum f (Fit before run) = (f ≡ joined before run) × (saturated sum (results_of run) ≡ wanted) × IsFirst wanted sum run
+IsAnswer wanted sum f (Fit before run) = (f ≡ row_of_both before run) × (saturating_sum sum (results_of run) ≡ wanted) × IsFirst wanted sum run
 -- a run passes what is wanted, and no shorter one reaches it
 IsAnswer {H} wanted sum f Passed =
-    (before : NodesOf H) × (run : NodesOf H) × (f ≡ joined before run) × (wanted < saturated sum (results_of run)) × IsFirst wanted sum run
+    (before : NodesOf H) × (run : NodesOf H) × (f ≡ row_of_both before run) × (wanted < saturating_sum sum (results_of run)) × IsFirst wanted sum run
 -- no run reaches what is wanted
-IsAnswer {H} wanted sum f Short = (before run : NodesOf H) → f ≡ joined before run → saturated sum (results_of run) < wanted
+IsAnswer {H} wanted sum f Short = (before run : NodesOf H) → f ≡ row_of_both before run → saturating_sum sum (results_of run) < wanted
 
 -- the search ends as the rule says
 abbrev pub OperandRule : Type 0
-OperandRule = (wanted : ℕ) (f : Nodes) → 0 < wanted → IsAnswer wanted 0 f (operands wanted f)
+OperandRule = (wanted : ℕ) (f : Nodes) → 0 < wanted → IsAnswer wanted 0 f (operand_search wanted f)
 
 -- ---- code
 
 -- The nodes of code behind a row of nodes. A block gives its results alone. An `if` holds the last node before it, if
 -- there is one, and then its cases.
-abbrev pub tree_behind : Nodes → Code → Nodes
+abbrev pub tree_behind : Nodes → NestedCode → Nodes
 tree_behind f Done = f
-tree_behind f (Plain x rest) = tree_behind (folded f x) rest
+tree_behind f (Plain x rest) = tree_behind (with_operator f x) rest
 tree_behind f (Block x body end rest) = tree_behind (Snoc f (Of x) x.gives (tree_behind Nil body)) rest
-tree_behind f (If x body end rest) = tree_behind (Snoc (front f) (Of x) x.gives (Snoc (last f) (Then x) 0 (tree_behind Nil body))) rest
+tree_behind f (If x body end rest) = tree_behind (Snoc (front f) (Of x) x.gives (Snoc (last f) (ThenCase x) 0 (tree_behind Nil body))) rest
 tree_behind f (IfElse x body turn other end rest) =
     tree_behind
-    (Snoc (front f) (Of x) x.gives (Snoc (Snoc (last f) (Then x) 0 (tree_behind Nil body)) (Else turn) 0 (tree_behind Nil other)))
+    (Snoc (front f) (Of x) x.gives (Snoc (Snoc (last f) (ThenCase x) 0 (tree_behind Nil body)) (ElseCase turn) 0 (tree_behind Nil other)))
     rest
 
 -- the nodes of code
-abbrev pub tree : Code → Nodes
+abbrev pub tree : NestedCode → Nodes
 tree code = tree_behind Nil code

@@ -1,21 +1,21 @@
 -- What nodes say, as a list of operators in their flat order (section 6.5 of the standard, "Folded Instructions").
 use Rattle.std.specs.Prelude.{◌≡◌, List, [], ◌∷◌, ◌++◌, map, Option, Some, None}
 use Rattle.wasmprinter_spec.specs.Row.{Role, Opens, OpensIf, Ends}
-use Rattle.wasmprinter_spec.specs.Folding.Code.{Item, Code, flat, role, IsFit}
-use Rattle.wasmprinter_spec.specs.Folding.Tree.{Of, Then, Else, Nodes, Nil, Snoc, tree}
+use Rattle.wasmprinter_spec.specs.Folding.Code.{Item, NestedCode, flat, role, IsFit}
+use Rattle.wasmprinter_spec.specs.Folding.Tree.{Of, ThenCase, ElseCase, Nodes, Nil, Snoc, tree}
 
 -- an operator as nodes tell of it: that something is an `end` is all that they tell of it
 abbrev pub Told : Type 0
 Told = Option Item
 
 -- an operator of this role
-abbrev pub told_as : Role → Item → Told
-told_as Ends x = None
-told_as _ x = Some x
+abbrev pub told_by_role : Role → Item → Told
+told_by_role Ends x = None
+told_by_role _ x = Some x
 
 -- operators in order
-abbrev pub told : List Item → List Told
-told xs = map (λ x. told_as (role x) x) xs
+abbrev pub told_of : List Item → List Told
+told_of xs = map (λ x. told_by_role (role x) x) xs
 
 -- where nodes stand: in the node of this `if`, or elsewhere
 pub data Where : Type 0 where
@@ -23,26 +23,26 @@ pub data Where : Type 0 where
   Within : Item → Where
 
 -- A plain operator stands behind its operands. A block begins with its operator and ends behind what it holds, an `if` behind its cases.
-abbrev pub unfolded_as : Role → Item → List Told → List Told → List Told
-unfolded_as Opens x held cases = Some x ∷ (held ++ None ∷ [])
-unfolded_as OpensIf x held cases = cases ++ None ∷ []
-unfolded_as _ x held cases = held ++ Some x ∷ []
+abbrev pub unfolding_by_role : Role → Item → List Told → List Told → List Told
+unfolding_by_role Opens x held cases = Some x ∷ (held ++ None ∷ [])
+unfolding_by_role OpensIf x held cases = cases ++ None ∷ []
+unfolding_by_role _ x held cases = held ++ Some x ∷ []
 
 -- The operator of an `if` stands where its first case begins, behind the operands.
 abbrev pub unfold_at : Where → Nodes → List Told
 unfold_at Elsewhere Nil = []
 unfold_at Elsewhere (Snoc before (Of x) results held) =
-    unfold_at Elsewhere before ++ unfolded_as (role x) x (unfold_at Elsewhere held) (unfold_at (Within x) held)
-unfold_at Elsewhere (Snoc before (Then x) results held) = unfold_at Elsewhere before
-unfold_at Elsewhere (Snoc before (Else x) results held) = unfold_at Elsewhere before
-unfold_at (Within x) (Snoc before (Then y) results held) = unfold_at Elsewhere before ++ Some x ∷ unfold_at Elsewhere held
-unfold_at (Within x) (Snoc before (Else y) results held) = unfold_at (Within x) before ++ Some y ∷ unfold_at Elsewhere held
+    unfold_at Elsewhere before ++ unfolding_by_role (role x) x (unfold_at Elsewhere held) (unfold_at (Within x) held)
+unfold_at Elsewhere (Snoc before (ThenCase x) results held) = unfold_at Elsewhere before
+unfold_at Elsewhere (Snoc before (ElseCase x) results held) = unfold_at Elsewhere before
+unfold_at (Within x) (Snoc before (ThenCase y) results held) = unfold_at Elsewhere before ++ Some x ∷ unfold_at Elsewhere held
+unfold_at (Within x) (Snoc before (ElseCase y) results held) = unfold_at (Within x) before ++ Some y ∷ unfold_at Elsewhere held
 unfold_at (Within x) _ = []
 
 -- the operators that nodes say
-abbrev pub unfolded : Nodes → List Told
-unfolded f = unfold_at Elsewhere f
+abbrev pub unfolding_of : Nodes → List Told
+unfolding_of f = unfold_at Elsewhere f
 
 -- folding loses nothing, however many operands operators are said to take
 abbrev pub UnfoldingRule : Type 0
-UnfoldingRule = (code : Code) → IsFit code → unfolded (tree code) ≡ told (flat code)
+UnfoldingRule = (code : NestedCode) → IsFit code → unfolding_of (tree code) ≡ told_of (flat code)

@@ -9,7 +9,7 @@ use Rattle.wasmprinter_spec.specs.Table.{word_of, role_of, shape_of}
 use Rattle.wasmprinter_spec.specs.Nesting.{Nests, Sequence}
 use Rattle.wasmprinter_spec.specs.Instructions.{roles}
 use Rattle.wasmprinter_spec.specs.Labels as labels
-use Rattle.wasmprinter_spec.specs.Labels.{labels_after, count_after, outside, inside}
+use Rattle.wasmprinter_spec.specs.Labels.{labels_after, count_after, labels_outside, labels_inside}
 use Rattle.wasmprinter_spec.specs.Customs.Hints.{Hint, next_hint, hint_behind}
 use Rattle.wasmprinter_spec.specs.Call.{Call, Text, text_of}
 use Rattle.wasmprinter_spec.specs.Coloured.{coloured_text}
@@ -17,9 +17,9 @@ use Rattle.wasmprinter_spec.specs.Options.{Options, defaults}
 use Rattle.wasmprinter_spec.specs.Piece.{Piece, Break, Word, OpenPlain, Shut, HintNote, text, all_calls}
 use Rattle.wasmprinter_spec.specs.Layout.Declarations.{Folding}
 use Rattle.wasmprinter_spec.specs.Layout.Operators.{Form, Setting, pieces_by, before_word}
-use Rattle.wasmprinter_spec.specs.Folding.Arities.{Signatures, Counts, counts_of, label_of_block, label_counts_after}
-use Rattle.wasmprinter_spec.specs.Folding.Code.{Item, code_of, AreWithoutTry}
-use Rattle.wasmprinter_spec.specs.Folding.Tree.{Head, Of, Then, Else, Nodes, Nil, Snoc, is_nil, tree}
+use Rattle.wasmprinter_spec.specs.Folding.Arities.{Signatures, Counts, counts_of, label_of_block}
+use Rattle.wasmprinter_spec.specs.Folding.Code.{Item, nested_code_of, AreWithoutTry}
+use Rattle.wasmprinter_spec.specs.Folding.Tree.{Head, Of, ThenCase, ElseCase, Nodes, Nil, Snoc, is_nil, tree}
 
 -- ---- the operators of a list, each with what is printed of it
 
@@ -30,7 +30,7 @@ item s signatures hint own xs ls o =
     let counts : Counts = counts_of signatures ls o.value in
     record {
       operator = o;
-      pieces = Word (word_of o.value.opcode) ∷ pieces_by s (inside role xs) (outside role xs) own (shape_of o.value.opcode) o.value.immediates;
+      pieces = Word (word_of o.value.opcode) ∷ pieces_by s (labels_inside role xs) (labels_outside role xs) own (shape_of o.value.opcode) o.value.immediates;
       hint = hint;
       takes = counts.takes;
       gives = counts.gives;
@@ -44,26 +44,26 @@ items s signatures hs n xs ls (o ∷ os) =
     let own : labels.Label = s.names.labels s.function n (length xs) in
     let offset : ℕ = o.place - s.body in
     item s signatures (next_hint offset hs) own xs ls o
-    ∷ items s signatures (hint_behind offset hs) (count_after role n) (labels_after role own xs) (label_counts_after role (label_of_block signatures o.value) ls) os
+    ∷ items s signatures (hint_behind offset hs) (count_after role n) (labels_after role own xs) (labels_after role (label_of_block signatures o.value) ls) os
 
 -- ---- nodes
 
 -- the place of a node: that of the operator that stands first in it, for `then` that of the `if`
 abbrev pub head_place : Head → ℕ
 head_place (Of x) = x.operator.place
-head_place (Then x) = x.operator.place
-head_place (Else x) = x.operator.place
+head_place (ThenCase x) = x.operator.place
+head_place (ElseCase x) = x.operator.place
 
 -- the calls for what stands behind the parenthesis of a node
 abbrev pub head_calls : Options → Head → List Call
 head_calls o (Of x) = all_calls o x.pieces
-head_calls o (Then x) = Text (codes "then") ∷ []
-head_calls o (Else x) = Text (codes "else") ∷ []
+head_calls o (ThenCase x) = Text (codes "then") ∷ []
+head_calls o (ElseCase x) = Text (codes "else") ∷ []
 
 -- their text, with the sequences of their styles or without styles
-abbrev pub painted : Bool → List Call → List ℕ
-painted true cs = coloured_text cs
-painted false cs = text_of cs
+abbrev pub painted_text : Bool → List Call → List ℕ
+painted_text true cs = coloured_text cs
+painted_text false cs = text_of cs
 
 -- what stands behind the parenthesis of a node, without styles
 abbrev pub head_text : Options → Head → List ℕ
@@ -72,8 +72,8 @@ head_text o h = text_of (head_calls o h)
 -- the hint of a node is that of its own operator
 abbrev pub head_hint : Head → Option (Placed Hint)
 head_hint (Of x) = x.hint
-head_hint (Then x) = None
-head_hint (Else x) = None
+head_hint (ThenCase x) = None
+head_hint (ElseCase x) = None
 
 -- whether two semicolons follow one another in a text
 abbrev pub has_line_comment : List ℕ → Bool
@@ -101,13 +101,13 @@ node_pieces o paints form first nesting (Snoc before head results held) =
     node_pieces o paints form first nesting before
     ++ node_hint o form leads place nesting (head_hint head)
     ++ before_word form (leads && is_none (head_hint head)) place nesting
-    ++ OpenPlain (painted paints (head_calls o head))
+    ++ OpenPlain (painted_text paints (head_calls o head))
     ∷ (comment_end (is_nil held) (head_text o head) place nesting ++ node_pieces o paints form false (nesting + 1) held ++ (Shut ∷ []))
 
 -- a list of operators, with no label open: none where it holds operators of the older `try`, which aren't folded
 unfoldable pub folded_pieces : Options → Bool → Setting → Signatures → List (Placed Hint) → List (Placed Operator) → Option (List Piece)
 folded_pieces o paints s signatures hs os =
-    option_map (λ code. node_pieces o paints s.form true s.nesting (tree code)) (code_of (items s signatures hs 0 [] [] os))
+    option_map (λ code. node_pieces o paints s.form true s.nesting (tree code)) (nested_code_of (items s signatures hs 0 [] [] os))
 
 -- nothing where there is no tree: the module is refused then
 abbrev pub if_folded : Option (List Piece) → List Piece

@@ -12,7 +12,7 @@ use Rattle.wasmprinter_spec.specs.Module.{locals_of}
 use Rattle.wasmprinter_spec.specs.Options.{Options}
 use Rattle.wasmprinter_spec.specs.Piece.{Piece, Break, Gap, Word}
 use Rattle.wasmprinter_spec.specs.Layout.Groups.{line_group_gap, group_gap_at}
-use Rattle.wasmprinter_spec.specs.Layout.Variables.{Variables, grouped, variables_pieces, groups_pieces}
+use Rattle.wasmprinter_spec.specs.Layout.Variables.{Variables, variable_groups, variables_pieces, groups_pieces}
 use Rattle.wasmprinter_spec.specs.Layout.Declarations.{Scope, Folding, item_declaration, type_use}
 use Rattle.wasmprinter_spec.specs.Layout.Operators.{OverLines, Setting, operators_pieces}
 use Rattle.wasmprinter_spec.specs.Layout.Folded.{folded_list}
@@ -29,7 +29,7 @@ local_line names place (g ∷ gs) = Break place 2 ∷ (variables_pieces names (c
 
 -- the locals of the function f, numbered behind so many parameters
 unfoldable pub local_pieces : Names → ℕ → ℕ → List (Placed LocalEntry) → List Piece
-local_pieces names f count es = local_line names (locals_place es) (grouped (names.locals f) count (locals_of es))
+local_pieces names f count es = local_line names (locals_place es) (variable_groups (names.locals f) count (locals_of es))
 
 -- a function or a tag: its declaration, and the type that it has
 unfoldable pub header_pieces : Scope → Space → Option ℕ → ℕ → ℕ → List Piece

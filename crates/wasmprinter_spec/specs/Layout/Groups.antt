@@ -38,6 +38,6 @@ unfoldable pub line_group_gap : List ℕ → List Piece → List Piece
 line_group_gap w ps = OpenGap w ∷ (ps ++ (Shut ∷ []))
 
 -- each with its number, from i on
-unfoldable pub numbered : {A : Type 0} → (ℕ → A → List Piece) → ℕ → List A → List Piece
-numbered f i [] = []
-numbered f i (x ∷ xs) = f i x ++ numbered f (i + 1) xs
+unfoldable pub numbered_pieces : {A : Type 0} → (ℕ → A → List Piece) → ℕ → List A → List Piece
+numbered_pieces f i [] = []
+numbered_pieces f i (x ∷ xs) = f i x ++ numbered_pieces f (i + 1) xs

@@ -13,7 +13,7 @@ use Rattle.wasmprinter_spec.specs.Table.{word_of, role_of, shape_of}
 use Rattle.wasmprinter_spec.specs.Labels as labels
 use Rattle.wasmprinter_spec.specs.Names.{Names, in_function}
 use Rattle.wasmprinter_spec.specs.Customs.Hints.{Hint, next_hint, hint_behind}
-use Rattle.wasmprinter_spec.specs.Labels.{Named, is_hidden, Target, Around, Own, Nothing, target, labels_after, count_after, outside, inside}
+use Rattle.wasmprinter_spec.specs.Labels.{Named, is_hidden, Target, Around, Own, Nothing, target, labels_after, count_after, labels_outside, labels_inside}
 use Rattle.wasmprinter_spec.specs.Piece.{Piece, Break, Gap, Word, GapTypeWord, Number, Constant, GapLiterals, Float, Remark, Ending, HintNote}
 use Rattle.wasmprinter_spec.specs.Layout.Groups.{line_group, line_group_gap}
 use Rattle.wasmprinter_spec.specs.Layout.Identifiers.{mark_pieces, leading_mark_pieces, index_pieces}
@@ -209,7 +209,7 @@ operator_pieces s first own xs o =
     let role : Role = role_of o.value.opcode in
     before_word s.form first o.place (s.nesting + level role (length xs))
     ++ (Word (word_of o.value.opcode)
-    ∷ pieces_by s (inside role xs) (outside role xs) own (shape_of o.value.opcode) o.value.immediates)
+    ∷ pieces_by s (labels_inside role xs) (labels_outside role xs) own (shape_of o.value.opcode) o.value.immediates)
 
 -- a hint on a line of its own, as deep as the operators of the block
 abbrev pub hint_pieces : ℕ → Option (Placed Hint) → List Piece

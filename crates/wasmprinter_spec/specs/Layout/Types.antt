@@ -7,10 +7,10 @@ use Rattle.wasmprinter_spec.specs.Labels.{Named}
 use Rattle.wasmprinter_spec.specs.Names.{Names}
 use Rattle.wasmprinter_spec.specs.Placed.{TypeGroup}
 use Rattle.wasmprinter_spec.specs.Piece.{Piece, Break, Gap, OpenPlain, Shut, Word}
-use Rattle.wasmprinter_spec.specs.Layout.Groups.{group, line_group, line_group_gap, numbered}
+use Rattle.wasmprinter_spec.specs.Layout.Groups.{group, line_group, line_group_gap, numbered_pieces}
 use Rattle.wasmprinter_spec.specs.Layout.Identifiers.{identifier_gap_pieces, declaration_pieces}
 use Rattle.wasmprinter_spec.specs.Layout.ValTypes.{type_index_pieces, val_pieces, type_list}
-use Rattle.wasmprinter_spec.specs.Layout.Variables.{grouped, groups_pieces}
+use Rattle.wasmprinter_spec.specs.Layout.Variables.{variable_groups, groups_pieces}
 
 -- the identifiers of a signature's parameters: those of a function, or none where the signature is of no function
 abbrev pub parameters_of : Names → Option ℕ → ℕ → Option Named
@@ -25,7 +25,7 @@ module _ (names : Names) where
 
   -- the signature of a function, or of no function
   unfoldable pub signature_pieces : Option ℕ → FuncType → List Piece
-  signature_pieces f t = groups_pieces names (codes "param") (grouped (parameters_of names f) 0 t.params) ++ list_group (codes "result") t.results
+  signature_pieces f t = groups_pieces names (codes "param") (variable_groups (parameters_of names f) 0 t.params) ++ list_group (codes "result") t.results
 
   -- the signature of a type, nothing where it is no function type
   abbrev pub signature_if_any : Option ℕ → Option FuncType → List Piece
@@ -58,7 +58,7 @@ module _ (names : Names) where
   unfoldable pub composite_pieces : ℕ → CompositeType → List Piece
   composite_pieces i (FuncComposite t) = line_group (codes "func") (signature_pieces None t)
   composite_pieces i (ArrayComposite f) = line_group (codes "array") (field_pieces None f)
-  composite_pieces i (StructComposite fs) = line_group (codes "struct") (numbered (λ k f. struct_field_pieces (names.fields i k) f) 0 fs)
+  composite_pieces i (StructComposite fs) = line_group (codes "struct") (numbered_pieces (λ k f. struct_field_pieces (names.fields i k) f) 0 fs)
 
   -- ---- subtypes
 
@@ -93,8 +93,8 @@ module _ (names : Names) where
   member_pieces place i t = Break (Some (place + 2)) 2 ∷ type_pieces i t
 
   abbrev pub group_pieces_by : Bool → ℕ → ℕ → List SubType → List Piece
-  group_pieces_by true place i ts = group 1 (codes "rec") (numbered (member_pieces place) i ts)
-  group_pieces_by false place i ts = numbered type_pieces i ts
+  group_pieces_by true place i ts = group 1 (codes "rec") (numbered_pieces (member_pieces place) i ts)
+  group_pieces_by false place i ts = numbered_pieces type_pieces i ts
 
   -- a group, whose first type has this number
   unfoldable pub type_group_pieces : ℕ → Placed TypeGroup → List Piece

@@ -21,9 +21,9 @@ with_variable None t (Together ts ∷ gs) = Together (t ∷ ts) ∷ gs
 with_variable None t gs = Together (t ∷ []) ∷ gs
 
 -- variables k, k + 1 .. in their groups
-abbrev pub grouped : (ℕ → Option Named) → ℕ → List ValType → List Variables
-grouped named k [] = []
-grouped named k (t ∷ ts) = with_variable (named k) t (grouped named (k + 1) ts)
+abbrev pub variable_groups : (ℕ → Option Named) → ℕ → List ValType → List Variables
+variable_groups named k [] = []
+variable_groups named k (t ∷ ts) = with_variable (named k) t (variable_groups named (k + 1) ts)
 
 module _ (names : Names) where
   unfoldable pub variables_pieces : List ℕ → Variables → List Piece

@@ -87,12 +87,12 @@ module_name = one (λ x. entry_of module_subsection 0 (0, x) ∷ []) name
 -- ---- subsections
 
 -- what a subsection of a known id holds
-abbrev pub known : ℕ → Lenient Entry
-known s = by_test (s == module_subsection) module_name (by_test (is_indirect s) (indirect_map s) (name_map s 0))
+abbrev pub entries_by_id : ℕ → Lenient Entry
+entries_by_id s = by_test (s == module_subsection) module_name (by_test (is_indirect s) (indirect_map s) (name_map s 0))
 
 -- the bytes of all others are skipped
 abbrev pub content : ℕ → Lenient Entry
-content s = by_test (nat_lt tag_subsection s) (give []) (known s)
+content s = by_test (nat_lt tag_subsection s) (give []) (entries_by_id s)
 
 -- an id, a size, and so many bytes
 abbrev pub subsection : Lenient Entry

@@ -2,17 +2,17 @@
 use Prim.Native.String.{String}
 use Rattle.std.specs.Prelude.{ℕ, List, [], ◌∷◌}
 use Rattle.wasmprinter_spec.specs.Row.{Row, FenceShape, MemoryShape, Arity, Fixed}
-use Rattle.wasmprinter_spec.specs.Table.Rows.{prefixed}
+use Rattle.wasmprinter_spec.specs.Table.Rows.{prefixed_row}
 
 abbrev atomic : ℕ → String → ℕ → Arity → Row
-atomic n w natural a = prefixed 0xfe n w (MemoryShape natural) a
+atomic n w natural a = prefixed_row 0xfe n w (MemoryShape natural) a
 
 unfoldable pub atomic_rows : List Row
 atomic_rows =
     atomic 0x00 "memory.atomic.notify" 2 (Fixed 2 1) ∷
     atomic 0x01 "memory.atomic.wait32" 2 (Fixed 3 1) ∷
     atomic 0x02 "memory.atomic.wait64" 3 (Fixed 3 1) ∷
-    prefixed 0xfe 0x03 "atomic.fence" FenceShape (Fixed 0 0) ∷
+    prefixed_row 0xfe 0x03 "atomic.fence" FenceShape (Fixed 0 0) ∷
     atomic 0x10 "i32.atomic.load" 2 (Fixed 1 1) ∷
     atomic 0x11 "i64.atomic.load" 3 (Fixed 1 1) ∷
     atomic 0x12 "i32.atomic.load8_u" 0 (Fixed 1 1) ∷

@@ -3,10 +3,10 @@
 use Prim.Native.String.{String}
 use Rattle.std.specs.Prelude.{ℕ, List, [], ◌∷◌}
 use Rattle.wasmprinter_spec.specs.Row.{Row, Table, Memory, Elem, Data, Shape, IndexShape, DefaultIndexShape, SegmentShape, CopyShape, Arity, Fixed}
-use Rattle.wasmprinter_spec.specs.Table.Rows.{prefixed}
+use Rattle.wasmprinter_spec.specs.Table.Rows.{prefixed_row}
 
 abbrev bulk : ℕ → String → Shape → Arity → Row
-bulk n w s a = prefixed 0xfc n w s a
+bulk n w s a = prefixed_row 0xfc n w s a
 
 unfoldable pub bulk_rows : List Row
 bulk_rows =

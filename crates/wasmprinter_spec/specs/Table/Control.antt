@@ -2,7 +2,7 @@
 -- of the legacy exception handling proposal).
 use Rattle.std.specs.Prelude.{List, [], ◌∷◌}
 use Rattle.wasmprinter_spec.specs.Row.{Row, Types, Func, Tag, Label, NoneShape, BlockShape, TryTableShape, IndexShape, CallShape, BranchTableShape, CastShape, Fixed, OfCall, OfReturnCall, OfIndirectCall, OfReturnIndirectCall, OfThrow, OfReturn, OfBranch, OfBranchIf, OfBranchTable, OfBranchOnNull, OfBranchOnNonNull, OfBranchOnCast, OfBlock, Opens, OpensIf, OpensTry, Turns, Catches, CatchesAll, Delegates, Ends}
-use Rattle.wasmprinter_spec.specs.Table.Rows.{control, prefixed, plain}
+use Rattle.wasmprinter_spec.specs.Table.Rows.{control, prefixed_row, plain}
 
 unfoldable pub control_rows : List Row
 control_rows =
@@ -33,6 +33,6 @@ control_rows =
     control 0x1f "try_table" TryTableShape OfBlock Opens ∷
     plain 0xd5 "br_on_null" (IndexShape Label) OfBranchOnNull ∷
     plain 0xd6 "br_on_non_null" (IndexShape Label) OfBranchOnNonNull ∷
-    prefixed 0xfb 24 "br_on_cast" CastShape OfBranchOnCast ∷
-    prefixed 0xfb 25 "br_on_cast_fail" CastShape OfBranchOnCast ∷
+    prefixed_row 0xfb 24 "br_on_cast" CastShape OfBranchOnCast ∷
+    prefixed_row 0xfb 25 "br_on_cast_fail" CastShape OfBranchOnCast ∷
     []

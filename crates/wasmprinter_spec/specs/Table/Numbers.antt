@@ -3,7 +3,7 @@
 use Prim.Native.String.{String}
 use Rattle.std.specs.Prelude.{ℕ, List, [], ◌∷◌, ◌++◌}
 use Rattle.wasmprinter_spec.specs.Row.{Row, Shape, NoneShape, I32Shape, I64Shape, F32Shape, F64Shape, Fixed}
-use Rattle.wasmprinter_spec.specs.Table.Rows.{plain, prefixed}
+use Rattle.wasmprinter_spec.specs.Table.Rows.{plain, prefixed_row}
 
 abbrev constant : ℕ → String → Shape → Row
 constant n w s = plain n w s (Fixed 0 1)
@@ -15,11 +15,11 @@ abbrev binary : ℕ → String → Row
 binary n w = plain n w NoneShape (Fixed 2 1)
 
 abbrev saturating : ℕ → String → Row
-saturating n w = prefixed 0xfc n w NoneShape (Fixed 1 1)
+saturating n w = prefixed_row 0xfc n w NoneShape (Fixed 1 1)
 
 -- takes so many operands of 64 bits, gives two
 abbrev wide : ℕ → String → ℕ → Row
-wide n w operands = prefixed 0xfc n w NoneShape (Fixed operands 2)
+wide n w operands = prefixed_row 0xfc n w NoneShape (Fixed operands 2)
 
 -- constants and comparisons
 unfoldable pub comparison_rows : List Row

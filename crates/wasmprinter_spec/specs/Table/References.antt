@@ -2,10 +2,10 @@
 use Prim.Native.String.{String}
 use Rattle.std.specs.Prelude.{ℕ, List, [], ◌∷◌, true, false}
 use Rattle.wasmprinter_spec.specs.Row.{Row, Types, Func, Elem, Data, Shape, NoneShape, IndexShape, PairShape, FieldShape, CountShape, HeapShape, RefShape, Arity, Fixed, OfStruct, OfCount}
-use Rattle.wasmprinter_spec.specs.Table.Rows.{prefixed, plain}
+use Rattle.wasmprinter_spec.specs.Table.Rows.{prefixed_row, plain}
 
 abbrev aggregate : ℕ → String → Shape → Arity → Row
-aggregate n w s a = prefixed 0xfb n w s a
+aggregate n w s a = prefixed_row 0xfb n w s a
 
 unfoldable pub reference_rows : List Row
 reference_rows =

@@ -9,9 +9,9 @@ abbrev pub control : ℕ → String → Shape → Arity → Role → Row
 control n w s a r = record { prefix = 0; number = n; word = codes w; shape = s; arity = a; role = r }
 
 -- an operator behind a prefix
-abbrev pub prefixed : ℕ → ℕ → String → Shape → Arity → Row
-prefixed p n w s a = record { prefix = p; number = n; word = codes w; shape = s; arity = a; role = Plain }
+abbrev pub prefixed_row : ℕ → ℕ → String → Shape → Arity → Row
+prefixed_row p n w s a = record { prefix = p; number = n; word = codes w; shape = s; arity = a; role = Plain }
 
 -- an operator without one
 abbrev pub plain : ℕ → String → Shape → Arity → Row
-plain n w s a = prefixed 0 n w s a
+plain n w s a = prefixed_row 0 n w s a

@@ -2,16 +2,16 @@
 use Prim.Native.String.{String}
 use Rattle.std.specs.Prelude.{ℕ, List, [], ◌∷◌, ◌++◌}
 use Rattle.wasmprinter_spec.specs.Row.{Row, NoneShape, Fixed}
-use Rattle.wasmprinter_spec.specs.Table.Rows.{prefixed}
+use Rattle.wasmprinter_spec.specs.Table.Rows.{prefixed_row}
 
 abbrev unary : ℕ → String → Row
-unary n w = prefixed 0xfd n w NoneShape (Fixed 1 1)
+unary n w = prefixed_row 0xfd n w NoneShape (Fixed 1 1)
 
 abbrev binary : ℕ → String → Row
-binary n w = prefixed 0xfd n w NoneShape (Fixed 2 1)
+binary n w = prefixed_row 0xfd n w NoneShape (Fixed 2 1)
 
 abbrev ternary : ℕ → String → Row
-ternary n w = prefixed 0xfd n w NoneShape (Fixed 3 1)
+ternary n w = prefixed_row 0xfd n w NoneShape (Fixed 3 1)
 
 unfoldable pub exact_rows : List Row
 exact_rows =

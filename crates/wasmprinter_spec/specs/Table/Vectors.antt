@@ -3,10 +3,10 @@
 use Prim.Native.String.{String}
 use Rattle.std.specs.Prelude.{ℕ, List, [], ◌∷◌}
 use Rattle.wasmprinter_spec.specs.Row.{Row, Shape, NoneShape, MemoryShape, MemoryLaneShape, LaneShape, VectorShape, LanesShape, Arity, Fixed}
-use Rattle.wasmprinter_spec.specs.Table.Rows.{prefixed}
+use Rattle.wasmprinter_spec.specs.Table.Rows.{prefixed_row}
 
 abbrev vector : ℕ → String → Shape → Arity → Row
-vector n w s a = prefixed 0xfd n w s a
+vector n w s a = prefixed_row 0xfd n w s a
 
 abbrev unary : ℕ → String → Row
 unary n w = vector n w NoneShape (Fixed 1 1)

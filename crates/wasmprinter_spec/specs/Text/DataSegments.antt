@@ -6,7 +6,7 @@ use Rattle.wasmprinter_spec.specs.Forest.{Forest, End, Word, String, Group}
 use Rattle.wasmprinter_spec.specs.Operator.{Operator}
 use Rattle.wasmprinter_spec.specs.Placed.{DataMode, PassiveData, ActiveData, Data, data_of}
 use Rattle.wasmprinter_spec.specs.IndexSpaces.{index, Context}
-use Rattle.wasmprinter_spec.specs.Text.Items.{identified}
+use Rattle.wasmprinter_spec.specs.Text.Items.{identifier_in_front}
 use Rattle.wasmprinter_spec.specs.Text.Expressions.{expression_group}
 
 -- strings, one behind another
@@ -31,4 +31,4 @@ module _ (c : Context) where
 
   -- a segment with its identifier
   abbrev pub read_data : Forest → Option (Data Operator)
-  read_data f = segment (identified f).1
+  read_data f = segment (identifier_in_front f).1

@@ -6,7 +6,7 @@ use Rattle.wasmprinter_spec.specs.Forest.{Forest, End, Word, Name, Group}
 use Rattle.wasmprinter_spec.specs.Operator.{Operator}
 use Rattle.wasmprinter_spec.specs.Placed.{Mode, Passive, Declared, Active, Items, Functions, Expressions, Element, element_of}
 use Rattle.wasmprinter_spec.specs.IndexSpaces.{index, Context}
-use Rattle.wasmprinter_spec.specs.Text.Items.{identified, leading_item}
+use Rattle.wasmprinter_spec.specs.Text.Items.{identifier_in_front, leading_item}
 use Rattle.wasmprinter_spec.specs.Text.Types.{ref_named, ref_group}
 use Rattle.wasmprinter_spec.specs.Text.Expressions.{expression_group}
 
@@ -53,4 +53,4 @@ module _ (c : Context) where
 
   -- a segment with its identifier
   abbrev pub read_element : Forest → Option (Element Operator)
-  read_element f = segment (identified f).1
+  read_element f = segment (identifier_in_front f).1

@@ -5,12 +5,12 @@ use Rattle.wasmprinter_spec.specs.Grammar.{◌>>=◌}
 use Rattle.wasmprinter_spec.specs.Forest.{Forest, End, Word, Group}
 use Rattle.wasmprinter_spec.specs.Operator.{Operator}
 use Rattle.wasmprinter_spec.specs.IndexSpaces.{Context}
-use Rattle.wasmprinter_spec.specs.Code.{unfolded}
+use Rattle.wasmprinter_spec.specs.Code.{chunks_of_forest}
 use Rattle.wasmprinter_spec.specs.Text.Operators.{read_operators}
 
 module _ (c : Context) where
   abbrev pub expression : Forest → Option (List Operator)
-  expression f = unfolded f >>= read_operators c
+  expression f = chunks_of_forest f >>= read_operators c
 
   -- what a group holds: an expression behind the word, or an instruction
   abbrev pub expression_group : List ℕ → Forest → Option (List Operator)

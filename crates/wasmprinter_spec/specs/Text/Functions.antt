@@ -4,8 +4,8 @@ use Rattle.wasmprinter_spec.specs.Grammar.{◌>>=◌}
 use Rattle.wasmprinter_spec.specs.Forest.{Forest, Word, Group}
 use Rattle.wasmprinter_spec.specs.Module.{Function}
 use Rattle.wasmprinter_spec.specs.IndexSpaces.{index_space, index, Context}
-use Rattle.wasmprinter_spec.specs.Code.{unfolded}
-use Rattle.wasmprinter_spec.specs.Text.Items.{identified, groups, ids_of, types_of}
+use Rattle.wasmprinter_spec.specs.Code.{chunks_of_forest}
+use Rattle.wasmprinter_spec.specs.Text.Items.{identifier_in_front, groups, ids_of, types_of}
 use Rattle.wasmprinter_spec.specs.Text.Types.{variables, signature}
 use Rattle.wasmprinter_spec.specs.Text.TypeUses.{parameters}
 use Rattle.wasmprinter_spec.specs.Text.Operators.{read_operators}
@@ -18,7 +18,7 @@ module _ (c : Context) where
   function_parts i f = do
     sig ← signature c.spaces.types f
     locals ← groups (variables c.spaces.types) (codes "local") sig.1
-    chunks ← unfolded locals.1
+    chunks ← chunks_of_forest locals.1
     params ← parameters sig.0 (c.signature i)
     space ← index_space (params ++ ids_of locals.0)
     operators ← read_operators (record c { spaces = record c.spaces { locals = space } }) chunks
@@ -30,4 +30,4 @@ module _ (c : Context) where
 
   -- a function with its identifier
   abbrev pub read_function : Forest → Option Function
-  read_function f = function_of_type (identified f).1
+  read_function f = function_of_type (identifier_in_front f).1

@@ -7,7 +7,7 @@ use Rattle.wasmprinter_spec.specs.Types.{GlobalType, global_type_of}
 use Rattle.wasmprinter_spec.specs.Operator.{Operator}
 use Rattle.wasmprinter_spec.specs.Placed.{Global, global_of}
 use Rattle.wasmprinter_spec.specs.IndexSpaces.{Context}
-use Rattle.wasmprinter_spec.specs.Text.Items.{identified, leading_item}
+use Rattle.wasmprinter_spec.specs.Text.Items.{identifier_in_front, leading_item}
 use Rattle.wasmprinter_spec.specs.Text.Types.{val_named, val_group, val_type}
 use Rattle.wasmprinter_spec.specs.Text.Expressions.{expression}
 
@@ -28,4 +28,4 @@ module _ (c : Context) where
 
   -- a global with its identifier
   abbrev pub read_global : Forest → Option (Global Operator)
-  read_global f = global_type (identified f).1 >>= λ t. expression c t.1 >>= λ os. Some (global_of t.0 os)
+  read_global f = global_type (identifier_in_front f).1 >>= λ t. expression c t.1 >>= λ os. Some (global_of t.0 os)

@@ -3,7 +3,7 @@ use Rattle.std.specs.Prelude.{ℕ, ◌+◌, List, [], ◌∷◌, ◌++◌, Bool,
 use Rattle.std.specs.List.{list_any}
 use Rattle.wasmprinter_spec.specs.Grammar.{◌>>=◌}
 use Rattle.wasmprinter_spec.specs.Forest.{Forest, End, Word, Name, String, Group, Note, forest}
-use Rattle.wasmprinter_spec.specs.Code.{Chunk, is_hint, unfolded}
+use Rattle.wasmprinter_spec.specs.Code.{Chunk, is_hint, chunks_of_forest}
 use Rattle.wasmprinter_spec.specs.Customs.Hints.{flag}
 use Rattle.wasmprinter_spec.specs.HintsOfModule.{OperatorHint, operator_hint}
 use Rattle.wasmprinter_spec.specs.Text.Items.{each}
@@ -32,7 +32,7 @@ chunk_hints function n (k ∷ ks) = do
   Some (map (λ taken. operator_hint function n taken) flags ++ rest)
 
 abbrev pub function_hints_in : ℕ → Forest → Option (List OperatorHint)
-function_hints_in function f = unfolded (body_of f) >>= chunk_hints function 0
+function_hints_in function f = chunks_of_forest (body_of f) >>= chunk_hints function 0
 
 -- the fields of a module: imports of functions, of which each has a number too, and functions
 abbrev pub imports_function : Forest → Bool

@@ -6,7 +6,7 @@ use Rattle.wasmprinter_spec.specs.Forest.{Forest, End, Word, String, Group}
 use Rattle.wasmprinter_spec.specs.Types.{ExternKind, FuncKind, TableKind, MemoryKind, GlobalKind, TagKind, ExternType, FuncExtern, TableExtern, MemoryExtern, GlobalExtern, TagExtern}
 use Rattle.wasmprinter_spec.specs.Placed.{Import, import_of}
 use Rattle.wasmprinter_spec.specs.IndexSpaces.{Context}
-use Rattle.wasmprinter_spec.specs.Text.Items.{identified, value_at_end}
+use Rattle.wasmprinter_spec.specs.Text.Items.{identifier_in_front, value_at_end}
 use Rattle.wasmprinter_spec.specs.Text.TypeIndices.{type_index}
 use Rattle.wasmprinter_spec.specs.Text.Memories.{memory_type}
 use Rattle.wasmprinter_spec.specs.Text.Tables.{table_type}
@@ -36,4 +36,4 @@ extern_type c GlobalKind f = option_map GlobalExtern (global_type c f >>= value_
 extern_type c TagKind f = option_map TagExtern (type_index c f)
 
 abbrev pub read_import : Context → ImportField → Option Import
-read_import c i = extern_type c i.kind (identified i.item).1 >>= λ t. Some (import_of i.source i.name t)
+read_import c i = extern_type c i.kind (identifier_in_front i.item).1 >>= λ t. Some (import_of i.source i.name t)

@@ -43,9 +43,9 @@ leading_item word group (Group g f) = group g >>= λ x. Some (x, f)
 leading_item word group _ = None
 
 -- an identifier, if one stands in front, and what stands behind it
-abbrev pub identified : Forest → Option (List ℕ) × Forest
-identified (Name s f) = (Some s, f)
-identified f = (None, f)
+abbrev pub identifier_in_front : Forest → Option (List ℕ) × Forest
+identifier_in_front (Name s f) = (Some s, f)
+identifier_in_front f = (None, f)
 
 -- what was read, if nothing stands behind it
 abbrev pub value_at_end : {A : Type 0} → A × Forest → Option A

@@ -6,11 +6,11 @@ use Rattle.wasmprinter_spec.specs.Forest.{Forest, End, Word, Group}
 use Rattle.wasmprinter_spec.specs.Types.{MemoryType, memory_type_of}
 use Rattle.wasmprinter_spec.specs.Numeral.{exponent_of}
 use Rattle.wasmprinter_spec.specs.Text.Limits.{address_type, limits}
-use Rattle.wasmprinter_spec.specs.Text.Items.{identified, one_word}
+use Rattle.wasmprinter_spec.specs.Text.Items.{identifier_in_front, one_word}
 
-abbrev pub shared : Forest → Bool × Forest
-shared (Word w f) = if bytes_eq w (codes "shared") then (true, f) else (false, Word w f)
-shared f = (false, f)
+abbrev pub shared_in_front : Forest → Bool × Forest
+shared_in_front (Word w f) = if bytes_eq w (codes "shared") then (true, f) else (false, Word w f)
+shared_in_front f = (false, f)
 
 -- the size of a page, which is a power of two, or nothing
 abbrev pub page : Forest → Option (Option ℕ)
@@ -21,8 +21,8 @@ page f = None
 abbrev pub memory_type : Forest → Option MemoryType
 memory_type f =
     let wide : Bool × Forest = address_type f in
-    limits wide.1 >>= λ l. page (shared l.1).1 >>= λ e. Some (memory_type_of wide.0 (shared l.1).0 l.0 e)
+    limits wide.1 >>= λ l. page (shared_in_front l.1).1 >>= λ e. Some (memory_type_of wide.0 (shared_in_front l.1).0 l.0 e)
 
 -- a memory with its identifier
 abbrev pub read_memory : Forest → Option MemoryType
-read_memory f = memory_type (identified f).1
+read_memory f = memory_type (identifier_in_front f).1

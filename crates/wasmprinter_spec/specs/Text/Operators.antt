@@ -14,7 +14,7 @@ use Rattle.wasmprinter_spec.specs.Stepped.{stops}
 use Rattle.wasmprinter_spec.specs.Nesting.{advance, at_start}
 use Rattle.wasmprinter_spec.specs.IndexSpaces.{Identifiers, declares, space_in, index as index_in, leading_index, Context}
 use Rattle.wasmprinter_spec.specs.Code.{Chunk}
-use Rattle.wasmprinter_spec.specs.Text.Items.{or_else, lookup, one_word, all_items, the_only, identified, value_at_end, groups, ids_of}
+use Rattle.wasmprinter_spec.specs.Text.Items.{or_else, lookup, one_word, all_items, the_only, identifier_in_front, value_at_end, groups, ids_of}
 use Rattle.wasmprinter_spec.specs.Text.Types.{Signature, signature, heap_type, reference_type, ref_named, ref_group, val_types}
 use Rattle.wasmprinter_spec.specs.Text.TypeUses.{agrees, same_flag}
 
@@ -42,10 +42,10 @@ last_apart (l ∷ m ∷ ls) = option_map (λ x. (l ∷ x.0, x.1)) (last_apart (m
 
 -- the identifier in front of a block's type
 abbrev pub id_of : Forest → Option (List ℕ)
-id_of f = (identified f).0
+id_of f = (identifier_in_front f).0
 
 abbrev pub behind_id : Forest → Forest
-behind_id f = (identified f).1
+behind_id f = (identifier_in_front f).1
 
 -- ---- block types
 
@@ -129,8 +129,8 @@ abbrev pub pair : ℕ × ℕ → Immediates
 pair x = Indices x.0 x.1
 
 -- the other way round
-abbrev pub turned_pair : ℕ × ℕ → Immediates
-turned_pair x = Indices x.1 x.0
+abbrev pub reversed_indices : ℕ × ℕ → Immediates
+reversed_indices x = Indices x.1 x.0
 
 -- a structure type and a field of it
 abbrev pub type_and_field : Context → Forest → Option Immediates
@@ -141,24 +141,24 @@ abbrev pub type_and_count : Context → Forest → Option Immediates
 type_and_count c f = leading_index c.spaces.types f >>= λ t. one_word u32 t.1 >>= λ n. Some (Indices t.0 n)
 
 -- two indices, both 0 where none stands
-abbrev pub copied : Context → Space → Forest → Option (ℕ × ℕ)
-copied c space End = Some (0, 0)
-copied c space f = two_indices c space space f
+abbrev pub two_indices_or_zeros : Context → Space → Forest → Option (ℕ × ℕ)
+two_indices_or_zeros c space End = Some (0, 0)
+two_indices_or_zeros c space f = two_indices c space space f
 
 -- a segment; before it may stand an index of the table or memory
 abbrev pub with_segment : Context → Space → Space → Forest → Option Immediates
 with_segment c segments space f =
-    or_else (option_map (λ m. Indices m 0) (index_in (space_in c.spaces segments) f)) (option_map turned_pair (two_indices c space segments f))
+    or_else (option_map (λ m. Indices m 0) (index_in (space_in c.spaces segments) f)) (option_map reversed_indices (two_indices c space segments f))
 
 -- a type use, and nothing behind it
-abbrev pub called : ℕ → BlockType × Forest → Option Immediates
-called table (OfType t, End) = Some (Indices t table)
-called table _ = None
+abbrev pub call_immediates : ℕ → BlockType × Forest → Option Immediates
+call_immediates table (OfType t, End) = Some (Indices t table)
+call_immediates table _ = None
 
 -- a table, 0 where none stands, and a type use
 abbrev pub call_parts : Context → Forest → Option Immediates
-call_parts c (Group g f) = block_type c (Group g f) >>= called 0
-call_parts c f = leading_index c.spaces.tables f >>= λ t. block_type c t.1 >>= called t.0
+call_parts c (Group g f) = block_type c (Group g f) >>= call_immediates 0
+call_parts c f = leading_index c.spaces.tables f >>= λ t. block_type c t.1 >>= call_immediates t.0
 
 -- groups of results, at least one
 abbrev pub select_types : Context → Forest → Option Immediates
@@ -280,7 +280,7 @@ immediates c ids FieldShape f = type_and_field c f
 immediates c ids CountShape f = type_and_count c f
 immediates c ids CallShape f = call_parts c f
 immediates c ids (SegmentShape segments space) f = with_segment c segments space f
-immediates c ids (CopyShape space) f = option_map pair (copied c space f)
+immediates c ids (CopyShape space) f = option_map pair (two_indices_or_zeros c space f)
 immediates c ids BranchTableShape f = labels ids f >>= last_apart >>= λ x. Some (BranchTable x.0 x.1)
 immediates c ids SelectShape f = select_types c f
 immediates c ids HeapShape f = option_map Heap (heap_type c.spaces.types f)

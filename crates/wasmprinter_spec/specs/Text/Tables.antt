@@ -7,7 +7,7 @@ use Rattle.wasmprinter_spec.specs.Types.{TableType, table_type_of}
 use Rattle.wasmprinter_spec.specs.Operator.{Operator}
 use Rattle.wasmprinter_spec.specs.Placed.{Table, table_of}
 use Rattle.wasmprinter_spec.specs.IndexSpaces.{Context}
-use Rattle.wasmprinter_spec.specs.Text.Items.{identified, leading_item}
+use Rattle.wasmprinter_spec.specs.Text.Items.{identifier_in_front, leading_item}
 use Rattle.wasmprinter_spec.specs.Text.Types.{ref_named, ref_group}
 use Rattle.wasmprinter_spec.specs.Text.Limits.{address_type, limits}
 use Rattle.wasmprinter_spec.specs.Text.Expressions.{expression}
@@ -25,4 +25,4 @@ module _ (c : Context) where
 
   -- a table with its identifier
   abbrev pub read_table : Forest → Option (Table Operator)
-  read_table f = table_type (identified f).1 >>= λ t. init t.1 >>= λ i. Some (table_of t.0 i)
+  read_table f = table_type (identifier_in_front f).1 >>= λ t. init t.1 >>= λ i. Some (table_of t.0 i)

@@ -2,9 +2,9 @@
 use Rattle.std.specs.Prelude.{ℕ, Option}
 use Rattle.wasmprinter_spec.specs.Forest.{Forest}
 use Rattle.wasmprinter_spec.specs.IndexSpaces.{Context}
-use Rattle.wasmprinter_spec.specs.Text.Items.{identified}
+use Rattle.wasmprinter_spec.specs.Text.Items.{identifier_in_front}
 use Rattle.wasmprinter_spec.specs.Text.TypeIndices.{type_index}
 
 -- a tag with its identifier
 abbrev pub read_tag : Context → Forest → Option ℕ
-read_tag c f = type_index c (identified f).1
+read_tag c f = type_index c (identifier_in_front f).1

@@ -4,7 +4,7 @@ use Rattle.wasmprinter_spec.specs.Grammar.{◌>>=◌}
 use Rattle.wasmprinter_spec.specs.Forest.{Forest, End, Word, Name, Group}
 use Rattle.wasmprinter_spec.specs.Types.{HeapType, Exn, Array, Struct, I31, Eq, Any, Extern, Func, NoAny, NoExtern, NoFunc, NoExn, Index, RefType, ref_type, ValType, I32, I64, F32, F64, V128, Ref, StorageType, Val, I8, I16, FieldType, field_type, FuncType, CompositeType, FuncComposite, ArrayComposite, StructComposite, SubType, sub_type, final_type, concat}
 use Rattle.wasmprinter_spec.specs.IndexSpaces.{Identifiers, index_space, index}
-use Rattle.wasmprinter_spec.specs.Text.Items.{or_else, lookup, each, one_word, one_item, all_items, identified, value_at_end, groups, Declaration, declarations, ids_of, types_of}
+use Rattle.wasmprinter_spec.specs.Text.Items.{or_else, lookup, each, one_word, one_item, all_items, identifier_in_front, value_at_end, groups, Declaration, declarations, ids_of, types_of}
 
 -- ---- value types
 
@@ -157,7 +157,7 @@ module _ (ids : Identifiers) where
 
   -- a type with its identifier
   abbrev pub read_type : Forest → Option (Declared SubType)
-  read_type f = one_group (identified f).1
+  read_type f = one_group (identifier_in_front f).1
 
   abbrev pub read_group : List Forest → Option (List (Declared SubType))
   read_group fs = each read_type fs

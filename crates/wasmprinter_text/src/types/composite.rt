@@ -4,11 +4,11 @@ ghost use Rattle.wasmprinter_spec.specs.Names.{Names};
 ghost use Rattle.wasmprinter_spec.specs.Options.{Options};
 ghost use Rattle.wasmprinter_spec.specs.Piece.{Gap, Word};
 ghost use Rattle.wasmprinter_spec.specs.Types.{FuncComposite, ArrayComposite, StructComposite};
-ghost use Rattle.wasmprinter_spec.specs.Layout.Groups.{numbered};
+ghost use Rattle.wasmprinter_spec.specs.Layout.Groups.{numbered_pieces};
 ghost use Rattle.wasmprinter_spec.specs.Layout.Types.{storage_pieces, field_pieces_by, field_pieces, struct_field_pieces, composite_pieces};
 ghost use Rattle.wasmprinter_spec.specs.Layout.Types.{final_pieces, supertype_pieces, sub_group, sub_pieces, type_pieces};
 ghost use Rattle.wasmprinter_print.specs.Prints.{Prints};
-ghost use Rattle.wasmprinter_names.specs.Shown.{identifier_view, shown};
+ghost use Rattle.wasmprinter_names.specs.Shown.{identifier_view, names_of_identifiers};
 ghost use Rattle.wasmprinter_ops.specs.Types.{storage_view, field_view, fields_view, composite_view};
 
 use crate::indices::{write_declaration_of, write_identifier_gap};
@@ -28,7 +28,7 @@ fn write_storage<P: Print>(
     identifiers: &Identifiers<'_, '_>,
     storage: StorageType,
 ) -> io::Result<()>
-    ensures { (o : Options) → Prints P.meaning o p.old p.new result (storage_pieces (shown identifiers.now) (storage_view storage)) }
+    ensures { (o : Options) → Prints P.meaning o p.old p.new result (storage_pieces (names_of_identifiers identifiers.now) (storage_view storage)) }
 {
     match storage {
         StorageType::Val(value_type) => write_val_type(p, identifiers, value_type),
@@ -44,7 +44,7 @@ fn write_mutable<P: Print>(
     storage: StorageType,
 ) -> io::Result<()>
     ensures { (o : Options) → Prints P.meaning o p.old p.new result
-        (field_pieces_by (shown identifiers.now) true (storage_view storage)) }
+        (field_pieces_by (names_of_identifiers identifiers.now) true (storage_view storage)) }
 {
     open_plain(p, "mut")?;
     gap(p)?;
@@ -59,7 +59,7 @@ fn write_field_behind<P: Print>(
     field: FieldType,
 ) -> io::Result<()>
     ensures { (o : Options) → Prints P.meaning o p.old p.new result
-        (field_pieces_by (shown identifiers.now) field.mutable (storage_view field.storage)) }
+        (field_pieces_by (names_of_identifiers identifiers.now) field.mutable (storage_view field.storage)) }
 {
     if field.mutable {
         write_mutable(p, identifiers, field.storage)
@@ -77,7 +77,7 @@ fn write_field<P: Print>(
     field: FieldType,
 ) -> io::Result<()>
     ensures { (o : Options) → Prints P.meaning o p.old p.new result
-        (field_pieces (shown identifiers.now) (option_map identifier_view identifier.entry) (field_view field)) }
+        (field_pieces (names_of_identifiers identifiers.now) (option_map identifier_view identifier.entry) (field_view field)) }
 {
     gap(p)?;
     write_identifier_gap(p, identifier)?;
@@ -94,7 +94,7 @@ fn write_field_group<P: Print>(
     field: FieldType,
 ) -> io::Result<()>
     ensures { (o : Options) → Prints P.meaning o p.old p.new result
-        (struct_field_pieces (shown identifiers.now) ((shown identifiers.now).fields owner number) (field_view field)) }
+        (struct_field_pieces (names_of_identifiers identifiers.now) ((names_of_identifiers identifiers.now).fields owner number) (field_view field)) }
 {
     gap(p)?;
     open_plain(p, "field")?;
@@ -115,7 +115,7 @@ fn write_fields<P: Print>(
     fields: &FieldTypes<'_>,
 ) -> io::Result<()>
     ensures { (o : Options) → Prints P.meaning o p.old p.new result
-        (numbered (λ k f. struct_field_pieces (shown identifiers.now) ((shown identifiers.now).fields owner k) f) 0
+        (numbered_pieces (λ k f. struct_field_pieces (names_of_identifiers identifiers.now) ((names_of_identifiers identifiers.now).fields owner k) f) 0
         (fields_view fields.now)) }
 {
     for (number, field) in (0..u64::from(fields.len())).zip(fields.iter()) {
@@ -132,7 +132,7 @@ fn write_func_type<P: Print>(
     func_type: &FuncType<'_>,
 ) -> io::Result<()>
     ensures { (o : Options) (i : ℕ) → Prints P.meaning o p.old p.new result
-        (composite_pieces (shown identifiers.now) i (FuncComposite func_type.now)) }
+        (composite_pieces (names_of_identifiers identifiers.now) i (FuncComposite func_type.now)) }
 {
     open(p, "func")?;
     signature(p, identifiers, None, func_type)?;
@@ -147,7 +147,7 @@ fn write_array_type<P: Print>(
     element: FieldType,
 ) -> io::Result<()>
     ensures { (o : Options) (i : ℕ) → Prints P.meaning o p.old p.new result
-        (composite_pieces (shown identifiers.now) i (ArrayComposite (field_view element))) }
+        (composite_pieces (names_of_identifiers identifiers.now) i (ArrayComposite (field_view element))) }
 {
     open(p, "array")?;
     write_field(p, identifiers, None, element)?;
@@ -163,7 +163,7 @@ fn write_struct_type<P: Print>(
     fields: &FieldTypes<'_>,
 ) -> io::Result<()>
     ensures { (o : Options) → Prints P.meaning o p.old p.new result
-        (composite_pieces (shown identifiers.now) number (StructComposite (fields_view fields.now))) }
+        (composite_pieces (names_of_identifiers identifiers.now) number (StructComposite (fields_view fields.now))) }
 {
     open(p, "struct")?;
     write_fields(p, identifiers, number, fields)?;
@@ -178,7 +178,7 @@ fn write_composite_type<P: Print>(
     composite: &CompositeType<'_>,
 ) -> io::Result<()>
     ensures { (o : Options) → Prints P.meaning o p.old p.new result
-        (composite_pieces (shown identifiers.now) number (composite_view composite.now)) }
+        (composite_pieces (names_of_identifiers identifiers.now) number (composite_view composite.now)) }
 {
     match composite {
         CompositeType::Func(func_type) => write_func_type(p, identifiers, func_type),
@@ -209,7 +209,7 @@ fn write_supertype<P: Print>(
     identifiers: &Identifiers<'_, '_>,
     index: u32,
 ) -> io::Result<()>
-    ensures { (o : Options) → Prints P.meaning o p.old p.new result (supertype_pieces (shown identifiers.now) (index ∷ [])) }
+    ensures { (o : Options) → Prints P.meaning o p.old p.new result (supertype_pieces (names_of_identifiers identifiers.now) (index ∷ [])) }
 {
     write_type_number(p, identifiers, index)?;
     gap(p)
@@ -221,7 +221,7 @@ fn write_supertypes<P: Print>(
     identifiers: &Identifiers<'_, '_>,
     supertypes: &TypeIndices<'_>,
 ) -> io::Result<()>
-    ensures { (o : Options) → Prints P.meaning o p.old p.new result (supertype_pieces (shown identifiers.now) supertypes.now) }
+    ensures { (o : Options) → Prints P.meaning o p.old p.new result (supertype_pieces (names_of_identifiers identifiers.now) supertypes.now) }
 {
     for index in supertypes.iter() {
         write_supertype(p, identifiers, index)?;
@@ -238,7 +238,7 @@ fn write_sub_group<P: Print>(
     sub_type: &SubType<'_>,
 ) -> io::Result<()>
     ensures { (o : Options) → Prints P.meaning o p.old p.new result
-        (sub_group (shown identifiers.now) number sub_type.now.final sub_type.now.supertypes sub_type.now.composite) }
+        (sub_group (names_of_identifiers identifiers.now) number sub_type.now.final sub_type.now.supertypes sub_type.now.composite) }
 {
     open(p, "sub")?;
     gap(p)?;
@@ -262,7 +262,7 @@ fn write_sub_type<P: Print>(
     number: u64,
     sub_type: &SubType<'_>,
 ) -> io::Result<()>
-    ensures { (o : Options) → Prints P.meaning o p.old p.new result (sub_pieces (shown identifiers.now) number sub_type.now) }
+    ensures { (o : Options) → Prints P.meaning o p.old p.new result (sub_pieces (names_of_identifiers identifiers.now) number sub_type.now) }
 {
     if is_plain(sub_type) {
         write_composite_type(p, identifiers, number, sub_type.composite())
@@ -279,7 +279,7 @@ pub fn type_field<P: Print>(
     number: u64,
     sub_type: &SubType<'_>,
 ) -> io::Result<()>
-    ensures { (o : Options) → Prints P.meaning o p.old p.new result (type_pieces (shown identifiers.now) number sub_type.now) }
+    ensures { (o : Options) → Prints P.meaning o p.old p.new result (type_pieces (names_of_identifiers identifiers.now) number sub_type.now) }
 {
     open_gap(p, "type")?;
     write_declaration_of(p, identifiers, Space::Types, 0, number)?;

@@ -6,10 +6,10 @@ ghost use Rattle.wasmprinter_spec.specs.Layout.Groups.{line_group};
 ghost use Rattle.wasmprinter_spec.specs.Layout.Types.{parameters_of};
 ghost use Rattle.wasmprinter_spec.specs.Layout.Identifiers.{mark_gap_pieces};
 ghost use Rattle.wasmprinter_spec.specs.Layout.ValTypes.{val_pieces};
-ghost use Rattle.wasmprinter_spec.specs.Layout.Variables.{grouped, groups_pieces};
+ghost use Rattle.wasmprinter_spec.specs.Layout.Variables.{variable_groups, groups_pieces};
 ghost use Rattle.wasmprinter_spec.specs.Piece.{Gap};
 ghost use Rattle.wasmprinter_print.specs.Prints.{Prints};
-ghost use Rattle.wasmprinter_names.specs.Shown.{identifier_view, shown};
+ghost use Rattle.wasmprinter_names.specs.Shown.{identifier_view, names_of_identifiers};
 ghost use Rattle.wasmprinter_ops.specs.ValTypes.{type_view, types_view};
 ghost use Rattle.wasmprinter_text.specs.Variables.{front_pieces, end_pieces, before_next, first_pieces, unnamed_pieces, variable_pieces};
 
@@ -38,7 +38,7 @@ fn variable<'n>(
     owner: Option<u64>,
     number: u64,
 ) -> Option<Identifier<'n>>
-    ensures { option_map identifier_view result ≡ parameters_of (shown identifiers.now) owner number }
+    ensures { option_map identifier_view result ≡ parameters_of (names_of_identifiers identifiers.now) owner number }
 {
     match owner {
         None => None,
@@ -71,7 +71,7 @@ fn write_alone<P: Print>(
 ) -> io::Result<()>
     ensures { (o : Options) → Prints P.meaning o p.old p.new result
         (line_group keyword.now (Gap ∷ (mark_gap_pieces (Some (identifier_view identifier.entry))
-        ++ val_pieces (shown identifiers.now) (type_view value_type)))) }
+        ++ val_pieces (names_of_identifiers identifiers.now) (type_view value_type)))) }
 {
     open(p, keyword)?;
     gap(p)?;
@@ -89,7 +89,7 @@ fn write_first<P: Print>(
     value_type: ValType,
 ) -> io::Result<()>
     ensures { (o : Options) → Prints P.meaning o p.old p.new result
-        (first_pieces (shown identifiers.now) keyword.now before (type_view value_type)) }
+        (first_pieces (names_of_identifiers identifiers.now) keyword.now before (type_view value_type)) }
 {
     begin_group(p, before)?;
     open(p, keyword)?;
@@ -105,7 +105,7 @@ fn write_together<P: Print>(
     value_type: ValType,
 ) -> io::Result<()>
     ensures { (o : Options) → Prints P.meaning o p.old p.new result
-        (unnamed_pieces (shown identifiers.now) keyword.now before (type_view value_type)) }
+        (unnamed_pieces (names_of_identifiers identifiers.now) keyword.now before (type_view value_type)) }
 {
     match before {
         Before::Open => write_type(p, identifiers, value_type),
@@ -126,9 +126,9 @@ pub fn write_variable<P: Print>(
     value_type: ValType,
 ) -> io::Result<Before>
     ensures pieces { (o : Options) → Prints P.meaning o p.old p.new result
-        (variable_pieces (shown identifiers.now) keyword.now before
-        (parameters_of (shown identifiers.now) owner number) (type_view value_type)) }
-    ensures next { IfOk result (λ b. b ≡ before_next (parameters_of (shown identifiers.now) owner number)) }
+        (variable_pieces (names_of_identifiers identifiers.now) keyword.now before
+        (parameters_of (names_of_identifiers identifiers.now) owner number) (type_view value_type)) }
+    ensures next { IfOk result (λ b. b ≡ before_next (parameters_of (names_of_identifiers identifiers.now) owner number)) }
 {
     match variable(identifiers, owner, number) {
         None => {
@@ -161,8 +161,8 @@ pub(crate) fn write_params<P: Print>(
     types: &ValTypes<'_>,
 ) -> io::Result<()>
     ensures { (o : Options) → Prints P.meaning o p.old p.new result
-        (groups_pieces (shown identifiers.now) (codes "param")
-        (grouped (parameters_of (shown identifiers.now) owner) 0 (types_view types.now))) }
+        (groups_pieces (names_of_identifiers identifiers.now) (codes "param")
+        (variable_groups (parameters_of (names_of_identifiers identifiers.now) owner) 0 (types_view types.now))) }
 {
     let mut before = Before::Shut;
     for (number, value_type) in (0..u64::from(types.len())).zip(types.iter()) {

@@ -2,12 +2,12 @@ use Rattle.wasmprinter_spec.specs.Options.{Options}
 use Rattle.wasmprinter_spec.specs.Layout.Operators.{catches_pieces}
 use Rattle.wasmprinter_print.specs.Prints.{Lacks}
 use Rattle.wasmprinter_ops.specs.Blocks.{catches_view}
-use Rattle.wasmprinter_flat.specs.Contexts.{setting_in, around, within}
+use Rattle.wasmprinter_flat.specs.Contexts.{setting_in, labels_around, labels_within}
 use Rattle.wasmprinter_flat.proofs.blocks.write_catches.Given as goal
 
 abbrev pub invariant-loop-clause : goal.invariant-loop-clause
 invariant-loop-clause g l =
     (o : Options) →
     Lacks g.P.Print.meaning o l.fn.p l.p
-    (catches_pieces (setting_in g.S.Signatures.signature_at l.context) (within l.context) (around l.context) (catches_view l.fn.clauses))
-    (catches_pieces (setting_in g.S.Signatures.signature_at l.context) (within l.context) (around l.context) (catches_view l.clause-iterator))
+    (catches_pieces (setting_in g.S.Signatures.signature_at l.context) (labels_within l.context) (labels_around l.context) (catches_view l.fn.clauses))
+    (catches_pieces (setting_in g.S.Signatures.signature_at l.context) (labels_within l.context) (labels_around l.context) (catches_view l.clause-iterator))

@@ -1,11 +1,11 @@
 use Rattle.wasmprinter_spec.specs.Options.{Options}
 use Rattle.wasmprinter_spec.specs.Layout.Operators.{labels_pieces}
 use Rattle.wasmprinter_print.specs.Prints.{Lacks}
-use Rattle.wasmprinter_flat.specs.Contexts.{around, within}
+use Rattle.wasmprinter_flat.specs.Contexts.{labels_around, labels_within}
 use Rattle.wasmprinter_flat.proofs.labels.write_labels.Given as goal
 
 abbrev pub invariant-loop-target : goal.invariant-loop-target
 invariant-loop-target g l =
     (o : Options) →
-    Lacks g.P.Print.meaning o l.fn.p l.p (labels_pieces (within l.context) (around l.context) l.fn.targets l.default)
-    (labels_pieces (within l.context) (around l.context) l.target-iterator l.default)
+    Lacks g.P.Print.meaning o l.fn.p l.p (labels_pieces (labels_within l.context) (labels_around l.context) l.fn.targets l.default)
+    (labels_pieces (labels_within l.context) (labels_around l.context) l.target-iterator l.default)

@@ -1,11 +1,11 @@
 -- What is left has the same first place.
 use Rattle.std.specs.Prelude.{◌≡◌}
 use Rattle.wasmprinter_error.specs.declared.error.Error.TheVariants.{FoldHint}
-use Rattle.wasmprinter_spec.specs.Folding.Refusals.{misplaced_in}
-use Rattle.wasmprinter_foldable.specs.Refused.{refused_at}
+use Rattle.wasmprinter_spec.specs.Folding.Refusals.{misplaced_hints_in}
+use Rattle.wasmprinter_foldable.specs.Refused.{error_of_first}
 use Rattle.wasmprinter_foldable.proofs.hints.check_body.Given as goal
 
 abbrev pub invariant-loop-place : goal.invariant-loop-place
 invariant-loop-place l =
-    refused_at FoldHint (misplaced_in l.body.place l.hints l.place-iterator)
-    ≡ refused_at FoldHint (misplaced_in l.body.place l.fn.hints l.body.value.operators)
+    error_of_first FoldHint (misplaced_hints_in l.body.place l.hints l.place-iterator)
+    ≡ error_of_first FoldHint (misplaced_hints_in l.body.place l.fn.hints l.body.value.operators)

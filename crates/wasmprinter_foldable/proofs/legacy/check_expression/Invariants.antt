@@ -2,9 +2,9 @@
 use Rattle.std.specs.Prelude.{◌≡◌}
 use Rattle.wasmprinter_error.specs.declared.error.Error.TheVariants.{FoldLegacy}
 use Rattle.wasmprinter_spec.specs.Folding.Refusals.{legacy_places_in}
-use Rattle.wasmprinter_foldable.specs.Refused.{refused_at}
+use Rattle.wasmprinter_foldable.specs.Refused.{error_of_first}
 use Rattle.wasmprinter_foldable.proofs.legacy.check_expression.Given as goal
 
 abbrev pub invariant-loop-place : goal.invariant-loop-place
 invariant-loop-place l =
-    refused_at FoldLegacy (legacy_places_in l.place-iterator) ≡ refused_at FoldLegacy (legacy_places_in l.expression.items)
+    error_of_first FoldLegacy (legacy_places_in l.place-iterator) ≡ error_of_first FoldLegacy (legacy_places_in l.expression.items)

@@ -3,10 +3,10 @@ use Rattle.std.specs.Prelude.{◌≡◌, drop}
 use Rattle.std.specs.List.{flat_map}
 use Rattle.wasmprinter_error.specs.declared.error.Error.TheVariants.{FoldLegacy}
 use Rattle.wasmprinter_spec.specs.Folding.Refusals.{legacy_places_in}
-use Rattle.wasmprinter_foldable.specs.Refused.{refused_at}
+use Rattle.wasmprinter_foldable.specs.Refused.{error_of_first}
 use Rattle.wasmprinter_foldable.proofs.lists.check_each.Given as goal
 
 abbrev pub invariant-loop-item : goal.invariant-loop-item
 invariant-loop-item g l =
-    refused_at FoldLegacy (flat_map legacy_places_in (flat_map (g.T.Holder.lists l.skeleton) (drop l.item-index l.items)))
-    ≡ refused_at FoldLegacy (flat_map legacy_places_in (flat_map (g.T.Holder.lists l.skeleton) l.items))
+    error_of_first FoldLegacy (flat_map legacy_places_in (flat_map (g.T.Holder.lists l.skeleton) (drop l.item-index l.items)))
+    ≡ error_of_first FoldLegacy (flat_map legacy_places_in (flat_map (g.T.Holder.lists l.skeleton) l.items))

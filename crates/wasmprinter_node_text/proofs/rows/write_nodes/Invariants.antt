@@ -4,7 +4,7 @@ use Rattle.wasmprinter_print.specs.Prints.{Lacks}
 use Rattle.wasmprinter_flat.specs.Settings.{form_view}
 use Rattle.wasmprinter_nodes.specs.Mapping.{map_nodes}
 use Rattle.wasmprinter_nodes.specs.Postorder.{forest_of}
-use Rattle.wasmprinter_node_text.specs.Shown.{shown_in, row_pieces}
+use Rattle.wasmprinter_node_text.specs.Shown.{shown_of_head, row_pieces}
 use Rattle.wasmprinter_node_text.specs.Tasks.{AllSound, pieces_left, steps_left}
 use Rattle.wasmprinter_node_text.proofs.rows.write_nodes.Given as goal
 
@@ -13,10 +13,10 @@ invariant-loop-task g l =
     record {
       sound : AllSound l.text (length l.nodes) l.tasks.items;
       lacks : Lacks g.P.Print.meaning l.options l.fn.p l.p
-          (row_pieces (form_view l.form) true l.nesting (map_nodes (shown_in l.text) (forest_of l.nodes)))
+          (row_pieces (form_view l.form) true l.nesting (map_nodes (shown_of_head l.text) (forest_of l.nodes)))
           (pieces_left (form_view l.form) l.nesting l.text l.tasks.items);
       began : (l.lines || has_break (pieces_left (form_view l.form) l.nesting l.text l.tasks.items))
-          ≡ has_break (row_pieces (form_view l.form) true l.nesting (map_nodes (shown_in l.text) (forest_of l.nodes)));
+          ≡ has_break (row_pieces (form_view l.form) true l.nesting (map_nodes (shown_of_head l.text) (forest_of l.nodes)));
     }
 
 abbrev pub decreases-loop-task : goal.decreases-loop-task

@@ -1,5 +1,5 @@
 use Rattle.std.proofs.Common.{◌≡◌, length}
-use Rattle.wasmprinter_spec.specs.Folding.Tree.{operands, operands_from}
+use Rattle.wasmprinter_spec.specs.Folding.Tree.{operand_search, operands_from}
 use Rattle.wasmprinter_nodes.specs.Postorder.{IsPostorder, forest_of}
 use Rattle.wasmprinter_nodes.specs.Rows.{outcome}
 use Rattle.wasmprinter_nodes.proofs.rows.find_operands.Given as goal
@@ -8,7 +8,7 @@ abbrev pub invariant-loop-last : goal.invariant-loop-last
 invariant-loop-last l =
     record {
       row : IsPostorder l.before;
-      same : outcome (operands_from l.takes l.sum (forest_of l.before)) ≡ outcome (operands l.takes (forest_of l.row));
+      same : outcome (operands_from l.takes l.sum (forest_of l.before)) ≡ outcome (operand_search l.takes (forest_of l.row));
     }
 
 abbrev pub decreases-loop-last : goal.decreases-loop-last

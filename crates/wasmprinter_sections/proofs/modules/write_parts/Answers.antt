@@ -9,7 +9,7 @@ use Rattle.wasmprinter_labels.specs.Scan.{names_of}
 use Rattle.wasmprinter_annotations.specs.Lines.{PrintsPartLines}
 use Rattle.wasmprinter_annotations.proofs.Parts.{part_lines_behind}
 use Rattle.wasmprinter_scope.specs.Scopes.{types_of}
-use Rattle.wasmprinter_sections.specs.Sections.{painting, sections_parts, kinds}
+use Rattle.wasmprinter_sections.specs.Sections.{with_paints, sections_parts, kinds}
 use Rattle.wasmprinter_sections.proofs.Breaking.{leading-line}
 use Rattle.wasmprinter_sections.proofs.ModuleParts.{module_walk}
 use Rattle.wasmprinter_sections.proofs.Painting.{sections-paint, folding-of, keeps-folding}
@@ -19,7 +19,7 @@ use Rattle.wasmprinter_sections.proofs.modules.write_parts.Goals as goal
 pub returns-in_err-write_leading_mark : goal.returns-in_err-write_leading_mark
 returns-in_err-write_leading_mark g c paints folds =
     let o = c.args.options.now in
-    let by = painting o paints in (
+    let by = with_paints o paints in (
       (λ n. false),
       section_failed g.P.Print.meaning o c.from_residual.result (module_parts by (λ n. false) (names_of c.args.labels) c.args.module.now)
           c.from_residual.ensures.1 (rw (c.module.ensures, c.identifiers.ensures.named) at (c.in_err-write_leading_mark.ensures o)),
@@ -28,7 +28,7 @@ returns-in_err-write_leading_mark g c paints folds =
 pub returns : goal.returns
 returns g c paints folds =
     let o = c.args.options.now in
-    let by = painting o paints in
+    let by = with_paints o paints in
     let names = names_of c.args.labels in
     let m = c.args.module.now in
     let sections = rw c.imported_count.ensures.is at c.write_sections.ensures in

@@ -11,8 +11,8 @@ use Rattle.wasmprinter_spec.specs.Layout.Exports.{export_pieces}
 use Rattle.wasmprinter_spec.specs.Layout.Elements.{element_pieces}
 use Rattle.wasmprinter_spec.specs.Layout.DataSegments.{data_pieces}
 use Rattle.wasmprinter_entries.specs.Externs.{imported_count}
-use Rattle.wasmprinter_scope.specs.Scopes.{within}
-use Rattle.wasmprinter_fields.proofs.Numbering.{numbered-break}
+use Rattle.wasmprinter_scope.specs.Scopes.{scope_of_function}
+use Rattle.wasmprinter_fields.proofs.Numbering.{numbered_pieces-break}
 use Rattle.wasmprinter_sections.proofs.Walking.{functions-break}
 use Rattle.wasmprinter_sections.proofs.Breaking.{types-break, imports-break, table-break, memory-break, tag-break, global-break, export-break, start-break, element-break, data-break}
 use Rattle.wasmprinter_sections.proofs.sections.has_fields.Goals as goal
@@ -30,27 +30,27 @@ returns-in-Import c o s =
 pub returns-in-Table : goal.returns-in-Table
 returns-in-Table c o s =
     let m = c.args.module.now in
-    rw (c.in-Table.is, numbered-break (table_pieces s) (imported_count TableKind m.imports) m.tables (table-break s), c.is_empty-in-Table.ensures, c.tables.ensures.all) refl
+    rw (c.in-Table.is, numbered_pieces-break (table_pieces s) (imported_count TableKind m.imports) m.tables (table-break s), c.is_empty-in-Table.ensures, c.tables.ensures.all) refl
 
 pub returns-in-Memory : goal.returns-in-Memory
 returns-in-Memory c o s =
     let m = c.args.module.now in
-    rw (c.in-Memory.is, numbered-break (memory_pieces s) (imported_count MemoryKind m.imports) m.memories (memory-break s), c.is_empty-in-Memory.ensures, c.memories.ensures.all) refl
+    rw (c.in-Memory.is, numbered_pieces-break (memory_pieces s) (imported_count MemoryKind m.imports) m.memories (memory-break s), c.is_empty-in-Memory.ensures, c.memories.ensures.all) refl
 
 pub returns-in-Tag : goal.returns-in-Tag
 returns-in-Tag c o s =
     let m = c.args.module.now in
-    rw (c.in-Tag.is, numbered-break (tag_pieces s) (imported_count TagKind m.imports) m.tags (tag-break s), c.is_empty-in-Tag.ensures, c.tags.ensures.all) refl
+    rw (c.in-Tag.is, numbered_pieces-break (tag_pieces s) (imported_count TagKind m.imports) m.tags (tag-break s), c.is_empty-in-Tag.ensures, c.tags.ensures.all) refl
 
 pub returns-in-Global : goal.returns-in-Global
 returns-in-Global c o s =
     let m = c.args.module.now in
-    rw (c.in-Global.is, numbered-break (global_pieces s) (imported_count GlobalKind m.imports) m.globals (global-break s), c.is_empty-in-Global.ensures, c.globals.ensures.all) refl
+    rw (c.in-Global.is, numbered_pieces-break (global_pieces s) (imported_count GlobalKind m.imports) m.globals (global-break s), c.is_empty-in-Global.ensures, c.globals.ensures.all) refl
 
 pub returns-in-Export : goal.returns-in-Export
 returns-in-Export c o s =
     let m = c.args.module.now in
-    rw (c.in-Export.is, numbered-break (λ i e. export_pieces s e) 0 m.exports (export-break s), c.is_empty-in-Export.ensures, c.exports.ensures) refl
+    rw (c.in-Export.is, numbered_pieces-break (λ i e. export_pieces s e) 0 m.exports (export-break s), c.is_empty-in-Export.ensures, c.exports.ensures) refl
 
 pub returns-in-Start : goal.returns-in-Start
 returns-in-Start c o s =
@@ -60,7 +60,7 @@ returns-in-Start c o s =
 pub returns-in-Element : goal.returns-in-Element
 returns-in-Element c o s =
     let m = c.args.module.now in
-    rw (c.in-Element.is, numbered-break (element_pieces o.skeleton s) 0 m.elements (element-break o.skeleton s), c.is_empty-in-Element.ensures, c.elements.ensures) refl
+    rw (c.in-Element.is, numbered_pieces-break (element_pieces o.skeleton s) 0 m.elements (element-break o.skeleton s), c.is_empty-in-Element.ensures, c.elements.ensures) refl
 
 pub returns-in-Code : goal.returns-in-Code
 returns-in-Code c o s =
@@ -70,5 +70,5 @@ returns-in-Code c o s =
 pub returns-in-Data : goal.returns-in-Data
 returns-in-Data c o s =
     let m = c.args.module.now in
-    let late = within s (imported_count FuncKind m.imports + length m.functions) in
-    rw (c.in-Data.is, numbered-break (data_pieces o.skeleton late) 0 m.datas (data-break o.skeleton late), c.is_empty-in-Data.ensures, c.datas.ensures) refl
+    let late = scope_of_function s (imported_count FuncKind m.imports + length m.functions) in
+    rw (c.in-Data.is, numbered_pieces-break (data_pieces o.skeleton late) 0 m.datas (data-break o.skeleton late), c.is_empty-in-Data.ensures, c.datas.ensures) refl

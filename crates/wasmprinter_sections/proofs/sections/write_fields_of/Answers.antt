@@ -8,7 +8,7 @@ use Rattle.wasmprinter_spec.specs.Types.{MemoryKind, TagKind}
 use Rattle.wasmprinter_entries.specs.Externs.{imported_count}
 use Rattle.wasmprinter_scope.specs.Scopes.{scope_view}
 use Rattle.wasmprinter_fields.proofs.FieldsOnOneLine.{memory-line, tag-line, export-line}
-use Rattle.wasmprinter_sections.proofs.Painting.{numbered-agree}
+use Rattle.wasmprinter_sections.proofs.Painting.{numbered_pieces-agree}
 use Rattle.wasmprinter_sections.proofs.sections.write_fields_of.Goals as goal
 
 pub returns-in-Table-clause-pieces : goal.returns-in-Table-clause-pieces
@@ -19,13 +19,13 @@ pub returns-in-Memory-clause-pieces : goal.returns-in-Memory-clause-pieces
 returns-in-Memory-clause-pieces g c =
     let s = scope_view c.args.scope.now in
     let m = c.args.module.now in
-    rw (c.in-Memory.is, numbered-agree (memory_pieces s) _ (memory-line s) (imported_count MemoryKind m.imports) m.memories) (rw c.memories.ensures.all at c.write_defined-in-Memory.ensures.pieces)
+    rw (c.in-Memory.is, numbered_pieces-agree (memory_pieces s) _ (memory-line s) (imported_count MemoryKind m.imports) m.memories) (rw c.memories.ensures.all at c.write_defined-in-Memory.ensures.pieces)
 
 pub returns-in-Tag-clause-pieces : goal.returns-in-Tag-clause-pieces
 returns-in-Tag-clause-pieces g c =
     let s = scope_view c.args.scope.now in
     let m = c.args.module.now in
-    rw (c.in-Tag.is, numbered-agree (tag_pieces s) _ (tag-line s) (imported_count TagKind m.imports) m.tags) (rw c.tags.ensures.all at c.write_defined-in-Tag.ensures.pieces)
+    rw (c.in-Tag.is, numbered_pieces-agree (tag_pieces s) _ (tag-line s) (imported_count TagKind m.imports) m.tags) (rw c.tags.ensures.all at c.write_defined-in-Tag.ensures.pieces)
 
 pub returns-in-Global-clause-pieces : goal.returns-in-Global-clause-pieces
 unfolding global_pieces
@@ -34,7 +34,7 @@ returns-in-Global-clause-pieces g c = rw c.in-Global.is (rw c.globals.ensures.al
 pub returns-in-Export-clause-pieces : goal.returns-in-Export-clause-pieces
 returns-in-Export-clause-pieces g c =
     let s = scope_view c.args.scope.now in
-    rw (c.in-Export.is, numbered-agree (λ i e. export_pieces s e) _ (export-line s) 0 c.args.module.now.exports) (rw c.exports.ensures at c.write_each.ensures.pieces)
+    rw (c.in-Export.is, numbered_pieces-agree (λ i e. export_pieces s e) _ (export-line s) 0 c.args.module.now.exports) (rw c.exports.ensures at c.write_each.ensures.pieces)
 
 pub returns-in-Element-clause-pieces : goal.returns-in-Element-clause-pieces
 unfolding element_pieces

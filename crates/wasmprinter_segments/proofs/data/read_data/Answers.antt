@@ -1,6 +1,6 @@
 use Rattle.std.proofs.Common.{◌≡◌, refl}
 use Rattle.std.proofs.lemmas.Result.{err_from_is_err_and}
-use Rattle.wasmprinter_spec.specs.Grammar.{placed}
+use Rattle.wasmprinter_spec.specs.Grammar.{value_with_place}
 use Rattle.wasmprinter_spec.specs.Binary.DataSegments.{segment}
 use Rattle.wasmprinter_spec.specs.Sections.{FunctionSection, DataSection, holds}
 use Rattle.wasmprinter_entries.specs.Refusals.{HoldsItems}
@@ -11,5 +11,5 @@ pub returns-in_err-segments : goal.returns-in_err-segments
 returns-in_err-segments c =
     let p = err_from_is_err_and c.from_residual.result c.from_residual.ensures.1 in
     rw (p.1, p.2)
-    (grown_fault (placed segment) (holds DataSection) (HoldsItems DataSection) (DataSection ≡ FunctionSection) tt (λ xs. refl)
+    (grown_fault (value_with_place segment) (holds DataSection) (HoldsItems DataSection) (DataSection ≡ FunctionSection) tt (λ xs. refl)
     c.args.cursor.now c.in_err-segments.field-0.0 c.in_err-segments.ensures.reads)

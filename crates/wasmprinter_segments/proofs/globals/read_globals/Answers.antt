@@ -1,6 +1,6 @@
 use Rattle.std.proofs.Common.{◌≡◌, refl}
 use Rattle.std.proofs.lemmas.Result.{err_from_is_err_and}
-use Rattle.wasmprinter_spec.specs.Grammar.{placed}
+use Rattle.wasmprinter_spec.specs.Grammar.{value_with_place}
 use Rattle.wasmprinter_spec.specs.Binary.Globals.{global}
 use Rattle.wasmprinter_spec.specs.Sections.{FunctionSection, GlobalSection, holds}
 use Rattle.wasmprinter_entries.specs.Refusals.{HoldsItems}
@@ -11,5 +11,5 @@ pub returns-in_err-globals : goal.returns-in_err-globals
 returns-in_err-globals c =
     let p = err_from_is_err_and c.from_residual.result c.from_residual.ensures.1 in
     rw (p.1, p.2)
-    (grown_fault (placed global) (holds GlobalSection) (HoldsItems GlobalSection) (GlobalSection ≡ FunctionSection) tt (λ xs. refl)
+    (grown_fault (value_with_place global) (holds GlobalSection) (HoldsItems GlobalSection) (GlobalSection ≡ FunctionSection) tt (λ xs. refl)
     c.args.cursor.now c.in_err-globals.field-0.0 c.in_err-globals.ensures.reads)

@@ -1,6 +1,6 @@
 use Rattle.std.proofs.Common.{◌≡◌, List, refl, subst}
 use Rattle.std.proofs.lemmas.Result.{err_from_is_err_and}
-use Rattle.wasmprinter_spec.specs.Grammar.{placed}
+use Rattle.wasmprinter_spec.specs.Grammar.{value_with_place}
 use Rattle.wasmprinter_spec.specs.Binary.Tables.{table}
 use Rattle.wasmprinter_spec.specs.Sections.{FunctionSection, TableSection, holds}
 use Rattle.wasmprinter_entries.specs.Refusals.{HoldsItems, PlacedTable, FirstIsEmpty}
@@ -12,7 +12,7 @@ pub returns-in_err-tables : goal.returns-in_err-tables
 returns-in_err-tables c =
     let p = err_from_is_err_and c.from_residual.result c.from_residual.ensures.1 in
     rw (p.1, p.2)
-    (grown_fault (placed table) (holds TableSection) (HoldsItems TableSection) (TableSection ≡ FunctionSection) tt (λ xs. refl)
+    (grown_fault (value_with_place table) (holds TableSection) (HoldsItems TableSection) (TableSection ≡ FunctionSection) tt (λ xs. refl)
     c.args.cursor.now c.in_err-tables.field-0.0 c.in_err-tables.ensures.reads)
 
 pub returns-in-Some : goal.returns-in-Some

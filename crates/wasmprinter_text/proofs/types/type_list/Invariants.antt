@@ -1,10 +1,10 @@
 use Rattle.wasmprinter_spec.specs.Options.{Options}
 use Rattle.wasmprinter_spec.specs.Layout.ValTypes.{type_list}
 use Rattle.wasmprinter_print.specs.Prints.{Lacks}
-use Rattle.wasmprinter_names.specs.Shown.{shown}
+use Rattle.wasmprinter_names.specs.Shown.{names_of_identifiers}
 use Rattle.wasmprinter_ops.specs.ValTypes.{types_view}
 use Rattle.wasmprinter_text.proofs.types.type_list.Given as goal
 
 abbrev pub invariant-loop-value_type : goal.invariant-loop-value_type
 invariant-loop-value_type g l =
-    (o : Options) → Lacks g.P.Print.meaning o l.fn.p l.p (type_list (shown l.fn.identifiers) (types_view l.fn.types)) (type_list (shown l.fn.identifiers) (types_view l.value_type-iterator))
+    (o : Options) → Lacks g.P.Print.meaning o l.fn.p l.p (type_list (names_of_identifiers l.fn.identifiers) (types_view l.fn.types)) (type_list (names_of_identifiers l.fn.identifiers) (types_view l.value_type-iterator))

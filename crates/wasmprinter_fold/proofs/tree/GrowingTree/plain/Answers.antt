@@ -7,9 +7,9 @@ use Rattle.wasmprinter_fold.proofs.tree.GrowingTree.plain.Goals as goal
 
 pub returns-clause-steps : goal.returns-clause-steps
 returns-clause-steps g c =
-    let label = c.in_ok-label.label in
-    let e = c.in_ok-label.ensures in
+    let head = c.in_ok-head.head in
+    let e = c.in_ok-head.ensures in
     on_ok_weaker c.plain.result (λ f s h.
-    shows-step c.write_operator.new.self.bytes c.args.self.now.builder c.plain.new.self (Plain label c.args.counts.takes c.args.counts.gives) _ s e.inside
+    shows-step c.write_operator.new.self.bytes c.args.self.now.builder c.plain.new.self (Plain head c.args.counts.takes c.args.counts.gives) _ s e.inside
     (ap (λ (x : Shown). Plain x c.args.counts.takes c.args.counts.gives) e.shows) f
     (shows-more c.args.self.now.texts.bytes c.write_operator.new.self.bytes c.args.self.now.builder s e.grows h)) c.plain.ensures

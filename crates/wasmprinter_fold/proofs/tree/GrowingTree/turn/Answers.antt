@@ -7,8 +7,8 @@ use Rattle.wasmprinter_fold.proofs.tree.GrowingTree.turn.Goals as goal
 
 pub returns-clause-steps : goal.returns-clause-steps
 returns-clause-steps c =
-    let e = c.in_ok-label.ensures in
+    let e = c.in_ok-head.ensures in
     on_ok_weaker c.turn.result (λ f s h.
-    shows-step c.write_keyword.new.self.bytes c.args.self.now.builder c.turn.new.self (Turns c.in_ok-label.label) _ s e.inside
+    shows-step c.write_keyword.new.self.bytes c.args.self.now.builder c.turn.new.self (Turns c.in_ok-head.head) _ s e.inside
     (ap (λ (y : Shown). Turns y) e.shows) f
     (shows-more c.args.self.now.texts.bytes c.write_keyword.new.self.bytes c.args.self.now.builder s e.grows h)) c.turn.ensures

@@ -44,7 +44,7 @@ pub returns-in-Some : goal.returns-in-Some
 returns-in-Some c =
     let x = c.self.inside in
     let lt : c.args.label < x.depth = omega (arith, c.if-label-self.false, c.if-label-self-2.false) in
-    ap (λ (y : Label). unnamed_found y (x.depth - c.args.label)) (sym (ap (option_map identifier_view) c.in-Some.is) ∙ c.unnamed.ensures)
+    ap (λ (y : Label). unnamed_found y (x.depth - c.args.label)) (sym (ap (option_map identifier_view) c.in-Some.is) ∙ c.unnamed_identifier.ensures)
     ∙ (sym (found_other x.identifiers.invents x.depth c.args.label (x.depth - 1 - c.args.label) x.named.blocks c.in-Unnamed.ensures.name lt refl)
     ∙ ap (λ (s : Scan). found_among [] s.labels c.args.label) c.self.view_is)
 
@@ -52,6 +52,6 @@ pub returns-in-None : goal.returns-in-None
 returns-in-None c =
     let x = c.self.inside in
     let lt : c.args.label < x.depth = omega (arith, c.if-label-self.false, c.if-label-self-2.false) in
-    ap (λ (y : Label). unnamed_found y (x.depth - c.args.label)) (sym (ap (option_map identifier_view) c.in-None.is) ∙ c.unnamed.ensures)
+    ap (λ (y : Label). unnamed_found y (x.depth - c.args.label)) (sym (ap (option_map identifier_view) c.in-None.is) ∙ c.unnamed_identifier.ensures)
     ∙ (sym (found_other x.identifiers.invents x.depth c.args.label (x.depth - 1 - c.args.label) x.named.blocks c.in-Unnamed.ensures.name lt refl)
     ∙ ap (λ (s : Scan). found_among [] s.labels c.args.label) c.self.view_is)

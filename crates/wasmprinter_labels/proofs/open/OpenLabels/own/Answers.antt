@@ -1,6 +1,6 @@
 use Rattle.std.proofs.Common.{sym, ap, ◌∙◌, length}
 use Rattle.wasmprinter_labels.specs.Scan.{Scan, own_label}
-use Rattle.wasmprinter_labels.specs.Stack.{unnamed, labels_from}
+use Rattle.wasmprinter_labels.specs.Stack.{unnamed_label, labels_from}
 use Rattle.wasmprinter_labels.proofs.Cursors.{own_some, own_none}
 use Rattle.wasmprinter_labels.proofs.Targets.{labels_length}
 use Rattle.wasmprinter_labels.proofs.open.OpenLabels.own.Goals as goal
@@ -16,6 +16,6 @@ pub returns-in-None : goal.returns-in-None
 returns-in-None c =
     let x = c.self.inside in
     let i = c.self.invariant in
-    c.unnamed.ensures ∙ ap (unnamed x.identifiers.invents) (sym (labels_length x.identifiers.invents x.named.blocks x.depth))
+    c.unnamed_identifier.ensures ∙ ap (unnamed_label x.identifiers.invents) (sym (labels_length x.identifiers.invents x.named.blocks x.depth))
     ∙ (sym (own_none x.identifiers.names.now x.labels.items x.identifiers.invents x.function x.opened x.next (length (labels_from x.identifiers.invents x.named.blocks x.depth)) i.lists i.ascend
     i.of_labels i.cursor c.deref.result.now c.deref.ensures.value (sym c.label_of.ensures ∙ c.in-None.is)) ∙ ap (λ (s : Scan). own_label s) c.self.view_is)

@@ -1,6 +1,6 @@
 use Rattle.std.proofs.Common.{◌≡◌, None, refl, arith, ◌∙◌, inl, inr}
 use Rattle.std.proofs.lemmas.Result.{err_from_is_err_and}
-use Rattle.wasmprinter_spec.specs.Grammar.{placed}
+use Rattle.wasmprinter_spec.specs.Grammar.{value_with_place}
 use Rattle.wasmprinter_spec.specs.Binary.Elements.{element}
 use Rattle.wasmprinter_bytes.proofs.Grown.{part_fault}
 use Rattle.wasmprinter_segments.specs.Segments.{mode_by, items_by, element_mode_view, element_items_view}
@@ -17,7 +17,7 @@ returns-in_err-mode-clause-reads c =
     let p = err_from_is_err_and c.from_residual-in_err-mode.result c.from_residual-in_err-mode.ensures.1 in
     rw (p.1, p.2)
     (part_fault ((mode_by c.in_ok-flags.flags).parse c.u32.new.self ≡ None) (ModeGrows c.in_ok-flags.flags c.u32.new.self)
-    ((placed element).parse c.args.cursor.now ≡ None) (ElementGrows c.args.cursor.now) c.u32.new.self c.args.cursor.now
+    ((value_with_place element).parse c.args.cursor.now ≡ None) (ElementGrows c.args.cursor.now) c.u32.new.self c.args.cursor.now
     (element_no_mode c.args.cursor.now c.u32.new.self c.in_ok-flags.flags c.in_ok-flags.ensures.reads (omega arith))
     (λ more. record { value = c.in_ok-flags.flags; after = c.u32.new.self; read = c.in_ok-flags.ensures.reads; holds = inl more }) c.in_ok-flags.ensures.end
     c.in_err-mode.field-0.0 c.in_err-mode.ensures.reads)
@@ -27,7 +27,7 @@ returns-in_err-items-clause-reads c =
     let p = err_from_is_err_and c.from_residual-in_err-items.result c.from_residual-in_err-items.ensures.1 in
     rw (p.1, p.2)
     (part_fault ((items_by c.in_ok-flags.flags).parse c.read.new.cursor ≡ None) (ItemsGrow c.in_ok-flags.flags c.read.new.cursor)
-    ((placed element).parse c.args.cursor.now ≡ None) (ElementGrows c.args.cursor.now) c.read.new.cursor c.args.cursor.now
+    ((value_with_place element).parse c.args.cursor.now ≡ None) (ElementGrows c.args.cursor.now) c.read.new.cursor c.args.cursor.now
     (element_no_items c.args.cursor.now c.u32.new.self c.in_ok-flags.flags c.in_ok-flags.ensures.reads (omega arith) c.read.new.cursor (element_mode_view c.in_ok-mode.mode) c.in_ok-mode.ensures.reads)
     (λ more. record {
       value = c.in_ok-flags.flags;

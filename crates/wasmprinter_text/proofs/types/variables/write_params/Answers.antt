@@ -2,7 +2,7 @@ use Rattle.std.specs.Prelude.{◌≡◌, [], codes, length}
 use Rattle.std.proofs.Common.{ap, arith, ⊎_elim}
 use Rattle.wasmprinter_spec.specs.Layout.Types.{parameters_of}
 use Rattle.wasmprinter_print.specs.PrintsLaws.{next_written, next_fails, rest_written}
-use Rattle.wasmprinter_names.specs.Shown.{shown}
+use Rattle.wasmprinter_names.specs.Shown.{names_of_identifiers}
 use Rattle.wasmprinter_ops.specs.ValTypes.{types_view}
 use Rattle.wasmprinter_text.proofs.Counting.{none-left}
 use Rattle.wasmprinter_text.proofs.Walks.{walk-groups, walk-next, walk-none}
@@ -10,7 +10,7 @@ use Rattle.wasmprinter_text.proofs.types.variables.write_params.Goals as goal
 
 pub returns-in_err-before : goal.returns-in_err-before
 returns-in_err-before g c o =
-    let names = shown c.args.identifiers.now in
+    let names = names_of_identifiers c.args.identifiers.now in
     let named = parameters_of names c.args.owner in
     let step = walk-next names (codes "param") named c.loop-number.before c.loop-number.number-iterator.a.start _ _ _ c.in-Some.ensures.steps.1 in
     let made = rw c.in-Some.ensures.steps.0.1.1 at (c.in_err-before.ensures.pieces o) in
@@ -19,7 +19,7 @@ returns-in_err-before g c o =
 
 pub loop-number-preserved : goal.loop-number-preserved
 loop-number-preserved g c =
-    let names = shown c.args.identifiers.now in
+    let names = names_of_identifiers c.args.identifiers.now in
     let named = parameters_of names c.args.owner in
     let step = walk-next names (codes "param") named c.loop-number.before c.loop-number.number-iterator.a.start _ _ _ c.in-Some.ensures.steps.1 in
     record {
@@ -33,7 +33,7 @@ loop-number-preserved g c =
 
 pub returns : goal.returns
 returns g c o =
-    let names = shown c.args.identifiers.now in
+    let names = names_of_identifiers c.args.identifiers.now in
     let named = parameters_of names c.args.owner in
     let items = c.loop-number.number-iterator.b in
     let none : items ≡ [] =

@@ -1,20 +1,20 @@
 -- What the tracker kept of the calls, and what `finish` gives of it.
 use Rattle.std.proofs.Common.{rules, ◌≡◌, string_bytes, sym, ap, ◌∙◌, subst}
-use Rattle.wasmprinter_tracker.specs.Cuts.{cut}
+use Rattle.wasmprinter_tracker.specs.Cuts.{lines_at_starts}
 use Rattle.wasmprinter_tracker.specs.Tracked.{without_lines}
 use Rattle.wasmprinter_tracker.specs.Tracking.{BeginsWith}
 use Rattle.wasmprinter.specs.Lined.{HasLinesBy}
 use Rattle.wasmprinter.specs.Outcome.{HasTextCause, IsTrueOfText}
 use Rattle.wasmprinter.proofs.Outcomes.{growth_cause, growth_true}
 use Rattle.wasmprinter.proofs.TrackedLines.{told_as, handed_on_as, on_err, in_front, printed_behind, printable, finished_lines, refusal_keeps}
-use Rattle.wasmprinter.proofs.config.Config.tracked.Goals as goal
+use Rattle.wasmprinter.proofs.config.Config.print_with_starts.Goals as goal
 
 pub returns-in-Ok-clause-lines : goal.returns-in-Ok-clause-lines
 returns-in-Ok-clause-lines c =
     let base = string_bytes c.args.storage.now in
     let text = string_bytes c.finish-text.result.0 in
     let begun : c.new-printer.result ≡ without_lines base = c.new-printer.ensures ∙ ap (λ s. without_lines (string_bytes s)) c.replace-text.ensures.value in
-    handed_on_as _ (λ starts. HasLinesBy c.args.self.now c.args.wasm.now base text (cut starts.items text)) c.finish-text.result.1 c.map_err.result c.map_err.ensures.cases
+    handed_on_as _ (λ starts. HasLinesBy c.args.self.now c.args.wasm.now base text (lines_at_starts starts.items text)) c.finish-text.result.1 c.map_err.result c.map_err.ensures.cases
     (finished_lines c.args.self.now c.args.wasm.now base text c.new-printer.result c.print-printed.new.printer begun c.finish-text.ensures.text (λ starts. starts.items) c.finish-text.result.1
     c.in-Ok.ensures.printed c.finish-text.ensures.kept c.finish-text.ensures.lines)
 

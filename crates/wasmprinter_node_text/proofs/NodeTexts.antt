@@ -1,4 +1,4 @@
--- Labels: their texts in a buffer, also in one that grew, and whether these hold a comment up to the end of the line.
+-- Heads of nodes: their texts in a buffer, also in one that grew, and whether these hold a comment up to the end of the line.
 use Rattle.std.proofs.Common.{◌≡◌, ℕ, ◌-◌, ◌==◌, ◌&&◌, ◌||◌, Bool, true, false, List, [], ◌∷◌, ◌++◌, length, take, drop, refl, sym, ◌∙◌, ap, ap₂, subst, append_assoc, arith, length-append}
 use Rattle.std.proofs.lemmas.List.{take_at, drop_at, append-nil}
 use Rattle.std.proofs.lemmas.Str.{IsCharBoundary-at_seam, IsUtf8-append, IsUtf8-nil}
@@ -6,18 +6,18 @@ use Rattle.std.proofs.lemmas.Bool.{eqb-true}
 use Rattle.std.specs.Prelude.{IsUtf8, Option}
 use Rattle.std.specs.Str.{IsCharBoundary}
 use Rattle.wasmprinter_spec.specs.Call.{Call, text_of}
-use Rattle.wasmprinter_spec.specs.Layout.Folded.{painted, has_line_comment}
+use Rattle.wasmprinter_spec.specs.Layout.Folded.{painted_text, has_line_comment}
 use Rattle.wasmprinter_spec.specs.Folding.Tree.{NodesOf, Nil, Snoc}
-use Rattle.wasmprinter_nodes.specs.declared.Label.{Label}
+use Rattle.wasmprinter_nodes.specs.declared.NodeText.{NodeText}
 use Rattle.wasmprinter_nodes.specs.Mapping.{map_nodes}
 use Rattle.wasmprinter_node_text.specs.declared.semicolons.Semicolons.{Semicolons}
-use Rattle.wasmprinter_node_text.specs.Shown.{Shown, shown, shown_in, IsIn, AreIn}
-use Rattle.wasmprinter_node_text.specs.Buffers.{View, unseen, see, see_all, begun, Grows}
+use Rattle.wasmprinter_node_text.specs.Shown.{Shown, shown_of_calls, shown_of_head, IsIn, AreIn}
+use Rattle.wasmprinter_node_text.specs.Buffers.{View, no_semicolons, see, see_all, with_text_begun, Grows}
 use Rattle.wasmprinter_node_text.proofs.TextLaws.{Adds}
 
 -- ---- where a text lies
 
-module _ (buffer : List ℕ) (l : Label) (h : IsIn buffer l) where
+module _ (buffer : List ℕ) (l : NodeText) (h : IsIn buffer l) where
   pub start_boundary : IsCharBoundary buffer l.start
   start_boundary =
       subst (IsCharBoundary buffer) h.starts
@@ -66,25 +66,25 @@ module _ (buffer : List ℕ) (l : Label) (h : IsIn buffer l) where
       ∙ (ap (take (l.stop - l.start)) (drop_at h.before (h.text ++ (h.after ++ more)) l.start h.starts)
       ∙ take_at h.text (h.after ++ more) (l.stop - l.start) size)
 
-abbrev shown_by : Label → List ℕ → Shown
+abbrev shown_by : NodeText → List ℕ → Shown
 shown_by l text = record { place = l.place; hint = l.hint; text = text; comment = l.comment }
 
 -- A text stays where it lies when the buffer grows,
-pub in_grown : (old new : List ℕ) (l : Label) → Grows old new → IsIn old l → IsIn new l
+pub in_grown : (old new : List ℕ) (l : NodeText) → Grows old new → IsIn old l → IsIn new l
 in_grown old new l g h = in_longer old l h g.more new g.is_text g.parts
 
 -- and what is printed of its node stays the same.
-pub shown_grown : (old new : List ℕ) (l : Label) → Grows old new → IsIn old l → shown_in new l ≡ shown_in old l
+pub shown_grown : (old new : List ℕ) (l : NodeText) → Grows old new → IsIn old l → shown_of_head new l ≡ shown_of_head old l
 shown_grown old new l g h =
     ap (shown_by l) (text_there_longer old l h g.more new g.parts ∙ sym (text_there old l h))
 
--- The same of all labels of nodes.
-pub are_grown : (old new : List ℕ) (f : NodesOf Label) → Grows old new → AreIn old f → AreIn new f
+-- The same of all heads of nodes.
+pub are_grown : (old new : List ℕ) (f : NodesOf NodeText) → Grows old new → AreIn old f → AreIn new f
 are_grown old new Nil g h = tt
 are_grown old new (Snoc before l results held) g h =
     (are_grown old new before g h.0, in_grown old new l g h.1, are_grown old new held g h.2)
 
-pub all_shown_grown : (old new : List ℕ) (f : NodesOf Label) → Grows old new → AreIn old f → map_nodes (shown_in new) f ≡ map_nodes (shown_in old) f
+pub all_shown_grown : (old new : List ℕ) (f : NodesOf NodeText) → Grows old new → AreIn old f → map_nodes (shown_of_head new) f ≡ map_nodes (shown_of_head old) f
 all_shown_grown old new Nil g h = refl
 all_shown_grown old new (Snoc before l results held) g h =
     rw (all_shown_grown old new before g h.0, all_shown_grown old new held g h.2, shown_grown old new l g h.1) refl
@@ -122,48 +122,48 @@ seen_behind s [] = or_none s.double ∙ ap (λ x. s.double || x) (sym (behind_no
 seen_behind s (b ∷ bs) = seen_behind (see s b) bs ∙ behind_first s.double s.last (b == 59) b bs refl
 
 -- What was seen of a text from its first byte on tells whether it holds a comment up to the end of the line.
-pub seen_comment : (bs : List ℕ) → (see_all unseen bs).double ≡ has_line_comment bs
-seen_comment bs = seen_behind unseen bs
+pub seen_comment : (bs : List ℕ) → (see_all no_semicolons bs).double ≡ has_line_comment bs
+seen_comment bs = seen_behind no_semicolons bs
 
 -- ---- a new text
 
--- the label of the last text
-abbrev pub label_of : View → ℕ → ℕ → Option Bool → Label
-label_of new place start hint = record { place = place; hint = hint; start = start; stop = length new.bytes; comment = new.seen.double }
+-- the head of the last text
+abbrev pub head_of : View → ℕ → ℕ → Option Bool → NodeText
+head_of new place start hint = record { place = place; hint = hint; start = start; stop = length new.bytes; comment = new.seen.double }
 
-module _ (old middle new : View) (place start : ℕ) (hint : Option Bool) (layout : List Call) (b : middle ≡ begun old) (s : start ≡ length old.bytes) (added : Adds middle layout new) where
-  abbrev a : Adds (begun old) layout new
+module _ (old middle new : View) (place start : ℕ) (hint : Option Bool) (layout : List Call) (b : middle ≡ with_text_begun old) (s : start ≡ length old.bytes) (added : Adds middle layout new) where
+  abbrev a : Adds (with_text_begun old) layout new
   a = subst (λ (u : View). Adds u layout new) b added
 
-  last_in : IsIn new.bytes (label_of new place start hint)
+  last_in : IsIn new.bytes (head_of new place start hint)
   last_in =
       record {
         before = old.bytes;
-        text = painted old.paints layout;
+        text = painted_text old.paints layout;
         after = [];
-        parts = a.bytes ∙ ap (λ (l : List ℕ). old.bytes ++ l) (sym (append-nil (painted old.paints layout)));
+        parts = a.bytes ∙ ap (λ (l : List ℕ). old.bytes ++ l) (sym (append-nil (painted_text old.paints layout)));
         starts = sym s;
-        stops = omega (arith, s, ap length a.bytes, length-append old.bytes (painted old.paints layout));
+        stops = omega (arith, s, ap length a.bytes, length-append old.bytes (painted_text old.paints layout));
         is_text = a.is_text;
         is_rest = IsUtf8-nil;
       }
 
-  -- its label says where it lies,
-  pub entered_in : (l : Label) → l ≡ label_of new place start hint → IsIn new.bytes l
+  -- its head says where it lies,
+  pub entered_in : (l : NodeText) → l ≡ head_of new place start hint → IsIn new.bytes l
   entered_in l e = subst (IsIn new.bytes) (sym e) last_in
 
-  last_there : take (length new.bytes - start) (drop start new.bytes) ≡ painted old.paints layout
+  last_there : take (length new.bytes - start) (drop start new.bytes) ≡ painted_text old.paints layout
   last_there =
-      let size : length (painted old.paints layout) ≡ length new.bytes - start = omega (arith, s, ap length a.bytes, length-append old.bytes (painted old.paints layout)) in
+      let size : length (painted_text old.paints layout) ≡ length new.bytes - start = omega (arith, s, ap length a.bytes, length-append old.bytes (painted_text old.paints layout)) in
       ap (λ (b : List ℕ). take (length new.bytes - start) (drop start b)) a.bytes
-      ∙ (ap (take (length new.bytes - start)) (drop_at old.bytes (painted old.paints layout) start (sym s))
-      ∙ (ap (take (length new.bytes - start)) (sym (append-nil (painted old.paints layout)))
-      ∙ take_at (painted old.paints layout) [] (length new.bytes - start) size))
+      ∙ (ap (take (length new.bytes - start)) (drop_at old.bytes (painted_text old.paints layout) start (sym s))
+      ∙ (ap (take (length new.bytes - start)) (sym (append-nil (painted_text old.paints layout)))
+      ∙ take_at (painted_text old.paints layout) [] (length new.bytes - start) size))
 
   -- and shows what was written
-  pub entered_shown : (l : Label) → l ≡ label_of new place start hint → shown_in new.bytes l ≡ shown place hint old.paints layout
+  pub entered_shown : (l : NodeText) → l ≡ head_of new place start hint → shown_of_head new.bytes l ≡ shown_of_calls place hint old.paints layout
   entered_shown l e =
-      ap (shown_in new.bytes) e
+      ap (shown_of_head new.bytes) e
       ∙ ap₂ (λ (text : List ℕ) (comment : Bool). record { place = place; hint = hint; text = text; comment = comment })
       last_there
       (ap (λ (x : Semicolons). x.double) a.seen ∙ seen_comment (text_of layout))

@@ -3,7 +3,7 @@ use Rattle.wasmprinter_spec.specs.FloatText.{digit_count, filled_fraction}
 use Rattle.wasmprinter_spec.proofs.Fractions.{filled_fraction-below}
 use Rattle.wasmprinter_floats.specs.Formats.{width_of}
 use Rattle.wasmprinter_floats.proofs.Formats.{digits_fit}
-use Rattle.wasmprinter_floats.proofs.format.Format.filled.Goals as goal
+use Rattle.wasmprinter_floats.proofs.format.Format.filled_fraction.Goals as goal
 
 is_filled : (c : goal.After-power) → c.args.fraction * c.power.result ≡ filled_fraction (width_of c.args.self) c.args.fraction
 is_filled c = rw (c.power.ensures, c.digit_count.ensures.is, c.fraction_bits.ensures.is) refl

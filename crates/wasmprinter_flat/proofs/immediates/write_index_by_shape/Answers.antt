@@ -1,5 +1,5 @@
 use Rattle.wasmprinter_spec.specs.Layout.Operators.{immediate_pieces}
-use Rattle.wasmprinter_flat.proofs.immediates.write_index.Goals as goal
+use Rattle.wasmprinter_flat.proofs.immediates.write_index_by_shape.Goals as goal
 
 pub returns-in-Index : goal.returns-in-Index
 unfolding immediate_pieces

@@ -3,7 +3,7 @@ use Rattle.wasmprinter_spec.specs.FloatText.{shift, shifted_fraction}
 use Rattle.wasmprinter_spec.proofs.Fractions.{IsShift, shift-IsShift, shifted_fraction-below}
 use Rattle.wasmprinter_floats.specs.Formats.{width_of}
 use Rattle.wasmprinter_floats.proofs.Formats.{fraction_fits}
-use Rattle.wasmprinter_floats.proofs.format.Format.shifted.Goals as goal
+use Rattle.wasmprinter_floats.proofs.format.Format.shifted_fraction.Goals as goal
 
 -- the fraction times a power is the fraction shifted
 times_power : (n power k s : ℕ) → power ≡ 2 ^ k → k ≡ s → n * power ≡ n * 2 ^ s

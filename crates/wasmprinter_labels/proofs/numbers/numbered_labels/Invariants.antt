@@ -1,6 +1,6 @@
 use Rattle.std.proofs.Common.{◌≡◌, map, take}
 use Rattle.wasmprinter_labels.specs.Numbers.{IsNumbering}
-use Rattle.wasmprinter_labels.proofs.numbers.numbered.Given as goal
+use Rattle.wasmprinter_labels.proofs.numbers.numbered_labels.Given as goal
 
 abbrev pub invariant-loop-label : goal.invariant-loop-label
 invariant-loop-label l = record {

@@ -1,5 +1,5 @@
-use Rattle.wasmprinter_node_text.proofs.LabelLaws.{start_boundary, stop_boundary}
-use Rattle.wasmprinter_node_text.proofs.rows.label_text.Goals as goal
+use Rattle.wasmprinter_node_text.proofs.NodeTexts.{start_boundary, stop_boundary}
+use Rattle.wasmprinter_node_text.proofs.rows.text_of_head.Goals as goal
 
 pub range-requires-clause-start_boundary : goal.range-requires-clause-start_boundary
 range-requires-clause-start_boundary c = λ _. start_boundary _ _ c.requires

@@ -1,5 +1,5 @@
 use Rattle.wasmprinter_spec.specs.Layout.Operators.{immediate_pieces}
-use Rattle.wasmprinter_flat.proofs.immediates.write_bytes.Goals as goal
+use Rattle.wasmprinter_flat.proofs.immediates.write_sixteen_bytes.Goals as goal
 
 pub returns-in-Vector : goal.returns-in-Vector
 unfolding immediate_pieces
