@@ -2,7 +2,7 @@
 use Rattle.std.specs.Prelude.{◌≡◌, ℕ, ◌+◌, List, [], ◌∷◌, ◌++◌, ◌||◌, map, codes, Bool, true, false, Option, Some, None, refl}
 use Rattle.std.specs.List.{AllByRecursion}
 use Rattle.std.proofs.Common.{sym, ap, ap₂, ◌∙◌, subst}
-use Rattle.wasmprinter_spec.specs.Call.{Call, Text, Newline, Line, Start, Claim, calls_of_bytes, atoms}
+use Rattle.wasmprinter_spec.specs.Call.{Call, Text, Newline, Line, Start, Claim, IsUnclaimed, calls_of_bytes, atoms}
 use Rattle.wasmprinter_spec.specs.Kinds.{Kind, TypeSection, ImportSection, FunctionSection, TableSection, MemorySection, TagSection, GlobalSection, ExportSection, StartSection, ElementSection, CodeSection, DataSection}
 use Rattle.wasmprinter_spec.specs.Placed.{CustomEntry, PlacedModule}
 use Rattle.wasmprinter_spec.specs.Names.{Names}
@@ -15,7 +15,7 @@ use Rattle.wasmprinter_spec.specs.Layout.Identifiers.{leading_mark_pieces}
 use Rattle.wasmprinter_spec.specs.Layout.Customs.{Part, Shown, Stops, Laid, laid_parts, custom_part, same_place, parts_at}
 use Rattle.wasmprinter_print.specs.PrintsLaws.{all_calls-append}
 use Rattle.wasmprinter_sections.specs.Sections.{fields_of, first_scope, section_parts}
-use Rattle.wasmprinter.specs.Printed.{no_claims, IsUnclaimed}
+use Rattle.wasmprinter.specs.Printed.{no_claims}
 
 -- ---- of two lists
 

@@ -1,7 +1,7 @@
 -- The text of a module in colours.
 use Rattle.std.specs.Prelude.{◌≡◌, ℕ, List, [], ◌∷◌, ◌++◌, true, false, map, Some, None, Ok, refl}
 use Rattle.std.proofs.Common.{sym, ap, ◌∙◌, append_assoc, append-nil}
-use Rattle.wasmprinter_spec.specs.Call.{Call, Text, Newline, Line, Start, Claim, calls_of_bytes, atoms}
+use Rattle.wasmprinter_spec.specs.Call.{Call, Text, Newline, Line, Start, Claim, IsUnclaimed, calls_of_bytes, atoms}
 use Rattle.wasmprinter_spec.specs.Colour.{uncolour}
 use Rattle.wasmprinter_spec.specs.Meaning.{Meaning}
 use Rattle.wasmprinter_spec.specs.Coloured.{coloured_bytes, coloured_text}
@@ -12,7 +12,7 @@ use Rattle.wasmprinter_writers.specs.ColourCalls.{Painting, PaintsBySequences, W
 use Rattle.wasmprinter_writers.proofs.Runs.{coloured_run}
 use Rattle.wasmprinter_reading.proofs.Main.{prints_plain_text}
 use Rattle.wasmprinter_colours.proofs.Texts.{coloured_text_keeps}
-use Rattle.wasmprinter.specs.Printed.{Printed, in_colours, no_claims, IsUnclaimed}
+use Rattle.wasmprinter.specs.Printed.{Printed, in_colours, no_claims}
 use Rattle.wasmprinter.specs.Coloured.{HasColouredTextBy}
 use Rattle.wasmprinter.proofs.Claims.{IsSame}
 use Rattle.wasmprinter.proofs.Paints.{refusal-paints}

@@ -6,7 +6,7 @@ use Rattle.wasmprinter_spec.specs.Placed.{PlacedModule}
 use Rattle.wasmprinter_spec.specs.Limits.{IsWithinLimits}
 use Rattle.wasmprinter_spec.specs.Module.{module_of}
 use Rattle.wasmprinter_spec.specs.Indexed.{IsIndexed}
-use Rattle.wasmprinter_spec.specs.Call.{Call, Claim, atoms, text_of}
+use Rattle.wasmprinter_spec.specs.Call.{Call, IsUnclaimed, atoms, text_of}
 use Rattle.wasmprinter_spec.specs.Colour.{uncolour}
 use Rattle.wasmprinter_spec.specs.Coloured.{bare_call}
 use Rattle.wasmprinter_spec.specs.Meaning.{Meaning, Run}
@@ -21,11 +21,6 @@ use Rattle.wasmprinter_spec.specs.Read.{read}
 -- no custom section is claimed
 abbrev pub no_claims : Answers
 no_claims = λ n. false
-
--- the printer didn't take a custom section itself
-abbrev pub IsUnclaimed : Call → Type 0
-IsUnclaimed (Claim name place bytes answer) = answer ≡ false
-IsUnclaimed _ = Unit {0}
 
 -- with the sequences of colours in the text of folded operators, or without
 abbrev pub in_colours : Options → Bool → Options

@@ -1,5 +1,5 @@
 -- Calls on a printer, and the text that a list of calls hands over. This is the printer's own: the standard knows only the text.
-use Rattle.std.specs.Prelude.{ℕ, List, [], ◌∷◌, ◌++◌, Bool, Option, map}
+use Rattle.std.specs.Prelude.{◌≡◌, ℕ, List, [], ◌∷◌, ◌++◌, Bool, false, Option, map}
 
 -- what a style call chooses
 pub data Style : Type 0 where
@@ -18,6 +18,11 @@ pub data Call : Type 0 where
   Line : Option ℕ → Call
   Start : Style → Call
   Claim : List ℕ → ℕ → List ℕ → Bool → Call
+
+-- the printer didn't take a custom section itself
+abbrev pub IsUnclaimed : Call → Type 0
+IsUnclaimed (Claim name place bytes answer) = answer ≡ false
+IsUnclaimed _ = Unit {0}
 
 -- the text that one call hands over
 abbrev pub call_text : Call → List ℕ

@@ -41,11 +41,6 @@ tracked_meaning = record {
 abbrev pub BeginsWith : List ℕ → List ℕ → Type 0
 BeginsWith old new = (more : List ℕ) × (new ≡ old ++ more)
 
--- no custom section was taken
-abbrev pub IsUnclaimed : Call → Type 0
-IsUnclaimed (Claim name place bytes answer) = answer ≡ false
-IsUnclaimed _ = Unit {0}
-
 -- a tracker has the text and the lines of these calls, behind the text that stood there, unless a line was lost
 pub record Tracks (base : List ℕ) (calls : List Call) (t : Tracked) : Type 0 where
   pub text : t.text ≡ base ++ text_of calls
