@@ -5,7 +5,7 @@ use Rattle.std.specs.List.{AllByRecursion}
 use Rattle.wasmprinter_spec.specs.Grammar.{Input, input, Grammar}
 use Rattle.wasmprinter_spec.specs.Binary.{AreBytes}
 use Rattle.wasmprinter_spec.specs.Lenient.{Lenient, give, follow, repeat, Repeats, within, unless_ended, behind_part, by_test}
-use Rattle.wasmprinter_reading.proofs.AllSpelled.{AllSpelled, AllSpelled-any, split_bytes}
+use Rattle.wasmprinter_reading.proofs.AllSpelled.{AllSpelled, Spelled-any, split_bytes}
 
 pub all_append : {A : Type 0} (P : A → Type 0) (xs ys : List A) → AllByRecursion P xs → AllByRecursion P ys → AllByRecursion P (xs ++ ys)
 all_append P [] ys s t = t
@@ -38,7 +38,7 @@ module _ {E : Type 0} (P : E → Type 0) where
 
   -- whatever the value
   pub AllGiven-follow_any : {A : Type 0} (g : Grammar A) (h : A → Lenient E) → ((a : A) → AllGiven P (h a)) → AllGiven P (follow g h)
-  AllGiven-follow_any g h f = AllGiven-follow g (AllSpelled-any g) h (λ a t. f a)
+  AllGiven-follow_any g h f = AllGiven-follow g (Spelled-any g) h (λ a t. f a)
 
   module _ (l : Lenient E) (f : AllGiven P l) where
     repeat_has : (n : ℕ) (at : Input) (xs : List E) (end : Option Input) → AreBytes at.bytes → Repeats l n at xs end → AllByRecursion P xs × Stays end

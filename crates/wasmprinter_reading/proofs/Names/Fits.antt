@@ -7,13 +7,13 @@ use Rattle.wasmprinter_spec.specs.Binary.{AreBytes}
 use Rattle.wasmprinter_spec.specs.Lenient.{give, follow, repeat, within, by_test, Groups}
 use Rattle.wasmprinter_spec.specs.Names.Section.{Entry, entry, entry_of, association, name_map, inner_map, indirect_map, module_name, module_subsection, tag_subsection, is_indirect, entries_by_id, content, subsection, all_of}
 use Rattle.wasmprinter_reading.specs.NameLaws.{IsEntry, AreEntries, BytesGiveEntries}
-use Rattle.wasmprinter_reading.proofs.AllSpelled.{AllSpelled, AllSpelled-seq}
+use Rattle.wasmprinter_reading.proofs.AllSpelled.{AllSpelled, Spelled-seq}
 use Rattle.wasmprinter_reading.proofs.AllGiven.{all_append, Stays, AllGiven, AllGiven-give, AllGiven-follow, AllGiven-follow_any, AllGiven-repeat, AllGiven-within, AllGiven-by_test}
 use Rattle.wasmprinter_reading.proofs.Vectors.{AllSpelled-u32}
 use Rattle.wasmprinter_reading.proofs.PartRanges.{AllSpelled-name}
 
 AllSpelled-association : AllSpelled association (λ x. (x.0 < 2 ^ 32) × IsUtf8 x.1)
-AllSpelled-association = AllSpelled-seq AllSpelled-u32 (λ _. AllSpelled-name)
+AllSpelled-association = Spelled-seq AllSpelled-u32 (λ _. AllSpelled-name)
 
 fits_entry : (s outer : ℕ) → AllGiven IsEntry (entry s outer)
 fits_entry s outer =
