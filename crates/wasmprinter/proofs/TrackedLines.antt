@@ -7,7 +7,7 @@ use Rattle.wasmprinter_spec.specs.Call.{Call, text_of}
 use Rattle.wasmprinter_spec.specs.Options.{Options}
 use Rattle.wasmprinter_spec.specs.Layout.{layout}
 use Rattle.wasmprinter_spec.specs.Lines.{TextLine, lines_of, joined_lines, line_places, hint_places, HasFunctionLines}
-use Rattle.wasmprinter_lexical.proofs.Alike.{alike_texts}
+use Rattle.wasmprinter_spec.proofs.Texts.{alike_texts}
 use Rattle.wasmprinter_tracker.specs.declared.lines.LineStart.{LineStart}
 use Rattle.wasmprinter_tracker.specs.Cuts.{lines_at_starts}
 use Rattle.wasmprinter_tracker.specs.Tracked.{Tracked, without_lines}

@@ -1,15 +1,12 @@
 -- What holds of all entries that bytes give, as far as they are read.
-use Rattle.std.proofs.Common.{◌≡◌, ℕ, zero, suc, List, [], ◌∷◌, ◌++◌, Bool, true, false, Option, Some, None, sym, subst, inl, inr}
+use Rattle.std.proofs.Common.{◌≡◌, ℕ, zero, suc, List, [], Bool, true, false, Option, Some, None, sym, subst, inl, inr}
 use Rattle.std.specs.Prelude.{MatchOption}
 use Rattle.std.specs.List.{AllByRecursion}
 use Rattle.wasmprinter_spec.specs.Grammar.{Input, input, Grammar}
 use Rattle.wasmprinter_spec.specs.Binary.{AreBytes}
 use Rattle.wasmprinter_spec.specs.Lenient.{Lenient, give, follow, repeat, Repeats, within, unless_ended, behind_part, by_test}
+use Rattle.wasmprinter_spec.proofs.Each.{all_both}
 use Rattle.wasmprinter_reading.proofs.AllSpelled.{AllSpelled, Spelled-any, split_bytes}
-
-pub all_append : {A : Type 0} (P : A → Type 0) (xs ys : List A) → AllByRecursion P xs → AllByRecursion P ys → AllByRecursion P (xs ++ ys)
-all_append P [] ys s t = t
-all_append P (x ∷ xs) ys s t = (s.0, all_append P xs ys s.1 t)
 
 -- bytes are left behind bytes
 abbrev pub Stays : Option Input → Type 0
@@ -46,7 +43,7 @@ module _ {E : Type 0} (P : E → Type 0) where
     repeat_has (suc n) at xs end b (inl s) =
         let one_more = f.has at s.0 (Some s.2) b s.3 in
         let others = repeat_has n s.2 s.1 end one_more.1 s.4 in
-        (subst (AllByRecursion P) (sym s.5) (all_append P s.0 s.1 one_more.0 others.0), others.1)
+        (subst (AllByRecursion P) (sym s.5) (all_both P s.0 s.1 one_more.0 others.0), others.1)
     repeat_has (suc n) at xs end b (inr s) = ((f.has at xs None b s.0).0, subst Stays (sym s.1) tt)
 
     pub AllGiven-repeat : (n : ℕ) → AllGiven P (repeat l n)

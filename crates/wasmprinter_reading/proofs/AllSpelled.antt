@@ -7,6 +7,7 @@ use Rattle.wasmprinter_spec.specs.Binary.ValTypes.{value_if_any}
 use Rattle.wasmprinter_spec.specs.Repeated.{Items, times, Entries}
 use Rattle.wasmprinter_spec.specs.Sized.{take_bytes, alone, exactly}
 use Rattle.wasmprinter_spec.specs.Binary.{AreBytes}
+use Rattle.wasmprinter_spec.proofs.Each.{all_parts}
 
 -- Byte strings of a kind, where both parts of one are of the kind too.
 pub record ByteStrings : Type 1 where
@@ -20,8 +21,7 @@ pub record Spelled (kind : ByteStrings) {A : Type 0} (g : Grammar A) (P : A → 
 
 -- Both parts of bytes are bytes.
 pub split_bytes : (t u : List ℕ) → AreBytes (t ++ u) → AreBytes t × AreBytes u
-split_bytes [] u h = (tt, h)
-split_bytes (b ∷ t) u h = let r = split_bytes t u h.1 in ((h.0, r.0), r.1)
+split_bytes t u h = all_parts (λ b. b < 256) t u h
 
 -- All byte strings.
 abbrev pub all_bytes : ByteStrings

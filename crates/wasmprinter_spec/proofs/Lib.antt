@@ -1,3 +1,6 @@
+pub mod Each
+pub mod Classes
+pub mod Texts
 pub mod Ordered
 pub mod OneLine
 pub mod ImmediateLines

@@ -6,10 +6,6 @@ use Rattle.wasmprinter_spec.specs.Call.{Call, Text, Line, call_text, text_of, at
 use Rattle.wasmprinter_spec.specs.Lines.{TextLine, text_before_line, lines_of, joined_lines}
 use Rattle.wasmprinter_tracker.specs.Tracked.{extend_last}
 
-pub text_of-append : (k l : List Call) → text_of (k ++ l) ≡ text_of k ++ text_of l
-text_of-append [] l = refl
-text_of-append (c ∷ k) l = ap (λ x. call_text c ++ x) (text_of-append k l) ∙ sym (append_assoc (call_text c) (text_of k) (text_of l))
-
 -- ---- calls more
 
 -- Either no line has begun, and what is added stands in front of the first line too, or it does not.

@@ -5,10 +5,11 @@ use Rattle.std.specs.declared.io.Error.{Error as IoError}
 use Rattle.wasmprinter_spec.specs.Call.{Call, Text, Newline, Line, Start, Claim, IsUnclaimed, call_text, text_of}
 use Rattle.wasmprinter_spec.specs.Lines.{TextLine, lines_of}
 use Rattle.wasmprinter_spec.specs.Meaning.{Run}
+use Rattle.wasmprinter_spec.proofs.Texts.{text_of-append}
 use Rattle.wasmprinter_print.specs.Emits.{Broken}
 use Rattle.wasmprinter_tracker.specs.Tracked.{Tracked, without_lines, extend_last, with_line_if}
 use Rattle.wasmprinter_tracker.specs.Tracking.{tracked_after, tracked_meaning, BeginsWith, Tracks}
-use Rattle.wasmprinter_tracker.proofs.LineLaws.{text_of-append, lines_of-text, lines_of-line}
+use Rattle.wasmprinter_tracker.proofs.LineLaws.{lines_of-text, lines_of-line}
 
 -- a line that begins adds no text, and is there unless it is lost
 line-text : (b : Bool) (t : Tracked) (p : Option ℕ) → (with_line_if b t p).text ≡ t.text

@@ -1,5 +1,5 @@
 -- Types that bytes spell keep to their ranges.
-use Rattle.std.proofs.Common.{◌≡◌, ℕ, zero, suc, ℤ, pos, negsuc, ◌<◌, ◌^◌, Bool, true, false, List, [], ◌∷◌, ◌++◌, length, Some, arith, is_some, ◌==◌}
+use Rattle.std.proofs.Common.{◌≡◌, ℕ, zero, suc, ℤ, pos, negsuc, ◌<◌, ◌^◌, Bool, true, false, List, [], ◌∷◌, length, Some, arith, is_some, ◌==◌}
 use Rattle.std.specs.List.{AllByRecursion}
 use Rattle.std.proofs.lemmas.Int.{ints}
 use Rattle.wasmprinter_spec.specs.Grammar.{some_is, byte, Placed}
@@ -8,6 +8,7 @@ use Rattle.wasmprinter_spec.specs.Placed.{TypeGroup}
 use Rattle.wasmprinter_spec.specs.Module.{groups_of}
 use Rattle.wasmprinter_spec.specs.Binary.ValTypes.{number_type_of, abstract_heap_of, non_negative, signed_index, heap_type, ref_type_behind, reference_type, val_type_behind, val_type}
 use Rattle.wasmprinter_spec.specs.Binary.Types.{packed_type_of, storage_type, mutability, field, signature, composite_behind, sub_type_parts, sub_type_behind, group}
+use Rattle.wasmprinter_spec.proofs.Each.{all_both}
 use Rattle.wasmprinter_reading.specs.Listed.{IsSigned, IsU32, IsSignatureInRange}
 use Rattle.wasmprinter_reading.proofs.AllSpelled.{AllSpelled, Spelled-any, Spelled-seq, Spelled-try_map, Spelled-map_value, Spelled-fail, Spelled-choose, Spelled-value_if_any, Spelled-behind_first_byte, Spelled-by_first_byte}
 use Rattle.wasmprinter_reading.proofs.LebRange.{AllSpelled-signed}
@@ -107,13 +108,9 @@ AllSpelled-group =
 
 -- ---- the types of all groups
 
-both_ranged : (ts us : List SubType) → AllByRecursion IsRangedSub ts → AllByRecursion IsRangedSub us → AllByRecursion IsRangedSub (ts ++ us)
-both_ranged [] us h k = k
-both_ranged (t ∷ ts) us h k = (h.0, both_ranged ts us h.1 k)
-
 all_types_ranged : (gs : List (Placed TypeGroup)) → AllByRecursion (λ g. IsRangedGroup g.value) gs → AllByRecursion IsRangedSub (all_types (groups_of gs))
 all_types_ranged [] h = tt
-all_types_ranged (g ∷ gs) h = both_ranged g.value.types (all_types (groups_of gs)) h.0.each (all_types_ranged gs h.1)
+all_types_ranged (g ∷ gs) h = all_both IsRangedSub g.value.types (all_types (groups_of gs)) h.0.each (all_types_ranged gs h.1)
 
 composite_signature : (c : CompositeType) → IsRangedComposite c → IsSignatureInRange (func_type_of c)
 composite_signature (FuncComposite t) h = h
