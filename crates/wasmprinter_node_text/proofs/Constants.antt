@@ -1,15 +1,8 @@
--- The sequences of styles, byte by byte, and the annotations of hints.
-use Rattle.std.specs.Prelude.{◌≡◌, ℕ, Bool, List, [], ◌∷◌, ◌++◌, codes, refl, true, false}
-use Rattle.std.proofs.Common.{sym, subst}
+-- The sequences of styles, byte by byte.
+use Rattle.std.specs.Prelude.{◌≡◌, ℕ, List, ◌∷◌, ◌++◌, codes, refl}
 use Rattle.std.specs.Fmt.{digits}
 use Rattle.wasmprinter_spec.specs.Call.{Start, Literal, Name, Keyword, TypeName, Comment, Reset}
 use Rattle.wasmprinter_spec.specs.Coloured.{coloured_bytes}
-use Rattle.wasmprinter_spec.specs.Meaning.{Meaning}
-use Rattle.wasmprinter_spec.specs.Options.{Options, defaults}
-use Rattle.wasmprinter_spec.specs.Piece.{Word, HintNote, text}
-use Rattle.wasmprinter_spec.specs.Quoted.{quoted_bytes, byte_text}
-use Rattle.wasmprinter_print.specs.Emits.{Ending}
-use Rattle.wasmprinter_print.specs.Prints.{Written}
 
 -- ESC, [ and a text
 abbrev escape : List ℕ → List ℕ
@@ -38,16 +31,3 @@ comment = refl
 pub reset : coloured_bytes (Start Reset) ≡ escape (codes "0m")
 unfolding digits
 reset = refl
-
-pub taken_note : text defaults (HintNote true) ≡ codes "(@metadata.code.branch_hint \"\\01\")"
-unfolding quoted_bytes byte_text
-taken_note = refl
-
-pub not_taken_note : text defaults (HintNote false) ≡ codes "(@metadata.code.branch_hint \"\\00\")"
-unfolding quoted_bytes byte_text
-not_taken_note = refl
-
--- the annotation of a hint, by its bytes
-pub note_as : {P : Type 0} (m : Meaning P) (o : Options) {a t : P} (r : Ending) (taken : Bool) (w : List ℕ) → text defaults (HintNote taken) ≡ w →
-    Written m o a t r (Word w ∷ []) → Written m o a t r (Word (text defaults (HintNote taken)) ∷ [])
-note_as m o {a} {t} r taken w e v = subst (λ (x : List ℕ). Written m o a t r (Word x ∷ [])) (sym e) v

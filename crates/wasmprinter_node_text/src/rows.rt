@@ -21,13 +21,8 @@ use wasmprinter_lines::lines::break_line;
 use wasmprinter_lines::options::PrintOptions;
 use wasmprinter_nodes::{Node, NodeText};
 use wasmprinter_print::Print;
+use wasmprinter_words::hints::hint_text;
 use wasmprinter_words::words::{gap, open_plain, shut, word};
-
-/// Says that a branch is hinted as taken.
-const TAKEN_NOTE: &str = "(@metadata.code.branch_hint \"\\01\")";
-
-/// Says that a branch is hinted as not taken.
-const NOT_TAKEN_NOTE: &str = "(@metadata.code.branch_hint \"\\00\")";
 
 /// The text of a head.
 fn text_of_head<'t>(text: &'t str, head: &NodeText) -> &'t str
@@ -82,11 +77,7 @@ fn write_before<P: Print>(
 fn write_note<P: Print>(p: &mut P, taken: bool) -> io::Result<()>
     ensures { (o : Options) → Prints P.meaning o p.old p.new result (Word (text_by defaults (HintNote taken)) ∷ []) }
 {
-    if taken {
-        word(p, TAKEN_NOTE)
-    } else {
-        word(p, NOT_TAKEN_NOTE)
-    }
+    word(p, hint_text(taken))
 }
 
 /// Writes the hint of a node in front of it, if there is one.
