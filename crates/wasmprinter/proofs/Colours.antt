@@ -5,7 +5,7 @@ use Rattle.wasmprinter_spec.specs.Call.{Call, Text, Newline, Line, Start, Claim,
 use Rattle.wasmprinter_spec.specs.Colour.{uncolour}
 use Rattle.wasmprinter_spec.specs.Meaning.{Meaning}
 use Rattle.wasmprinter_spec.specs.Coloured.{coloured_text}
-use Rattle.wasmprinter_spec.specs.Options.{Options}
+use Rattle.wasmprinter_spec.specs.Options.{Options, in_colours}
 use Rattle.wasmprinter_spec.specs.Layout.{layout, refusal}
 use Rattle.wasmprinter_spec.proofs.Texts.{alike_coloured}
 use Rattle.wasmprinter_writers.specs.Writing.{Writing, TakesWhole}
@@ -13,7 +13,7 @@ use Rattle.wasmprinter_writers.specs.ColourCalls.{Painting, PaintsBySequences, W
 use Rattle.wasmprinter_writers.proofs.Runs.{coloured_run}
 use Rattle.wasmprinter_reading.proofs.Main.{prints_plain_text}
 use Rattle.wasmprinter_colours.proofs.Texts.{coloured_text_keeps}
-use Rattle.wasmprinter.specs.Printed.{Printed, in_colours, no_claims}
+use Rattle.wasmprinter.specs.Printed.{Printed, no_claims}
 use Rattle.wasmprinter.specs.Coloured.{HasColouredTextBy}
 use Rattle.wasmprinter.proofs.Claims.{IsSame}
 use Rattle.wasmprinter.proofs.Paints.{refusal-paints}

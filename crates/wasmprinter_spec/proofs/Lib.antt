@@ -1,6 +1,8 @@
 pub mod Each
 pub mod Classes
 pub mod Texts
+pub mod Kinds
+pub mod Sequences
 pub mod Ordered
 pub mod OneLine
 pub mod ImmediateLines

@@ -24,6 +24,17 @@ abbrev pub IsUnclaimed : Call → Type 0
 IsUnclaimed (Claim name place bytes answer) = answer ≡ false
 IsUnclaimed _ = Unit {0}
 
+-- a call that hands over text, though it be empty
+abbrev pub IsText : Call → Type 0
+IsText (Text s) = Unit {0}
+IsText Newline = Unit {0}
+IsText _ = ⊥
+
+-- one that hands over text or chooses a style
+abbrev pub IsTextOrStyle : Call → Type 0
+IsTextOrStyle (Start style) = Unit {0}
+IsTextOrStyle c = IsText c
+
 -- the text that one call hands over
 abbrev pub call_text : Call → List ℕ
 call_text (Text s) = s

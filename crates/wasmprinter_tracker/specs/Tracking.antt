@@ -2,7 +2,7 @@
 use Rattle.std.specs.Prelude.{◌≡◌, ℕ, List, [], ◌∷◌, ◌++◌, false, None}
 use Rattle.std.specs.IoError.{error_kind}
 use Rattle.std.specs.declared.io.ErrorKind.TheVariants.{OutOfMemory}
-use Rattle.wasmprinter_spec.specs.Call.{Call, Text, Newline, Line, Start, Claim, text_of}
+use Rattle.wasmprinter_spec.specs.Call.{Call, Text, Newline, Line, Start, Claim, text_of, IsText}
 use Rattle.wasmprinter_spec.specs.Lines.{lines_of}
 use Rattle.wasmprinter_spec.specs.Meaning.{Meaning}
 use Rattle.wasmprinter_tracker.specs.Tracked.{Tracked, with_text, with_line}
@@ -22,17 +22,11 @@ KeepsAll Newline new = new.lost ≡ false
 KeepsAll (Claim name place bytes answer) new = answer ≡ false
 KeepsAll _ new = Unit {0}
 
--- only what writes text can fail
-abbrev pub WantsMemory : Call → Type 0
-WantsMemory (Text bytes) = Unit {0}
-WantsMemory Newline = Unit {0}
-WantsMemory _ = ⊥
-
--- the meaning of a tracker: a call that fails wants memory, and leaves the text and its lines as they were
+-- the meaning of a tracker: only what writes text can fail, and a call that fails wants memory, and leaves the text and its lines as they were
 abbrev pub tracked_meaning : Meaning Tracked
 tracked_meaning = record {
   after = λ old call new. (new ≡ tracked_after old call) × KeepsAll call new;
-  may_fail = λ old call. WantsMemory call;
+  may_fail = λ old call. IsText call;
   partly = λ old call error new. (error_kind error ≡ OutOfMemory) × (new.text ≡ old.text) × (new.lines ≡ old.lines);
   faults = λ t. None;
 }

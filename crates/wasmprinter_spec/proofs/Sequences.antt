@@ -5,7 +5,7 @@ use Rattle.wasmprinter_spec.specs.Call.{Start, Literal, Name, Keyword, TypeName,
 use Rattle.wasmprinter_spec.specs.Coloured.{coloured_bytes}
 
 -- ESC, [ and a text
-abbrev escape : List ℕ → List ℕ
+abbrev pub escape : List ℕ → List ℕ
 escape s = 27 ∷ 91 ∷ s
 
 pub literal : coloured_bytes (Start Literal) ≡ escape (codes "0m") ++ escape (codes "31m")
