@@ -6,7 +6,7 @@ use Rattle.wasmprinter_spec.specs.Kinds.{Kind, CustomSection, TypeSection, Impor
 use Rattle.wasmprinter_spec.specs.Placed.{CustomEntry}
 use Rattle.wasmprinter_spec.specs.Options.{Answers}
 use Rattle.wasmprinter_spec.specs.Layout.Customs.{Part, custom_part, same_place, parts_at}
-use Rattle.wasmprinter_spec.proofs.Kinds.{same_kind-is}
+use Rattle.wasmprinter_spec.proofs.SameKinds.{same_kind-is}
 
 -- ---- one place
 

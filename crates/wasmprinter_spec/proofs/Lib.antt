@@ -1,7 +1,7 @@
 pub mod Each
 pub mod Classes
 pub mod Texts
-pub mod Kinds
+pub mod SameKinds
 pub mod Sequences
 pub mod Ordered
 pub mod OneLine

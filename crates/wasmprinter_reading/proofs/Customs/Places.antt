@@ -5,7 +5,7 @@ use Rattle.wasmprinter_spec.specs.Kinds.{Kind, CustomSection, TypeSection, Impor
 use Rattle.wasmprinter_spec.specs.Placed.{CustomEntry}
 use Rattle.wasmprinter_spec.specs.Customs.{RawCustom, raw_customs}
 use Rattle.wasmprinter_spec.specs.Layout.Customs.{same_place}
-use Rattle.wasmprinter_spec.proofs.Kinds.{same_kind-is}
+use Rattle.wasmprinter_spec.proofs.SameKinds.{same_kind-is}
 use Rattle.wasmprinter_reading.proofs.Customs.Ordered.{place_rank, is_any_place, AreInOrder}
 use Rattle.wasmprinter_reading.proofs.Customs.Notes.{at_place, raw_customs-append, AreAnywhere}
 
