@@ -4,10 +4,10 @@ use Rattle.std.proofs.Common.{sym, subst, ◌∙◌, arith}
 use Rattle.wasmprinter_error.specs.declared.error.Error.{Error}
 use Rattle.wasmprinter.specs.OfFile.{Reading}
 use Rattle.printwasm.specs.Words.{named_file, choice_of}
-use Rattle.printwasm.specs.Outcome.{Writing, FailsToWrite, Rendering, TellsError, HasOutcome}
+use Rattle.printwasm.specs.Outcome.{TextWrite, FailsToWrite, Rendering, TellsError, HasOutcome}
 
 -- the file is named, its module isn't printed for this error, and the error was told
-pub refusal_told : {W V : Type 0} (gives : List ℕ → Reading) (takes : Writing W) (tells : Writing V) (renders : Rendering Error) (words : List (List ℕ))
+pub refusal_told : {W V : Type 0} (gives : List ℕ → Reading) (takes : TextWrite W) (tells : TextWrite V) (renders : Rendering Error) (words : List (List ℕ))
     {out new_out : W} {err new_err : V} (file : List ℕ) (error : Error) → named_file words ≡ Some file →
     FailsToWrite (choice_of words) (gives file) takes out new_out error → TellsError tells err new_err renders error →
     HasOutcome gives takes tells renders words out new_out err new_err 1

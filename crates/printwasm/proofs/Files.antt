@@ -2,7 +2,8 @@
 use Rattle.std.specs.Prelude.{◌≡◌, List, [], ◌∷◌, ℕ, map, Bool, true, false, Option, Some, None, if◌then◌else◌, ◌||◌}
 use Rattle.std.specs.List.{list_any, list_all}
 use Rattle.std.proofs.Common.{refl, ap}
-use Rattle.printwasm.specs.Words.{is_known, is_option, files, the_only, named_file}
+use Rattle.printwasm.specs.Words.{is_known, is_option, files, named_file}
+use Rattle.wasmprinter_spec.specs.Text.Items.{the_only}
 
 -- a test of the texts of items is one of the items
 pub any_of_map : {A B : Type 0} (test : B → Bool) (f : A → B) (xs : List A) → list_any (λ x. test (f x)) xs ≡ list_any test (map f xs)

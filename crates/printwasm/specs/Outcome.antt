@@ -10,8 +10,8 @@ use Rattle.wasmprinter.specs.OfFile.{Reading, IsRefusedBy}
 use Rattle.printwasm.specs.Words.{Choice, named_file, choice_of}
 
 -- what a write of a text, if it is told, may answer, and what it makes of the sink
-abbrev pub Writing : Type 0 → Type 1
-Writing W = W → Option (List ℕ) → Result (Unit {0}) IoError → W → Type 0
+abbrev pub TextWrite : Type 0 → Type 1
+TextWrite W = W → Option (List ℕ) → Result (Unit {0}) IoError → W → Type 0
 
 -- with sequences that colour it, or without
 abbrev pub HasTextIn : Bool → Options → List ℕ → List ℕ → Type 0
@@ -31,16 +31,16 @@ abbrev pub GivesNoText : Choice → Reading → Error → Type 0
 GivesNoText c gives error = IsRefusedBy c.options gives error
 
 -- the text of the file's module was written once, and the write answered this
-abbrev pub WritesText : {W : Type 0} → Choice → Reading → Writing W → W → W → Result (Unit {0}) IoError → Type 0
+abbrev pub WritesText : {W : Type 0} → Choice → Reading → TextWrite W → W → W → Result (Unit {0}) IoError → Type 0
 WritesText c gives takes old new answer = (text : List ℕ) × GivesText c gives text × takes old (Some text) answer new
 
 -- the module isn't printed: there is no text of it, and nothing was written; or the one write of its text failed
-abbrev pub FailsToWrite : {W : Type 0} → Choice → Reading → Writing W → W → W → Error → Type 0
+abbrev pub FailsToWrite : {W : Type 0} → Choice → Reading → TextWrite W → W → W → Error → Type 0
 FailsToWrite c gives takes old new error = (GivesNoText c gives error × (new ≡ old))
     ⊎ ((failure : IoError) × WritesText c gives takes old new (Err failure) × (error ≡ Printer failure))
 
 -- the text was written once, whatever the write answered
-abbrev pub Tells : {W : Type 0} → Writing W → W → W → Option (List ℕ) → Type 0
+abbrev pub Tells : {W : Type 0} → TextWrite W → W → W → Option (List ℕ) → Type 0
 Tells takes old new text = (answer : Result (Unit {0}) IoError) × takes old text answer new
 
 -- the line that tells how the program is used
@@ -56,13 +56,13 @@ abbrev pub Rendering : Type 0 → Type 1
 Rendering X = X → List ℕ → Type 0
 
 -- this very error was told: exactly the line of a text of it was written, once, whatever the write answered
-abbrev pub TellsError : {V X : Type 0} → Writing V → V → V → Rendering X → X → Type 0
+abbrev pub TellsError : {V X : Type 0} → TextWrite V → V → V → Rendering X → X → Type 0
 TellsError tells old new renders error = (text : List ℕ) × renders error text × Tells tells old new (Some (error_line text))
 
 -- What a run with these words leads to, where errors have the texts that `renders` says: the status is 2 exactly where the words don't name one
 -- file beside options that there are, and then the output stays as it was and the usage line is told; it is 0 only where the text of the module in the
 -- named file, as the words choose it, was written whole and nothing was told; and 1 only where it wasn't, and the error for which it wasn't was told.
-pub record HasOutcome {W V : Type 0} (gives : List ℕ → Reading) (takes : Writing W) (tells : Writing V) (renders : Rendering Error)
+pub record HasOutcome {W V : Type 0} (gives : List ℕ → Reading) (takes : TextWrite W) (tells : TextWrite V) (renders : Rendering Error)
     (words : List (List ℕ)) (out new_out : W) (err new_err : V) (status : ℕ) : Type 0 where
   pub usage : (status ≡ 2) ↔ (named_file words ≡ None)
   pub bound : status ≤ 2

@@ -1,7 +1,8 @@
 -- The words of the program, its own name not among them.
-use Rattle.std.specs.Prelude.{◌≡◌, ℕ, ◌⊎◌, List, [], ◌∷◌, map, drop, filter, Bool, not, ◌||◌, bytes_eq, nat_eq, codes, Option, Some, None, if◌then◌else◌, Result, IsOk, IsOkAnd, IsErrAnd, string_bytes}
+use Rattle.std.specs.Prelude.{◌≡◌, ℕ, ◌⊎◌, List, [], ◌∷◌, map, drop, filter, Bool, not, ◌||◌, bytes_eq, nat_eq, codes, Option, None, if◌then◌else◌, Result, IsOk, IsOkAnd, IsErrAnd, string_bytes}
 use Rattle.std.specs.List.{starts_with, list_any, list_all}
 use Rattle.wasmprinter_spec.specs.Options.{Options, defaults}
+use Rattle.wasmprinter_spec.specs.Text.Items.{the_only}
 use Rattle.std.specs.IoError.{error_kind}
 use Rattle.std.specs.Iterator.Runs.{WholeRun}
 use Rattle.std.specs.declared.io.Error.{Error as IoError}
@@ -38,10 +39,6 @@ is_known word = not (is_option word) || has (offsets_option ∷ (skeleton_option
 -- the words that are files
 abbrev pub files : List (List ℕ) → List (List ℕ)
 files words = filter (λ w. not (is_option w)) words
-
-abbrev pub the_only : {A : Type 0} → List A → Option A
-the_only (x ∷ []) = Some x
-the_only _ = None
 
 -- the file that the words name: one alone, in any place, and each other word is an option that there is
 abbrev pub named_file : List (List ℕ) → Option (List ℕ)

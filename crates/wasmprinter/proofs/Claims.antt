@@ -2,7 +2,7 @@
 use Rattle.std.specs.Prelude.{◌≡◌, ℕ, ◌+◌, List, [], ◌∷◌, ◌++◌, ◌||◌, map, codes, Bool, true, false, Option, Some, None, refl}
 use Rattle.std.specs.List.{AllByRecursion}
 use Rattle.std.proofs.Common.{sym, ap, ap₂, ◌∙◌, subst}
-use Rattle.wasmprinter_spec.specs.Call.{Call, Text, Newline, Line, Start, Claim, calls_of_bytes, atoms}
+use Rattle.wasmprinter_spec.specs.Call.{Call, Text, Newline, Line, Start, Claim, IsUnclaimed, calls_of_bytes, atoms}
 use Rattle.wasmprinter_spec.specs.Kinds.{Kind, TypeSection, ImportSection, FunctionSection, TableSection, MemorySection, TagSection, GlobalSection, ExportSection, StartSection, ElementSection, CodeSection, DataSection}
 use Rattle.wasmprinter_spec.specs.Placed.{CustomEntry, PlacedModule}
 use Rattle.wasmprinter_spec.specs.Names.{Names}
@@ -13,23 +13,10 @@ use Rattle.wasmprinter_spec.specs.Layout.{module_parts, module_pieces_of, module
 use Rattle.wasmprinter_spec.specs.Layout.Groups.{close, has_break, group_at}
 use Rattle.wasmprinter_spec.specs.Layout.Identifiers.{leading_mark_pieces}
 use Rattle.wasmprinter_spec.specs.Layout.Customs.{Part, Shown, Stops, Laid, laid_parts, custom_part, same_place, parts_at}
+use Rattle.wasmprinter_spec.proofs.Each.{all_both, all_parts}
 use Rattle.wasmprinter_print.specs.PrintsLaws.{all_calls-append}
 use Rattle.wasmprinter_sections.specs.Sections.{fields_of, first_scope, section_parts}
-use Rattle.wasmprinter.specs.Printed.{no_claims, IsUnclaimed}
-
--- ---- of two lists
-
-all_both : {A : Type 0} (Q : A → Type 0) (xs ys : List A) → AllByRecursion Q xs → AllByRecursion Q ys → AllByRecursion Q (xs ++ ys)
-all_both Q [] ys s t = t
-all_both Q (x ∷ xs) ys s t = (s.0, all_both Q xs ys s.1 t)
-
-all_front : {A : Type 0} (Q : A → Type 0) (xs ys : List A) → AllByRecursion Q (xs ++ ys) → AllByRecursion Q xs
-all_front Q [] ys s = tt
-all_front Q (x ∷ xs) ys s = (s.0, all_front Q xs ys s.1)
-
-all_behind : {A : Type 0} (Q : A → Type 0) (xs ys : List A) → AllByRecursion Q (xs ++ ys) → AllByRecursion Q ys
-all_behind Q [] ys s = s
-all_behind Q (x ∷ xs) ys s = all_behind Q xs ys s.1
+use Rattle.wasmprinter.specs.Printed.{no_claims}
 
 -- ---- of calls that are alike
 
@@ -58,7 +45,7 @@ atoms_unclaimed (c ∷ cs) h = all_both IsUnclaimed (calls_of_bytes c) (atoms cs
 whole_unclaimed : (cs : List Call) → AllByRecursion IsUnclaimed (atoms cs) → AllByRecursion IsUnclaimed cs
 whole_unclaimed [] h = tt
 whole_unclaimed (c ∷ cs) h =
-    (uncut_unclaimed c (all_front IsUnclaimed (calls_of_bytes c) (atoms cs) h), whole_unclaimed cs (all_behind IsUnclaimed (calls_of_bytes c) (atoms cs) h))
+    (uncut_unclaimed c (all_parts IsUnclaimed (calls_of_bytes c) (atoms cs) h).0, whole_unclaimed cs (all_parts IsUnclaimed (calls_of_bytes c) (atoms cs) h).1)
 
 pub alike_unclaimed : (k l : List Call) → atoms k ≡ atoms l → AllByRecursion IsUnclaimed k → AllByRecursion IsUnclaimed l
 alike_unclaimed k l e h = whole_unclaimed l (subst (λ (cs : List Call). AllByRecursion IsUnclaimed cs) e (atoms_unclaimed k h))
@@ -75,11 +62,11 @@ module _ (o : Options) where
 
   pieces_front : (ps qs : List Piece) → AreUnclaimedIn (ps ++ qs) → AreUnclaimedIn ps
   pieces_front ps qs h =
-      all_front IsUnclaimed (all_calls o ps) (all_calls o qs) (subst (λ (cs : List Call). AllByRecursion IsUnclaimed cs) (all_calls-append o ps qs) h)
+      (all_parts IsUnclaimed (all_calls o ps) (all_calls o qs) (subst (λ (cs : List Call). AllByRecursion IsUnclaimed cs) (all_calls-append o ps qs) h)).0
 
   pieces_behind : (ps qs : List Piece) → AreUnclaimedIn (ps ++ qs) → AreUnclaimedIn qs
   pieces_behind ps qs h =
-      all_behind IsUnclaimed (all_calls o ps) (all_calls o qs) (subst (λ (cs : List Call). AllByRecursion IsUnclaimed cs) (all_calls-append o ps qs) h)
+      (all_parts IsUnclaimed (all_calls o ps) (all_calls o qs) (subst (λ (cs : List Call). AllByRecursion IsUnclaimed cs) (all_calls-append o ps qs) h)).1
 
   parts_unclaimed : (parts : List Part) → (laid_parts parts).refused ≡ None → AreUnclaimedIn (laid_parts parts).pieces → AllByRecursion IsUnclaimedPart parts
   parts_unclaimed [] e h = tt
@@ -111,7 +98,7 @@ module _ (o : Options) where
   IsSameIf xs ys = AllByRecursion IsUnclaimedPart xs → xs ≡ ys
 
   both_same : {xs ys zs ws : List Part} → IsSameIf xs ys → IsSameIf zs ws → IsSameIf (xs ++ zs) (ys ++ ws)
-  both_same {xs} {zs = zs} f g h = ap₂ (λ (ps qs : List Part). ps ++ qs) (f (all_front IsUnclaimedPart xs zs h)) (g (all_behind IsUnclaimedPart xs zs h))
+  both_same {xs} {zs = zs} f g h = ap₂ (λ (ps qs : List Part). ps ++ qs) (f (all_parts IsUnclaimedPart xs zs h).0) (g (all_parts IsUnclaimedPart xs zs h).1)
 
   field_same : (p : Part) {xs ys : List Part} → IsSameIf xs ys → IsSameIf (p ∷ xs) (p ∷ ys)
   field_same p f h = ap (λ (ps : List Part). p ∷ ps) (f h.1)

@@ -1,47 +1,23 @@
 -- The text of a module in colours.
-use Rattle.std.specs.Prelude.{◌≡◌, ℕ, List, [], ◌∷◌, ◌++◌, true, false, map, Some, None, Ok, refl}
-use Rattle.std.proofs.Common.{sym, ap, ◌∙◌, append_assoc, append-nil}
-use Rattle.wasmprinter_spec.specs.Call.{Call, Text, Newline, Line, Start, Claim, calls_of_bytes, atoms}
+use Rattle.std.specs.Prelude.{◌≡◌, ℕ, List, [], ◌++◌, true, false, Some, None, Ok}
+use Rattle.std.proofs.Common.{ap, ◌∙◌}
+use Rattle.wasmprinter_spec.specs.Call.{Call, Text, Newline, Line, Start, Claim, IsUnclaimed, atoms}
 use Rattle.wasmprinter_spec.specs.Colour.{uncolour}
 use Rattle.wasmprinter_spec.specs.Meaning.{Meaning}
-use Rattle.wasmprinter_spec.specs.Coloured.{coloured_bytes, coloured_text}
-use Rattle.wasmprinter_spec.specs.Options.{Options}
+use Rattle.wasmprinter_spec.specs.Coloured.{coloured_text}
+use Rattle.wasmprinter_spec.specs.Options.{Options, in_colours}
 use Rattle.wasmprinter_spec.specs.Layout.{layout, refusal}
+use Rattle.wasmprinter_spec.proofs.Texts.{alike_coloured}
 use Rattle.wasmprinter_writers.specs.Writing.{Writing, TakesWhole}
 use Rattle.wasmprinter_writers.specs.ColourCalls.{Painting, PaintsBySequences, WritesInColour, coloured_meaning}
 use Rattle.wasmprinter_writers.proofs.Runs.{coloured_run}
 use Rattle.wasmprinter_reading.proofs.Main.{prints_plain_text}
 use Rattle.wasmprinter_colours.proofs.Texts.{coloured_text_keeps}
-use Rattle.wasmprinter.specs.Printed.{Printed, in_colours, no_claims, IsUnclaimed}
+use Rattle.wasmprinter.specs.Printed.{Printed, no_claims}
 use Rattle.wasmprinter.specs.Coloured.{HasColouredTextBy}
 use Rattle.wasmprinter.proofs.Claims.{IsSame}
 use Rattle.wasmprinter.proofs.Paints.{refusal-paints}
 use Rattle.wasmprinter.proofs.Texts.{unclaimed_printed, module_text}
-
--- ---- cutting text into pieces changes no text in colours
-
-coloured_text-append : (k l : List Call) → coloured_text (k ++ l) ≡ coloured_text k ++ coloured_text l
-coloured_text-append [] l = refl
-coloured_text-append (c ∷ k) l = ap (λ t. coloured_bytes c ++ t) (coloured_text-append k l) ∙ sym (append_assoc (coloured_bytes c) (coloured_text k) (coloured_text l))
-
-bytes_coloured : (s : List ℕ) → coloured_text (map (λ b. Text (b ∷ [])) s) ≡ s
-bytes_coloured [] = refl
-bytes_coloured (b ∷ bs) = ap (λ t. b ∷ t) (bytes_coloured bs)
-
-cut_coloured : (c : Call) → coloured_text (calls_of_bytes c) ≡ coloured_bytes c
-cut_coloured (Text s) = bytes_coloured s
-cut_coloured Newline = refl
-cut_coloured (Line place) = refl
-cut_coloured (Start style) = append-nil (coloured_bytes (Start style))
-cut_coloured (Claim name place bytes answer) = refl
-
-coloured_text-atoms : (cs : List Call) → coloured_text (atoms cs) ≡ coloured_text cs
-coloured_text-atoms [] = refl
-coloured_text-atoms (c ∷ cs) =
-    coloured_text-append (calls_of_bytes c) (atoms cs) ∙ ap (λ t. t ++ coloured_text (atoms cs)) (cut_coloured c) ∙ ap (λ t. coloured_bytes c ++ t) (coloured_text-atoms cs)
-
-alike_coloured : (k l : List Call) → atoms k ≡ atoms l → coloured_text k ≡ coloured_text l
-alike_coloured k l e = sym (coloured_text-atoms k) ∙ ap coloured_text e ∙ coloured_text-atoms l
 
 -- ---- what a printer in colours made
 

@@ -6,18 +6,18 @@ use Rattle.wasmprinter_spec.specs.Limits.{IsWithinLimits}
 use Rattle.wasmprinter_spec.specs.Call.{text_of}
 use Rattle.wasmprinter_spec.specs.Colour.{uncolour}
 use Rattle.wasmprinter_spec.specs.Meaning.{Meaning}
-use Rattle.wasmprinter_spec.specs.Options.{Options, Answers, IsBlank}
+use Rattle.wasmprinter_spec.specs.Options.{Options, Answers, IsBlank, in_colours}
 use Rattle.wasmprinter_spec.specs.Plain.{IsPlainText}
 use Rattle.wasmprinter_spec.specs.Folding.Refusals.{IsFoldable}
 use Rattle.wasmprinter_spec.specs.Layout.{layout, refusal}
 use Rattle.wasmprinter_spec.specs.Text.Hints.{text_hints}
 use Rattle.wasmprinter_spec.specs.Read.{read}
 use Rattle.wasmprinter_print.specs.Emits.{Whole}
-use Rattle.wasmprinter_lexical.proofs.Alike.{alike_texts}
+use Rattle.wasmprinter_spec.proofs.Texts.{alike_texts}
 use Rattle.wasmprinter_reading.proofs.Main.{reads_back, prints_plain_text}
 use Rattle.wasmprinter_reading.proofs.Hints.Kept.{hints_stay}
 use Rattle.wasmprinter_colours.proofs.Texts.{paints_add_colours, colours_stand_in_texts}
-use Rattle.wasmprinter.specs.Printed.{Printed, in_colours, no_claims}
+use Rattle.wasmprinter.specs.Printed.{Printed, no_claims}
 use Rattle.wasmprinter.proofs.Claims.{alike_unclaimed, unclaimed_layout}
 use Rattle.wasmprinter.proofs.Paints.{refusal-paints}
 

@@ -7,7 +7,7 @@ use Rattle.wasmprinter_spec.specs.Binary.{Spells, IsComponent, magic, preamble_b
 use Rattle.wasmprinter_spec.specs.Placed.{PlacedModule}
 use Rattle.wasmprinter_spec.specs.Limits.{IsWithinLimits}
 use Rattle.wasmprinter_spec.specs.Meaning.{Meaning}
-use Rattle.wasmprinter_spec.specs.Options.{Options, Answers}
+use Rattle.wasmprinter_spec.specs.Options.{Options, Answers, in_colours}
 use Rattle.wasmprinter_spec.specs.Names.{Names}
 use Rattle.wasmprinter_spec.specs.Layout.{module_pieces, layout, refusal}
 use Rattle.wasmprinter_spec.specs.Layout.Customs.{Laid}
@@ -23,7 +23,7 @@ use Rattle.wasmprinter_sections.specs.Sections.{module_laid}
 use Rattle.wasmprinter_spec.specs.Call.{Call}
 use Rattle.wasmprinter_spec.specs.Folding.Refusals.{IsFoldable}
 use Rattle.wasmprinter_foldable.specs.Refused.{HasFoldReason}
-use Rattle.wasmprinter.specs.Printed.{Printed, in_colours}
+use Rattle.wasmprinter.specs.Printed.{Printed}
 use Rattle.wasmprinter.specs.Outcome.{HasCause, HasTextCause, IsTrueOf, IsTrueOfText, IsLegacyAt, IsMisplacedAt, AnyIsUnknown, MadeUpTo, Leaves, as_growth}
 use Rattle.wasmprinter_spec.specs.Names.Content.{name_of}
 use Rattle.wasmprinter_spec.specs.ModuleNames.{name_entries, module_names}

@@ -6,13 +6,12 @@ use Rattle.wasmprinter_spec.specs.Placed.{PlacedModule}
 use Rattle.wasmprinter_spec.specs.Names.{Names}
 use Rattle.wasmprinter_spec.specs.ModuleNames.{module_names}
 use Rattle.wasmprinter_spec.specs.Call.{Call}
-use Rattle.wasmprinter_spec.specs.Options.{Options, Answers}
+use Rattle.wasmprinter_spec.specs.Options.{Options, Answers, in_colours}
 use Rattle.wasmprinter_spec.specs.Piece.{Piece, Begin, Feed, Break, Gap, Open, OpenGap, OpenPlain, OpenBare, OpenTypeGap, OpenNote, OpenNoteGap, OpenRun, Shut, Word, TypeWord, TypeWordGap, GapTypeWord, Number, Constant, Literals, GapLiterals, Float, NumberRemark, BeginName, EndStyle, Quoted, QuotedBytes, Identifier, NameNote, Remark, Ending, PlainEnding, HintNote, Claimed, calls, all_calls}
 use Rattle.wasmprinter_spec.specs.Layout.{module_parts, refusal}
-use Rattle.wasmprinter_spec.specs.Layout.Customs.{Part, Shown, Stops, Laid, laid_parts, parts_at}
+use Rattle.wasmprinter_spec.specs.Layout.Customs.{Part, Laid, laid_parts, parts_at}
 use Rattle.wasmprinter_annotations.proofs.Parts.{laid_behind, joined-append}
-use Rattle.wasmprinter_sections.specs.Sections.{fields_of, first_scope, section_parts}
-use Rattle.wasmprinter.specs.Printed.{in_colours}
+use Rattle.wasmprinter_sections.specs.Sections.{first_scope, section_parts}
 
 -- ---- calls
 

@@ -3,9 +3,9 @@ use Rattle.std.specs.Prelude.{◌≡◌, ℕ, List, [], ◌∷◌, ◌++◌, Boo
 use Rattle.std.specs.List.{AllByRecursion}
 use Rattle.wasmprinter_error.specs.declared.error.Error.{Error}
 use Rattle.std.proofs.Common.{sym, ap, subst, ◌∙◌, append_assoc, append-nil, inl}
-use Rattle.wasmprinter_spec.specs.Call.{Call, Text, Newline, Line, Start, Claim, atoms, call_text, text_of}
+use Rattle.wasmprinter_spec.specs.Call.{Call, Text, Newline, Line, Start, Claim, IsUnclaimed, atoms, call_text, text_of}
 use Rattle.wasmprinter_spec.specs.Meaning.{Meaning, Run}
-use Rattle.wasmprinter_spec.specs.Options.{Options, defaults, IsBlank}
+use Rattle.wasmprinter_spec.specs.Options.{Options, defaults, IsBlank, in_colours}
 use Rattle.wasmprinter_spec.specs.Plain.{IsPlainText}
 use Rattle.wasmprinter_spec.specs.Binary.{Spells}
 use Rattle.wasmprinter_spec.specs.Placed.{PlacedModule}
@@ -13,12 +13,12 @@ use Rattle.wasmprinter_spec.specs.Limits.{IsWithinLimits}
 use Rattle.wasmprinter_spec.specs.Layout.{layout, refusal}
 use Rattle.wasmprinter_spec.specs.Folding.Refusals.{IsFoldable}
 use Rattle.wasmprinter_print.specs.Writers.{FmtAfter}
-use Rattle.wasmprinter_lexical.proofs.Alike.{alike_texts}
+use Rattle.wasmprinter_spec.proofs.Texts.{alike_texts}
 use Rattle.wasmprinter_reading.proofs.Main.{reads_back, prints_plain_text}
 use Rattle.wasmprinter_spec.specs.Read.{read}
 use Rattle.wasmprinter_reading.proofs.Hints.Kept.{hints_stay}
 use Rattle.wasmprinter_spec.specs.Text.Hints.{text_hints}
-use Rattle.wasmprinter.specs.Printed.{Printed, HasTextBy, HasText, in_colours, no_claims, IsUnclaimed}
+use Rattle.wasmprinter.specs.Printed.{Printed, HasTextBy, HasText, no_claims}
 use Rattle.wasmprinter.proofs.Claims.{IsSame, alike_unclaimed, unclaimed_layout}
 use Rattle.wasmprinter.proofs.Headline.{foldable_in}
 

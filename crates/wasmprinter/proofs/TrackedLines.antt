@@ -3,31 +3,22 @@ use Rattle.std.specs.Prelude.{◌≡◌, ℕ, List, [], ◌++◌, false, Result,
 use Rattle.std.proofs.Common.{sym, ap, ◌∙◌, subst, append-nil, inl, inr}
 use Rattle.wasmprinter_error.specs.declared.error.Error.{Error}
 use Rattle.wasmprinter_error.specs.declared.error.Error.TheVariants.{Malformed, Component, TooManyLocals, TooManyFunctions, EmptyTableInit, FoldLegacy, FoldHint, DylinkSubsection, Printer, Memory}
-use Rattle.wasmprinter_spec.specs.Call.{Call, Text, Newline, Line, Start, Claim, text_of}
-use Rattle.wasmprinter_spec.specs.Options.{Options}
+use Rattle.wasmprinter_spec.specs.Call.{Call, text_of}
+use Rattle.wasmprinter_spec.specs.Options.{Options, in_colours}
 use Rattle.wasmprinter_spec.specs.Layout.{layout}
 use Rattle.wasmprinter_spec.specs.Lines.{TextLine, lines_of, joined_lines, line_places, hint_places, HasFunctionLines}
-use Rattle.wasmprinter_lexical.proofs.Alike.{alike_texts}
+use Rattle.wasmprinter_spec.proofs.Texts.{alike_texts, alike_lines}
 use Rattle.wasmprinter_tracker.specs.declared.lines.LineStart.{LineStart}
 use Rattle.wasmprinter_tracker.specs.Cuts.{lines_at_starts}
 use Rattle.wasmprinter_tracker.specs.Tracked.{Tracked, without_lines}
 use Rattle.wasmprinter_tracker.specs.Tracking.{tracked_meaning, BeginsWith, Tracks}
-use Rattle.wasmprinter_tracker.proofs.LineLaws.{alike_lines}
-use Rattle.wasmprinter_tracker.proofs.Runs.{run_tracks, run_keeps, broken_keeps}
+use Rattle.wasmprinter_tracker.proofs.Runs.{claims_never, run_tracks, run_keeps, broken_keeps}
 use Rattle.wasmprinter_places.proofs.Starts.{lines_join}
 use Rattle.wasmprinter_places.proofs.FunctionLines.{function_lines}
-use Rattle.wasmprinter.specs.Printed.{Printed, in_colours, no_claims, IsUnclaimed}
+use Rattle.wasmprinter.specs.Printed.{Printed, no_claims}
 use Rattle.wasmprinter.specs.Outcome.{Leaves, LeavesBeginning, IsTrueOfText}
 use Rattle.wasmprinter.specs.Lined.{HasLinesBy}
 use Rattle.wasmprinter.proofs.Texts.{IsPlainly, plainly_printed, module_text}
-
--- it takes no custom section
-claims_never : (s : Tracked) (c : Call) (t : Tracked) → tracked_meaning.after s c t → IsUnclaimed c
-claims_never s (Text bytes) t h = tt
-claims_never s Newline t h = tt
-claims_never s (Line place) t h = tt
-claims_never s (Start style) t h = tt
-claims_never s (Claim name place bytes answer) t h = h.1
 
 -- what was printed whole, with no line lost
 pub printed_lines : (o : Options) (bytes base : List ℕ) (t : Tracked) → t.lost ≡ false → Printed tracked_meaning false o bytes (without_lines base) t →

@@ -1,12 +1,12 @@
 -- What it is that the text of a module was appended to a text, with its lines.
 use Rattle.std.specs.Prelude.{◌≡◌, ◌++◌, ℕ, List, false, Some, slice_get}
 use Rattle.wasmprinter_spec.specs.Placed.{PlacedFunction}
-use Rattle.wasmprinter_spec.specs.Options.{Options}
+use Rattle.wasmprinter_spec.specs.Options.{Options, in_colours}
 use Rattle.wasmprinter_spec.specs.Layout.{layout}
 use Rattle.wasmprinter_spec.specs.Lines.{TextLine, lines_of, joined_lines, line_places, hint_places, HasFunctionLines}
 use Rattle.wasmprinter_tracker.specs.declared.lines.LineStart.{LineStart}
 use Rattle.wasmprinter_tracker.specs.Cuts.{lines_at_starts}
-use Rattle.wasmprinter.specs.Printed.{HasTextBy, in_colours, no_claims}
+use Rattle.wasmprinter.specs.Printed.{HasTextBy, no_claims}
 
 -- The text of the module that the bytes spell stands behind the old text. The lines are those of its layout: joined they are that text, and where
 -- bodies are printed flat each function has its header, its locals and its operators on lines of their own.

@@ -8,7 +8,7 @@ use Rattle.wasmprinter_spec.specs.Customs.{Refused, role_of}
 use Rattle.wasmprinter_spec.specs.Limits.{IsWithinLimits, most_functions}
 use Rattle.wasmprinter_spec.specs.Call.{Call}
 use Rattle.wasmprinter_spec.specs.Meaning.{Meaning, Run, Failed}
-use Rattle.wasmprinter_spec.specs.Options.{Options, Answers}
+use Rattle.wasmprinter_spec.specs.Options.{Options, Answers, in_colours}
 use Rattle.wasmprinter_spec.specs.Layout.{layout, refusal}
 use Rattle.wasmprinter_spec.specs.Folding.Refusals.{legacy_places, misplaced_hints, IsFoldable}
 use Rattle.wasmprinter_print.specs.Emits.{Whole, Broken, Begun}
@@ -16,7 +16,6 @@ use Rattle.wasmprinter_error.specs.Reasons.{Reasons}
 use Rattle.wasmprinter_error.specs.declared.error.Error.{Error}
 use Rattle.wasmprinter_error.specs.declared.error.Error.TheVariants.{Malformed, Component, TooManyLocals, TooManyFunctions, EmptyTableInit, FoldLegacy, FoldHint, DylinkSubsection, Unreadable, Printer, Memory}
 use Rattle.wasmprinter_wasm.specs.Modules.{bodies_of}
-use Rattle.wasmprinter.specs.Printed.{in_colours}
 use Rattle.wasmprinter_entries.specs.Refusals.{AnyIsOver, FirstIsEmpty}
 use Rattle.wasmprinter_wasm.specs.Decoding.{HoldsSome, module_reasons}
 

@@ -6,11 +6,11 @@ use Rattle.wasmprinter_spec.specs.Placed.{PlacedModule}
 use Rattle.wasmprinter_spec.specs.Limits.{IsWithinLimits}
 use Rattle.wasmprinter_spec.specs.Module.{module_of}
 use Rattle.wasmprinter_spec.specs.Indexed.{IsIndexed}
-use Rattle.wasmprinter_spec.specs.Call.{Call, Claim, atoms, text_of}
+use Rattle.wasmprinter_spec.specs.Call.{Call, IsUnclaimed, atoms, text_of}
 use Rattle.wasmprinter_spec.specs.Colour.{uncolour}
 use Rattle.wasmprinter_spec.specs.Coloured.{bare_call}
 use Rattle.wasmprinter_spec.specs.Meaning.{Meaning, Run}
-use Rattle.wasmprinter_spec.specs.Options.{Options, defaults, Answers, IsBlank}
+use Rattle.wasmprinter_spec.specs.Options.{Options, defaults, Answers, IsBlank, in_colours}
 use Rattle.wasmprinter_spec.specs.Plain.{IsPlainText}
 use Rattle.wasmprinter_spec.specs.Layout.{layout, refusal}
 use Rattle.wasmprinter_spec.specs.Folding.Refusals.{IsFoldable}
@@ -21,15 +21,6 @@ use Rattle.wasmprinter_spec.specs.Read.{read}
 -- no custom section is claimed
 abbrev pub no_claims : Answers
 no_claims = λ n. false
-
--- the printer didn't take a custom section itself
-abbrev pub IsUnclaimed : Call → Type 0
-IsUnclaimed (Claim name place bytes answer) = answer ≡ false
-IsUnclaimed _ = Unit {0}
-
--- with the sequences of colours in the text of folded operators, or without
-abbrev pub in_colours : Options → Bool → Options
-in_colours o paints = record o { paints = paints }
 
 -- The printer's state is a run from the old one over calls that are alike the layout of the module that the bytes spell, in which no `dylink.0`
 -- section is refused, and everything can be folded, if it is. Sequences of colours are in the texts of folded operators exactly where the printer

@@ -6,25 +6,9 @@ use Rattle.wasmprinter_spec.specs.Kinds.{Kind, CustomSection, TypeSection, Impor
 use Rattle.wasmprinter_spec.specs.Placed.{CustomEntry}
 use Rattle.wasmprinter_spec.specs.Options.{Answers}
 use Rattle.wasmprinter_spec.specs.Layout.Customs.{Part, custom_part, same_place, parts_at}
+use Rattle.wasmprinter_spec.proofs.SameKinds.{same_kind-is}
 
 -- ---- one place
-
-same_kind-is : (j k : Kind) → same_kind j k ≡ true → j ≡ k
-same_kind-is CustomSection CustomSection e = refl
-same_kind-is TypeSection TypeSection e = refl
-same_kind-is ImportSection ImportSection e = refl
-same_kind-is FunctionSection FunctionSection e = refl
-same_kind-is TableSection TableSection e = refl
-same_kind-is MemorySection MemorySection e = refl
-same_kind-is TagSection TagSection e = refl
-same_kind-is GlobalSection GlobalSection e = refl
-same_kind-is ExportSection ExportSection e = refl
-same_kind-is StartSection StartSection e = refl
-same_kind-is ElementSection ElementSection e = refl
-same_kind-is DataCountSection DataCountSection e = refl
-same_kind-is CodeSection CodeSection e = refl
-same_kind-is DataSection DataSection e = refl
-same_kind-is _ _ e = absurd cc
 
 -- two places that are the same
 pub same_place-is : (a b : Option Kind) → same_place a b ≡ true → a ≡ b

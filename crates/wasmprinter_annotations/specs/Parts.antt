@@ -1,27 +1,18 @@
 -- What a function has made of parts of a layout, at one of which the layout may end: it answers the refusal then.
 use Rattle.std.specs.Prelude.{◌≡◌, ℕ, List, Bool, Option, Some, None, Result, Ok, Err}
 use Rattle.wasmprinter_error.specs.declared.error.Error.{Error}
-use Rattle.wasmprinter_error.specs.declared.error.Error.TheVariants.{Malformed, Component, TooManyLocals, TooManyFunctions, EmptyTableInit, FoldLegacy, FoldHint, DylinkSubsection, Unreadable, Printer, Memory}
+use Rattle.wasmprinter_error.specs.declared.error.Error.TheVariants.{DylinkSubsection}
 use Rattle.wasmprinter_spec.specs.Meaning.{Meaning}
 use Rattle.wasmprinter_spec.specs.Options.{Options}
 use Rattle.wasmprinter_spec.specs.Layout.Customs.{Part, Laid, laid_parts}
-use Rattle.wasmprinter_print.specs.Emits.{Ending, Through, AtCall, Never, at_growth}
+use Rattle.wasmprinter_print.specs.Emits.{Ending, Through, halt_of}
 use Rattle.wasmprinter_print.specs.Prints.{Written}
 
--- How the calls of a function end that answers this error: a refusal comes behind all calls up to it, want of memory between two calls, and
--- only where something is kept in memory.
+-- How the calls of a function end that answers this error: a refusal comes behind all calls up to it, and every other error as of a function
+-- that refuses nothing.
 abbrev pub stop_of : Bool → Error → Ending
-stop_of keeps (Malformed place) = Never
-stop_of keeps Component = Never
-stop_of keeps (TooManyLocals place) = Never
-stop_of keeps (TooManyFunctions count) = Never
-stop_of keeps (EmptyTableInit place) = Never
-stop_of keeps (FoldLegacy place) = Never
-stop_of keeps (FoldHint place) = Never
 stop_of keeps (DylinkSubsection id) = Through
-stop_of keeps Unreadable = Never
-stop_of keeps (Printer e) = AtCall e
-stop_of keeps Memory = at_growth keeps
+stop_of keeps e = halt_of keeps e
 
 abbrev pub stop : {T : Type 0} → Bool → Result T Error → Ending
 stop keeps (Ok x) = Through

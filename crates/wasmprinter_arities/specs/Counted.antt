@@ -1,6 +1,5 @@
 -- The program's counts, and those of the definitions.
 use Rattle.std.specs.Prelude.{Option, Some, None}
-use Rattle.wasmprinter_spec.specs.Row.{Role, Opens, OpensIf, OpensTry}
 use Rattle.wasmprinter_spec.specs.Folding.Arities.{takes_and_gives}
 use Rattle.wasmprinter_spec.specs.Folding.Arities.{Counts as DefinedCounts}
 use Rattle.wasmprinter_arities.specs.declared.counts.Counts.{Counts}
@@ -13,10 +12,3 @@ counts_view c = takes_and_gives c.takes c.gives
 abbrev pub known_view : Option Counts → DefinedCounts
 known_view None = takes_and_gives 0 0
 known_view (Some c) = counts_view c
-
--- an operator of the role opens a block
-abbrev pub Pushes : Role → Type 0
-Pushes Opens = Unit {0}
-Pushes OpensIf = Unit {0}
-Pushes OpensTry = Unit {0}
-Pushes _ = ⊥

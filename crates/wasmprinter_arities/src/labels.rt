@@ -2,8 +2,8 @@
 ghost use Rattle.std.specs.Prelude.{◌≡◌, [], OnOk, OnErr};
 ghost use Rattle.wasmprinter_spec.specs.Labels.{labels_after};
 ghost use Rattle.wasmprinter_spec.specs.Folding.Arities.{label_count};
+ghost use Rattle.wasmprinter_ops.specs.Nesting.{OpensBlock};
 ghost use Rattle.wasmprinter_ops.specs.Shapes.{role_view};
-ghost use Rattle.wasmprinter_arities.specs.Counted.{Pushes};
 ghost use Rattle.wasmprinter_arities.specs.Named.{count_if_any};
 
 use std::alloc::{AllocError, Global};
@@ -49,7 +49,7 @@ impl LabelCounts {
     /// Where a growth is refused, which only an operator wants that opens a block. Nothing has changed then.
     pub fn advance(&mut self, role: Role, opened: Option<u32>) -> Result<(), AllocError>
         ensures ok { OnOk result (self.new ≡ labels_after (role_view role) opened self.old) }
-        ensures memory { OnErr result (Pushes (role_view role)) }
+        ensures memory { OnErr result (OpensBlock (role_view role)) }
         ensures unchanged { OnErr result (self.new ≡ self.old) }
     {
         match role {

@@ -2,11 +2,10 @@
 use Rattle.std.proofs.Common.{◌≡◌, ℕ, List, [], ◌∷◌, ◌++◌, map, codes, refl, ap, ap₂, subst, ◌∙◌}
 use Rattle.wasmprinter_spec.specs.Call.{Call, Text, Newline, Line, Start, Claim, text_of}
 use Rattle.wasmprinter_spec.specs.Coloured.{bare_call}
-use Rattle.wasmprinter_spec.specs.Colour.{uncolour}
 use Rattle.wasmprinter_spec.specs.Plain.{IsPlainText}
 use Rattle.wasmprinter_spec.specs.Options.{Options}
 use Rattle.wasmprinter_spec.specs.Piece.{Piece, calls, all_calls}
-use Rattle.wasmprinter_lexical.proofs.Pieces.{text_of-append}
+use Rattle.wasmprinter_spec.proofs.Texts.{text_of-append}
 use Rattle.wasmprinter_lexical.proofs.Plain.{uncolour-plain}
 use Rattle.wasmprinter_writers.proofs.Uncoloured.{colours_keep_text}
 use Rattle.wasmprinter_colours.proofs.Painted.{Painted, none, same, node}

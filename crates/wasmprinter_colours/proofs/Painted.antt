@@ -1,14 +1,14 @@
 -- Pieces of which the texts of some nodes carry sequences of colours, and the same pieces without them.
-use Rattle.std.proofs.Common.{◌≡◌, ℕ, ◌+◌, List, [], ◌∷◌, ◌++◌, Bool, true, false, Option, None, cond, codes, refl, sym, ap, ap₂, subst, ◌∙◌, append_assoc, append-nil}
+use Rattle.std.proofs.Common.{◌≡◌, ℕ, ◌+◌, List, [], ◌∷◌, ◌++◌, Bool, true, false, Option, None, cond, codes, refl, sym, ap, ap₂, subst, ◌∙◌, append-nil}
 use Rattle.wasmprinter_spec.specs.Call.{Call, Text, text_of}
-use Rattle.wasmprinter_spec.specs.Coloured.{coloured_bytes, coloured_text}
+use Rattle.wasmprinter_spec.specs.Coloured.{coloured_text}
 use Rattle.wasmprinter_spec.specs.Colour.{uncolour}
 use Rattle.wasmprinter_spec.specs.Plain.{IsPlainText}
 use Rattle.wasmprinter_spec.specs.Options.{Options}
 use Rattle.wasmprinter_spec.specs.Piece.{Piece, OpenPlain, calls, all_calls}
 use Rattle.wasmprinter_spec.specs.Layout.Groups.{breaks, has_break, close, group_gap, line_group_gap, numbered_pieces}
 use Rattle.wasmprinter_spec.specs.Layout.Folded.{painted_text}
-use Rattle.wasmprinter_lexical.proofs.Pieces.{text_of-append}
+use Rattle.wasmprinter_spec.proofs.Texts.{text_of-append, coloured_text-append}
 use Rattle.wasmprinter_writers.proofs.Uncoloured.{colours_keep_text}
 
 -- The second list is the first, but for what stands behind the parenthesis of some nodes: there it has the text of some calls, where the
@@ -60,11 +60,6 @@ numbered_so f g each i [] = none
 numbered_so f g each i (x ∷ xs) = both (each i x) (numbered_so f g each (i + 1) xs)
 
 -- ---- the text of both
-
-coloured_text-append : (cs ds : List Call) → coloured_text (cs ++ ds) ≡ coloured_text cs ++ coloured_text ds
-coloured_text-append [] ds = refl
-coloured_text-append (c ∷ cs) ds =
-    ap (λ (t : List ℕ). coloured_bytes c ++ t) (coloured_text-append cs ds) ∙ sym (append_assoc (coloured_bytes c) (coloured_text cs) (coloured_text ds))
 
 painted_text-append : (b : Bool) (cs ds : List Call) → painted_text b (cs ++ ds) ≡ painted_text b cs ++ painted_text b ds
 painted_text-append true cs ds = coloured_text-append cs ds

@@ -8,24 +8,24 @@ use Rattle.wasmprinter_spec.specs.Piece.{Gap}
 use Rattle.wasmprinter_spec.specs.Layout.Groups.{line_group, line_group_gap}
 use Rattle.wasmprinter_spec.specs.Layout.ValTypes.{val_pieces, type_list}
 use Rattle.wasmprinter_spec.specs.Layout.Operators.{select_pieces}
+use Rattle.wasmprinter_spec.specs.Text.Items.{the_only}
 use Rattle.wasmprinter_ops.specs.ValTypes.{type_view, types_view}
 use Rattle.wasmprinter_ops.specs.declared.types.ValType.{ValType}
-use Rattle.wasmprinter_flat.specs.Only.{only}
 
 -- the first of one value is that value
-pub only-first : {A : Type 0} (xs rest : List A) (r : Option A) → length xs ≡ 1 → YieldsFirst (λ ys. ys) xs r rest → r ≡ only xs
+pub only-first : {A : Type 0} (xs rest : List A) (r : Option A) → length xs ≡ 1 → YieldsFirst (λ ys. ys) xs r rest → r ≡ the_only xs
 only-first xs rest None n y = absurd (omega (arith, n, ap length y.0))
-only-first xs [] (Some x) n y = sym (ap only y)
+only-first xs [] (Some x) n y = sym (ap the_only y)
 only-first xs (z ∷ rest) (Some x) n y = absurd (omega (arith, n, ap length y))
 
 -- where there is another number of values
-pub only-none : {A : Type 0} (xs : List A) → (length xs ≡ 1 → ⊥) → None ≡ only xs
+pub only-none : {A : Type 0} (xs : List A) → (length xs ≡ 1 → ⊥) → None ≡ the_only xs
 only-none [] h = refl
 only-none (x ∷ []) h = absurd (h refl)
 only-none (x ∷ (y ∷ xs)) h = refl
 
 -- one type
-pub select-one : (names : Names) (ts : List ValType) (t : ValType) → only ts ≡ Some t →
+pub select-one : (names : Names) (ts : List ValType) (t : ValType) → the_only ts ≡ Some t →
     select_pieces names (types_view ts) ≡ Gap ∷ line_group_gap (codes "result") (val_pieces names (type_view t))
 unfolding select_pieces
 select-one names [] t e = absurd cc
@@ -33,7 +33,7 @@ select-one names (x ∷ []) t e = ap (λ (y : ValType). Gap ∷ line_group_gap (
 select-one names (x ∷ (y ∷ ts)) t e = absurd cc
 
 -- another number of types
-pub select-others : (names : Names) (ts : List ValType) → only ts ≡ None →
+pub select-others : (names : Names) (ts : List ValType) → the_only ts ≡ None →
     select_pieces names (types_view ts) ≡ Gap ∷ line_group (codes "result") (type_list names (types_view ts))
 unfolding select_pieces
 select-others names [] e = refl

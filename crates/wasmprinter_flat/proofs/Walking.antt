@@ -52,7 +52,7 @@ pub record Fits (s : Setting) (l : Scan) : Type 0 where
   pub function : l.function ≡ s.function
 
 -- the label that the next operator may open
-own-fits : (s : Setting) (l : Scan) → Fits s l → own_label l ≡ s.names.labels s.function l.count (length l.labels)
+pub own-fits : (s : Setting) (l : Scan) → Fits s l → own_label l ≡ s.names.labels s.function l.count (length l.labels)
 own-fits s l f =
     ap (λ (names : Names). names.labels l.function l.count (length l.labels)) f.names ∙ ap (λ function. s.names.labels function l.count (length l.labels)) f.function
 

@@ -1,4 +1,3 @@
 -- What the contracts of flat operators cite.
-pub mod Only
 pub mod Settings
 pub mod Contexts

@@ -3,7 +3,6 @@
 ghost use Rattle.std.specs.Prelude.{◌≡◌, ◌+◌, ◌-◌, ◌<◌, ◌^◌, [], ◌∷◌, ℕ, List, length, true, Option, Some};
 ghost use Rattle.wasmprinter_spec.specs.Grammar.{Placed};
 ghost use Rattle.wasmprinter_spec.specs.Options.{Options};
-ghost use Rattle.wasmprinter_spec.specs.Piece.{Break};
 ghost use Rattle.wasmprinter_spec.specs.Table.{shape_of};
 ghost use Rattle.wasmprinter_spec.specs.Types.{FuncType};
 ghost use Rattle.wasmprinter_spec.specs.Names.{Names};
@@ -22,7 +21,7 @@ use crate::immediates::write_immediates;
 use std::io;
 use wasmprinter_customs::{FunctionHints, Hint};
 use wasmprinter_labels::OpenLabels;
-use wasmprinter_lines::lines::break_line;
+use wasmprinter_lines::lines::break_inside;
 use wasmprinter_lines::options::PrintOptions;
 use wasmprinter_ops::expression::Expression;
 use wasmprinter_ops::opcode::Role;
@@ -69,34 +68,21 @@ fn level(role: Role, depth: u64) -> u64
     }
 }
 
-/// Begins a line that is nested so deep, and by so many blocks deeper.
-fn break_inside<P: Print>(
+/// Writes what stands before an operator's word, the first of its list or a later one: a line that is nested so deep, and so many levels
+/// deeper, or a blank.
+pub fn write_before<P: Print>(
     p: &mut P,
     options: &PrintOptions,
-    place: u64,
-    nesting: u64,
-    blocks: u64,
-) -> io::Result<()>
-    ensures { Prints P.meaning options.now p.old p.new result
-        (Break (Some place) (nesting + blocks) ∷ []) }
-{
-    break_line(p, options, Some(place), nesting.saturating_add(blocks))
-}
-
-/// Writes what stands before an operator's word.
-fn write_before<P: Print, S: Signatures>(
-    p: &mut P,
-    options: &PrintOptions,
-    setting: &Setting<'_, S>,
+    form: Form,
     first: bool,
     place: u64,
-    blocks: u64,
+    nesting: u64,
+    depth: u64,
 ) -> io::Result<()>
-    ensures { Prints P.meaning options.now p.old p.new result
-        (before_word (form_view setting.now.form) first place (setting.now.nesting + blocks)) }
+    ensures { Prints P.meaning options.now p.old p.new result (before_word (form_view form) first place (nesting + depth)) }
 {
-    match setting.form {
-        Form::OverLines => break_inside(p, options, place, setting.nesting, blocks),
+    match form {
+        Form::OverLines => break_inside(p, options, place, nesting, depth),
         Form::InLine => {
             if first {
                 return Ok(());
@@ -160,7 +146,15 @@ fn write_operator<P: Print, S: Signatures>(
         (record { place = place; value = operator.now })) }
 {
     let level = level(operator.opcode.role(), labels.depth());
-    write_before(p, options, setting, first, place, level)?;
+    write_before(
+        p,
+        options,
+        setting.form,
+        first,
+        place,
+        setting.nesting,
+        level,
+    )?;
     write_word(p, setting, labels, operator)
 }
 

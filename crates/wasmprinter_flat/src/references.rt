@@ -6,12 +6,12 @@ ghost use Rattle.wasmprinter_spec.specs.Piece.{Gap};
 ghost use Rattle.wasmprinter_spec.specs.Layout.Groups.{line_group_gap};
 ghost use Rattle.wasmprinter_spec.specs.Layout.Operators.{label_pieces, select_pieces};
 ghost use Rattle.wasmprinter_spec.specs.Layout.ValTypes.{heap_pieces, ref_pieces, val_pieces};
+ghost use Rattle.wasmprinter_spec.specs.Text.Items.{the_only};
 ghost use Rattle.wasmprinter_print.specs.Prints.{Prints};
 ghost use Rattle.wasmprinter_names.specs.Shown.{names_of_identifiers};
 ghost use Rattle.wasmprinter_ops.specs.Operands.{source_type, target_type};
 ghost use Rattle.wasmprinter_ops.specs.ValTypes.{heap_view, ref_view, type_view, types_view};
 ghost use Rattle.wasmprinter_flat.specs.Contexts.{names_in, labels_around, labels_within};
-ghost use Rattle.wasmprinter_flat.specs.Only.{only};
 
 use crate::context::Context;
 use crate::labels::write_label;
@@ -42,7 +42,7 @@ pub(crate) fn write_result<P: Print>(
 
 /// The type, where there is just one.
 fn only_type(types: &ValTypes<'_>) -> Option<ValType>
-    ensures { result ≡ only types.now }
+    ensures { result ≡ the_only types.now }
 {
     if types.len() == 1 {
         types.iter().next()

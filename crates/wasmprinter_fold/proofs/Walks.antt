@@ -19,6 +19,7 @@ use Rattle.wasmprinter_spec.specs.Folding.Code.{Item, NestedCode, nested_code_of
 use Rattle.wasmprinter_spec.specs.Folding.Tree.{tree}
 use Rattle.wasmprinter_spec.proofs.FoldingCode.{nested_code_of-tree, nested_code_of-nested, nested_code_of-nests}
 use Rattle.wasmprinter_spec.proofs.FoldingItems.{roles-items}
+use Rattle.wasmprinter_flat.proofs.Walking.{Fits, own-fits}
 use Rattle.wasmprinter_ops.specs.Operators.{placed_view, pairs}
 use Rattle.wasmprinter_ops.proofs.Pairs.{first-pair, no-pair}
 use Rattle.wasmprinter_labels.specs.Scan.{Scan, names_of, own_label, at_start_again, behind_operator}
@@ -79,16 +80,6 @@ items-nil : (s : Setting) (t : Signatures) (hs : List (Placed Hint)) (n : ℕ) (
     items s t hs n xs ls os ≡ []
 unfolding items
 items-nil s t hs n xs ls os e = ap (λ os. items s t hs n xs ls os) e
-
--- the identifiers of the module are those that are printed, and the function is that of the setting
-pub record Fits (s : Setting) (l : Scan) : Type 0 where
-  pub names : names_of l ≡ s.names
-  pub function : l.function ≡ s.function
-
--- the label that the next operator may open
-own-fits : (s : Setting) (l : Scan) → Fits s l → own_label l ≡ s.names.labels s.function l.count (length l.labels)
-own-fits s l f =
-    ap (λ (names : Names). names.labels l.function l.count (length l.labels)) f.names ∙ ap (λ function. s.names.labels function l.count (length l.labels)) f.function
 
 -- the operators of the list, folded one after another
 abbrev pub run_items : Bool → Setting → Signatures → List (Placed Hint) → Scan → List (Option ℕ) → StateOf Shown → List (Placed Operator) → StateOf Shown

@@ -14,4 +14,3 @@ pub mod Pieces
 pub mod Respelled
 pub mod Writes
 pub mod PrintedPieces
-pub mod Alike

@@ -1,5 +1,5 @@
 -- Numbers as text: what their bytes are, and that they read back.
-use Rattle.std.proofs.Common.{◌≡◌, ⊎_elim, ℕ, suc, ◌<◌, ◌≤◌, ◌^◌, ◌-◌, Bool, true, false, ◌&&◌, ◌||◌, not, leb, ltb, eqb, List, [], ◌∷◌, ◌++◌, Some, refl, sym, ap, ◌∙◌, arith, true≢false, codes, decimal, ℤ, pos, negsuc, lit<, lit≤}
+use Rattle.std.proofs.Common.{◌≡◌, ⊎_elim, ℕ, suc, ◌<◌, ◌≤◌, ◌^◌, ◌-◌, Bool, true, false, ◌&&◌, ◌||◌, not, ltb, eqb, List, [], ◌∷◌, ◌++◌, Some, refl, sym, ap, ◌∙◌, arith, true≢false, codes, decimal, ℤ, pos, negsuc, lit<, lit≤}
 use Rattle.std.proofs.lemmas.Bool.{and_from, cases_lt, lt-ltb, le-ltb, le-leb, agree_below, agree_below_at, false_from_ne_true, eqb-true}
 use Rattle.std.proofs.lemmas.Fmt.{decimal_is_IsNumeral, digits_is_IsNumeral}
 use Rattle.std.proofs.lemmas.Str.Parse.{digit_at}
@@ -10,25 +10,13 @@ use Rattle.std.specs.Int.Signed.{mag}
 use Rattle.wasmprinter_spec.specs.Character.{Class, class, Plain}
 use Rattle.wasmprinter_spec.specs.Numeral.{is_underscore, is_digit, follows_digit, is_numeral, without_underscores, numeral, natural, integer, unsigned_integer}
 use Rattle.wasmprinter_spec.specs.Quoted.{runs, all_run}
+use Rattle.wasmprinter_spec.proofs.Classes.{digit_class}
 use Rattle.wasmprinter_lexical.proofs.Runs.{is_quiet, is_plain_class, all_quiet, is_word}
 
 -- ---- a digit
 
-plain_below : ℕ → Bool
-plain_below c = not (leb 48 c) || is_plain_class (class c)
-
-digits_are_plain : agree_below plain_below (λ c. true) 58 ≡ true
-unfolding plain_below class
-digits_are_plain = refl
-
 digit_is_plain : (c : ℕ) → digit_value c < 10 → is_plain_class (class c) ≡ true
-unfolding plain_below
-digit_is_plain c h =
-    let within : (48 ≤ c) × (c ≤ 57) = digit_at (c ∷ []) 0 (h, tt) (lit< tt) in
-    let low : leb 48 c ≡ true = le-leb 48 c within.0 in
-    let below : c < 58 = omega arith in
-    let e : (not (leb 48 c) || is_plain_class (class c)) ≡ true = agree_below_at plain_below (λ x. true) 58 c digits_are_plain below in
-    rw low at e
+digit_is_plain c h = ap is_plain_class (digit_class c h)
 
 pub plain_runs : (c : Class) → is_plain_class c ≡ true → runs c ≡ true
 plain_runs Plain h = refl

@@ -6,12 +6,13 @@ use Rattle.std.specs.Int.Signed.{mag}
 use Rattle.std.specs.List.{AllByRecursion}
 use Rattle.std.proofs.Math.Utf8.{scalars}
 use Rattle.wasmprinter_spec.specs.Character.{class}
-use Rattle.wasmprinter_spec.specs.Call.{Call, Text, call_text, text_of}
+use Rattle.wasmprinter_spec.specs.Call.{Text, text_of}
 use Rattle.wasmprinter_spec.specs.Options.{Options, IsBlank}
 use Rattle.wasmprinter_spec.specs.Float.{IsWidth, sign_bit}
 use Rattle.wasmprinter_spec.specs.Quoted.{is_run, char_text, quoted_text, quoted_bytes, identifier_text}
 use Rattle.wasmprinter_spec.specs.Token.{Clear, word, is_name, lex}
 use Rattle.wasmprinter_spec.specs.Piece.{Piece, Begin, Feed, Break, Gap, Open, OpenGap, OpenPlain, OpenBare, OpenTypeGap, OpenNote, OpenNoteGap, OpenRun, Shut, Word, TypeWord, TypeWordGap, GapTypeWord, Number, Constant, Literals, GapLiterals, Float, NumberRemark, BeginName, EndStyle, Quoted, QuotedBytes, Identifier, NameNote, Remark, Ending, PlainEnding, HintNote, Claimed, flag_byte, repetition_of, left_in, place_text, place_calls, most_indents, behind_blanks, word_tokens, calls, text, piece_tokens, all_calls, all_tokens}
+use Rattle.wasmprinter_spec.proofs.Texts.{text_of-append}
 use Rattle.wasmprinter_lexical.proofs.Runs.{is_quiet, ends_line, ending_lexes, is_word, are_words, all_quiet, all_blank, is_blank_class, delimited, begins_item, begins_item-word, left_lexes, word_lexes, open_lexes, blanks_lex, comment_lexes}
 use Rattle.wasmprinter_lexical.proofs.Numbers.{is_word-decimal, is_word-signed_decimal, all_quiet-decimal}
 use Rattle.wasmprinter_lexical.proofs.FloatPieces.{float_lexes}
@@ -185,11 +186,6 @@ place_lexes (Some p) rest =
     ap (λ t. lex Clear (40 ∷ (59 ∷ (64 ∷ t)))) (append_assoc (left_in 6 (digits 16 false p)) (codes ";)") rest)
     ∙ comment_lexes (64 ∷ left_in 6 (digits 16 false p)) rest (all_quiet-left_in 6 p)
 place_lexes None rest = blanks_lex (replicate 11 32) rest (all_blank-blanks 11)
-
--- the text of calls, one after another
-pub text_of-append : (cs ds : List Call) → text_of (cs ++ ds) ≡ text_of cs ++ text_of ds
-text_of-append [] ds = refl
-text_of-append (c ∷ cs) ds = ap (λ t. call_text c ++ t) (text_of-append cs ds) ∙ sym (append_assoc (call_text c) (text_of cs) (text_of ds))
 
 place_calls_lex : (offsets : Bool) (place : Option ℕ) (rest : List ℕ) → lex Clear (text_of (place_calls offsets place) ++ rest) ≡ lex Clear rest
 place_calls_lex false place rest = refl

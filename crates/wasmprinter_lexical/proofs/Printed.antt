@@ -1,9 +1,10 @@
 -- Plain bytes by a test, which is computed for the bytes of each class: a line feed, a tab, or from the blank to the tilde.
-use Rattle.std.proofs.Common.{◌≡◌, ℕ, zero, suc, ◌<◌, ◌≤◌, ◌/◌, ◌%◌, Bool, true, false, ◌&&◌, ◌||◌, not, cond, leb, ltb, eqb, List, [], ◌∷◌, ◌++◌, refl, sym, ap, ◌∙◌, arith, true≢false, decimal, codes}
-use Rattle.std.proofs.lemmas.Bool.{and_parts, and_from, agree_below, agree_below_at, ltb-true, ltb-false, le-ltb, le-leb, ne_eqb}
+use Rattle.std.proofs.Common.{◌≡◌, ℕ, zero, suc, ◌<◌, ◌/◌, ◌%◌, Bool, true, false, ◌&&◌, ◌||◌, not, cond, leb, ltb, eqb, List, [], ◌∷◌, ◌++◌, refl, sym, ap, ◌∙◌, arith, true≢false, decimal, codes}
+use Rattle.std.proofs.lemmas.Bool.{and_parts, and_from, agree_below, agree_below_at, ltb-true, ltb-false}
 use Rattle.std.specs.Fmt.{digits, digits_onto, digit_glyph}
 use Rattle.wasmprinter_spec.specs.Character.{Class, Foreign, class}
 use Rattle.wasmprinter_spec.specs.Quoted.{runs, all_run}
+use Rattle.wasmprinter_spec.proofs.Classes.{foreign}
 use Rattle.wasmprinter_lexical.proofs.Runs.{is_word, is_plain_class, is_quiet, is_inline, is_blank_class, all_quiet, all_inline, all_blank}
 use Rattle.wasmprinter_lexical.proofs.Numbers.{plain_runs}
 
@@ -22,32 +23,6 @@ all_printed-append (c ∷ cs) b h k =
 
 -- ---- bytes of a class
 
--- a byte from 128 on is foreign
-class-foreign : (b : ℕ) → 128 ≤ b → class b ≡ Foreign
-unfolding class
-class-foreign b h =
-    rw (
-      ne_eqb b 32 (λ e. omega arith),
-      ne_eqb b 9 (λ e. omega arith),
-      ne_eqb b 10 (λ e. omega arith),
-      ne_eqb b 13 (λ e. omega arith),
-      ne_eqb b 40 (λ e. omega arith),
-      ne_eqb b 41 (λ e. omega arith),
-      ne_eqb b 59 (λ e. omega arith),
-      ne_eqb b 34 (λ e. omega arith),
-      ne_eqb b 92 (λ e. omega arith),
-      ne_eqb b 36 (λ e. omega arith),
-      ne_eqb b 64 (λ e. omega arith),
-      ne_eqb b 44 (λ e. omega arith),
-      ne_eqb b 91 (λ e. omega arith),
-      ne_eqb b 93 (λ e. omega arith),
-      ne_eqb b 123 (λ e. omega arith),
-      ne_eqb b 125 (λ e. omega arith),
-      le-ltb b 32 (omega arith),
-      ne_eqb b 127 (λ e. omega arith),
-      le-leb 128 b h,
-    )
-
 -- a test of classes that no foreign byte passes, and below 128 only printed ones
 module _ (good : Class → Bool) (none : good Foreign ≡ false) (low : agree_below (λ b. not (good (class b)) || is_printed b) (λ b. true) 128 ≡ true) where
   printed_by_class : (b : ℕ) → good (class b) ≡ true → is_printed b ≡ true
@@ -57,7 +32,7 @@ module _ (good : Class → Bool) (none : good Foreign ≡ false) (low : agree_be
       by true e =
           let k : (not (good (class b)) || is_printed b) ≡ true = agree_below_at (λ b. not (good (class b)) || is_printed b) (λ b. true) 128 b low (ltb-true b 128 e) in
           rw h at k
-      by false e = absurd (true≢false (sym h ∙ ap good (class-foreign b (ltb-false b 128 e)) ∙ none))
+      by false e = absurd (true≢false (sym h ∙ ap good (foreign b (ltb-false b 128 e)) ∙ none))
 
 runs_low : agree_below (λ b. not (runs (class b)) || is_printed b) (λ b. true) 128 ≡ true
 unfolding class

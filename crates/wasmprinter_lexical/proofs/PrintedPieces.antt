@@ -8,13 +8,14 @@ use Rattle.wasmprinter_spec.specs.Options.{Options, IsBlank}
 use Rattle.wasmprinter_spec.specs.Plain.{IsPlainText}
 use Rattle.wasmprinter_spec.specs.Quoted.{char_text, byte_text, is_plain, quoted_text, quoted_bytes, is_run, identifier_text}
 use Rattle.wasmprinter_spec.specs.Piece.{Piece, Begin, Feed, Break, Gap, Open, OpenGap, OpenPlain, OpenBare, OpenTypeGap, OpenNote, OpenNoteGap, OpenRun, Shut, Word, TypeWord, TypeWordGap, GapTypeWord, Number, Constant, Literals, GapLiterals, Float, NumberRemark, BeginName, EndStyle, Quoted, QuotedBytes, Identifier, NameNote, Remark, Ending, PlainEnding, HintNote, Claimed, flag_byte, behind_blanks, repetition_of, left_in, place_text, place_calls, most_indents, text, all_calls}
+use Rattle.wasmprinter_spec.proofs.Texts.{text_of-append}
 use Rattle.wasmprinter_lexical.proofs.Runs.{is_word, are_words}
 use Rattle.wasmprinter_lexical.proofs.Numbers.{is_word-decimal, is_word-signed_decimal}
 use Rattle.wasmprinter_lexical.proofs.FloatPieces.{printed_float}
 use Rattle.wasmprinter_lexical.proofs.Printed.{is_printed, all_printed, all_printed-append, all_printed-blank, printed_word, glyph_is_good, hex_digits_are_good, remark}
 use Rattle.wasmprinter_lexical.proofs.Identifiers.{run_is_printed}
 use Rattle.wasmprinter_lexical.proofs.Plain.{plain_text}
-use Rattle.wasmprinter_lexical.proofs.Pieces.{IsPiece, ArePieces, all_text, text_of-all_calls, text_of-append, all_blank-IsBlank, all_blank-repetition_of}
+use Rattle.wasmprinter_lexical.proofs.Pieces.{IsPiece, ArePieces, all_text, text_of-all_calls, all_blank-IsBlank, all_blank-repetition_of}
 
 -- ---- parts of texts
 

@@ -22,7 +22,7 @@ use Rattle.wasmprinter_lexical.proofs.Grown.{flat-onto, one-flat, without_annota
 use Rattle.wasmprinter_lexical.proofs.Noted.{Noted, no_items, a_word, a_name, a_noted_name, a_string, a_group, a_note, noted-same, noted-onto}
 use Rattle.wasmprinter_lexical.proofs.Notes.{Beginning, InGroup, InNote, beginning_tokens, beginning, run_tokens}
 use Rattle.wasmprinter_lexical.proofs.Printed.{is_remark}
-use Rattle.wasmprinter_lexical.proofs.Pieces.{Edge, Free, Bound, Opened, Ended, begins, feeds, leaves, may_follow, pieces_follow, ArePieces, text_of-all_calls, pieces_lex}
+use Rattle.wasmprinter_lexical.proofs.Pieces.{Edge, Free, Bound, Opened, Ended, begins, feeds, leaves, may_follow, pieces_follow, IsPiece, ArePieces, text_of-all_calls, pieces_lex}
 use Rattle.wasmprinter_lexical.proofs.Respelled.{Respelled, same_spelled, first_spelled, both_spelled, then_spelled, all_lexed, pieces_lexed}
 
 pub record WritesNoted (a : Edge) (ps : List Piece) (b : Edge) (f k : Forest) : Type 0 where
@@ -128,12 +128,13 @@ feeds_all Opened (Break place nesting) f = refl
 feeds_all Opened _ f = absurd cc
 feeds_all Ended p f = f
 
--- Pieces that may stand behind a word may stand behind anything. (In no set of rules: a search would go round it.)
-pub loosened : {b : Edge} {ps : List Piece} {f k : Forest} → WritesNoted Bound ps b f k → WritesNoted Free ps b f k
-loosened {ps = ps} w = record {
+-- pieces that may stand between other edges too
+rejoined : {a b c d : Edge} {ps : List Piece} {f k : Forest} (w : WritesNoted a ps b f k) →
+    ((qs : List Piece) → pieces_follow d qs ≡ true → pieces_follow c (w.printed ++ qs) ≡ true) → WritesNoted c ps d f k
+rejoined w joins = record {
   printed = w.printed;
   spelled = w.spelled;
-  joins = λ qs h. loosen Bound (w.printed ++ qs) (w.joins qs h);
+  joins = joins;
   are = w.are;
   whole = w.whole;
   tokens = w.tokens;
@@ -141,20 +142,28 @@ loosened {ps = ps} w = record {
   noted = w.noted;
 }
 
+-- Pieces that may stand behind a word may stand behind anything. (In no set of rules: a search would go round it.)
+pub loosened : {b : Edge} {ps : List Piece} {f k : Forest} → WritesNoted Bound ps b f k → WritesNoted Free ps b f k
+loosened w = rejoined w (λ qs h. loosen Bound (w.printed ++ qs) (w.joins qs h))
+
+-- the piece may stand behind this edge, before what may stand behind it
+abbrev MayStand : Edge → Piece → Type 0
+MayStand a p = (ps : List Piece) → pieces_follow (leaves p) ps ≡ true → pieces_follow a (p ∷ ps) ≡ true
+
 -- a piece that may stand behind a word may stand where the line goes on
-joins_anywhere : (a : Edge) (p : Piece) (ps : List Piece) → is_open a ≡ true → begins p ≡ true → pieces_follow (leaves p) ps ≡ true → pieces_follow a (p ∷ ps) ≡ true
-joins_anywhere a p ps o b j = and_from (may_follow a p) (pieces_follow (leaves p) ps) (begins_all a p o b) j
+joins_anywhere : (a : Edge) (p : Piece) → is_open a ≡ true → begins p ≡ true → MayStand a p
+joins_anywhere a p o b ps j = and_from (may_follow a p) (pieces_follow (leaves p) ps) (begins_all a p o b) j
 
 -- the end of a line may stand anywhere
-joins_line : (a : Edge) (p : Piece) (ps : List Piece) → feeds p ≡ true → pieces_follow (leaves p) ps ≡ true → pieces_follow a (p ∷ ps) ≡ true
-joins_line a p ps f j = and_from (may_follow a p) (pieces_follow (leaves p) ps) (feeds_all a p f) j
+joins_line : (a : Edge) (p : Piece) → feeds p ≡ true → MayStand a p
+joins_line a p f ps j = and_from (may_follow a p) (pieces_follow (leaves p) ps) (feeds_all a p f) j
 
 -- what may stand where the line must end may stand anywhere
 pub ended_joins : (a : Edge) (ps : List Piece) → pieces_follow Ended ps ≡ true → pieces_follow a ps ≡ true
 ended_joins a [] j = refl
 ended_joins a (p ∷ ps) j =
     let parts : (feeds p ≡ true) × (pieces_follow (leaves p) ps ≡ true) = and_parts (feeds p) (pieces_follow (leaves p) ps) j in
-    joins_line a p ps parts.0 parts.1
+    joins_line a p parts.0 ps parts.1
 
 pub nothing_writes : {a : Edge} → WritesNoted a [] a End End
 nothing_writes = record { printed = []; spelled = same_spelled; joins = λ qs h. h; are = tt; whole = End; tokens = refl; without = refl; noted = no_items }
@@ -162,155 +171,79 @@ nothing_writes = record { printed = []; spelled = same_spelled; joins = λ qs h.
 pub free_writes : {b : Edge} → WritesNoted Free [] b End End
 free_writes {b = b} = record { printed = []; spelled = same_spelled; joins = λ qs h. loosen b qs h; are = tt; whole = End; tokens = refl; without = refl; noted = no_items }
 
+-- A piece that may stand behind this edge. Of the items behind it, it makes the items `around` them, which are those that `kept` says where
+-- annotations are cut.
+piece_writes : {a b : Edge} {ps : List Piece} {f k : Forest} (p : Piece) (around kept : Forest → Forest) → IsPiece p → MayStand a p →
+    ((g : Forest) → piece_tokens p ++ flat g ≡ flat (around g)) → ((g h : Forest) → Noted g h → Noted (around g) (around h)) →
+    ((g : Forest) → without_annotations (around g) ≡ kept (without_annotations g)) →
+    WritesNoted (leaves p) ps b f k → WritesNoted a (p ∷ ps) b (kept f) (around k)
+piece_writes {k = k} p around kept is stands shows notes cuts w = record {
+  printed = p ∷ w.printed;
+  spelled = first_spelled p w.spelled;
+  joins = λ qs h. stands (w.printed ++ qs) (w.joins qs h);
+  are = (is, w.are);
+  whole = around w.whole;
+  tokens = ap (λ t. piece_tokens p ++ t) w.tokens ∙ shows w.whole;
+  noted = notes w.whole k w.noted;
+  without = cuts k ∙ ap kept w.without;
+}
+
+-- a piece that is no item
+silent_writes : {a b : Edge} {ps : List Piece} {f k : Forest} (p : Piece) → IsPiece p → MayStand a p → piece_tokens p ≡ [] →
+    WritesNoted (leaves p) ps b f k → WritesNoted a (p ∷ ps) b f k
+silent_writes p is stands none w = piece_writes p (λ g. g) (λ g. g) is stands (λ g. ap (λ t. t ++ flat g) none) (λ g h n. n) (λ g. refl) w
+
+-- a piece that is a word
+one_word_writes : {a b : Edge} {ps : List Piece} {f k : Forest} (p : Piece) (v : List ℕ) → IsPiece p → MayStand a p → piece_tokens p ≡ word v ∷ [] →
+    WritesNoted (leaves p) ps b f k → WritesNoted a (p ∷ ps) b (Word v f) (Word v k)
+one_word_writes p v is stands one w = piece_writes p (Word v) (Word v) is stands (λ g. ap (λ t. t ++ flat g) one) (λ g h n. a_word n) (λ g. refl) w
+
+-- a piece that is a string
+one_string_writes : {a b : Edge} {ps : List Piece} {f k : Forest} (p : Piece) (s : List ℕ) → IsPiece p → MayStand a p → piece_tokens p ≡ string s ∷ [] →
+    WritesNoted (leaves p) ps b f k → WritesNoted a (p ∷ ps) b (String s f) (String s k)
+one_string_writes p s is stands one w = piece_writes p (String s) (String s) is stands (λ g. ap (λ t. t ++ flat g) one) (λ g h n. a_string n) (λ g. refl) w
+
 pub begin_writes : {b : Edge} {place : ℕ} {ps : List Piece} {f k : Forest} → WritesNoted Free ps b f k → WritesNoted Free (Begin place ∷ ps) b f k
-begin_writes {place = place} w = record { printed = Begin place ∷ w.printed; spelled = first_spelled (Begin place) w.spelled; joins = w.joins; are = (tt, w.are); whole = w.whole; tokens = w.tokens; without = w.without; noted = w.noted }
+begin_writes {place = place} w = silent_writes (Begin place) tt (λ qs j. j) refl w
 
 pub feed_writes : {a b : Edge} {ps : List Piece} {f k : Forest} → WritesNoted Free ps b f k → WritesNoted a (Feed ∷ ps) b f k
-feed_writes {a = a} {ps = ps} w = record {
-  printed = Feed ∷ w.printed;
-  spelled = first_spelled Feed w.spelled;
-  joins = λ qs h. joins_line a Feed (w.printed ++ qs) refl (w.joins qs h);
-  are = (tt, w.are);
-  whole = w.whole;
-  tokens = w.tokens;
-  without = w.without;
-  noted = w.noted;
-}
+feed_writes {a = a} w = silent_writes Feed tt (joins_line a Feed refl) refl w
 
 pub break_writes : {a b : Edge} {place : Option ℕ} {nesting : ℕ} {ps : List Piece} {f k : Forest} → WritesNoted Free ps b f k → WritesNoted a (Break place nesting ∷ ps) b f k
-break_writes {a = a} {place = place} {nesting = nesting} {ps = ps} w = record {
-  printed = Break place nesting ∷ w.printed;
-  spelled = first_spelled (Break place nesting) w.spelled;
-  joins = λ qs h. joins_line a (Break place nesting) (w.printed ++ qs) refl (w.joins qs h);
-  are = (tt, w.are);
-  whole = w.whole;
-  tokens = w.tokens;
-  without = w.without;
-  noted = w.noted;
-}
+break_writes {a = a} {place = place} {nesting = nesting} w = silent_writes (Break place nesting) tt (joins_line a (Break place nesting) refl) refl w
 
 pub gap_writes : {a b : Edge} {ps : List Piece} {f k : Forest} → is_open a ≡ true → WritesNoted Free ps b f k → WritesNoted a (Gap ∷ ps) b f k
-gap_writes {a = a} {ps = ps} e w = record {
-  printed = Gap ∷ w.printed;
-  spelled = first_spelled Gap w.spelled;
-  joins = λ qs h. joins_anywhere a Gap (w.printed ++ qs) e refl (w.joins qs h);
-  are = (tt, w.are);
-  whole = w.whole;
-  tokens = w.tokens;
-  without = w.without;
-  noted = w.noted;
-}
+gap_writes {a = a} e w = silent_writes Gap tt (joins_anywhere a Gap e refl) refl w
 
 pub number_remark_writes : {a b : Edge} {n : ℕ} {ps : List Piece} {f k : Forest} → is_open a ≡ true → n < 2 ^ 64 → WritesNoted Free ps b f k → WritesNoted a (NumberRemark n ∷ ps) b f k
-number_remark_writes {a = a} {n = n} {ps = ps} e h w = record {
-  printed = NumberRemark n ∷ w.printed;
-  spelled = first_spelled (NumberRemark n) w.spelled;
-  joins = λ qs g. joins_anywhere a (NumberRemark n) (w.printed ++ qs) e refl (w.joins qs g);
-  are = (h, w.are);
-  whole = w.whole;
-  tokens = w.tokens;
-  without = w.without;
-  noted = w.noted;
-}
+number_remark_writes {a = a} {n = n} e h w = silent_writes (NumberRemark n) h (joins_anywhere a (NumberRemark n) e refl) refl w
 
 -- no text, and no item
 pub begin_name_writes : {b : Edge} {ps : List Piece} {f k : Forest} → WritesNoted Free ps b f k → WritesNoted Free (BeginName ∷ ps) b f k
-begin_name_writes w = record {
-  printed = BeginName ∷ w.printed;
-  spelled = first_spelled BeginName w.spelled;
-  joins = w.joins;
-  are = (tt, w.are);
-  whole = w.whole;
-  tokens = w.tokens;
-  without = w.without;
-  noted = w.noted;
-}
+begin_name_writes w = silent_writes BeginName tt (λ qs j. j) refl w
 
 pub end_style_writes : {a b : Edge} {ps : List Piece} {f k : Forest} → is_open a ≡ true → WritesNoted Bound ps b f k → WritesNoted a (EndStyle ∷ ps) b f k
-end_style_writes {a = a} {ps = ps} e w = record {
-  printed = EndStyle ∷ w.printed;
-  spelled = first_spelled EndStyle w.spelled;
-  joins = λ qs h. joins_anywhere a EndStyle (w.printed ++ qs) e refl (w.joins qs h);
-  are = (tt, w.are);
-  whole = w.whole;
-  tokens = w.tokens;
-  without = w.without;
-  noted = w.noted;
-}
+end_style_writes {a = a} e w = silent_writes EndStyle tt (joins_anywhere a EndStyle e refl) refl w
 
 pub word_writes : {b : Edge} {v : List ℕ} {ps : List Piece} {f k : Forest} → is_word v ≡ true → WritesNoted Bound ps b f k → WritesNoted Free (piece.Word v ∷ ps) b (Word v f) (Word v k)
-word_writes {v = v} h w = record {
-  printed = piece.Word v ∷ w.printed;
-  spelled = first_spelled (piece.Word v) w.spelled;
-  joins = w.joins;
-  are = (h, w.are);
-  whole = Word v w.whole;
-  tokens = ap (λ t. word v ∷ t) w.tokens;
-  without = ap (Word v) w.without;
-  noted = a_word w.noted;
-}
+word_writes {v = v} h w = one_word_writes (piece.Word v) v h (λ qs j. j) refl w
 
 pub type_word_writes : {b : Edge} {v : List ℕ} {ps : List Piece} {f k : Forest} → is_word v ≡ true → WritesNoted Bound ps b f k → WritesNoted Free (TypeWord v ∷ ps) b (Word v f) (Word v k)
-type_word_writes {v = v} h w = record {
-  printed = TypeWord v ∷ w.printed;
-  spelled = first_spelled (TypeWord v) w.spelled;
-  joins = w.joins;
-  are = (h, w.are);
-  whole = Word v w.whole;
-  tokens = ap (λ t. word v ∷ t) w.tokens;
-  without = ap (Word v) w.without;
-  noted = a_word w.noted;
-}
+type_word_writes {v = v} h w = one_word_writes (TypeWord v) v h (λ qs j. j) refl w
 
 pub number_writes : {b : Edge} {n : ℕ} {ps : List Piece} {f k : Forest} → n < 2 ^ 64 → WritesNoted Bound ps b f k → WritesNoted Free (Number n ∷ ps) b (Word (decimal n) f) (Word (decimal n) k)
-number_writes {n = n} h w = record {
-  printed = Number n ∷ w.printed;
-  spelled = first_spelled (Number n) w.spelled;
-  joins = w.joins;
-  are = (h, w.are);
-  whole = Word (decimal n) w.whole;
-  tokens = ap (λ t. word (decimal n) ∷ t) w.tokens;
-  without = ap (Word (decimal n)) w.without;
-  noted = a_word w.noted;
-}
+number_writes {n = n} h w = one_word_writes (Number n) (decimal n) h (λ qs j. j) refl w
 
 pub constant_writes : {a b : Edge} {z : ℤ} {ps : List Piece} {f k : Forest} → is_open a ≡ true → mag z < 2 ^ 63 → WritesNoted Bound ps b f k → WritesNoted a (Constant z ∷ ps) b (Word (signed_decimal z) f) (Word (signed_decimal z) k)
-constant_writes {a = a} {z = z} {ps = ps} e h w = record {
-  printed = Constant z ∷ w.printed;
-  spelled = first_spelled (Constant z) w.spelled;
-  joins = λ qs g. joins_anywhere a (Constant z) (w.printed ++ qs) e refl (w.joins qs g);
-  are = (h, w.are);
-  whole = Word (signed_decimal z) w.whole;
-  tokens = ap (λ t. word (signed_decimal z) ∷ t) w.tokens;
-  without = ap (Word (signed_decimal z)) w.without;
-  noted = a_word w.noted;
-}
+constant_writes {a = a} {z = z} e h w = one_word_writes (Constant z) (signed_decimal z) h (joins_anywhere a (Constant z) e refl) refl w
 
 pub type_word_gap_writes : {b : Edge} {v : List ℕ} {ps : List Piece} {f k : Forest} → is_word v ≡ true → WritesNoted Free ps b f k →
     WritesNoted Free (TypeWordGap v ∷ ps) b (Word v f) (Word v k)
-type_word_gap_writes {v = v} h w = record {
-  printed = TypeWordGap v ∷ w.printed;
-  spelled = first_spelled (TypeWordGap v) w.spelled;
-  joins = w.joins;
-  are = (h, w.are);
-  whole = Word v w.whole;
-  tokens = ap (λ t. word v ∷ t) w.tokens;
-  without = ap (Word v) w.without;
-  noted = a_word w.noted;
-}
+type_word_gap_writes {v = v} h w = one_word_writes (TypeWordGap v) v h (λ qs j. j) refl w
 
 pub gap_type_word_writes : {a b : Edge} {v : List ℕ} {ps : List Piece} {f k : Forest} → is_open a ≡ true → is_word v ≡ true → WritesNoted Bound ps b f k →
     WritesNoted a (GapTypeWord v ∷ ps) b (Word v f) (Word v k)
-gap_type_word_writes {a = a} {v = v} {ps = ps} e h w = record {
-  printed = GapTypeWord v ∷ w.printed;
-  spelled = first_spelled (GapTypeWord v) w.spelled;
-  joins = λ qs g. joins_anywhere a (GapTypeWord v) (w.printed ++ qs) e refl (w.joins qs g);
-  are = (h, w.are);
-  whole = Word v w.whole;
-  tokens = ap (λ t. word v ∷ t) w.tokens;
-  without = ap (Word v) w.without;
-  noted = a_word w.noted;
-}
+gap_type_word_writes {a = a} {v = v} e h w = one_word_writes (GapTypeWord v) v h (joins_anywhere a (GapTypeWord v) e refl) refl w
 
 -- words before other items
 abbrev pub words_before : List (List ℕ) → Forest → Forest
@@ -329,82 +262,36 @@ noted-words : {f k : Forest} (vs : List (List ℕ)) → Noted f k → Noted (wor
 noted-words [] n = n
 noted-words (v ∷ vs) n = a_word (noted-words vs n)
 
+-- a piece that is these words
+words_writes : {a b : Edge} {ps : List Piece} {f k : Forest} (p : Piece) (vs : List (List ℕ)) → IsPiece p → MayStand a p → piece_tokens p ≡ word_tokens vs →
+    WritesNoted (leaves p) ps b f k → WritesNoted a (p ∷ ps) b (words_before vs f) (words_before vs k)
+words_writes p vs is stands they w =
+    piece_writes p (words_before vs) (words_before vs) is stands (λ g. ap (λ t. t ++ flat g) they ∙ sym (words_before-flat vs g))
+    (λ g h n. noted-words vs n) (words_before-without_annotations vs) w
+
 pub literals_writes : {b : Edge} {v : List ℕ} {vs : List (List ℕ)} {ps : List Piece} {f k : Forest} → are_words (v ∷ vs) ≡ true → WritesNoted Bound ps b f k →
     WritesNoted Free (Literals v vs ∷ ps) b (Word v (words_before vs f)) (Word v (words_before vs k))
-literals_writes {v = v} {vs = vs} {ps = ps} {k = k} h w = record {
-  printed = Literals v vs ∷ w.printed;
-  spelled = first_spelled (Literals v vs) w.spelled;
-  joins = w.joins;
-  are = (h, w.are);
-  whole = words_before (v ∷ vs) w.whole;
-  tokens = ap (λ t. word_tokens (v ∷ vs) ++ t) w.tokens ∙ sym (words_before-flat (v ∷ vs) w.whole);
-  without = words_before-without_annotations (v ∷ vs) k ∙ ap (words_before (v ∷ vs)) w.without;
-  noted = noted-words (v ∷ vs) w.noted;
-}
+literals_writes {v = v} {vs = vs} h w = words_writes (Literals v vs) (v ∷ vs) h (λ qs j. j) refl w
 
 pub gap_literals_writes : {a b : Edge} {vs : List (List ℕ)} {ps : List Piece} {f k : Forest} → is_open a ≡ true → are_words vs ≡ true → WritesNoted Bound ps b f k →
     WritesNoted a (GapLiterals vs ∷ ps) b (words_before vs f) (words_before vs k)
-gap_literals_writes {a = a} {vs = vs} {ps = ps} {k = k} e h w = record {
-  printed = GapLiterals vs ∷ w.printed;
-  spelled = first_spelled (GapLiterals vs) w.spelled;
-  joins = λ qs g. joins_anywhere a (GapLiterals vs) (w.printed ++ qs) e refl (w.joins qs g);
-  are = (h, w.are);
-  whole = words_before vs w.whole;
-  tokens = ap (λ t. word_tokens vs ++ t) w.tokens ∙ sym (words_before-flat vs w.whole);
-  without = words_before-without_annotations vs k ∙ ap (words_before vs) w.without;
-  noted = noted-words vs w.noted;
-}
+gap_literals_writes {a = a} {vs = vs} e h w = words_writes (GapLiterals vs) vs h (joins_anywhere a (GapLiterals vs) e refl) refl w
 
 pub float_writes : {b : Edge} {width : Width} {bits : ℕ} {ps : List Piece} {f k : Forest} → IsWidth width → bits < 2 * sign_bit width → WritesNoted Bound ps b f k →
     WritesNoted Free (Float width bits ∷ ps) b (Word (float_text width bits) f) (Word (float_text width bits) k)
-float_writes {width = width} {bits = bits} is h w = record {
-  printed = Float width bits ∷ w.printed;
-  spelled = first_spelled (Float width bits) w.spelled;
-  joins = w.joins;
-  are = ((is, h), w.are);
-  whole = Word (float_text width bits) w.whole;
-  tokens = ap (λ t. word (float_text width bits) ∷ t) w.tokens;
-  without = ap (Word (float_text width bits)) w.without;
-  noted = a_word w.noted;
-}
+float_writes {width = width} {bits = bits} is h w = one_word_writes (Float width bits) (float_text width bits) (is, h) (λ qs j. j) refl w
 
 pub quoted_writes : {b : Edge} {cs : List ℕ} {ps : List Piece} {f k : Forest} → scalars cs ≡ true → WritesNoted Bound ps b f k → WritesNoted Free (Quoted cs ∷ ps) b (String (encode_utf8_all cs) f) (String (encode_utf8_all cs) k)
-quoted_writes {cs = cs} h w = record {
-  printed = Quoted cs ∷ w.printed;
-  spelled = first_spelled (Quoted cs) w.spelled;
-  joins = w.joins;
-  are = (h, w.are);
-  whole = String (encode_utf8_all cs) w.whole;
-  tokens = ap (λ t. string (encode_utf8_all cs) ∷ t) w.tokens;
-  without = ap (String (encode_utf8_all cs)) w.without;
-  noted = a_string w.noted;
-}
+quoted_writes {cs = cs} h w = one_string_writes (Quoted cs) (encode_utf8_all cs) h (λ qs j. j) refl w
 
 pub quoted_bytes_writes : {b : Edge} {bs : List ℕ} {ps : List Piece} {f k : Forest} → AllByRecursion (λ x. x < 256) bs → WritesNoted Bound ps b f k →
     WritesNoted Free (QuotedBytes bs ∷ ps) b (String bs f) (String bs k)
-quoted_bytes_writes {bs = bs} h w = record {
-  printed = QuotedBytes bs ∷ w.printed;
-  spelled = first_spelled (QuotedBytes bs) w.spelled;
-  joins = w.joins;
-  are = (h, w.are);
-  whole = String bs w.whole;
-  tokens = ap (λ t. string bs ∷ t) w.tokens;
-  without = ap (String bs) w.without;
-  noted = a_string w.noted;
-}
+quoted_bytes_writes {bs = bs} h w = one_string_writes (QuotedBytes bs) bs h (λ qs j. j) refl w
 
 pub identifier_writes : {b : Edge} {cs : List ℕ} {ps : List Piece} {f k : Forest} → scalars cs ≡ true → is_name (encode_utf8_all cs) ≡ true → WritesNoted Bound ps b f k →
     WritesNoted Free (Identifier cs ∷ ps) b (Name (encode_utf8_all cs) f) (Name (encode_utf8_all cs) k)
-identifier_writes {cs = cs} h n w = record {
-  printed = Identifier cs ∷ w.printed;
-  spelled = first_spelled (Identifier cs) w.spelled;
-  joins = w.joins;
-  are = ((h, n), w.are);
-  whole = Name (encode_utf8_all cs) w.whole;
-  tokens = ap (λ t. name (encode_utf8_all cs) ∷ t) w.tokens;
-  without = ap (Name (encode_utf8_all cs)) w.without;
-  noted = a_name w.noted;
-}
+identifier_writes {cs = cs} h n w =
+    piece_writes (Identifier cs) (Name (encode_utf8_all cs)) (Name (encode_utf8_all cs)) (h, n) (λ qs j. j) (λ g. refl) (λ g h m. a_name m) (λ g. refl) w
 
 -- an identifier, and the name that was given
 pub noted_identifier_writes : {b : Edge} {cs ds : List ℕ} {ps : List Piece} {f k : Forest} → scalars cs ≡ true → is_name (encode_utf8_all cs) ≡ true → scalars ds ≡ true →
@@ -422,84 +309,30 @@ noted_identifier_writes {cs = cs} {ds = ds} h n d w = record {
 }
 
 pub remark_writes : {a b : Edge} {t : Bool} {s : List ℕ} {ps : List Piece} {f k : Forest} → is_open a ≡ true → is_remark s ≡ true → WritesNoted Free ps b f k → WritesNoted a (Remark t s ∷ ps) b f k
-remark_writes {a = a} {t = t} {s = s} {ps = ps} e h w = record {
-  printed = Remark t s ∷ w.printed;
-  spelled = first_spelled (Remark t s) w.spelled;
-  joins = λ qs g. joins_anywhere a (Remark t s) (w.printed ++ qs) e refl (w.joins qs g);
-  are = (h, w.are);
-  whole = w.whole;
-  tokens = w.tokens;
-  without = w.without;
-  noted = w.noted;
-}
+remark_writes {a = a} {t = t} {s = s} e h w = silent_writes (Remark t s) h (joins_anywhere a (Remark t s) e refl) refl w
 
 pub ending_writes : {a b : Edge} {s : List ℕ} {ps : List Piece} {f k : Forest} → is_open a ≡ true → is_remark s ≡ true → WritesNoted Ended ps b f k → WritesNoted a (Ending s ∷ ps) b f k
-ending_writes {a = a} {s = s} {ps = ps} e h w = record {
-  printed = Ending s ∷ w.printed;
-  spelled = first_spelled (Ending s) w.spelled;
-  joins = λ qs g. joins_anywhere a (Ending s) (w.printed ++ qs) e refl (w.joins qs g);
-  are = (h, w.are);
-  whole = w.whole;
-  tokens = w.tokens;
-  without = w.without;
-  noted = w.noted;
-}
+ending_writes {a = a} {s = s} e h w = silent_writes (Ending s) h (joins_anywhere a (Ending s) e refl) refl w
 
 pub plain_ending_writes : {a b : Edge} {s : List ℕ} {ps : List Piece} {f k : Forest} → is_open a ≡ true → is_remark s ≡ true → WritesNoted Ended ps b f k →
     WritesNoted a (PlainEnding s ∷ ps) b f k
-plain_ending_writes {a = a} {s = s} {ps = ps} e h w = record {
-  printed = PlainEnding s ∷ w.printed;
-  spelled = first_spelled (PlainEnding s) w.spelled;
-  joins = λ qs g. joins_anywhere a (PlainEnding s) (w.printed ++ qs) e refl (w.joins qs g);
-  are = (h, w.are);
-  whole = w.whole;
-  tokens = w.tokens;
-  noted = w.noted;
-  without = w.without;
-}
+plain_ending_writes {a = a} {s = s} e h w = silent_writes (PlainEnding s) h (joins_anywhere a (PlainEnding s) e refl) refl w
 
 -- ---- where a line must end. No rules for a search, which would go round them.
 
 -- what may stand where the line must end may stand behind anything
 pub behind_anything : {b : Edge} {ps : List Piece} {f k : Forest} (a : Edge) → WritesNoted Ended ps b f k → WritesNoted a ps b f k
-behind_anything {ps = ps} a w = record {
-  printed = w.printed;
-  spelled = w.spelled;
-  joins = λ qs h. ended_joins a (w.printed ++ qs) (w.joins qs h);
-  are = w.are;
-  whole = w.whole;
-  tokens = w.tokens;
-  without = w.without;
-  noted = w.noted;
-}
+behind_anything a w = rejoined w (λ qs h. ended_joins a (w.printed ++ qs) (w.joins qs h))
 
 -- behind any pieces a line may end
 pub before_line : {a : Edge} {ps : List Piece} {f k : Forest} (b : Edge) → WritesNoted a ps b f k → WritesNoted a ps Ended f k
-before_line b w = record {
-  printed = w.printed;
-  spelled = w.spelled;
-  joins = λ qs h. w.joins qs (ended_joins b qs h);
-  are = w.are;
-  whole = w.whole;
-  tokens = w.tokens;
-  without = w.without;
-  noted = w.noted;
-}
+before_line b w = rejoined w (λ qs h. w.joins qs (ended_joins b qs h))
 
 -- ---- behind a bare parenthesis
 
 -- a word may stand there
 pub opened_word_writes : {b : Edge} {v : List ℕ} {ps : List Piece} {f k : Forest} → is_word v ≡ true → WritesNoted Bound ps b f k → WritesNoted Opened (piece.Word v ∷ ps) b (Word v f) (Word v k)
-opened_word_writes {v = v} h w = record {
-  printed = piece.Word v ∷ w.printed;
-  spelled = first_spelled (piece.Word v) w.spelled;
-  joins = w.joins;
-  are = (h, w.are);
-  whole = Word v w.whole;
-  tokens = ap (λ t. word v ∷ t) w.tokens;
-  without = ap (Word v) w.without;
-  noted = a_word w.noted;
-}
+opened_word_writes {v = v} h w = one_word_writes (piece.Word v) v h (λ qs j. j) refl w
 
 -- ---- groups
 
@@ -599,7 +432,7 @@ closed_writes : {b e c : Edge} {f k : Forest} {around kept : Forest → Forest} 
 closed_writes {b = b} {e = e} {c = c} {k = k} {around = around} {kept = kept} p place nesting t ps a o m i w = record {
   printed = p ∷ (w.printed ++ close place nesting t);
   spelled = first_spelled p (both_spelled w.spelled same_spelled);
-  joins = λ qs g. joins_anywhere a p ((w.printed ++ close place nesting t) ++ qs) o i.delimits
+  joins = λ qs g. joins_anywhere a p o i.delimits ((w.printed ++ close place nesting t) ++ qs)
       (subst (λ x. pieces_follow x ((w.printed ++ close place nesting t) ++ qs) ≡ true) (sym i.leaves_it)
       (subst (λ x. pieces_follow e x ≡ true) (sym (append_assoc w.printed (close place nesting t) qs))
       (w.joins (close place nesting t ++ qs) (close_joins c place nesting t qs m (loosen b qs g)))));
@@ -712,30 +545,15 @@ run_group_writes {a = a} v ps o h w = written (closed_writes (OpenRun v) None 0 
 -- the annotation of a hint
 pub hint_note_writes : {a b : Edge} {taken : Bool} {ps : List Piece} {f k : Forest} → is_open a ≡ true → WritesNoted Free ps b f k →
     WritesNoted a (HintNote taken ∷ ps) b f (Note (codes "metadata.code.branch_hint") (String (flag_byte taken ∷ []) End) k)
-hint_note_writes {a = a} {taken = taken} {ps = ps} e w = record {
-  printed = HintNote taken ∷ w.printed;
-  spelled = first_spelled (HintNote taken) w.spelled;
-  joins = λ qs g. joins_anywhere a (HintNote taken) (w.printed ++ qs) e refl (w.joins qs g);
-  are = (tt, w.are);
-  whole = Note (codes "metadata.code.branch_hint") (String (flag_byte taken ∷ []) End) w.whole;
-  tokens = ap (λ t. left_note (codes "metadata.code.branch_hint") ∷ (string (flag_byte taken ∷ []) ∷ (right ∷ t))) w.tokens;
-  noted = a_note (a_string no_items) w.noted;
-  without = w.without;
-}
+hint_note_writes {a = a} {taken = taken} e w =
+    piece_writes (HintNote taken) (Note (codes "metadata.code.branch_hint") (String (flag_byte taken ∷ []) End)) (λ g. g) tt (joins_anywhere a (HintNote taken) e refl)
+    (λ g. refl) (λ g h n. a_note (a_string no_items) n) (λ g. refl) w
 
 -- no text
 pub claimed_writes : {a b : Edge} {s : List ℕ} {place : ℕ} {bytes : List ℕ} {answer : Bool} {ps : List Piece} {f k : Forest} → is_open a ≡ true →
     WritesNoted Bound ps b f k → WritesNoted a (Claimed s place bytes answer ∷ ps) b f k
-claimed_writes {a = a} {s = s} {place = place} {bytes = bytes} {answer = answer} {ps = ps} e w = record {
-  printed = Claimed s place bytes answer ∷ w.printed;
-  spelled = first_spelled (Claimed s place bytes answer) w.spelled;
-  joins = λ qs g. joins_anywhere a (Claimed s place bytes answer) (w.printed ++ qs) e refl (w.joins qs g);
-  are = (tt, w.are);
-  whole = w.whole;
-  tokens = w.tokens;
-  noted = w.noted;
-  without = w.without;
-}
+claimed_writes {a = a} {s = s} {place = place} {bytes = bytes} {answer = answer} e w =
+    silent_writes (Claimed s place bytes answer) tt (joins_anywhere a (Claimed s place bytes answer) e refl) refl w
 
 pub then : {a c : Edge} {ps qs : List Piece} {f g k h : Forest} → WritesNoted a ps Bound f k → WritesNoted Bound qs c g h → WritesNoted a (ps ++ qs) c (onto f g) (onto k h)
 then v w = both_write v w

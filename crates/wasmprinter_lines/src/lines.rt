@@ -1,5 +1,5 @@
 //! Lines, their places and their indents, and groups that close on a line of their own.
-ghost use Rattle.std.specs.Prelude.{◌≤◌, [], ◌∷◌, ◌++◌, ◌||◌, true, false, None, Some};
+ghost use Rattle.std.specs.Prelude.{◌≤◌, ◌+◌, [], ◌∷◌, ◌++◌, ◌||◌, true, false, None, Some};
 ghost use Rattle.std.specs.Fmt.{digits};
 ghost use Rattle.wasmprinter_spec.specs.Call.{Text};
 ghost use Rattle.wasmprinter_spec.specs.Options.{Options};
@@ -131,6 +131,19 @@ pub fn break_line<P: Print>(
     p.start_line(place);
     write_wanted_offset(p, options, place)?;
     write_indent(p, options, nesting.min(MOST_INDENTS) as usize)
+}
+
+/// Begins a line that is nested so deep, and so many levels deeper.
+pub fn break_inside<P: Print>(
+    p: &mut P,
+    options: &PrintOptions,
+    place: u64,
+    nesting: u64,
+    depth: u64,
+) -> io::Result<()>
+    ensures { Prints P.meaning options.now p.old p.new result (Break (Some place) (nesting + depth) ∷ []) }
+{
+    break_line(p, options, Some(place), nesting.saturating_add(depth))
 }
 
 /// Begins a line, and closes a group on it.

@@ -2,5 +2,4 @@ pub mod RowLaws
 pub mod TaskLaws
 pub mod TextLaws
 pub mod NodeTexts
-pub mod Constants
 pub mod LoopLaws

@@ -1,5 +1,5 @@
 -- Nodes written up to those that they hold, one task after another.
-use Rattle.std.proofs.Common.{◌≡◌, ℕ, ◌||◌, Bool, true, false, List, ◌++◌, refl, sym, ◌∙◌, ap, subst}
+use Rattle.std.proofs.Common.{◌≡◌, ℕ, ◌||◌, Bool, List, ◌++◌, sym, ◌∙◌, ap, subst}
 use Rattle.wasmprinter_spec.specs.Meaning.{Meaning}
 use Rattle.wasmprinter_spec.specs.Options.{Options}
 use Rattle.wasmprinter_spec.specs.Piece.{Piece}
@@ -9,7 +9,7 @@ use Rattle.wasmprinter_print.specs.Emits.{Ending}
 use Rattle.wasmprinter_print.specs.Prints.{Written, Lacks}
 use Rattle.wasmprinter_nodes.specs.declared.NodeText.{NodeText}
 use Rattle.wasmprinter_node_text.specs.Shown.{shown_of_head, node_front}
-use Rattle.wasmprinter_lines.proofs.Groups.{has_break-append}
+use Rattle.wasmprinter_lines.proofs.Groups.{has_break-append, or-assoc}
 
 -- a node whose place is that of its head
 pub front_at : {P : Type 0} (m : Meaning P) (o : Options) {a t : P} {r : Ending} (form : Form) (leads leaf : Bool) (nesting : ℕ) (buffer : List ℕ) (l : NodeText) (place : ℕ) → place ≡ l.place →
@@ -22,16 +22,12 @@ front_at m o {a} {t} {r} form leads leaf nesting buffer l place e v =
 pub lacks_as : {P : Type 0} (m : Meaning P) (o : Options) (a s : P) (whole xs ys : List Piece) → xs ≡ ys → Lacks m o a s whole xs → Lacks m o a s whole ys
 lacks_as m o a s whole xs ys e l = subst (λ (zs : List Piece). Lacks m o a s whole zs) e l
 
-or_assoc : (a b c : Bool) → ((a || b) || c) ≡ (a || (b || c))
-or_assoc true b c = refl
-or_assoc false b c = refl
-
 -- whether lines began so far, once a front was written
 pub began_more : (lines now new w : Bool) (front rest all left : List Piece) → new ≡ (lines || now) → now ≡ has_break front → all ≡ front ++ rest → left ≡ rest →
     (lines || has_break all) ≡ w → (new || has_break left) ≡ w
 began_more lines now new w front rest all left n f e l inv =
     rw (n, f, l)
-    (or_assoc lines (has_break front) (has_break rest)
+    (or-assoc lines (has_break front) (has_break rest)
     ∙ ap (λ x. lines || x) (sym (has_break-append front rest))
     ∙ ap (λ (ps : List Piece). lines || has_break ps) (sym e)
     ∙ inv)

@@ -1,5 +1,5 @@
 -- What calls make of a buffer of texts: it grows by their text, with the sequences of their styles where they are wanted.
-use Rattle.std.proofs.Common.{◌≡◌, ℕ, Bool, true, false, List, [], ◌∷◌, ◌++◌, refl, sym, ◌∙◌, ap, ap₂, subst, append_assoc, map, ltb, ◌<◌, true≢false, if◌then◌else◌}
+use Rattle.std.proofs.Common.{◌≡◌, ℕ, Bool, true, false, List, [], ◌∷◌, ◌++◌, refl, sym, ◌∙◌, ap, ap₂, subst, append_assoc, ltb, ◌<◌, true≢false, if◌then◌else◌}
 use Rattle.std.proofs.lemmas.List.{append-nil}
 use Rattle.std.proofs.lemmas.Str.{IsUtf8-append, IsUtf8-nil, IsUtf8-from_ascii}
 use Rattle.std.proofs.lemmas.Str.Ascii.{IsAscii-nil, IsAscii-cons}
@@ -8,62 +8,21 @@ use Rattle.std.specs.Str.{IsAscii}
 use Rattle.std.specs.Prelude.{IsUtf8, Result, Ok, Err, Option}
 use Rattle.std.specs.Fmt.{digits}
 use Rattle.std.specs.declared.io.Error.{Error as IoError}
-use Rattle.wasmprinter_spec.specs.Call.{Call, Text, Newline, Line, Start, Claim, Style, Literal, Name, Keyword, TypeName, Comment, Reset, call_text, text_of, calls_of_bytes, atoms}
-use Rattle.wasmprinter_spec.specs.Coloured.{coloured_bytes, coloured_text}
+use Rattle.wasmprinter_spec.specs.Call.{Call, Text, Newline, Line, Start, Claim, Style, Literal, Name, Keyword, TypeName, Comment, Reset, call_text, text_of, atoms}
+use Rattle.wasmprinter_spec.specs.Coloured.{coloured_bytes}
 use Rattle.wasmprinter_spec.specs.Meaning.{Run}
 use Rattle.wasmprinter_spec.specs.Layout.Folded.{painted_text}
+use Rattle.wasmprinter_spec.proofs.Texts.{alike_texts, alike_coloured}
 use Rattle.wasmprinter_print.specs.Emits.{Made, Through, ending}
 use Rattle.wasmprinter_node_text.specs.declared.semicolons.Semicolons.{Semicolons}
 use Rattle.wasmprinter_node_text.specs.Buffers.{View, see, see_all, with_text, with_sequences, view_after, IsTextual, texts_meaning, Grows}
 
 -- ---- text of lists of calls
 
-text_of-append : (k l : List Call) → text_of (k ++ l) ≡ text_of k ++ text_of l
-text_of-append [] l = refl
-text_of-append (c ∷ k) l = ap (λ t. call_text c ++ t) (text_of-append k l) ∙ sym (append_assoc (call_text c) (text_of k) (text_of l))
-
-coloured-append : (k l : List Call) → coloured_text (k ++ l) ≡ coloured_text k ++ coloured_text l
-coloured-append [] l = refl
-coloured-append (c ∷ k) l = ap (λ t. coloured_bytes c ++ t) (coloured-append k l) ∙ sym (append_assoc (coloured_bytes c) (coloured_text k) (coloured_text l))
-
-bytes_text : (s : List ℕ) → text_of (map (λ b. Text (b ∷ [])) s) ≡ s
-bytes_text [] = refl
-bytes_text (b ∷ bs) = ap (λ t. b ∷ t) (bytes_text bs)
-
-bytes_coloured : (s : List ℕ) → coloured_text (map (λ b. Text (b ∷ [])) s) ≡ s
-bytes_coloured [] = refl
-bytes_coloured (b ∷ bs) = ap (λ t. b ∷ t) (bytes_coloured bs)
-
-cut_text : (c : Call) → text_of (calls_of_bytes c) ≡ call_text c
-cut_text (Text s) = bytes_text s
-cut_text Newline = refl
-cut_text (Line place) = refl
-cut_text (Start style) = refl
-cut_text (Claim name place bytes answer) = refl
-
-cut_coloured : (c : Call) → coloured_text (calls_of_bytes c) ≡ coloured_bytes c
-cut_coloured (Text s) = bytes_coloured s
-cut_coloured Newline = refl
-cut_coloured (Line place) = refl
-cut_coloured (Start style) = append-nil (coloured_bytes (Start style))
-cut_coloured (Claim name place bytes answer) = refl
-
-text_of-atoms : (cs : List Call) → text_of (atoms cs) ≡ text_of cs
-text_of-atoms [] = refl
-text_of-atoms (c ∷ cs) = text_of-append (calls_of_bytes c) (atoms cs) ∙ ap₂ (λ x y. x ++ y) (cut_text c) (text_of-atoms cs)
-
-coloured-atoms : (cs : List Call) → coloured_text (atoms cs) ≡ coloured_text cs
-coloured-atoms [] = refl
-coloured-atoms (c ∷ cs) = coloured-append (calls_of_bytes c) (atoms cs) ∙ ap₂ (λ x y. x ++ y) (cut_coloured c) (coloured-atoms cs)
-
--- Calls that differ only in how text is cut have one text,
-pub text_alike : (k l : List Call) → atoms k ≡ atoms l → text_of k ≡ text_of l
-text_alike k l e = sym (text_of-atoms k) ∙ ap text_of e ∙ text_of-atoms l
-
--- also with the sequences of their styles.
+-- calls that differ only in how text is cut have one text, also with the sequences of their styles
 pub painted_alike : (paints : Bool) (k l : List Call) → atoms k ≡ atoms l → painted_text paints k ≡ painted_text paints l
-painted_alike true k l e = sym (coloured-atoms k) ∙ ap coloured_text e ∙ coloured-atoms l
-painted_alike false k l e = text_alike k l e
+painted_alike true k l e = alike_coloured k l e
+painted_alike false k l e = alike_texts k l e
 
 -- ---- one call
 
@@ -214,7 +173,7 @@ made_adds s t layout m =
     record {
       bytes = a.bytes ∙ ap (λ l. s.bytes ++ l) same;
       paints = a.paints;
-      seen = a.seen ∙ ap (see_all s.seen) (text_alike m.made.calls layout m.made.alike);
+      seen = a.seen ∙ ap (see_all s.seen) (alike_texts m.made.calls layout m.made.alike);
       is_text = subst IsUtf8 same a.is_text;
     }
 

@@ -2,7 +2,7 @@
 use Rattle.std.specs.Prelude.{◌≡◌, ℕ, ◌==◌, ◌&&◌, ◌||◌, List, [], ◌∷◌, ◌++◌, Bool, true, false, None, IsUtf8}
 use Rattle.std.specs.IoError.{error_kind}
 use Rattle.std.specs.declared.io.ErrorKind.TheVariants.{OutOfMemory}
-use Rattle.wasmprinter_spec.specs.Call.{Call, Text, Newline, Line, Start, Claim}
+use Rattle.wasmprinter_spec.specs.Call.{Call, Text, Newline, Line, Start, Claim, IsTextOrStyle}
 use Rattle.wasmprinter_spec.specs.Coloured.{coloured_bytes}
 use Rattle.wasmprinter_spec.specs.Meaning.{Meaning}
 use Rattle.wasmprinter_node_text.specs.declared.semicolons.Semicolons.{Semicolons}
@@ -53,18 +53,11 @@ IsTextual (Text s) = IsUtf8 s
 IsTextual (Claim name place bytes answer) = answer ≡ false
 IsTextual _ = Unit {0}
 
--- only what may write text can fail
-abbrev pub WantsMemory : Call → Type 0
-WantsMemory (Text s) = Unit {0}
-WantsMemory Newline = Unit {0}
-WantsMemory (Start style) = Unit {0}
-WantsMemory _ = ⊥
-
--- the meaning of a buffer: a call that fails wants memory, and leaves it as it was
+-- the meaning of a buffer: only what may write text can fail, and a call that fails wants memory, and leaves it as it was
 abbrev pub texts_meaning : Meaning View
 texts_meaning = record {
   after = λ old call new. (new ≡ view_after old call) × IsTextual call;
-  may_fail = λ old call. WantsMemory call;
+  may_fail = λ old call. IsTextOrStyle call;
   partly = λ old call error new. (error_kind error ≡ OutOfMemory) × (new ≡ old);
   faults = λ v. None;
 }

@@ -2,7 +2,7 @@
 ghost use Rattle.std.specs.Prelude.{◌≡◌, ◌+◌, ◌&&◌, ◌||◌, [], ◌∷◌, ◌++◌, ℕ, true, Some, IfOk};
 ghost use Rattle.std.specs.Option.{is_none};
 ghost use Rattle.wasmprinter_spec.specs.Options.{Options, defaults};
-ghost use Rattle.wasmprinter_spec.specs.Piece.{Break, Word, HintNote, OpenPlain, text as text_by};
+ghost use Rattle.wasmprinter_spec.specs.Piece.{Word, HintNote, OpenPlain, text as text_by};
 ghost use Rattle.wasmprinter_spec.specs.Layout.Groups.{has_break};
 ghost use Rattle.wasmprinter_spec.specs.Layout.Operators.{before_word};
 ghost use Rattle.wasmprinter_print.specs.Prints.{Prints, PrintsOrStops};
@@ -16,18 +16,13 @@ use crate::tasks::{Task, put_rest};
 use std::alloc::Global;
 use std::io;
 use wasmprinter_error::Error;
-use wasmprinter_flat::operators::Form;
-use wasmprinter_lines::lines::break_line;
+use wasmprinter_flat::operators::{Form, write_before};
+use wasmprinter_lines::lines::break_inside;
 use wasmprinter_lines::options::PrintOptions;
 use wasmprinter_nodes::{Node, NodeText};
 use wasmprinter_print::Print;
-use wasmprinter_words::words::{gap, open_plain, shut, word};
-
-/// Says that a branch is hinted as taken.
-const TAKEN_NOTE: &str = "(@metadata.code.branch_hint \"\\01\")";
-
-/// Says that a branch is hinted as not taken.
-const NOT_TAKEN_NOTE: &str = "(@metadata.code.branch_hint \"\\00\")";
+use wasmprinter_words::hints::hint_text;
+use wasmprinter_words::words::{open_plain, shut, word};
 
 /// The text of a head.
 fn text_of_head<'t>(text: &'t str, head: &NodeText) -> &'t str
@@ -50,16 +45,8 @@ struct Spot {
     depth: u64,
 }
 
-/// Begins a line.
-fn break_inside<P: Print>(p: &mut P, options: &PrintOptions, spot: Spot) -> io::Result<()>
-    ensures { Prints P.meaning options.now p.old p.new result (Break (Some spot.place) (spot.nesting + spot.depth) ∷ []) }
-{
-    let nesting = spot.nesting.saturating_add(spot.depth);
-    break_line(p, options, Some(spot.place), nesting)
-}
-
 /// Writes what stands before a node or its hint.
-fn write_before<P: Print>(
+fn write_before_node<P: Print>(
     p: &mut P,
     options: &PrintOptions,
     spot: Spot,
@@ -67,26 +54,22 @@ fn write_before<P: Print>(
 ) -> io::Result<()>
     ensures { Prints P.meaning options.now p.old p.new result (before_word (form_view spot.form) first spot.place (spot.nesting + spot.depth)) }
 {
-    match spot.form {
-        Form::OverLines => break_inside(p, options, spot),
-        Form::InLine => {
-            if first {
-                return Ok(());
-            }
-            gap(p)
-        }
-    }
+    write_before(
+        p,
+        options,
+        spot.form,
+        first,
+        spot.place,
+        spot.nesting,
+        spot.depth,
+    )
 }
 
 /// Writes the annotation of a hint, without a style.
 fn write_note<P: Print>(p: &mut P, taken: bool) -> io::Result<()>
     ensures { (o : Options) → Prints P.meaning o p.old p.new result (Word (text_by defaults (HintNote taken)) ∷ []) }
 {
-    if taken {
-        word(p, TAKEN_NOTE)
-    } else {
-        word(p, NOT_TAKEN_NOTE)
-    }
+    word(p, hint_text(taken))
 }
 
 /// Writes the hint of a node in front of it, if there is one.
@@ -101,7 +84,7 @@ fn write_hint<P: Print>(
 {
     match hint {
         Some(taken) => {
-            write_before(p, options, spot, leads)?;
+            write_before_node(p, options, spot, leads)?;
             write_note(p, taken)
         }
         None => Ok(()),
@@ -127,7 +110,7 @@ fn end_comment<P: Print>(
     ensures { Prints P.meaning options.now p.old p.new result (comment_break leaf comment spot.place (spot.nesting + spot.depth)) }
 {
     if leaf && comment {
-        break_inside(p, options, spot)
+        break_inside(p, options, spot.place, spot.nesting, spot.depth)
     } else {
         Ok(())
     }
@@ -157,7 +140,7 @@ fn write_node<P: Print>(
 {
     write_hint(p, options, spot, leads, head.hint)?;
     let first = leads_unhinted(leads, head.hint);
-    write_before(p, options, spot, first)?;
+    write_before_node(p, options, spot, first)?;
     write_text(p, text, head)?;
     end_comment(p, options, spot, leaf, head.comment)
 }

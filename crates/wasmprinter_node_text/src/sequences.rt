@@ -4,7 +4,7 @@ ghost use Rattle.wasmprinter_spec.specs.Call.{Start, Literal as LiteralStyle, Na
 ghost use Rattle.wasmprinter_spec.specs.Coloured.{coloured_bytes};
 
 /// Those of numbers and strings: red.
-#[tactic(auto, using(crate::proofs::Constants::literal))]
+#[tactic(auto, using(wasmprinter_spec::proofs::Sequences::literal))]
 pub fn literal_sequences() -> &'static str
     ensures { result.now ≡ coloured_bytes (Start LiteralStyle) }
 {
@@ -12,7 +12,7 @@ pub fn literal_sequences() -> &'static str
 }
 
 /// Those of names and of numbers of items: magenta.
-#[tactic(auto, using(crate::proofs::Constants::name))]
+#[tactic(auto, using(wasmprinter_spec::proofs::Sequences::name))]
 pub fn name_sequences() -> &'static str
     ensures { result.now ≡ coloured_bytes (Start NameStyle) }
 {
@@ -20,7 +20,7 @@ pub fn name_sequences() -> &'static str
 }
 
 /// Those of keywords: bold, and yellow in its intense shade.
-#[tactic(auto, using(crate::proofs::Constants::keyword))]
+#[tactic(auto, using(wasmprinter_spec::proofs::Sequences::keyword))]
 pub fn keyword_sequences() -> &'static str
     ensures { result.now ≡ coloured_bytes (Start KeywordStyle) }
 {
@@ -28,7 +28,7 @@ pub fn keyword_sequences() -> &'static str
 }
 
 /// Those of the words of types: bold, and green in its intense shade.
-#[tactic(auto, using(crate::proofs::Constants::type_name))]
+#[tactic(auto, using(wasmprinter_spec::proofs::Sequences::type_name))]
 pub fn type_sequences() -> &'static str
     ensures { result.now ≡ coloured_bytes (Start TypeStyle) }
 {
@@ -36,7 +36,7 @@ pub fn type_sequences() -> &'static str
 }
 
 /// Those of comments: cyan.
-#[tactic(auto, using(crate::proofs::Constants::comment))]
+#[tactic(auto, using(wasmprinter_spec::proofs::Sequences::comment))]
 pub fn comment_sequences() -> &'static str
     ensures { result.now ≡ coloured_bytes (Start CommentStyle) }
 {
@@ -44,7 +44,7 @@ pub fn comment_sequences() -> &'static str
 }
 
 /// Those of text without a style, which is without colours.
-#[tactic(auto, using(crate::proofs::Constants::reset))]
+#[tactic(auto, using(wasmprinter_spec::proofs::Sequences::reset))]
 pub fn reset_sequences() -> &'static str
     ensures { result.now ≡ coloured_bytes (Start NoStyle) }
 {

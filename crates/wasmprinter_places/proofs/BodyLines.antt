@@ -26,7 +26,7 @@ use Rattle.wasmprinter_spec.specs.Apart.{Rises, place_if_any, locals_places, bod
 use Rattle.wasmprinter_places.proofs.Order.{rises_ends}
 use Rattle.wasmprinter_places.proofs.Indexes.{IsElsewhere, Follows, follows_none, follows_one, follows_skip, follows_elsewhere, follows_both}
 use Rattle.wasmprinter_places.proofs.Kept.{kept_out, kept_in, lines_without-append}
-use Rattle.wasmprinter_places.proofs.CodeSection.{all_parts}
+use Rattle.wasmprinter_spec.proofs.Each.{all_parts}
 use Rattle.wasmprinter_spec.proofs.OneLine.{starts, IsOneLine, both_stay, variables_stay, groups_stay}
 use Rattle.wasmprinter_places.proofs.OperatorLines.{hint_lines, operator_lines, operators_begin}
 use Rattle.wasmprinter_places.proofs.FieldLines.{placed_lines, header_stays}

@@ -16,18 +16,9 @@ use Rattle.wasmprinter_spec.specs.Lines.{places_of_hints}
 use Rattle.wasmprinter_spec.specs.Apart.{Rises, IsOutside, role_places, custom_places, body_places, IsApart}
 use Rattle.wasmprinter_spec.specs.PlaceLaws.{BodiesLieApart}
 use Rattle.wasmprinter_spec.proofs.Ordered.{picks, held_each}
+use Rattle.wasmprinter_spec.proofs.Each.{all_both, all_parts}
 use Rattle.wasmprinter_places.proofs.Order.{Inside}
 use Rattle.wasmprinter_places.proofs.Sections.{given_places, other_places, Lies-other_section, Lies-code_section}
-
--- ---- parts of a list of which all elements have a property
-
-pub all_both : (P : ℕ → Type 0) (xs ys : List ℕ) → AllByRecursion P xs → AllByRecursion P ys → AllByRecursion P (xs ++ ys)
-all_both P [] ys h k = k
-all_both P (x ∷ xs) ys h k = (h.0, all_both P xs ys h.1 k)
-
-pub all_parts : (P : ℕ → Type 0) (xs ys : List ℕ) → AllByRecursion P (xs ++ ys) → AllByRecursion P xs × AllByRecursion P ys
-all_parts P [] ys h = (tt, h)
-all_parts P (x ∷ xs) ys h = let r = all_parts P xs ys h.1 in ((h.0, r.0), r.1)
 
 -- Places within bounds, of which each one has the property.
 all_inside : (P : ℕ → Type 0) (low high : ℕ) (xs : List ℕ) → ((x : ℕ) → low ≤ x → x ≤ high → P x) → Inside low xs high → AllByRecursion P xs

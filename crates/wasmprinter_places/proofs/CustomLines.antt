@@ -15,7 +15,7 @@ use Rattle.wasmprinter_spec.specs.Layout.Customs.{place_pieces, raw_pieces, faul
 use Rattle.wasmprinter_spec.specs.Lines.{places}
 use Rattle.wasmprinter_spec.specs.Apart.{IsOutside, role_places, custom_places}
 use Rattle.wasmprinter_places.proofs.Indexes.{AreElsewhere}
-use Rattle.wasmprinter_places.proofs.CodeSection.{all_parts}
+use Rattle.wasmprinter_spec.proofs.Each.{all_parts}
 use Rattle.wasmprinter_spec.proofs.OneLine.{starts, IsOneLine, nothing_stays, both_stay, then_stay, alone_stays, cond_stays}
 use Rattle.wasmprinter_places.proofs.FieldLines.{elsewhere_both, pieces_elsewhere, stay_elsewhere, close_elsewhere, bytes_stay}
 

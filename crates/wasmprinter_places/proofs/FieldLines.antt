@@ -29,7 +29,7 @@ use Rattle.wasmprinter_spec.specs.Layout.{tag_pieces, start_pieces}
 use Rattle.wasmprinter_spec.specs.Lines.{places}
 use Rattle.wasmprinter_spec.specs.Apart.{IsOutside, member_places, group_places, start_places}
 use Rattle.wasmprinter_places.proofs.Indexes.{AreElsewhere}
-use Rattle.wasmprinter_places.proofs.CodeSection.{all_parts}
+use Rattle.wasmprinter_spec.proofs.Each.{all_parts}
 use Rattle.wasmprinter_spec.proofs.OneLine.{starts, IsOneLine, nothing_stays, both_stay, then_stay, alone_stays, cond_stays, close_stays, line_group_gap_stays, group_gap_stays, declaration_stays, index_stays, ref_stays, val_stays, type_use_stays, type_stays}
 use Rattle.wasmprinter_places.proofs.OperatorLines.{expression_stays}
 

@@ -5,7 +5,7 @@ use Rattle.std.specs.List.{AllByRecursion}
 use Rattle.wasmprinter_spec.specs.Grammar.{Placed}
 use Rattle.wasmprinter_spec.specs.Customs.Hints.{Hint, FunctionHints, next_hints, hints_behind, next_hint, hint_behind}
 use Rattle.wasmprinter_spec.specs.Lines.{places, places_of_hints}
-use Rattle.wasmprinter_places.proofs.CodeSection.{all_parts}
+use Rattle.wasmprinter_spec.proofs.Each.{all_parts}
 use Rattle.wasmprinter_places.proofs.OperatorLines.{hint_lines}
 
 module _ (Q : Option ℕ → Type 0) where

@@ -1,8 +1,8 @@
 -- Lists of which the lines with some places are left out.
-use Rattle.std.proofs.Common.{◌≡◌, ℕ, zero, suc, List, [], ◌∷◌, ◌++◌, Bool, true, false, ◌||◌, cond, ◌==◌, Option, Some, refl, sym, ap, ◌∙◌, subst}
+use Rattle.std.proofs.Common.{◌≡◌, ℕ, zero, suc, List, [], ◌∷◌, ◌++◌, Bool, true, false, cond, ◌==◌, Option, Some, refl, sym, ap, ◌∙◌, subst}
 use Rattle.std.specs.Prelude.{slice_get}
 use Rattle.std.specs.List.{AllByRecursion}
-use Rattle.std.proofs.lemmas.Bool.{eq-eqb, ne_eqb}
+use Rattle.std.proofs.lemmas.Bool.{eq-eqb, ne_eqb, or_left, or_right, or_from}
 use Rattle.wasmprinter_spec.specs.Lines.{is_among, lines_without}
 
 -- a line in front is left out, or kept
@@ -43,18 +43,6 @@ there ps (x ∷ xs) n y e = there_of (is_among ps x) x xs (lines_without ps xs) 
 
 -- ---- which places are among others
 
-or_second : (a b : Bool) → b ≡ true → (a || b) ≡ true
-or_second true b e = refl
-or_second false b e = e
-
-or_first : (a b : Bool) → a ≡ true → (a || b) ≡ true
-or_first true b e = refl
-or_first false b e = absurd cc
-
-or_neither : (a b : Bool) → a ≡ false → b ≡ false → (a || b) ≡ false
-or_neither true b e f = absurd cc
-or_neither false b e f = f
-
 pub all_map : {A : Type 0} (P Q : A → Type 0) → ((x : A) → P x → Q x) → (xs : List A) → AllByRecursion P xs → AllByRecursion Q xs
 all_map P Q f [] h = tt
 all_map P Q f (x ∷ xs) h = (f x h.0, all_map P Q f xs h.1)
@@ -63,12 +51,12 @@ all_map P Q f (x ∷ xs) h = (f x h.0, all_map P Q f xs h.1)
 pub none_among : (P : ℕ → Type 0) (x : ℕ) → (P x → ⊥) → (ps : List ℕ) → AllByRecursion P ps → is_among ps (Some x) ≡ false
 none_among P x not [] h = refl
 none_among P x not (p ∷ ps) h =
-    or_neither (x == p) (is_among ps (Some x)) (ne_eqb x p (λ e. not (subst P (sym e) h.0))) (none_among P x not ps h.1)
+    or_from (x == p) (is_among ps (Some x)) (ne_eqb x p (λ e. not (subst P (sym e) h.0))) (none_among P x not ps h.1)
 
 -- each place is among all
 pub each_among : (ps : List ℕ) → AllByRecursion (λ p. is_among ps (Some p) ≡ true) ps
 each_among [] = tt
 each_among (p ∷ ps) = (
-  or_first (p == p) (is_among ps (Some p)) (eq-eqb p p refl),
-  all_map (λ x. is_among ps (Some x) ≡ true) (λ x. is_among (p ∷ ps) (Some x) ≡ true) (λ x e. or_second (x == p) (is_among ps (Some x)) e) ps (each_among ps),
+  or_left (p == p) (is_among ps (Some p)) (eq-eqb p p refl),
+  all_map (λ x. is_among ps (Some x) ≡ true) (λ x. is_among (p ∷ ps) (Some x) ≡ true) (λ x e. or_right (x == p) (is_among ps (Some x)) e) ps (each_among ps),
 )

@@ -1,20 +1,21 @@
 -- The places of the lines that a list of pieces begins, and that how text is cut changes no line.
-use Rattle.std.proofs.Common.{◌≡◌, ℕ, List, [], ◌∷◌, ◌++◌, Bool, true, false, Option, Some, None, map, refl, sym, ap, ◌∙◌, append_assoc}
+use Rattle.std.proofs.Common.{◌≡◌, ℕ, List, [], ◌∷◌, ◌++◌, Bool, true, false, Option, Some, None, refl, sym, ap, ◌∙◌, append_assoc}
 use Rattle.std.specs.Prelude.{◌/◌, ◌%◌, ◌^◌, ◌-◌, ◌==◌, nat_lt, if◌then◌else◌, codes}
 use Rattle.std.specs.List.{flat_map}
 use Rattle.std.proofs.lemmas.List.Concat.{flat_map-append}
-use Rattle.wasmprinter_spec.specs.Call.{Call, Text, Newline, Line, call_text, atoms, text_of}
+use Rattle.wasmprinter_spec.specs.Call.{Call, Text, Newline, Line, call_text, text_of}
 use Rattle.wasmprinter_spec.specs.Options.{Options}
 use Rattle.wasmprinter_spec.specs.Float.{Width, sign_bit, greatest_exponent}
 use Rattle.wasmprinter_spec.specs.FloatText.{special_calls, finite_calls, unsigned_calls, float_calls}
 use Rattle.wasmprinter_spec.specs.Piece.{Piece, Begin, Break, Float, Remark, place_calls, calls, all_calls}
-use Rattle.wasmprinter_spec.specs.Lines.{TextLine, text_before_line, lines_of, line_places}
+use Rattle.wasmprinter_spec.specs.Lines.{text_before_line, lines_of, line_places}
 use Rattle.wasmprinter_spec.specs.Names.{Names}
 use Rattle.wasmprinter_spec.specs.ModuleNames.{module_names}
 use Rattle.wasmprinter_spec.specs.Layout.Customs.{Laid, laid_parts}
 use Rattle.wasmprinter_spec.specs.Layout.{module_parts, module_pieces_of, module_pieces_with, module_pieces, layout}
 use Rattle.wasmprinter_spec.proofs.OneLine.{starts}
 use Rattle.wasmprinter_spec.specs.PlaceLaws.{AlikeHaveSameLines, LinesJoin}
+use Rattle.wasmprinter_spec.proofs.Texts.{alike_lines}
 
 -- the line that a call begins
 abbrev pub begun : Call → List (Option ℕ)
@@ -93,29 +94,5 @@ lines_join o answers m =
     let cs : List Call = all_calls o (module_pieces_of o names m.size laid.pieces laid.refused) in
     ap (λ (t : List ℕ). t ++ flat_map (λ line. line.1) (lines_of cs)) (sym (first_line o names m.size laid.pieces laid.refused)) ∙ text_joined cs
 
--- ---- cutting
-
-text_uncut : (s : List ℕ) (cs : List Call) → text_before_line (map (λ b. Text (b ∷ [])) s ++ cs) ≡ s ++ text_before_line cs
-text_uncut [] cs = refl
-text_uncut (b ∷ s) cs = ap (λ (t : List ℕ). b ∷ t) (text_uncut s cs)
-
-lines_uncut : (s : List ℕ) (cs : List Call) → lines_of (map (λ b. Text (b ∷ [])) s ++ cs) ≡ lines_of cs
-lines_uncut [] cs = refl
-lines_uncut (b ∷ s) cs = lines_uncut s cs
-
-text_of_atoms : (cs : List Call) → text_before_line (atoms cs) ≡ text_before_line cs
-text_of_atoms [] = refl
-text_of_atoms (Text s ∷ cs) = text_uncut s (atoms cs) ∙ ap (λ (t : List ℕ). s ++ t) (text_of_atoms cs)
-text_of_atoms (Line place ∷ cs) = refl
-text_of_atoms (Newline ∷ cs) = ap (λ (t : List ℕ). 10 ∷ t) (text_of_atoms cs)
-text_of_atoms (c ∷ cs) = text_of_atoms cs
-
-lines_of_atoms : (cs : List Call) → lines_of (atoms cs) ≡ lines_of cs
-lines_of_atoms [] = refl
-lines_of_atoms (Text s ∷ cs) = lines_uncut s (atoms cs) ∙ lines_of_atoms cs
-lines_of_atoms (Line place ∷ cs) =
-    ap (λ (t : List ℕ). (place, t) ∷ lines_of (atoms cs)) (text_of_atoms cs) ∙ ap (λ (ls : List TextLine). (place, text_before_line cs) ∷ ls) (lines_of_atoms cs)
-lines_of_atoms (c ∷ cs) = lines_of_atoms cs
-
 pub same_lines : AlikeHaveSameLines
-same_lines k l e = sym (lines_of_atoms k) ∙ ap lines_of e ∙ lines_of_atoms l
+same_lines = alike_lines

@@ -1,15 +1,12 @@
 -- What holds of all entries that bytes give, as far as they are read.
-use Rattle.std.proofs.Common.{◌≡◌, ℕ, zero, suc, List, [], ◌∷◌, ◌++◌, Bool, true, false, Option, Some, None, sym, subst, inl, inr}
+use Rattle.std.proofs.Common.{◌≡◌, ℕ, zero, suc, List, [], Bool, true, false, Option, Some, None, sym, subst, inl, inr}
 use Rattle.std.specs.Prelude.{MatchOption}
 use Rattle.std.specs.List.{AllByRecursion}
 use Rattle.wasmprinter_spec.specs.Grammar.{Input, input, Grammar}
 use Rattle.wasmprinter_spec.specs.Binary.{AreBytes}
 use Rattle.wasmprinter_spec.specs.Lenient.{Lenient, give, follow, repeat, Repeats, within, unless_ended, behind_part, by_test}
-use Rattle.wasmprinter_reading.proofs.AllSpelled.{AllSpelled, AllSpelled-any, split_bytes}
-
-pub all_append : {A : Type 0} (P : A → Type 0) (xs ys : List A) → AllByRecursion P xs → AllByRecursion P ys → AllByRecursion P (xs ++ ys)
-all_append P [] ys s t = t
-all_append P (x ∷ xs) ys s t = (s.0, all_append P xs ys s.1 t)
+use Rattle.wasmprinter_spec.proofs.Each.{all_both}
+use Rattle.wasmprinter_reading.proofs.AllSpelled.{AllSpelled, Spelled-any, split_bytes}
 
 -- bytes are left behind bytes
 abbrev pub Stays : Option Input → Type 0
@@ -38,7 +35,7 @@ module _ {E : Type 0} (P : E → Type 0) where
 
   -- whatever the value
   pub AllGiven-follow_any : {A : Type 0} (g : Grammar A) (h : A → Lenient E) → ((a : A) → AllGiven P (h a)) → AllGiven P (follow g h)
-  AllGiven-follow_any g h f = AllGiven-follow g (AllSpelled-any g) h (λ a t. f a)
+  AllGiven-follow_any g h f = AllGiven-follow g (Spelled-any g) h (λ a t. f a)
 
   module _ (l : Lenient E) (f : AllGiven P l) where
     repeat_has : (n : ℕ) (at : Input) (xs : List E) (end : Option Input) → AreBytes at.bytes → Repeats l n at xs end → AllByRecursion P xs × Stays end
@@ -46,7 +43,7 @@ module _ {E : Type 0} (P : E → Type 0) where
     repeat_has (suc n) at xs end b (inl s) =
         let one_more = f.has at s.0 (Some s.2) b s.3 in
         let others = repeat_has n s.2 s.1 end one_more.1 s.4 in
-        (subst (AllByRecursion P) (sym s.5) (all_append P s.0 s.1 one_more.0 others.0), others.1)
+        (subst (AllByRecursion P) (sym s.5) (all_both P s.0 s.1 one_more.0 others.0), others.1)
     repeat_has (suc n) at xs end b (inr s) = ((f.has at xs None b s.0).0, subst Stays (sym s.1) tt)
 
     pub AllGiven-repeat : (n : ℕ) → AllGiven P (repeat l n)

@@ -1,4 +1,4 @@
--- What holds of all values that bytes spell: a predicate goes through each combinator of grammars from the parts to the whole.
+-- What holds of all values that bytes, or byte strings of a kind, spell: a predicate goes through each combinator of grammars from the parts to the whole.
 use Rattle.std.proofs.Common.{◌≡◌, ℕ, ◌+◌, ◌<◌, ◌≤◌, List, [], ◌∷◌, ◌++◌, length, Bool, true, false, Option, Some, None, refl, subst, sym}
 use Rattle.std.specs.List.{AllByRecursion}
 use Rattle.wasmprinter_spec.specs.Grammar.{Grammar, some_is, byte, seq, try_map, map_value, succeed, fail, choose, value_with_place}
@@ -7,57 +7,75 @@ use Rattle.wasmprinter_spec.specs.Binary.ValTypes.{value_if_any}
 use Rattle.wasmprinter_spec.specs.Repeated.{Items, times, Entries}
 use Rattle.wasmprinter_spec.specs.Sized.{take_bytes, alone, exactly}
 use Rattle.wasmprinter_spec.specs.Binary.{AreBytes}
+use Rattle.wasmprinter_spec.proofs.Each.{all_parts}
 
--- Each value that bytes spell has P.
-pub record AllSpelled {A : Type 0} (g : Grammar A) (P : A → Type 0) : Type 0 where
-  pub has : (p : ℕ) (text : List ℕ) (a : A) → AreBytes text → g.spells p text a → P a
+-- Byte strings of a kind, where both parts of one are of the kind too.
+pub record ByteStrings : Type 1 where
+  pub Are : List ℕ → Type 0
+  pub bytes : (text : List ℕ) → Are text → AreBytes text
+  pub split : (t u : List ℕ) → Are (t ++ u) → Are t × Are u
+
+-- Each value that byte strings of the kind spell has P.
+pub record Spelled (kind : ByteStrings) {A : Type 0} (g : Grammar A) (P : A → Type 0) : Type 0 where
+  pub has : (p : ℕ) (text : List ℕ) (a : A) → kind.Are text → g.spells p text a → P a
 
 -- Both parts of bytes are bytes.
 pub split_bytes : (t u : List ℕ) → AreBytes (t ++ u) → AreBytes t × AreBytes u
-split_bytes [] u h = (tt, h)
-split_bytes (b ∷ t) u h = let r = split_bytes t u h.1 in ((h.0, r.0), r.1)
+split_bytes t u h = all_parts (λ b. b < 256) t u h
+
+-- All byte strings.
+abbrev pub all_bytes : ByteStrings
+all_bytes = record { Are = AreBytes; bytes = λ text h. h; split = split_bytes }
+
+-- Each value that bytes spell has P.
+abbrev pub AllSpelled : {A : Type 0} → Grammar A → (A → Type 0) → Type 0
+AllSpelled g P = Spelled all_bytes g P
+
+-- What is so of all values.
+pub Spelled-of_all : {kind : ByteStrings} {A : Type 0} {g : Grammar A} {P : A → Type 0} → AllSpelled g P → Spelled kind g P
+Spelled-of_all {kind} all = record { has = λ p text a are s. all.has p text a (kind.bytes text are) s }
 
 -- The values of any grammar, with no claim.
-pub AllSpelled-any : {A : Type 0} (g : Grammar A) → AllSpelled g (λ a. Unit {0})
-AllSpelled-any g = record { has = λ p text a bytes s. tt }
+pub Spelled-any : {kind : ByteStrings} {A : Type 0} (g : Grammar A) → Spelled kind g (λ a. Unit {0})
+Spelled-any g = record { has = λ p text a bytes s. tt }
 
 -- A value and then another: what the first part has, and then the second.
-pub AllSpelled-seq : {A B : Type 0} {g : Grammar A} {h : A → Grammar B} {P : A → Type 0} {Q : A → B → Type 0} →
-    AllSpelled g P → ((a : A) → AllSpelled (h a) (Q a)) → AllSpelled (seq g h) (λ x. P x.0 × Q x.0 x.1)
-AllSpelled-seq first second = record {
+pub Spelled-seq : {kind : ByteStrings} {A B : Type 0} {g : Grammar A} {h : A → Grammar B} {P : A → Type 0} {Q : A → B → Type 0} →
+    Spelled kind g P → ((a : A) → Spelled kind (h a) (Q a)) → Spelled kind (seq g h) (λ x. P x.0 × Q x.0 x.1)
+Spelled-seq {kind} first second = record {
   has = λ p text x bytes s.
-      let parts = split_bytes s.0 s.1 (subst AreBytes s.2 bytes) in
+      let parts = kind.split s.0 s.1 (subst kind.Are s.2 bytes) in
       (first.has p s.0 x.0 parts.0 s.3, (second x.0).has (p + length s.0) s.1 x.1 parts.1 s.4);
 }
 
 -- The values under a function that may refuse.
-pub AllSpelled-try_map : {A B : Type 0} {f : A → Option B} {g : Grammar A} {P : A → Type 0} {Q : B → Type 0} →
-    AllSpelled g P → ((a : A) (b : B) → f a ≡ Some b → P a → Q b) → AllSpelled (try_map f g) Q
-AllSpelled-try_map all keeps = record { has = λ p text b bytes s. keeps s.0 b s.1 (all.has p text s.0 bytes s.2) }
+pub Spelled-try_map : {kind : ByteStrings} {A B : Type 0} {f : A → Option B} {g : Grammar A} {P : A → Type 0} {Q : B → Type 0} →
+    Spelled kind g P → ((a : A) (b : B) → f a ≡ Some b → P a → Q b) → Spelled kind (try_map f g) Q
+Spelled-try_map all keeps = record { has = λ p text b bytes s. keeps s.0 b s.1 (all.has p text s.0 bytes s.2) }
 
 -- The values under a function.
-pub AllSpelled-map_value : {A B : Type 0} {f : A → B} {g : Grammar A} {P : A → Type 0} {Q : B → Type 0} →
-    AllSpelled g P → ((a : A) → P a → Q (f a)) → AllSpelled (map_value f g) Q
-AllSpelled-map_value {f} {Q} all keeps = AllSpelled-try_map all (λ a b e h. subst Q (some_is (f a) b e) (keeps a h))
+pub Spelled-map_value : {kind : ByteStrings} {A B : Type 0} {f : A → B} {g : Grammar A} {P : A → Type 0} {Q : B → Type 0} →
+    Spelled kind g P → ((a : A) → P a → Q (f a)) → Spelled kind (map_value f g) Q
+Spelled-map_value {f} {Q} all keeps = Spelled-try_map all (λ a b e h. subst Q (some_is (f a) b e) (keeps a h))
 
 -- A value that no bytes spell.
-pub AllSpelled-succeed : {A : Type 0} {a : A} {P : A → Type 0} → P a → AllSpelled (succeed a) P
-AllSpelled-succeed {a} {P} h = record { has = λ p text b bytes s. subst P (sym s.1) h }
+pub Spelled-succeed : {kind : ByteStrings} {A : Type 0} {a : A} {P : A → Type 0} → P a → Spelled kind (succeed a) P
+Spelled-succeed {a} {P} h = record { has = λ p text b bytes s. subst P (sym s.1) h }
 
 -- No value at all.
-pub AllSpelled-fail : {A : Type 0} {P : A → Type 0} → AllSpelled fail P
-AllSpelled-fail = record { has = λ p text a bytes s. absurd s }
+pub Spelled-fail : {kind : ByteStrings} {A : Type 0} {P : A → Type 0} → Spelled kind fail P
+Spelled-fail = record { has = λ p text a bytes s. absurd s }
 
 -- One grammar or another.
-pub AllSpelled-choose : {A : Type 0} {g h : Grammar A} {P : A → Type 0} → (b : Bool) → AllSpelled g P → AllSpelled h P → AllSpelled (choose b g h) P
-AllSpelled-choose true first second = first
-AllSpelled-choose false first second = second
+pub Spelled-choose : {kind : ByteStrings} {A : Type 0} {g h : Grammar A} {P : A → Type 0} → (b : Bool) → Spelled kind g P → Spelled kind h P → Spelled kind (choose b g h) P
+Spelled-choose true first second = first
+Spelled-choose false first second = second
 
 -- One grammar or another, as a test says.
-pub AllSpelled-choose_by : {A : Type 0} {g h : Grammar A} {P : A → Type 0} → (b : Bool) → (b ≡ true → AllSpelled g P) → (b ≡ false → AllSpelled h P) →
-    AllSpelled (choose b g h) P
-AllSpelled-choose_by true first second = first refl
-AllSpelled-choose_by false first second = second refl
+pub Spelled-choose_by : {kind : ByteStrings} {A : Type 0} {g h : Grammar A} {P : A → Type 0} → (b : Bool) → (b ≡ true → Spelled kind g P) → (b ≡ false → Spelled kind h P) →
+    Spelled kind (choose b g h) P
+Spelled-choose_by true first second = first refl
+Spelled-choose_by false first second = second refl
 
 -- A byte.
 pub AllSpelled-byte : AllSpelled byte (λ b. b < 256)
@@ -68,56 +86,56 @@ pub AllSpelled-take_bytes : (n : ℕ) → AllSpelled (take_bytes n) (λ bs. (len
 AllSpelled-take_bytes n = record { has = λ p text bs bytes s. subst (λ t. (length t ≡ n) × AreBytes t) (sym s.1) (s.0, bytes) }
 
 -- A value if there is one.
-pub AllSpelled-value_if_any : {A : Type 0} {P : A → Type 0} (o : Option A) → ((a : A) → o ≡ Some a → P a) → AllSpelled (value_if_any o) P
-AllSpelled-value_if_any None holds = AllSpelled-fail
-AllSpelled-value_if_any (Some a) holds = AllSpelled-succeed (holds a refl)
+pub Spelled-value_if_any : {kind : ByteStrings} {A : Type 0} {P : A → Type 0} (o : Option A) → ((a : A) → o ≡ Some a → P a) → Spelled kind (value_if_any o) P
+Spelled-value_if_any None holds = Spelled-fail
+Spelled-value_if_any (Some a) holds = Spelled-succeed (holds a refl)
 
 -- What the first byte announces, if each such value has P.
-pub AllSpelled-behind_first_byte : {A : Type 0} {h : ℕ → Grammar A} {P : A → Type 0} → ((b : ℕ) → AllSpelled (h b) P) → AllSpelled (behind_first_byte h) P
-AllSpelled-behind_first_byte each = AllSpelled-map_value (AllSpelled-seq (AllSpelled-any byte) each) (λ x h. h.1)
+pub Spelled-behind_first_byte : {kind : ByteStrings} {A : Type 0} {h : ℕ → Grammar A} {P : A → Type 0} → ((b : ℕ) → Spelled kind (h b) P) → Spelled kind (behind_first_byte h) P
+Spelled-behind_first_byte each = Spelled-map_value (Spelled-seq (Spelled-any byte) each) (λ x h. h.1)
 
-peeked_has : {A : Type 0} {h : ℕ → Grammar A} {P : A → Type 0} → ((b : ℕ) → AllSpelled (h b) P) →
-    (p : ℕ) (text : List ℕ) (a : A) → AreBytes text → Peeked h p text a → P a
+peeked_has : {kind : ByteStrings} {A : Type 0} {h : ℕ → Grammar A} {P : A → Type 0} → ((b : ℕ) → Spelled kind (h b) P) →
+    (p : ℕ) (text : List ℕ) (a : A) → kind.Are text → Peeked h p text a → P a
 peeked_has each p [] a bytes s = absurd s
 peeked_has each p (b ∷ text) a bytes s = (each b).has p (b ∷ text) a bytes s
 
 -- What the first byte chooses, itself among it, if each such value has P.
-pub AllSpelled-by_first_byte : {A : Type 0} {h : ℕ → Grammar A} {P : A → Type 0} → ((b : ℕ) → AllSpelled (h b) P) → AllSpelled (by_first_byte h) P
-AllSpelled-by_first_byte each = record { has = λ p text a bytes s. peeked_has each p text a bytes s }
+pub Spelled-by_first_byte : {kind : ByteStrings} {A : Type 0} {h : ℕ → Grammar A} {P : A → Type 0} → ((b : ℕ) → Spelled kind (h b) P) → Spelled kind (by_first_byte h) P
+Spelled-by_first_byte each = record { has = λ p text a bytes s. peeked_has each p text a bytes s }
 
 -- A value with its place.
-pub AllSpelled-value_with_place : {A : Type 0} {g : Grammar A} {P : A → Type 0} → AllSpelled g P → AllSpelled (value_with_place g) (λ x. P x.value)
-AllSpelled-value_with_place all = record { has = λ p text x bytes s. all.has p text x.value bytes s.1 }
+pub Spelled-value_with_place : {kind : ByteStrings} {A : Type 0} {g : Grammar A} {P : A → Type 0} → Spelled kind g P → Spelled kind (value_with_place g) (λ x. P x.value)
+Spelled-value_with_place all = record { has = λ p text x bytes s. all.has p text x.value bytes s.1 }
 
 -- A value that takes exactly n bytes.
-pub AllSpelled-exactly : {A : Type 0} {g : Grammar A} {P : A → Type 0} → AllSpelled g P → (n : ℕ) → AllSpelled (exactly (alone g) n) P
-AllSpelled-exactly all n = record { has = λ p text a bytes s. all.has p text a bytes s.1 }
+pub Spelled-exactly : {kind : ByteStrings} {A : Type 0} {g : Grammar A} {P : A → Type 0} → Spelled kind g P → (n : ℕ) → Spelled kind (exactly (alone g) n) P
+Spelled-exactly all n = record { has = λ p text a bytes s. all.has p text a bytes s.1 }
 
 -- A value that takes exactly n bytes measures at most n by what takes at least so many bytes.
-pub AllSpelled-within : {A : Type 0} {g : Grammar A} {P : A → Type 0} {size : A → ℕ} →
+pub Spelled-within : {kind : ByteStrings} {A : Type 0} {g : Grammar A} {P : A → Type 0} {size : A → ℕ} →
     ((p : ℕ) (text : List ℕ) (a : A) → g.spells p text a → size a ≤ length text) →
-    AllSpelled g P → (n : ℕ) → AllSpelled (exactly (alone g) n) (λ a. P a × (size a ≤ n))
-AllSpelled-within {size = size} takes all n = record {
+    Spelled kind g P → (n : ℕ) → Spelled kind (exactly (alone g) n) (λ a. P a × (size a ≤ n))
+Spelled-within {size = size} takes all n = record {
   has = λ p text a bytes s. (all.has p text a bytes s.1, subst (λ k. size a ≤ k) s.0 (takes p text a s.1));
 }
 
 -- Items that stand one after the other.
-pub items_have : {A : Type 0} {g : Grammar A} {P : A → Type 0} → AllSpelled g P →
-    (xs : List A) (p : ℕ) (text : List ℕ) → AreBytes text → Items g p text xs → AllByRecursion P xs
+pub items_have : {kind : ByteStrings} {A : Type 0} {g : Grammar A} {P : A → Type 0} → Spelled kind g P →
+    (xs : List A) (p : ℕ) (text : List ℕ) → kind.Are text → Items g p text xs → AllByRecursion P xs
 items_have all [] p text bytes s = tt
-items_have all (x ∷ xs) p text bytes s =
-    let parts = split_bytes s.0 s.1 (subst AreBytes s.2 bytes) in
+items_have {kind} all (x ∷ xs) p text bytes s =
+    let parts = kind.split s.0 s.1 (subst kind.Are s.2 bytes) in
     (all.has p s.0 x parts.0 s.3, items_have all xs (p + length s.0) s.1 parts.1 s.4)
 
 -- Items up to the end of the bytes.
-pub entries_have : {A : Type 0} {g : Grammar A} {P : A → Type 0} → AllSpelled g P →
-    (xs : List A) (p : ℕ) (text : List ℕ) → AreBytes text → Entries g p text xs → AllByRecursion P xs
+pub entries_have : {kind : ByteStrings} {A : Type 0} {g : Grammar A} {P : A → Type 0} → Spelled kind g P →
+    (xs : List A) (p : ℕ) (text : List ℕ) → kind.Are text → Entries g p text xs → AllByRecursion P xs
 entries_have all [] p text bytes s = tt
-entries_have all (x ∷ xs) p text bytes s =
-    let parts = split_bytes s.0 s.1 (subst AreBytes s.2 bytes) in
+entries_have {kind} all (x ∷ xs) p text bytes s =
+    let parts = kind.split s.0 s.1 (subst kind.Are s.2 bytes) in
     (all.has p s.0 x parts.0 s.4, entries_have all xs (p + length s.0) s.1 parts.1 s.5)
 
 -- So many items.
-pub AllSpelled-times : {A : Type 0} {g : Grammar A} {P : A → Type 0} → AllSpelled g P →
-    (n : ℕ) → AllSpelled (times g n) (λ xs. (length xs ≡ n) × AllByRecursion P xs)
-AllSpelled-times all n = record { has = λ p text xs bytes s. (s.0, items_have all xs p text bytes s.1) }
+pub Spelled-times : {kind : ByteStrings} {A : Type 0} {g : Grammar A} {P : A → Type 0} → Spelled kind g P →
+    (n : ℕ) → Spelled kind (times g n) (λ xs. (length xs ≡ n) × AllByRecursion P xs)
+Spelled-times all n = record { has = λ p text xs bytes s. (s.0, items_have all xs p text bytes s.1) }

@@ -13,7 +13,7 @@ use Rattle.wasmprinter_spec.specs.Placed.{TypeGroup, Import, Export, Table, Glob
 use Rattle.wasmprinter_spec.specs.Module.{func_import, table_import, memory_import, global_import, tag_import, without_places, each_value, mode_without_places, items_without_places, data_mode_without_places, groups_of, function_of, table_without_places, global_without_places, element_without_places, data_without_places, Module, module_of}
 use Rattle.wasmprinter_spec.specs.Limits.{HasNoEmptyInit}
 use Rattle.wasmprinter_spec.specs.Indexed as indexed
-use Rattle.wasmprinter_spec.specs.Indexed.{IsDeclaredSub, Counts, IsIndexed, IsIndexedFunction, IsIndexedImport, IsIndexedTable, IsIndexedGlobal, IsIndexedExport, IsIndexedElement, IsIndexedData, NamesFunction, space_of, counts_of, counts_in}
+use Rattle.wasmprinter_spec.specs.Indexed.{IsDeclaredSub, Counts, IsIndexed, IsIndexedFunction, IsIndexedImport, IsIndexedTable, IsIndexedGlobal, IsIndexedExport, IsIndexedElement, IsIndexedData, NamesFunction, space_of, counts_of}
 use Rattle.wasmprinter_spec.specs.IndexSpaces.{Identifiers, index_space, space_in, Spaces, Context}
 use Rattle.wasmprinter_spec.specs.Options.{Options}
 use Rattle.wasmprinter_spec.specs.Customs.Hints.{Hint, FunctionHints, hints_of, next_hints, hints_behind}
@@ -58,7 +58,7 @@ use Rattle.wasmprinter_reading.proofs.Fields.Elements as elements
 use Rattle.wasmprinter_reading.proofs.Fields.Elements.{element_items, identifier_in_front-element, read_element-items}
 use Rattle.wasmprinter_reading.proofs.Fields.DataSegments as datas
 use Rattle.wasmprinter_reading.proofs.Fields.DataSegments.{data_items, identifier_in_front-data, read_data-items}
-use Rattle.wasmprinter_reading.proofs.Each.{all_parts}
+use Rattle.wasmprinter_spec.proofs.Each.{all_parts}
 use Rattle.wasmprinter_reading.proofs.Foldable.{Foldable, AllFoldable, CanFold}
 use Rattle.wasmprinter_reading.proofs.Types.Ranged.{IsRangedGroup}
 use Rattle.wasmprinter_reading.proofs.Types.Ranges.{own_signature_ranged}

@@ -1,5 +1,5 @@
 -- How many items a module that bytes spell has of each kind: fewer than 2 ^ 64, and so many that identifiers of them are apart.
-use Rattle.std.proofs.Common.{◌≡◌, ℕ, zero, suc, ◌<◌, ◌≤◌, ◌+◌, ◌*◌, ◌^◌, List, [], ◌∷◌, ◌++◌, length, Option, Some, None, subst, replicate, arith}
+use Rattle.std.proofs.Common.{◌≡◌, ℕ, zero, suc, ◌<◌, ◌≤◌, ◌+◌, ◌*◌, ◌^◌, List, [], ◌∷◌, length, Option, Some, None, subst, replicate, arith}
 use Rattle.std.specs.List.{AllByRecursion}
 use Rattle.std.proofs.lemmas.List.{length-append, length-replicate}
 use Rattle.wasmprinter_spec.specs.Grammar.{Placed, some_is}
@@ -7,18 +7,15 @@ use Rattle.wasmprinter_spec.specs.Types.{ExternType, FieldType, CompositeType, F
 use Rattle.wasmprinter_spec.specs.Placed.{TypeGroup, Import, LocalEntry}
 use Rattle.wasmprinter_spec.specs.Module.{groups_of, locals_of, with_first_if_any, imported_types}
 use Rattle.wasmprinter_spec.specs.Indexed.{parameter_count}
+use Rattle.wasmprinter_spec.proofs.Each.{all_both}
 use Rattle.wasmprinter_reading.proofs.Ranged.{IsRangedLocal}
 use Rattle.wasmprinter_reading.proofs.Types.Ranged.{IsFewComposite, IsFewSub, IsRangedGroup}
 
 -- ---- types
 
-both_few : (ts us : List SubType) → AllByRecursion IsFewSub ts → AllByRecursion IsFewSub us → AllByRecursion IsFewSub (ts ++ us)
-both_few [] us h k = k
-both_few (t ∷ ts) us h k = (h.0, both_few ts us h.1 k)
-
 all_types_few : (gs : List (Placed TypeGroup)) → AllByRecursion (λ g. IsRangedGroup g.value) gs → AllByRecursion IsFewSub (all_types (groups_of gs))
 all_types_few [] h = tt
-all_types_few (g ∷ gs) h = both_few g.value.types (all_types (groups_of gs)) h.0.few (all_types_few gs h.1)
+all_types_few (g ∷ gs) h = all_both IsFewSub g.value.types (all_types (groups_of gs)) h.0.few (all_types_few gs h.1)
 
 composite_parameters : (c : CompositeType) → IsFewComposite c → parameter_count (func_type_of c) < 2 ^ 32
 composite_parameters (FuncComposite t) h = h

@@ -14,6 +14,7 @@ use Rattle.wasmprinter_spec.specs.IndexSpaces.{Identifiers}
 use Rattle.wasmprinter_spec.specs.Text.Items.{each, identifier_in_front}
 use Rattle.wasmprinter_spec.specs.Text.Types.{Declared, read_group, group_types, declared_fields, field_space}
 use Rattle.wasmprinter_spec.specs.Read.{identifiers_of}
+use Rattle.wasmprinter_spec.proofs.Each.{all_both}
 use Rattle.wasmprinter_reading.proofs.Declarations.{id, identifiers_at-more}
 use Rattle.wasmprinter_reading.proofs.Identifiers.{Reads, declaration-items}
 use Rattle.wasmprinter_reading.proofs.Numbered.{map_numbered}
@@ -125,14 +126,10 @@ own_fields_counted gs k fs e = fields_counted (all_types (groups_of gs)) k fs e
 -- ---- what is declared of all types is so of each signature
 
 module _ (bound : ℕ) where
-  both_declared : (ts us : List SubType) → AllByRecursion (IsDeclaredSub bound) ts → AllByRecursion (IsDeclaredSub bound) us → AllByRecursion (IsDeclaredSub bound) (ts ++ us)
-  both_declared [] us h k = k
-  both_declared (t ∷ ts) us h k = (h.0, both_declared ts us h.1 k)
-
   all_types_declared : (gs : List (Placed TypeGroup)) → AllByRecursion (λ g. AllByRecursion (IsDeclaredSub bound) g) (groups_of gs) →
       AllByRecursion (IsDeclaredSub bound) (all_types (groups_of gs))
   all_types_declared [] h = tt
-  all_types_declared (g ∷ gs) h = both_declared g.value.types (all_types (groups_of gs)) h.0 (all_types_declared gs h.1)
+  all_types_declared (g ∷ gs) h = all_both (IsDeclaredSub bound) g.value.types (all_types (groups_of gs)) h.0 (all_types_declared gs h.1)
 
   composite_declared : (c : CompositeType) (f : FuncType) → IsDeclaredComposite bound c → func_type_of c ≡ Some f → IsDeclaredFunc bound f
   composite_declared (FuncComposite t) f h e = subst (IsDeclaredFunc bound) (some_is t f e) h

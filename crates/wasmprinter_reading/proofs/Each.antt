@@ -1,14 +1,11 @@
 -- What holds of each element of a list, for lists in parts.
 use Rattle.std.proofs.Common.{◌≡◌, List, [], ◌∷◌, ◌++◌, map, refl}
 use Rattle.std.specs.List.{AllByRecursion, flat_map}
+use Rattle.wasmprinter_spec.proofs.Each.{all_parts}
 
 pub nothing_joined : {A : Type 0} (a b : List A) → a ++ b ≡ [] → (a ≡ []) × (b ≡ [])
 nothing_joined [] b e = (refl, e)
 nothing_joined (x ∷ a) b e = absurd cc
-
-pub all_parts : {A : Type 0} (P : A → Type 0) (a b : List A) → AllByRecursion P (a ++ b) → AllByRecursion P a × AllByRecursion P b
-all_parts P [] b h = (tt, h)
-all_parts P (x ∷ a) b h = let ps = all_parts P a b h.1 in ((h.0, ps.0), ps.1)
 
 pub all_flat : {A B : Type 0} (P : B → Type 0) (f : A → List B) (xs : List A) → AllByRecursion P (flat_map f xs) → AllByRecursion (λ x. AllByRecursion P (f x)) xs
 all_flat P f [] h = tt

@@ -9,7 +9,8 @@ use Rattle.wasmprinter_spec.specs.Layout.Declarations.{Folding, folding_of}
 use Rattle.wasmprinter_spec.specs.Folding.Arities.{signatures_within}
 use Rattle.wasmprinter_spec.specs.Folding.Code.{is_try, AreWithoutTry}
 use Rattle.wasmprinter_spec.specs.Folding.Refusals.{Operators, init_list, element_lists, data_lists, constant_lists, body_lists, legacy_places_in, IsFoldable}
-use Rattle.wasmprinter_reading.proofs.Each.{nothing_joined, all_parts, all_flat, all_mapped}
+use Rattle.wasmprinter_spec.proofs.Each.{all_parts}
+use Rattle.wasmprinter_reading.proofs.Each.{nothing_joined, all_flat, all_mapped}
 use Rattle.wasmprinter_reading.proofs.Folded.Lists.{AreFoldable}
 
 -- ---- where no place of the older `try` is found, none is there

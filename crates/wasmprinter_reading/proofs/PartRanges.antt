@@ -26,24 +26,24 @@ use Rattle.wasmprinter_spec.specs.Binary.Elements.{element_behind, element}
 use Rattle.wasmprinter_spec.specs.Binary.DataSegments as segments
 use Rattle.wasmprinter_spec.specs.Binary.{AreBytes}
 use Rattle.wasmprinter_reading.proofs.Ranged.{IsRangedMax, IsRangedPage, IsRangedMemory, IsRangedExpression, IsRangedTableType, IsRangedTable, IsRangedGlobal, IsRangedExtern, IsRangedImport, IsRangedMode, AreRangedItems, IsRangedElement, IsRangedDataMode, IsRangedData}
-use Rattle.wasmprinter_reading.proofs.AllSpelled.{AllSpelled, AllSpelled-any, AllSpelled-seq, AllSpelled-try_map, AllSpelled-map_value, AllSpelled-succeed, AllSpelled-fail, AllSpelled-choose, AllSpelled-behind_first_byte, AllSpelled-take_bytes}
-use Rattle.wasmprinter_reading.proofs.Few.{FewSpelled, FewSpelled-all, FewSpelled-seq, FewSpelled-map_value, FewSpelled-choose, FewSpelled-by_first_byte, FewSpelled-vec}
+use Rattle.wasmprinter_reading.proofs.AllSpelled.{AllSpelled, Spelled-of_all, Spelled-any, Spelled-seq, Spelled-try_map, Spelled-map_value, Spelled-succeed, Spelled-fail, Spelled-choose, Spelled-behind_first_byte, Spelled-by_first_byte, AllSpelled-take_bytes}
+use Rattle.wasmprinter_reading.proofs.Few.{FewSpelled}
 use Rattle.wasmprinter_reading.proofs.LebRange.{AllSpelled-unsigned}
-use Rattle.wasmprinter_reading.proofs.Vectors.{AllSpelled-u32, AllSpelled-vec}
+use Rattle.wasmprinter_reading.proofs.Vectors.{AllSpelled-u32, Spelled-vec}
 use Rattle.wasmprinter_reading.proofs.Types.Ranged.{IsRangedHeap, IsRangedVal}
 use Rattle.wasmprinter_reading.proofs.Types.Ranges.{AllSpelled-reference_type, AllSpelled-val_type}
 use Rattle.wasmprinter_reading.proofs.Operators.Spelled.{AllSpelled-expression, expression_takes}
 
 -- A name is UTF-8.
 pub AllSpelled-name : AllSpelled name IsUtf8
-AllSpelled-name = AllSpelled-try_map (AllSpelled-any _) (λ text checked e h.
+AllSpelled-name = Spelled-try_map (Spelled-any _) (λ text checked e h.
     let t = tested (is_utf8 text) (Some text) checked e in
     subst IsUtf8 (some_is text checked t.1) (IsUtf8-from_is_utf8 text t.0))
 
 -- Limits of 64 bits, and the size of a page.
 AllSpelled-limits : (b : Bool) → AllSpelled (limits b) (λ l. (l.min < 2 ^ 64) × IsRangedMax l.max)
-AllSpelled-limits true = AllSpelled-map_value (AllSpelled-seq (AllSpelled-unsigned 64) (λ _. AllSpelled-unsigned 64)) (λ x h. h)
-AllSpelled-limits false = AllSpelled-map_value (AllSpelled-unsigned 64) (λ n h. (h, tt))
+AllSpelled-limits true = Spelled-map_value (Spelled-seq (AllSpelled-unsigned 64) (λ _. AllSpelled-unsigned 64)) (λ x h. h)
+AllSpelled-limits false = Spelled-map_value (AllSpelled-unsigned 64) (λ n h. (h, tt))
 
 page_ranged : (n e : ℕ) → page_exponent n ≡ Some e → Unit {0} → e < 64
 page_ranged n e h _ =
@@ -53,25 +53,25 @@ page_ranged n e h _ =
     omega arith
 
 AllSpelled-page : (b : Bool) → AllSpelled (page b) IsRangedPage
-AllSpelled-page true = AllSpelled-map_value (AllSpelled-try_map (AllSpelled-any u32) page_ranged) (λ e h. h)
-AllSpelled-page false = AllSpelled-succeed tt
+AllSpelled-page true = Spelled-map_value (Spelled-try_map (Spelled-any u32) page_ranged) (λ e h. h)
+AllSpelled-page false = Spelled-succeed tt
 
 -- A memory: its limits and the size of its pages.
 pub AllSpelled-memory_type : AllSpelled memory_type IsRangedMemory
-AllSpelled-memory_type = AllSpelled-behind_first_byte (λ flags.
-    AllSpelled-choose (ltb flags 16)
-    (AllSpelled-map_value (AllSpelled-seq (AllSpelled-limits (has_bit 0 flags)) (λ _. AllSpelled-page (has_bit 3 flags)))
-    (λ x h. record { min = h.0.0; max = h.0.1; page = h.1 })) AllSpelled-fail)
+AllSpelled-memory_type = Spelled-behind_first_byte (λ flags.
+    Spelled-choose (ltb flags 16)
+    (Spelled-map_value (Spelled-seq (AllSpelled-limits (has_bit 0 flags)) (λ _. AllSpelled-page (has_bit 3 flags)))
+    (λ x h. record { min = h.0.0; max = h.0.1; page = h.1 })) Spelled-fail)
 
 -- A tag: the index of its type.
 pub AllSpelled-tag : AllSpelled tag (λ i. i < 2 ^ 32)
-AllSpelled-tag = AllSpelled-map_value (AllSpelled-seq (AllSpelled-any (only 0x00)) (λ _. AllSpelled-u32)) (λ x h. h.1)
+AllSpelled-tag = Spelled-map_value (Spelled-seq (Spelled-any (only 0x00)) (λ _. AllSpelled-u32)) (λ x h. h.1)
 
 -- ---- expressions
 
 -- An expression of few bytes: its operators are no more.
 FewSpelled-constant : FewSpelled constant IsRangedExpression
-FewSpelled-constant = FewSpelled-map_value nested (λ x h. h)
+FewSpelled-constant = Spelled-map_value nested (λ x h. h)
   where
     nested : FewSpelled expression (λ x. IsRangedExpression x.items)
     nested = record {
@@ -89,114 +89,114 @@ FewSpelled-constant = FewSpelled-map_value nested (λ x h. h)
 -- The limits of a table.
 AllSpelled-table_limits : (flags : ℕ) → AllSpelled (table_limits_behind flags) (λ x. (x.1.min < 2 ^ 64) × IsRangedMax x.1.max)
 AllSpelled-table_limits flags =
-    AllSpelled-choose (flags == 0 || flags == 1 || flags == 4 || flags == 5)
-    (AllSpelled-map_value (AllSpelled-limits (has_bit 0 flags)) (λ l h. h)) AllSpelled-fail
+    Spelled-choose (flags == 0 || flags == 1 || flags == 4 || flags == 5)
+    (Spelled-map_value (AllSpelled-limits (has_bit 0 flags)) (λ l h. h)) Spelled-fail
 
 -- The type of a table.
 AllSpelled-table_type : AllSpelled table_type IsRangedTableType
 AllSpelled-table_type =
-    AllSpelled-map_value (AllSpelled-seq AllSpelled-reference_type (λ _. AllSpelled-behind_first_byte AllSpelled-table_limits))
+    Spelled-map_value (Spelled-seq AllSpelled-reference_type (λ _. Spelled-behind_first_byte AllSpelled-table_limits))
     (λ x h. record { min = h.1.0; max = h.1.1; element = h.0 })
 
 -- A table, with an initialiser or without.
 FewSpelled-table_by : (b : ℕ) → FewSpelled (table_by b) IsRangedTable
 FewSpelled-table_by b =
-    FewSpelled-choose (b == 0x40)
-    (FewSpelled-map_value (FewSpelled-seq (FewSpelled-all (AllSpelled-any (only 0x40))) (λ _.
-    FewSpelled-seq (FewSpelled-all (AllSpelled-any (only 0x00))) (λ _. FewSpelled-seq (FewSpelled-all AllSpelled-table_type) (λ _. FewSpelled-constant))))
+    Spelled-choose (b == 0x40)
+    (Spelled-map_value (Spelled-seq (Spelled-any (only 0x40)) (λ _.
+    Spelled-seq (Spelled-any (only 0x00)) (λ _. Spelled-seq (Spelled-of_all AllSpelled-table_type) (λ _. FewSpelled-constant))))
     (λ x h. record { type = h.1.1.0; init = h.1.1.1 }))
-    (FewSpelled-map_value (FewSpelled-all AllSpelled-table_type) (λ t h. record { type = h; init = tt }))
+    (Spelled-map_value (Spelled-of_all AllSpelled-table_type) (λ t h. record { type = h; init = tt }))
 
 pub FewSpelled-table : FewSpelled table IsRangedTable
-FewSpelled-table = FewSpelled-by_first_byte FewSpelled-table_by
+FewSpelled-table = Spelled-by_first_byte FewSpelled-table_by
 
 -- The type of a global.
 AllSpelled-global_type : AllSpelled global_type (λ t. IsRangedVal t.type)
-AllSpelled-global_type = AllSpelled-map_value (AllSpelled-seq AllSpelled-val_type (λ _. AllSpelled-any mutability)) (λ x h. h.0)
+AllSpelled-global_type = Spelled-map_value (Spelled-seq AllSpelled-val_type (λ _. Spelled-any mutability)) (λ x h. h.0)
 
 pub FewSpelled-global : FewSpelled global IsRangedGlobal
 FewSpelled-global =
-    FewSpelled-map_value (FewSpelled-seq (FewSpelled-all AllSpelled-global_type) (λ _. FewSpelled-constant)) (λ x h. record { type = h.0; init = h.1 })
+    Spelled-map_value (Spelled-seq (Spelled-of_all AllSpelled-global_type) (λ _. FewSpelled-constant)) (λ x h. record { type = h.0; init = h.1 })
 
 -- ---- imports
 
 AllSpelled-extern_type_behind : (k : ℕ) → AllSpelled (extern_type_behind k) IsRangedExtern
 AllSpelled-extern_type_behind k =
-    AllSpelled-choose (k == 0) (AllSpelled-map_value AllSpelled-u32 (λ i h. h))
-    (AllSpelled-choose (k == 1) (AllSpelled-map_value AllSpelled-table_type (λ t h. h))
-    (AllSpelled-choose (k == 2) (AllSpelled-map_value AllSpelled-memory_type (λ t h. h))
-    (AllSpelled-choose (k == 3) (AllSpelled-map_value AllSpelled-global_type (λ t h. h))
-    (AllSpelled-choose (k == 4) (AllSpelled-map_value AllSpelled-tag (λ i h. h)) AllSpelled-fail))))
+    Spelled-choose (k == 0) (Spelled-map_value AllSpelled-u32 (λ i h. h))
+    (Spelled-choose (k == 1) (Spelled-map_value AllSpelled-table_type (λ t h. h))
+    (Spelled-choose (k == 2) (Spelled-map_value AllSpelled-memory_type (λ t h. h))
+    (Spelled-choose (k == 3) (Spelled-map_value AllSpelled-global_type (λ t h. h))
+    (Spelled-choose (k == 4) (Spelled-map_value AllSpelled-tag (λ i h. h)) Spelled-fail))))
 
 -- An import: two names, and what it is.
 pub AllSpelled-import : AllSpelled import IsRangedImport
 AllSpelled-import =
-    AllSpelled-map_value (AllSpelled-seq AllSpelled-name (λ _. AllSpelled-seq AllSpelled-name (λ _. AllSpelled-behind_first_byte AllSpelled-extern_type_behind)))
+    Spelled-map_value (Spelled-seq AllSpelled-name (λ _. Spelled-seq AllSpelled-name (λ _. Spelled-behind_first_byte AllSpelled-extern_type_behind)))
     (λ x h. record { source = h.0; name = h.1.0; type = h.1.1 })
 
 -- ---- element segments
 
 FewSpelled-active : FewSpelled binary.active (IsRangedMode false)
-FewSpelled-active = FewSpelled-map_value FewSpelled-constant (λ offset h. (refl, h))
+FewSpelled-active = Spelled-map_value FewSpelled-constant (λ offset h. (refl, h))
 
 FewSpelled-active_in : FewSpelled binary.active_in (IsRangedMode true)
-FewSpelled-active_in = FewSpelled-map_value (FewSpelled-seq (FewSpelled-all AllSpelled-u32) (λ _. FewSpelled-constant)) (λ x h. (h.0, h.1))
+FewSpelled-active_in = Spelled-map_value (Spelled-seq (Spelled-of_all AllSpelled-u32) (λ _. FewSpelled-constant)) (λ x h. (h.0, h.1))
 
 FewSpelled-passive : FewSpelled (succeed Passive) (IsRangedMode false)
-FewSpelled-passive = FewSpelled-all (AllSpelled-succeed tt)
+FewSpelled-passive = Spelled-succeed tt
 
 FewSpelled-declared : FewSpelled (succeed Declared) (IsRangedMode false)
-FewSpelled-declared = FewSpelled-all (AllSpelled-succeed tt)
+FewSpelled-declared = Spelled-succeed tt
 
 FewSpelled-functions : FewSpelled binary.function_items AreRangedItems
-FewSpelled-functions = FewSpelled-all (AllSpelled-map_value (AllSpelled-vec AllSpelled-u32) (λ is h. h.each))
+FewSpelled-functions = Spelled-of_all (Spelled-map_value (Spelled-vec AllSpelled-u32) (λ is h. h.each))
 
 FewSpelled-of_kind : FewSpelled binary.items_of_kind AreRangedItems
-FewSpelled-of_kind = FewSpelled-map_value (FewSpelled-seq (FewSpelled-all (AllSpelled-any (only 0x00))) (λ _. FewSpelled-functions)) (λ x h. h.1)
+FewSpelled-of_kind = Spelled-map_value (Spelled-seq (Spelled-any (only 0x00)) (λ _. FewSpelled-functions)) (λ x h. h.1)
 
 FewSpelled-expressions : (t : RefType) → IsRangedHeap t.heap → FewSpelled (binary.expression_items t) AreRangedItems
-FewSpelled-expressions t r = FewSpelled-map_value (FewSpelled-vec FewSpelled-constant) (λ es h. (r, h.each))
+FewSpelled-expressions t r = Spelled-map_value (Spelled-vec FewSpelled-constant) (λ es h. (r, h.each))
 
 FewSpelled-of_type : FewSpelled binary.items_of_type AreRangedItems
 FewSpelled-of_type =
-    FewSpelled-map_value
-    (FewSpelled-seq (FewSpelled-all AllSpelled-reference_type) (λ t. items_behind t)) (λ x h. h.1 h.0)
+    Spelled-map_value
+    (Spelled-seq (Spelled-of_all AllSpelled-reference_type) (λ t. items_behind t)) (λ x h. h.1 h.0)
   where
     items_behind : (t : RefType) → FewSpelled (binary.expression_items t) (λ is. IsRangedHeap t.heap → AreRangedItems is)
-    items_behind t = FewSpelled-map_value (FewSpelled-vec FewSpelled-constant) (λ es h r. (r, h.each))
+    items_behind t = Spelled-map_value (Spelled-vec FewSpelled-constant) (λ es h r. (r, h.each))
 
 FewSpelled-segment : (names : Bool) {mode : Grammar (Mode (Placed Operator))} {items : Grammar (Items (Placed Operator))} →
     FewSpelled mode (IsRangedMode names) → FewSpelled items AreRangedItems → FewSpelled (binary.segment names mode items) IsRangedElement
-FewSpelled-segment names m i = FewSpelled-map_value (FewSpelled-seq m (λ _. i)) (λ x h. record { mode = h.0; items = h.1 })
+FewSpelled-segment names m i = Spelled-map_value (Spelled-seq m (λ _. i)) (λ x h. record { mode = h.0; items = h.1 })
 
 FewSpelled-element_behind : (flags : ℕ) → FewSpelled (element_behind flags) IsRangedElement
 FewSpelled-element_behind flags =
-    FewSpelled-choose (flags == 0) (FewSpelled-segment false FewSpelled-active FewSpelled-functions)
-    (FewSpelled-choose (flags == 1) (FewSpelled-segment false FewSpelled-passive FewSpelled-of_kind)
-    (FewSpelled-choose (flags == 2) (FewSpelled-segment true FewSpelled-active_in FewSpelled-of_kind)
-    (FewSpelled-choose (flags == 3) (FewSpelled-segment false FewSpelled-declared FewSpelled-of_kind)
-    (FewSpelled-choose (flags == 4) (FewSpelled-segment false FewSpelled-active (FewSpelled-expressions (ref_type true Func) tt))
-    (FewSpelled-choose (flags == 5) (FewSpelled-segment false FewSpelled-passive FewSpelled-of_type)
-    (FewSpelled-choose (flags == 6) (FewSpelled-segment true FewSpelled-active_in FewSpelled-of_type)
-    (FewSpelled-choose (flags == 7) (FewSpelled-segment false FewSpelled-declared FewSpelled-of_type) (FewSpelled-all AllSpelled-fail))))))))
+    Spelled-choose (flags == 0) (FewSpelled-segment false FewSpelled-active FewSpelled-functions)
+    (Spelled-choose (flags == 1) (FewSpelled-segment false FewSpelled-passive FewSpelled-of_kind)
+    (Spelled-choose (flags == 2) (FewSpelled-segment true FewSpelled-active_in FewSpelled-of_kind)
+    (Spelled-choose (flags == 3) (FewSpelled-segment false FewSpelled-declared FewSpelled-of_kind)
+    (Spelled-choose (flags == 4) (FewSpelled-segment false FewSpelled-active (FewSpelled-expressions (ref_type true Func) tt))
+    (Spelled-choose (flags == 5) (FewSpelled-segment false FewSpelled-passive FewSpelled-of_type)
+    (Spelled-choose (flags == 6) (FewSpelled-segment true FewSpelled-active_in FewSpelled-of_type)
+    (Spelled-choose (flags == 7) (FewSpelled-segment false FewSpelled-declared FewSpelled-of_type) Spelled-fail)))))))
 
 pub FewSpelled-element : FewSpelled element IsRangedElement
-FewSpelled-element = FewSpelled-map_value (FewSpelled-seq (FewSpelled-all AllSpelled-u32) (λ flags. FewSpelled-element_behind flags)) (λ x h. h.1)
+FewSpelled-element = Spelled-map_value (Spelled-seq (Spelled-of_all AllSpelled-u32) (λ flags. FewSpelled-element_behind flags)) (λ x h. h.1)
 
 -- ---- data segments
 
 FewSpelled-data_mode : (flags : ℕ) → FewSpelled (segments.data_mode flags) IsRangedDataMode
 FewSpelled-data_mode flags =
-    FewSpelled-choose (flags == 0) (FewSpelled-map_value FewSpelled-constant (λ offset h. (omega arith, h)))
-    (FewSpelled-choose (flags == 1) (FewSpelled-all (AllSpelled-succeed tt))
-    (FewSpelled-choose (flags == 2) (FewSpelled-map_value (FewSpelled-seq (FewSpelled-all AllSpelled-u32) (λ _. FewSpelled-constant)) (λ x h. (h.0, h.1)))
-    (FewSpelled-all AllSpelled-fail)))
+    Spelled-choose (flags == 0) (Spelled-map_value FewSpelled-constant (λ offset h. (omega arith, h)))
+    (Spelled-choose (flags == 1) (Spelled-succeed tt)
+    (Spelled-choose (flags == 2) (Spelled-map_value (Spelled-seq (Spelled-of_all AllSpelled-u32) (λ _. FewSpelled-constant)) (λ x h. (h.0, h.1)))
+    Spelled-fail))
 
 AllSpelled-byte_vec : AllSpelled segments.byte_vec AreBytes
-AllSpelled-byte_vec = AllSpelled-map_value (AllSpelled-seq AllSpelled-u32 (λ n. AllSpelled-take_bytes n)) (λ x h. h.1.1)
+AllSpelled-byte_vec = Spelled-map_value (Spelled-seq AllSpelled-u32 (λ n. AllSpelled-take_bytes n)) (λ x h. h.1.1)
 
 pub FewSpelled-data : FewSpelled segments.segment IsRangedData
 FewSpelled-data =
-    FewSpelled-map_value (FewSpelled-seq (FewSpelled-all AllSpelled-u32)
-    (λ flags. FewSpelled-seq (FewSpelled-data_mode flags) (λ _. FewSpelled-all AllSpelled-byte_vec)))
+    Spelled-map_value (Spelled-seq (Spelled-of_all AllSpelled-u32)
+    (λ flags. Spelled-seq (FewSpelled-data_mode flags) (λ _. Spelled-of_all AllSpelled-byte_vec)))
     (λ x h. record { mode = h.1.0; bytes = h.1.1 })

@@ -22,10 +22,10 @@ use Rattle.wasmprinter_spec.specs.Binary.{type_indices_in, bodies_in, data_count
 use Rattle.wasmprinter_reading.specs.Listed.{IsListed}
 use Rattle.wasmprinter_reading.proofs.Ranged.{IsRangedImport, IsRangedTable, IsRangedMemory, IsRangedGlobal, IsRangedExport, IsRangedStart, IsRangedElement, IsRangedData, IsRangedCustom, IsRangedLocal, ArePlaced, IsRangedBody, IsRangedFunction, IsRanged}
 use Rattle.wasmprinter_reading.proofs.Customs.Ordered.{in_order}
-use Rattle.wasmprinter_reading.proofs.AllSpelled.{AllSpelled, split_bytes, entries_have, AllSpelled-any, AllSpelled-seq, AllSpelled-map_value, AllSpelled-value_with_place, AllSpelled-exactly, AllSpelled-within}
-use Rattle.wasmprinter_reading.proofs.Few.{FewSpelled, FewSpelled-value_with_place, FewSpelled-vec, AllSpelled-few}
+use Rattle.wasmprinter_reading.proofs.AllSpelled.{AllSpelled, split_bytes, entries_have, Spelled-any, Spelled-seq, Spelled-map_value, Spelled-value_with_place, Spelled-exactly, Spelled-within}
+use Rattle.wasmprinter_reading.proofs.Few.{FewSpelled, AllSpelled-few}
 use Rattle.wasmprinter_reading.proofs.PartRanges.{AllSpelled-name, AllSpelled-memory_type, AllSpelled-tag, FewSpelled-table, FewSpelled-global, AllSpelled-import, FewSpelled-element, FewSpelled-data}
-use Rattle.wasmprinter_reading.proofs.Vectors.{IsVector, AllSpelled-u32, AllSpelled-vec}
+use Rattle.wasmprinter_reading.proofs.Vectors.{IsVector, AllSpelled-u32, Spelled-vec}
 use Rattle.wasmprinter_reading.proofs.Types.Ranged.{IsRangedGroup}
 use Rattle.wasmprinter_reading.proofs.Types.Ranges.{AllSpelled-val_type, AllSpelled-group}
 use Rattle.wasmprinter_reading.proofs.Operators.Spelled.{AllSpelled-expression, expression_takes}
@@ -58,17 +58,17 @@ IsRangedSection (holds DataSection ds) = IsVector (λ d. IsRangedData d.value) d
 -- An export: a name, a kind and an index.
 AllSpelled-export : AllSpelled export IsRangedExport
 AllSpelled-export =
-    AllSpelled-map_value (AllSpelled-seq AllSpelled-name (λ _. AllSpelled-seq (AllSpelled-any extern_kind) (λ _. AllSpelled-u32)))
+    Spelled-map_value (Spelled-seq AllSpelled-name (λ _. Spelled-seq (Spelled-any extern_kind) (λ _. AllSpelled-u32)))
     (λ x h. record { name = h.0; index = h.1.1 })
 
 -- So many locals of a type.
 AllSpelled-local_entry : AllSpelled local_entry IsRangedLocal
-AllSpelled-local_entry = AllSpelled-map_value (AllSpelled-seq AllSpelled-u32 (λ _. AllSpelled-val_type)) (λ x h. record { count = h.0; type = h.1 })
+AllSpelled-local_entry = Spelled-map_value (Spelled-seq AllSpelled-u32 (λ _. AllSpelled-val_type)) (λ x h. record { count = h.0; type = h.1 })
 
 -- A body: its locals and its operators.
 AllSpelled-body : AllSpelled body (λ b. IsNestedBody b)
 AllSpelled-body =
-    AllSpelled-map_value (AllSpelled-seq (AllSpelled-vec (AllSpelled-value_with_place AllSpelled-local_entry)) (λ _. AllSpelled-expression))
+    Spelled-map_value (Spelled-seq (Spelled-vec (Spelled-value_with_place AllSpelled-local_entry)) (λ _. AllSpelled-expression))
     (λ x h. record { locals = h.0; listed = h.1.listed; nested = h.1.nested })
 
 -- each operator of a body takes a byte
@@ -97,13 +97,13 @@ body_placed p text b s =
 
 AllSpelled-placed_body : AllSpelled (value_with_place body) (λ b. IsNestedBody b.value × ArePlaced b.place b.value.operators)
 AllSpelled-placed_body = record {
-  has = λ p text b bytes s. ((AllSpelled-value_with_place AllSpelled-body).has p text b bytes s, body_placed p text b s);
+  has = λ p text b bytes s. ((Spelled-value_with_place AllSpelled-body).has p text b bytes s, body_placed p text b s);
 }
 
 -- A code entry: its body.
 AllSpelled-code_entry : AllSpelled code_entry IsRangedBody
 AllSpelled-code_entry =
-    AllSpelled-map_value (AllSpelled-seq AllSpelled-u32 (λ size. AllSpelled-within {size = λ b. length b.value.operators} body_takes AllSpelled-placed_body size))
+    Spelled-map_value (Spelled-seq AllSpelled-u32 (λ size. Spelled-within {size = λ b. length b.value.operators} body_takes AllSpelled-placed_body size))
     (λ x h. record {
       groups = h.1.0.0.locals.count;
       locals = h.1.0.0.locals.each;
@@ -116,12 +116,12 @@ AllSpelled-code_entry =
 -- A size and what a section holds.
 AllSpelled-sized : {A : Type 0} {g : Grammar A} {P : A → Type 0} (made : A → Section) → AllSpelled g P → ((a : A) → P a → IsRangedSection (made a))
     → AllSpelled (map_value (λ x. made x.1) (seq u32 (λ size. exactly (alone g) size))) IsRangedSection
-AllSpelled-sized made all keeps = AllSpelled-map_value (AllSpelled-seq AllSpelled-u32 (λ size. AllSpelled-exactly all size)) (λ x h. keeps x.1 h.1)
+AllSpelled-sized made all keeps = Spelled-map_value (Spelled-seq AllSpelled-u32 (λ size. Spelled-exactly all size)) (λ x h. keeps x.1 h.1)
 
 -- The same of what few bytes spell.
 AllSpelled-few_sized : {A : Type 0} {g : Grammar A} {P : A → Type 0} (made : A → Section) → FewSpelled g P → ((a : A) → P a → IsRangedSection (made a))
     → AllSpelled (map_value (λ x. made x.1) (seq u32 (λ size. exactly (alone g) size))) IsRangedSection
-AllSpelled-few_sized made all keeps = AllSpelled-map_value (AllSpelled-seq AllSpelled-u32 (λ size. AllSpelled-few all size)) (λ x h. keeps x.1 (h.1 h.0))
+AllSpelled-few_sized made all keeps = Spelled-map_value (Spelled-seq AllSpelled-u32 (λ size. AllSpelled-few all size)) (λ x h. keeps x.1 (h.1 h.0))
 
 -- A custom section: a name, and all other bytes.
 custom_has : (p : ℕ) (text : List ℕ) (c : Placed Custom) → AreBytes text → custom_section.spells p text c → IsRangedCustom c.value
@@ -137,24 +137,24 @@ AllSpelled-custom size = record { has = λ p text c bytes s. custom_has p text c
 
 -- The content of a section of each kind.
 AllSpelled-content : (kind : Kind) → AllSpelled (map_value (λ x. holds kind x.1) (seq u32 (λ size. exactly (content kind) size))) IsRangedSection
-AllSpelled-content CustomSection = AllSpelled-map_value (AllSpelled-seq AllSpelled-u32 (λ size. AllSpelled-custom size)) (λ x h. h.1)
-AllSpelled-content TypeSection = AllSpelled-sized (holds TypeSection) (AllSpelled-vec (AllSpelled-value_with_place AllSpelled-group)) (λ gs h. h)
-AllSpelled-content ImportSection = AllSpelled-sized (holds ImportSection) (AllSpelled-vec (AllSpelled-value_with_place AllSpelled-import)) (λ is h. h)
-AllSpelled-content FunctionSection = AllSpelled-sized (holds FunctionSection) (AllSpelled-vec AllSpelled-u32) (λ is h. h)
-AllSpelled-content TableSection = AllSpelled-few_sized (holds TableSection) (FewSpelled-vec (FewSpelled-value_with_place FewSpelled-table)) (λ ts h. h)
-AllSpelled-content MemorySection = AllSpelled-sized (holds MemorySection) (AllSpelled-vec (AllSpelled-value_with_place AllSpelled-memory_type)) (λ xs h. h)
-AllSpelled-content TagSection = AllSpelled-sized (holds TagSection) (AllSpelled-vec (AllSpelled-value_with_place AllSpelled-tag)) (λ is h. h)
-AllSpelled-content GlobalSection = AllSpelled-few_sized (holds GlobalSection) (FewSpelled-vec (FewSpelled-value_with_place FewSpelled-global)) (λ gs h. h)
-AllSpelled-content ExportSection = AllSpelled-sized (holds ExportSection) (AllSpelled-vec (AllSpelled-value_with_place AllSpelled-export)) (λ es h. h)
-AllSpelled-content StartSection = AllSpelled-sized (holds StartSection) (AllSpelled-map_value (AllSpelled-value_with_place AllSpelled-u32) (λ i h. h)) (λ start h. h)
-AllSpelled-content ElementSection = AllSpelled-few_sized (holds ElementSection) (FewSpelled-vec (FewSpelled-value_with_place FewSpelled-element)) (λ es h. h)
-AllSpelled-content DataCountSection = AllSpelled-sized (holds DataCountSection) (AllSpelled-map_value AllSpelled-u32 (λ n h. tt)) (λ count h. h)
-AllSpelled-content CodeSection = AllSpelled-sized (holds CodeSection) (AllSpelled-vec AllSpelled-code_entry) (λ bs h. h)
-AllSpelled-content DataSection = AllSpelled-few_sized (holds DataSection) (FewSpelled-vec (FewSpelled-value_with_place FewSpelled-data)) (λ ds h. h)
+AllSpelled-content CustomSection = Spelled-map_value (Spelled-seq AllSpelled-u32 (λ size. AllSpelled-custom size)) (λ x h. h.1)
+AllSpelled-content TypeSection = AllSpelled-sized (holds TypeSection) (Spelled-vec (Spelled-value_with_place AllSpelled-group)) (λ gs h. h)
+AllSpelled-content ImportSection = AllSpelled-sized (holds ImportSection) (Spelled-vec (Spelled-value_with_place AllSpelled-import)) (λ is h. h)
+AllSpelled-content FunctionSection = AllSpelled-sized (holds FunctionSection) (Spelled-vec AllSpelled-u32) (λ is h. h)
+AllSpelled-content TableSection = AllSpelled-few_sized (holds TableSection) (Spelled-vec (Spelled-value_with_place FewSpelled-table)) (λ ts h. h)
+AllSpelled-content MemorySection = AllSpelled-sized (holds MemorySection) (Spelled-vec (Spelled-value_with_place AllSpelled-memory_type)) (λ xs h. h)
+AllSpelled-content TagSection = AllSpelled-sized (holds TagSection) (Spelled-vec (Spelled-value_with_place AllSpelled-tag)) (λ is h. h)
+AllSpelled-content GlobalSection = AllSpelled-few_sized (holds GlobalSection) (Spelled-vec (Spelled-value_with_place FewSpelled-global)) (λ gs h. h)
+AllSpelled-content ExportSection = AllSpelled-sized (holds ExportSection) (Spelled-vec (Spelled-value_with_place AllSpelled-export)) (λ es h. h)
+AllSpelled-content StartSection = AllSpelled-sized (holds StartSection) (Spelled-map_value (Spelled-value_with_place AllSpelled-u32) (λ i h. h)) (λ start h. h)
+AllSpelled-content ElementSection = AllSpelled-few_sized (holds ElementSection) (Spelled-vec (Spelled-value_with_place FewSpelled-element)) (λ es h. h)
+AllSpelled-content DataCountSection = AllSpelled-sized (holds DataCountSection) (Spelled-map_value AllSpelled-u32 (λ n h. tt)) (λ count h. h)
+AllSpelled-content CodeSection = AllSpelled-sized (holds CodeSection) (Spelled-vec AllSpelled-code_entry) (λ bs h. h)
+AllSpelled-content DataSection = AllSpelled-few_sized (holds DataSection) (Spelled-vec (Spelled-value_with_place FewSpelled-data)) (λ ds h. h)
 
 -- A section: its content.
 AllSpelled-section : AllSpelled section IsRangedSection
-AllSpelled-section = AllSpelled-map_value (AllSpelled-seq (AllSpelled-any section_id) (λ k. AllSpelled-content k)) (λ x h. h.1)
+AllSpelled-section = Spelled-map_value (Spelled-seq (Spelled-any section_id) (λ k. AllSpelled-content k)) (λ x h. h.1)
 
 -- No items are a vector.
 no_items : {A : Type 0} (P : A → Type 0) → IsVector P []

@@ -3,7 +3,7 @@ use Rattle.std.proofs.Common.{◌<◌, ◌^◌, List, length, arith}
 use Rattle.std.specs.List.{AllByRecursion}
 use Rattle.wasmprinter_spec.specs.Grammar.{Grammar}
 use Rattle.wasmprinter_spec.specs.Name.{u32, vec}
-use Rattle.wasmprinter_reading.proofs.AllSpelled.{AllSpelled, AllSpelled-seq, AllSpelled-map_value, AllSpelled-times}
+use Rattle.wasmprinter_reading.proofs.AllSpelled.{ByteStrings, Spelled, AllSpelled, Spelled-of_all, Spelled-seq, Spelled-map_value, Spelled-times}
 use Rattle.wasmprinter_reading.proofs.LebRange.{AllSpelled-unsigned}
 
 -- What a vector holds: fewer than 2 ^ 32 items, each of which has P.
@@ -16,5 +16,7 @@ pub AllSpelled-u32 : AllSpelled u32 (λ n. n < 2 ^ 32)
 AllSpelled-u32 = AllSpelled-unsigned 32
 
 -- A vector, of items that each have P.
-pub AllSpelled-vec : {A : Type 0} {g : Grammar A} {P : A → Type 0} → AllSpelled g P → AllSpelled (vec g) (IsVector P)
-AllSpelled-vec all = AllSpelled-map_value (AllSpelled-seq AllSpelled-u32 (AllSpelled-times all)) (λ x h. record { count = omega (arith, h.0, h.1.0); each = h.1.1 })
+pub Spelled-vec : {kind : ByteStrings} {A : Type 0} {g : Grammar A} {P : A → Type 0} → Spelled kind g P → Spelled kind (vec g) (IsVector P)
+Spelled-vec all =
+    Spelled-map_value (Spelled-seq (Spelled-of_all AllSpelled-u32) (λ n. Spelled-times all n))
+    (λ x h. record { count = omega (arith, h.0, h.1.0); each = h.1.1 })

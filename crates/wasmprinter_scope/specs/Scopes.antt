@@ -1,22 +1,16 @@
 -- The program's scope, as the definitions see it, and what fields take from it.
 use Rattle.std.specs.Prelude.{ℕ, Bool, true, false, List, [], ◌∷◌, Option, option_map, is_some}
-use Rattle.wasmprinter_spec.specs.Types.{SubType, all_types}
 use Rattle.wasmprinter_spec.specs.Labels.{Named}
 use Rattle.wasmprinter_spec.specs.Names.{name_in}
-use Rattle.wasmprinter_spec.specs.Placed.{PlacedModule}
-use Rattle.wasmprinter_spec.specs.Module.{groups_of}
 use Rattle.wasmprinter_spec.specs.Layout.Declarations.{scope_of}
 use Rattle.wasmprinter_spec.specs.Layout.Declarations as layout
+use Rattle.wasmprinter_spec.specs.Folding.Arities.{types_of}
 use Rattle.wasmprinter_names.specs.Spaces.{id_of, outer_of}
 use Rattle.wasmprinter_names.specs.Views.{name_at}
 use Rattle.wasmprinter_names.specs.declared.space.Space.{Space}
 use Rattle.wasmprinter_labels.specs.Scan.{Scan, names_of}
 use Rattle.wasmprinter_fold.specs.Views.{folding_view}
 use Rattle.wasmprinter_scope.specs.declared.scope.Scope.{Scope}
-
--- the types of a module, by their indices
-abbrev pub types_of : PlacedModule → List SubType
-types_of m = all_types (groups_of m.types)
 
 abbrev pub scope_view : Scope → layout.Scope
 scope_view s = scope_of (types_of s.types.module.now) (names_of s.labels) s.function (option_map folding_view s.folder)

@@ -1,32 +1,31 @@
 -- The parts of a module don't depend on the option of colours but by the scope.
-use Rattle.std.specs.Prelude.{◌≡◌, ℕ, ◌+◌, List, [], ◌∷◌, ◌++◌, Bool, true, false, Option, Some, None, option_map, is_some, refl}
-use Rattle.std.proofs.Common.{sym, ap, ap₂, ◌∙◌}
+use Rattle.std.specs.Prelude.{◌≡◌, ℕ, ◌+◌, List, [], ◌∷◌, ◌++◌, Bool, Option, Some, None, option_map, is_some, refl}
+use Rattle.std.proofs.Common.{sym, ap₂}
 use Rattle.wasmprinter_spec.specs.Kinds.{Kind, TypeSection, ImportSection, FunctionSection, TableSection, MemorySection, TagSection, GlobalSection, ExportSection, StartSection, ElementSection, CodeSection, DataSection, CustomSection, DataCountSection}
 use Rattle.wasmprinter_spec.specs.Customs.Hints.{FunctionHints, next_hints, hints_behind, hints_of}
 use Rattle.wasmprinter_spec.specs.Placed.{PlacedFunction, PlacedModule}
 use Rattle.wasmprinter_spec.specs.Types.{FuncKind}
-use Rattle.wasmprinter_spec.specs.Options.{Options, Answers}
+use Rattle.wasmprinter_spec.specs.Options.{Options, Answers, in_colours}
 use Rattle.wasmprinter_spec.specs.Piece.{Piece}
-use Rattle.wasmprinter_spec.specs.Folding.Arities.{signatures_within}
-use Rattle.wasmprinter_spec.specs.Layout.Declarations.{Scope, Folding, folding_of}
+use Rattle.wasmprinter_spec.specs.Layout.Declarations.{Scope, folding_of}
 use Rattle.wasmprinter_spec.specs.Layout.Functions.{function_pieces, functions_pieces}
 use Rattle.wasmprinter_spec.specs.Layout.Groups.{numbered_pieces}
 use Rattle.wasmprinter_spec.specs.Layout.Customs.{Part, Shown, parts_at}
 use Rattle.wasmprinter_entries.specs.Externs.{imported_count}
 use Rattle.wasmprinter_fold.specs.Views.{FolderView, folding_view}
-use Rattle.wasmprinter_sections.specs.Sections.{Folds, with_paints, fields_of, section_parts, sections_parts}
+use Rattle.wasmprinter_sections.specs.Sections.{Folds, fields_of, sections_parts}
 
 module _ (o : Options) (b : Bool) (s : Scope) where
-  function-paint : (i : ℕ) (es : List FunctionHints) (f : PlacedFunction) → function_pieces o s i (next_hints i es) f ≡ function_pieces (with_paints o b) s i (next_hints i es) f
+  function-paint : (i : ℕ) (es : List FunctionHints) (f : PlacedFunction) → function_pieces o s i (next_hints i es) f ≡ function_pieces (in_colours o b) s i (next_hints i es) f
   unfolding function_pieces
   function-paint i es f = refl
 
-  functions-paint : (es : List FunctionHints) (i : ℕ) (fs : List PlacedFunction) → functions_pieces o s es i fs ≡ functions_pieces (with_paints o b) s es i fs
+  functions-paint : (es : List FunctionHints) (i : ℕ) (fs : List PlacedFunction) → functions_pieces o s es i fs ≡ functions_pieces (in_colours o b) s es i fs
   unfolding functions_pieces
   functions-paint es i [] = refl
   functions-paint es i (f ∷ fs) = ap₂ (λ (ps qs : List Piece). ps ++ qs) (function-paint i es f) (functions-paint (hints_behind i es) (i + 1) fs)
 
-  fields-paint : (m : PlacedModule) (k : Kind) → fields_of o s m k ≡ fields_of (with_paints o b) s m k
+  fields-paint : (m : PlacedModule) (k : Kind) → fields_of o s m k ≡ fields_of (in_colours o b) s m k
   fields-paint m TypeSection = refl
   fields-paint m ImportSection = refl
   fields-paint m FunctionSection = refl
@@ -42,7 +41,7 @@ module _ (o : Options) (b : Bool) (s : Scope) where
   fields-paint m CustomSection = refl
   fields-paint m DataCountSection = refl
 
-  pub sections-paint : (m : PlacedModule) (answers : List Answers) (ks : List Kind) → sections_parts o s m answers ks ≡ sections_parts (with_paints o b) s m answers ks
+  pub sections-paint : (m : PlacedModule) (answers : List Answers) (ks : List Kind) → sections_parts o s m answers ks ≡ sections_parts (in_colours o b) s m answers ks
   sections-paint m [] ks = refl
   sections-paint m (a ∷ answers) [] = refl
   sections-paint m (a ∷ answers) (k ∷ ks) =
@@ -50,7 +49,7 @@ module _ (o : Options) (b : Bool) (s : Scope) where
 
 -- what folds is what the layout folds by
 pub folding-of : (o : Options) (paints : Bool) (folder : Option FolderView) (m : PlacedModule) → Folds o paints folder m →
-    option_map folding_view folder ≡ folding_of (with_paints o paints) m
+    option_map folding_view folder ≡ folding_of (in_colours o paints) m
 folding-of o paints None m e = rw e refl
 folding-of o paints (Some f) m e = rw (e.0, e.1, e.2) refl
 

@@ -7,7 +7,7 @@ use Rattle.wasmprinter_error.specs.declared.error.Error.TheVariants.{Printer}
 use Rattle.wasmprinter_spec.specs.Meaning.{Meaning}
 use Rattle.wasmprinter_spec.specs.Names.{Names}
 use Rattle.wasmprinter_spec.specs.Placed.{PlacedModule}
-use Rattle.wasmprinter_spec.specs.Options.{Options, Answers}
+use Rattle.wasmprinter_spec.specs.Options.{Options, Answers, in_colours}
 use Rattle.wasmprinter_spec.specs.Piece.{Piece, Begin, Feed, Open}
 use Rattle.wasmprinter_spec.specs.Layout.{module_parts, module_pieces_of, module_pieces_with}
 use Rattle.wasmprinter_spec.specs.Layout.Groups.{close, has_break, group_at}
@@ -19,7 +19,7 @@ use Rattle.wasmprinter_annotations.specs.Parts.{PrintsLaid, PrintsParts}
 use Rattle.wasmprinter_annotations.specs.Lines.{PrintsPartLines}
 use Rattle.wasmprinter_annotations.proofs.Parts.{laid_behind, joined-append, no_parts, shown_then, shown_fails, parts_then, parts_end}
 use Rattle.wasmprinter_fold.specs.Views.{FolderView}
-use Rattle.wasmprinter_sections.specs.Sections.{module_laid, Folds, with_paints}
+use Rattle.wasmprinter_sections.specs.Sections.{module_laid, Folds}
 use Rattle.wasmprinter_sections.proofs.Painting.{keeps-folds}
 
 -- in front of the parts
@@ -110,9 +110,9 @@ module _ {P : Type 0} (n : Meaning P) {keeps : Bool} (p o : Options) (answers : 
 
 -- printed by what folds, if something does
 pub by_folder : {P : Type 0} (n : Meaning P) (o : Options) (paints : Bool) (names : Names) (m : PlacedModule) (folder : Option FolderView) {a t : P} (r : Result (Unit {0}) Error) →
-    Folds o paints folder m → (answers : Answers) × PrintsLaid n o a t (is_some folder) r (module_laid (with_paints o paints) answers names m) →
-    (answers : Answers) × PrintsLaid n o a t o.folds r (module_laid (with_paints o paints) answers names m)
+    Folds o paints folder m → (answers : Answers) × PrintsLaid n o a t (is_some folder) r (module_laid (in_colours o paints) answers names m) →
+    (answers : Answers) × PrintsLaid n o a t o.folds r (module_laid (in_colours o paints) answers names m)
 by_folder n o paints names m folder {a} {t} r folds whole = (
   whole.0,
-  subst (λ (b : Bool). PrintsLaid n o a t b r (module_laid (with_paints o paints) whole.0 names m)) (keeps-folds o paints folder m folds) whole.1,
+  subst (λ (b : Bool). PrintsLaid n o a t b r (module_laid (in_colours o paints) whole.0 names m)) (keeps-folds o paints folder m folds) whole.1,
 )

@@ -1,5 +1,5 @@
 -- The parts of a module by the kinds of its sections: the fields of a section, and behind them the custom sections that stand there.
-use Rattle.std.specs.Prelude.{◌≡◌, ℕ, ◌+◌, List, [], ◌∷◌, ◌++◌, length, Bool, true, false, Option, Some, None}
+use Rattle.std.specs.Prelude.{◌≡◌, ◌+◌, List, [], ◌∷◌, ◌++◌, length, Bool, true, false, Option, Some, None}
 use Rattle.wasmprinter_spec.specs.Types.{FuncKind, TableKind, MemoryKind, GlobalKind, TagKind}
 use Rattle.wasmprinter_spec.specs.Kinds.{Kind, TypeSection, ImportSection, FunctionSection, TableSection, MemorySection, TagSection, GlobalSection, ExportSection, StartSection, ElementSection, CodeSection, DataSection}
 use Rattle.wasmprinter_spec.specs.Customs.Hints.{hints_of}
@@ -20,18 +20,15 @@ use Rattle.wasmprinter_spec.specs.Layout.Elements.{element_pieces}
 use Rattle.wasmprinter_spec.specs.Layout.Functions.{functions_pieces}
 use Rattle.wasmprinter_spec.specs.Layout.DataSegments.{data_pieces}
 use Rattle.wasmprinter_spec.specs.Layout.Customs.{Part, Shown, parts_at, Laid, laid_parts}
+use Rattle.wasmprinter_spec.specs.Folding.Arities.{types_of}
 use Rattle.wasmprinter_entries.specs.Externs.{imported_count}
 use Rattle.wasmprinter_fold.specs.Views.{FolderView}
-use Rattle.wasmprinter_scope.specs.Scopes.{types_of, scope_of_function}
+use Rattle.wasmprinter_scope.specs.Scopes.{scope_of_function}
 
 -- what folds the operators of a module, if the options want it, with the sequences of colours in texts or without
 abbrev pub Folds : Options → Bool → Option FolderView → PlacedModule → Type 0
 Folds o paints None m = o.folds ≡ false
 Folds o paints (Some f) m = (o.folds ≡ true) × (f.operators_of ≡ m) × (f.paints ≡ paints)
-
--- the options of what is printed with them or without
-abbrev pub with_paints : Options → Bool → Options
-with_paints o paints = record o { paints = paints }
 
 -- what fields in front of the functions are laid out by
 abbrev pub first_scope : Options → Names → PlacedModule → Scope

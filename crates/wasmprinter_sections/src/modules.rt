@@ -2,7 +2,7 @@
 //! that stand there.
 ghost use Rattle.std.specs.Prelude.{◌≡◌, ◌∷◌, ◌++◌, List, Bool, true, None, length, IfOk, IfErr, is_some};
 ghost use Rattle.wasmprinter_error.specs.declared.error.Error.TheVariants.{Memory};
-ghost use Rattle.wasmprinter_spec.specs.Options.{Answers};
+ghost use Rattle.wasmprinter_spec.specs.Options.{Answers, in_colours};
 ghost use Rattle.wasmprinter_spec.specs.Layout.{module_parts};
 ghost use Rattle.wasmprinter_spec.specs.Layout.Customs.{Shown, parts_at};
 ghost use Rattle.wasmprinter_spec.specs.Layout.Identifiers.{leading_mark_pieces};
@@ -11,7 +11,7 @@ ghost use Rattle.wasmprinter_labels.specs.Scan.{names_of};
 ghost use Rattle.wasmprinter_annotations.specs.Parts.{PrintsLaid};
 ghost use Rattle.wasmprinter_annotations.specs.Lines.{PrintsPartLines};
 ghost use Rattle.wasmprinter_scope.specs.Scopes.{scope_view, folds_in};
-ghost use Rattle.wasmprinter_sections.specs.Sections.{section_parts, sections_parts, kinds, module_laid, Folds, with_paints};
+ghost use Rattle.wasmprinter_sections.specs.Sections.{section_parts, sections_parts, kinds, module_laid, Folds};
 
 use crate::sections::{has_fields, write_fields_of};
 use std::alloc::Global;
@@ -91,7 +91,7 @@ fn write_parts<'s, 'a, P: Print>(
     ensures { (paints : Bool) → Folds options.now paints folder.entry module.now → (answers : Answers)
         × PrintsPartLines P.meaning options.now p.old p.new (is_some folder.entry) result
         (Shown (leading_mark_pieces (names_of labels.entry).module_name)
-        ∷ module_parts (with_paints options.now paints) answers (names_of labels.entry) module.now) }
+        ∷ module_parts (in_colours options.now paints) answers (names_of labels.entry) module.now) }
 {
     write_leading_mark(p, labels.identifiers().module())?;
     let mut scope = Scope {
@@ -130,7 +130,7 @@ fn write_whole<'s, 'a, P: Print>(
 ) -> Result<(), Error>
     ensures { (paints : Bool) → Folds options.now paints folder.entry module.now → (answers : Answers)
         × PrintsLaid P.meaning options.now p.old p.new (is_some folder.entry) result
-        (module_laid (with_paints options.now paints) answers (names_of labels.entry) module.now) }
+        (module_laid (in_colours options.now paints) answers (names_of labels.entry) module.now) }
 {
     begin(p, 0)?;
     open(p, "module")?;
@@ -155,7 +155,7 @@ pub fn write_module<'s, 'a, P: Print>(
     labels: OpenLabels<'s, 'a>,
 ) -> Result<(), Error>
     ensures { (answers : Answers) × PrintsLaid P.meaning options.now p.old p.new options.now.folds result
-        (module_laid (with_paints options.now (P.colors p.old)) answers (names_of labels.entry) module.now) }
+        (module_laid (in_colours options.now (P.colors p.old)) answers (names_of labels.entry) module.now) }
 {
     let folder = folder_of(alloc, p, options, module)?;
     write_whole(p, options, module, labels, folder)

@@ -1,3 +1,8 @@
+pub mod Each
+pub mod Classes
+pub mod Texts
+pub mod SameKinds
+pub mod Sequences
 pub mod Ordered
 pub mod OneLine
 pub mod ImmediateLines

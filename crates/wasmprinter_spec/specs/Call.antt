@@ -1,5 +1,5 @@
 -- Calls on a printer, and the text that a list of calls hands over. This is the printer's own: the standard knows only the text.
-use Rattle.std.specs.Prelude.{ℕ, List, [], ◌∷◌, ◌++◌, Bool, Option, map}
+use Rattle.std.specs.Prelude.{◌≡◌, ℕ, List, [], ◌∷◌, ◌++◌, Bool, false, Option, map}
 
 -- what a style call chooses
 pub data Style : Type 0 where
@@ -18,6 +18,22 @@ pub data Call : Type 0 where
   Line : Option ℕ → Call
   Start : Style → Call
   Claim : List ℕ → ℕ → List ℕ → Bool → Call
+
+-- the printer didn't take a custom section itself
+abbrev pub IsUnclaimed : Call → Type 0
+IsUnclaimed (Claim name place bytes answer) = answer ≡ false
+IsUnclaimed _ = Unit {0}
+
+-- a call that hands over text, though it be empty
+abbrev pub IsText : Call → Type 0
+IsText (Text s) = Unit {0}
+IsText Newline = Unit {0}
+IsText _ = ⊥
+
+-- one that hands over text or chooses a style
+abbrev pub IsTextOrStyle : Call → Type 0
+IsTextOrStyle (Start style) = Unit {0}
+IsTextOrStyle c = IsText c
 
 -- the text that one call hands over
 abbrev pub call_text : Call → List ℕ

@@ -1,5 +1,6 @@
 -- How the styles of a layout look on a terminal, and the text of calls with the sequences of their styles. The standard has no such thing.
 use Rattle.std.specs.Prelude.{ℕ, List, [], ◌∷◌, ◌++◌, true, false, Option, Some, None}
+use Rattle.std.specs.List.{concat}
 use Rattle.wasmprinter_spec.specs.Call.{Call, Text, Newline, Line, Start, Claim, Style, Literal, Name, Keyword, TypeName, Comment, Reset}
 use Rattle.wasmprinter_spec.specs.Colour.{uncolour}
 use Rattle.wasmprinter_spec.specs.Looks.{Look, sequences_of}
@@ -21,17 +22,12 @@ look_of TypeName = Some (strong_look 2)
 look_of Comment = Some (colour_look 6)
 look_of Reset = None
 
--- byte strings, one after the other
-abbrev pub concatenation : List (List ℕ) → List ℕ
-concatenation [] = []
-concatenation (bytes ∷ rest) = bytes ++ concatenation rest
-
 -- the bytes that one call hands over: those of a text, a line feed, and the sequences of a style
 abbrev pub coloured_bytes : Call → List ℕ
 coloured_bytes (Text bytes) = bytes
 coloured_bytes Newline = 10 ∷ []
 coloured_bytes (Line place) = []
-coloured_bytes (Start style) = concatenation (sequences_of (look_of style))
+coloured_bytes (Start style) = concat (sequences_of (look_of style))
 coloured_bytes (Claim name place bytes claimed) = []
 
 -- the bytes of a list of calls

@@ -20,6 +20,10 @@ pub record Options : Type 0 where
 abbrev pub defaults : Options
 defaults = record { offsets = false; skeleton = false; invents = false; folds = false; paints = false; indent = codes "  " }
 
+-- with the sequences of colours in the text of folded operators, or without
+abbrev pub in_colours : Options → Bool → Options
+in_colours o paints = record o { paints = paints }
+
 -- the answer to the claim of each custom section, by the number of the section among the custom sections
 abbrev pub Answers : Type 0
 Answers = ℕ → Bool

@@ -1,14 +1,10 @@
 -- What the lines of calls are made of: how they grow as calls are added, that they are the text behind their first beginning, and that it
 -- makes no difference how text is cut into pieces.
-use Rattle.std.proofs.Common.{◌≡◌, ℕ, List, [], ◌∷◌, ◌++◌, refl, sym, ap, ap₂, ◌∙◌, append_assoc, inl, inr, map}
+use Rattle.std.proofs.Common.{◌≡◌, ℕ, List, [], ◌∷◌, ◌++◌, refl, sym, ap, ap₂, ◌∙◌, append_assoc, inl, inr}
 use Rattle.std.specs.Prelude.{Option, ◌⊎◌}
-use Rattle.wasmprinter_spec.specs.Call.{Call, Text, Line, call_text, text_of, atoms}
+use Rattle.wasmprinter_spec.specs.Call.{Call, Line, call_text, text_of}
 use Rattle.wasmprinter_spec.specs.Lines.{TextLine, text_before_line, lines_of, joined_lines}
 use Rattle.wasmprinter_tracker.specs.Tracked.{extend_last}
-
-pub text_of-append : (k l : List Call) → text_of (k ++ l) ≡ text_of k ++ text_of l
-text_of-append [] l = refl
-text_of-append (c ∷ k) l = ap (λ x. call_text c ++ x) (text_of-append k l) ∙ sym (append_assoc (call_text c) (text_of k) (text_of l))
 
 -- ---- calls more
 
@@ -58,30 +54,3 @@ joined-lines_of (c ∷ k) =
 -- and nothing stands there where the calls begin with a line
 pub joined-begun : (p : Option ℕ) (k : List Call) → joined_lines (lines_of (Line p ∷ k)) ≡ text_of (Line p ∷ k)
 joined-begun p k = joined-lines_of k
-
--- ---- text cut otherwise
-
-bytes-before : (s : List ℕ) (k : List Call) → text_before_line (map (λ b. Text (b ∷ [])) s ++ k) ≡ s ++ text_before_line k
-bytes-before [] k = refl
-bytes-before (b ∷ s) k = ap (λ x. b ∷ x) (bytes-before s k)
-
-bytes-lines : (s : List ℕ) (k : List Call) → lines_of (map (λ b. Text (b ∷ [])) s ++ k) ≡ lines_of k
-bytes-lines [] k = refl
-bytes-lines (b ∷ s) k = bytes-lines s k
-
-before-atoms : (k : List Call) → text_before_line (atoms k) ≡ text_before_line k
-before-atoms [] = refl
-before-atoms (Text s ∷ k) = bytes-before s (atoms k) ∙ ap (λ x. s ++ x) (before-atoms k)
-before-atoms (Line p ∷ k) = refl
-before-atoms (c ∷ k) = ap (λ x. call_text c ++ x) (before-atoms k)
-
-lines_of-atoms : (k : List Call) → lines_of (atoms k) ≡ lines_of k
-lines_of-atoms [] = refl
-lines_of-atoms (Text s ∷ k) = bytes-lines s (atoms k) ∙ lines_of-atoms k
-lines_of-atoms (Line p ∷ k) =
-    ap₂ (λ (t : List ℕ) (lines : List TextLine). (p, t) ∷ lines) (before-atoms k) (lines_of-atoms k)
-lines_of-atoms (c ∷ k) = lines_of-atoms k
-
--- lists of calls that differ only in how text is cut have the same lines
-pub alike_lines : (k l : List Call) → atoms k ≡ atoms l → lines_of k ≡ lines_of l
-alike_lines k l e = sym (lines_of-atoms k) ∙ ap lines_of e ∙ lines_of-atoms l

@@ -1,15 +1,15 @@
 -- What a run of calls makes of a tracker: its text and its lines are those of the calls.
 use Rattle.std.proofs.Common.{◌≡◌, ℕ, List, [], ◌∷◌, ◌++◌, refl, sym, ap, ◌∙◌, subst, append_assoc, append-nil, true≢false}
 use Rattle.std.specs.Prelude.{Option, Bool, true, false}
-use Rattle.std.specs.List.{AllByRecursion}
 use Rattle.std.specs.declared.io.Error.{Error as IoError}
-use Rattle.wasmprinter_spec.specs.Call.{Call, Text, Newline, Line, Start, Claim, call_text, text_of}
+use Rattle.wasmprinter_spec.specs.Call.{Call, Text, Newline, Line, Start, Claim, IsUnclaimed, call_text, text_of}
 use Rattle.wasmprinter_spec.specs.Lines.{TextLine, lines_of}
 use Rattle.wasmprinter_spec.specs.Meaning.{Run}
+use Rattle.wasmprinter_spec.proofs.Texts.{text_of-append}
 use Rattle.wasmprinter_print.specs.Emits.{Broken}
 use Rattle.wasmprinter_tracker.specs.Tracked.{Tracked, without_lines, extend_last, with_line_if}
-use Rattle.wasmprinter_tracker.specs.Tracking.{tracked_after, tracked_meaning, BeginsWith, IsUnclaimed, Tracks}
-use Rattle.wasmprinter_tracker.proofs.LineLaws.{text_of-append, lines_of-text, lines_of-line}
+use Rattle.wasmprinter_tracker.specs.Tracking.{tracked_after, tracked_meaning, BeginsWith, Tracks}
+use Rattle.wasmprinter_tracker.proofs.LineLaws.{lines_of-text, lines_of-line}
 
 -- a line that begins adds no text, and is there unless it is lost
 line-text : (b : Bool) (t : Tracked) (p : Option ℕ) → (with_line_if b t p).text ≡ t.text
@@ -82,17 +82,13 @@ run_text s (c ∷ cs) t r =
     run_text r.0 cs t r.2 ∙ ap (λ (u : Tracked). u.text ++ text_of cs) r.1.step.0 ∙ ap (λ x. x ++ text_of cs) (tracked_after-text s c)
     ∙ append_assoc s.text (call_text c) (text_of cs)
 
-claims_never : (s : Tracked) (c : Call) (t : Tracked) → tracked_meaning.after s c t → IsUnclaimed c
+-- a tracker takes no custom section
+pub claims_never : (s : Tracked) (c : Call) (t : Tracked) → tracked_meaning.after s c t → IsUnclaimed c
 claims_never s (Text bytes) t h = tt
 claims_never s Newline t h = tt
 claims_never s (Line place) t h = tt
 claims_never s (Start style) t h = tt
 claims_never s (Claim name place bytes answer) t h = h.1
-
--- a tracker takes no custom section
-pub run_unclaimed : (s : Tracked) (calls : List Call) (t : Tracked) → Run tracked_meaning s calls t → AllByRecursion IsUnclaimed calls
-run_unclaimed s [] t r = tt
-run_unclaimed s (c ∷ cs) t r = (claims_never s c r.0 r.1.step, run_unclaimed r.0 cs t r.2)
 
 -- ---- what stays of the old text
 

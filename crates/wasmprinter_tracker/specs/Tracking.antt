@@ -2,7 +2,7 @@
 use Rattle.std.specs.Prelude.{◌≡◌, ℕ, List, [], ◌∷◌, ◌++◌, false, None}
 use Rattle.std.specs.IoError.{error_kind}
 use Rattle.std.specs.declared.io.ErrorKind.TheVariants.{OutOfMemory}
-use Rattle.wasmprinter_spec.specs.Call.{Call, Text, Newline, Line, Start, Claim, text_of}
+use Rattle.wasmprinter_spec.specs.Call.{Call, Text, Newline, Line, Start, Claim, text_of, IsText}
 use Rattle.wasmprinter_spec.specs.Lines.{lines_of}
 use Rattle.wasmprinter_spec.specs.Meaning.{Meaning}
 use Rattle.wasmprinter_tracker.specs.Tracked.{Tracked, with_text, with_line}
@@ -22,17 +22,11 @@ KeepsAll Newline new = new.lost ≡ false
 KeepsAll (Claim name place bytes answer) new = answer ≡ false
 KeepsAll _ new = Unit {0}
 
--- only what writes text can fail
-abbrev pub WantsMemory : Call → Type 0
-WantsMemory (Text bytes) = Unit {0}
-WantsMemory Newline = Unit {0}
-WantsMemory _ = ⊥
-
--- the meaning of a tracker: a call that fails wants memory, and leaves the text and its lines as they were
+-- the meaning of a tracker: only what writes text can fail, and a call that fails wants memory, and leaves the text and its lines as they were
 abbrev pub tracked_meaning : Meaning Tracked
 tracked_meaning = record {
   after = λ old call new. (new ≡ tracked_after old call) × KeepsAll call new;
-  may_fail = λ old call. WantsMemory call;
+  may_fail = λ old call. IsText call;
   partly = λ old call error new. (error_kind error ≡ OutOfMemory) × (new.text ≡ old.text) × (new.lines ≡ old.lines);
   faults = λ t. None;
 }
@@ -40,11 +34,6 @@ tracked_meaning = record {
 -- new begins with old
 abbrev pub BeginsWith : List ℕ → List ℕ → Type 0
 BeginsWith old new = (more : List ℕ) × (new ≡ old ++ more)
-
--- no custom section was taken
-abbrev pub IsUnclaimed : Call → Type 0
-IsUnclaimed (Claim name place bytes answer) = answer ≡ false
-IsUnclaimed _ = Unit {0}
 
 -- a tracker has the text and the lines of these calls, behind the text that stood there, unless a line was lost
 pub record Tracks (base : List ℕ) (calls : List Call) (t : Tracked) : Type 0 where

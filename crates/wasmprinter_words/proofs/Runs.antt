@@ -1,48 +1,22 @@
 -- Characters that stand in identifiers.
-use Rattle.std.specs.Prelude.{◌≡◌, ℕ, ◌<◌, ◌≤◌, ◌^◌, Bool, true, false, not, ◌&&◌, ◌||◌, List, [], ◌∷◌, ◌++◌, length, IsUtf8, chars, decimal, if◌then◌else◌, encode_utf8_all}
+use Rattle.std.specs.Prelude.{◌≡◌, ℕ, ◌<◌, ◌^◌, Bool, true, false, ◌&&◌, List, [], ◌∷◌, ◌++◌, length, IsUtf8, chars, decimal, if◌then◌else◌, encode_utf8_all}
 use Rattle.std.specs.List.{list_all}
 use Rattle.std.specs.Str.{IsAscii}
 use Rattle.std.specs.Str.Parse.{AllDigits}
 use Rattle.std.specs.Char.{digit_value}
-use Rattle.std.proofs.Common.{refl, sym, ap, ◌∙◌, arith, true≢false, leb, ltb, cond, lit<, suc, zero}
-use Rattle.std.proofs.lemmas.Bool.{and_parts, and_from, ltb-true, ltb-false, ne_eqb, le-ltb, le-leb, agree_below, agree_below_at}
+use Rattle.std.proofs.Common.{refl, sym, ap, ◌∙◌, arith, true≢false, ltb, cond, suc, zero}
+use Rattle.std.proofs.lemmas.Bool.{and_parts, and_from, ltb-true, ltb-false}
 use Rattle.std.proofs.lemmas.Fmt.{decimal_is_IsNumeral}
 use Rattle.std.proofs.lemmas.Str.{chars-IsAscii, encodes-IsAscii, encodes-chars}
-use Rattle.std.proofs.lemmas.Str.Parse.{digit_at}
-use Rattle.wasmprinter_spec.specs.Character.{Foreign, class}
+use Rattle.wasmprinter_spec.specs.Character.{class}
 use Rattle.wasmprinter_spec.specs.Names.Content.{index_content}
 use Rattle.wasmprinter_spec.specs.Quoted.{runs, all_run, is_run, quoted_text, identifier_text}
+use Rattle.wasmprinter_spec.proofs.Classes.{foreign, digit_class}
 
 -- the test of each character
 pub all_run-list : (cs : List ℕ) → list_all (λ c. runs (class c)) cs ≡ all_run cs
 all_run-list [] = refl
 all_run-list (c ∷ cs) = ap (λ b. runs (class c) && b) (all_run-list cs)
-
--- a character from 128 on is foreign
-foreign : (c : ℕ) → 128 ≤ c → class c ≡ Foreign
-unfolding class
-foreign c h =
-    rw (
-      ne_eqb c 32 (λ e. omega arith),
-      ne_eqb c 9 (λ e. omega arith),
-      ne_eqb c 10 (λ e. omega arith),
-      ne_eqb c 13 (λ e. omega arith),
-      ne_eqb c 40 (λ e. omega arith),
-      ne_eqb c 41 (λ e. omega arith),
-      ne_eqb c 59 (λ e. omega arith),
-      ne_eqb c 34 (λ e. omega arith),
-      ne_eqb c 92 (λ e. omega arith),
-      ne_eqb c 36 (λ e. omega arith),
-      ne_eqb c 64 (λ e. omega arith),
-      ne_eqb c 44 (λ e. omega arith),
-      ne_eqb c 91 (λ e. omega arith),
-      ne_eqb c 93 (λ e. omega arith),
-      ne_eqb c 123 (λ e. omega arith),
-      ne_eqb c 125 (λ e. omega arith),
-      le-ltb c 32 (omega arith),
-      ne_eqb c 127 (λ e. omega arith),
-      le-leb 128 c h,
-    )
 
 low : (c : ℕ) → runs (class c) ≡ true → c < 128
 low c h = by (ltb c 128) refl
@@ -84,20 +58,8 @@ run-some bs u n = by (chars bs) refl
 
 -- ---- made up identifiers
 
-is_digit_below : ℕ → Bool
-is_digit_below c = not (leb 48 c) || runs (class c)
-
-digits_below : agree_below is_digit_below (λ c. true) 58 ≡ true
-unfolding is_digit_below class
-digits_below = refl
-
 digit_runs : (c : ℕ) → digit_value c < 10 → runs (class c) ≡ true
-unfolding is_digit_below
-digit_runs c h =
-    let within : (48 ≤ c) × (c ≤ 57) = digit_at (c ∷ []) 0 (h, tt) (lit< tt) in
-    let above : leb 48 c ≡ true = le-leb 48 c within.0 in
-    let e : (not (leb 48 c) || runs (class c)) ≡ true = agree_below_at is_digit_below (λ x. true) 58 c digits_below (omega arith) in
-    rw above at e
+digit_runs c h = ap runs (digit_class c h)
 
 digits_run : (ds : List ℕ) → AllDigits 10 ds → all_run ds ≡ true
 digits_run [] h = refl

@@ -1,7 +1,8 @@
 //! Annotations of branch hints (Code Metadata, a document beside the WebAssembly Core Specification).
-ghost use Rattle.std.specs.Prelude.{[], ◌∷◌};
-ghost use Rattle.wasmprinter_spec.specs.Options.{Options};
-ghost use Rattle.wasmprinter_spec.specs.Piece.{HintNote};
+ghost use Rattle.std.specs.Prelude.{◌≡◌, [], ◌∷◌, ◌++◌, codes};
+ghost use Rattle.wasmprinter_spec.specs.Options.{Options, defaults};
+ghost use Rattle.wasmprinter_spec.specs.Piece.{HintNote, flag_byte, text};
+ghost use Rattle.wasmprinter_spec.specs.Quoted.{quoted_bytes};
 ghost use Rattle.wasmprinter_print.specs.Prints.{Prints};
 
 use std::io;
@@ -13,14 +14,18 @@ const TAKEN_NOTE: &str = "(@metadata.code.branch_hint \"\\01\")";
 /// Says that an operator is not likely to branch.
 const NOT_TAKEN_NOTE: &str = "(@metadata.code.branch_hint \"\\00\")";
 
-/// Writes the annotation that says whether the operator behind it is likely to branch.
+/// The annotation that says whether an operator is likely to branch.
 #[tactic(auto, unfolding(wasmprinter_spec::specs::Quoted::quoted_bytes, wasmprinter_spec::specs::Quoted::byte_text))]
+pub fn hint_text(taken: bool) -> &'static str
+    ensures note { result.now ≡ codes "(@metadata.code.branch_hint " ++ (quoted_bytes (flag_byte taken ∷ []) ++ codes ")") }
+    ensures shown { result.now ≡ text defaults (HintNote taken) }
+{
+    if taken { TAKEN_NOTE } else { NOT_TAKEN_NOTE }
+}
+
+/// Writes the annotation that says whether the operator behind it is likely to branch.
 pub fn hint_note<P: Print>(p: &mut P, taken: bool) -> io::Result<()>
     ensures { (o : Options) → Prints P.meaning o p.old p.new result (HintNote taken ∷ []) }
 {
-    text_in_style(
-        p,
-        Style::Comment,
-        if taken { TAKEN_NOTE } else { NOT_TAKEN_NOTE },
-    )
+    text_in_style(p, Style::Comment, hint_text(taken))
 }

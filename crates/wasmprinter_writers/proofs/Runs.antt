@@ -1,5 +1,6 @@
 -- What runs of calls make of the bytes that a writer tells.
 use Rattle.std.specs.Prelude.{◌≡◌, ℕ, List, [], ◌∷◌, ◌++◌, Option, Some, None, Ok, refl}
+use Rattle.std.specs.List.{concat}
 use Rattle.std.specs.Io.KnownBytes.{Appends}
 use Rattle.std.proofs.Common.{sym, ap, ◌∙◌, append_assoc, append-nil, inl, inr}
 use Rattle.wasmprinter_spec.specs.Call.{Call, Text, Newline, Line, Start, Claim, call_text, text_of}
@@ -7,7 +8,7 @@ use Rattle.wasmprinter_spec.specs.Meaning.{Meaning, Run}
 use Rattle.wasmprinter_writers.specs.Writing.{Writing, TakesWhole, WritesNothing, WritesEach}
 use Rattle.wasmprinter_writers.specs.TextCalls.{WritesText, text_meaning}
 use Rattle.wasmprinter_spec.specs.Looks.{sequences_of}
-use Rattle.wasmprinter_spec.specs.Coloured.{look_of, concatenation, coloured_bytes, coloured_text}
+use Rattle.wasmprinter_spec.specs.Coloured.{look_of, coloured_bytes, coloured_text}
 use Rattle.wasmprinter_writers.specs.ColourCalls.{Painting, PaintsBySequences, PaintsNothing, WritesInColour, coloured_meaning}
 
 appends_nothing : (a : Option (List ℕ)) → Appends a a []
@@ -30,11 +31,11 @@ Grows {T} view takes = (s : T) (bytes : List ℕ) (t : T) → takes s bytes (Ok 
 
 -- byte strings that were all written
 each_appended : {T : Type 0} (view : T → Option (List ℕ)) (takes : Writing T) → Grows view takes →
-    (all : List (List ℕ)) (s t : T) → WritesEach takes s all (Ok tt) t → Appends (view s) (view t) (concatenation all)
+    (all : List (List ℕ)) (s t : T) → WritesEach takes s all (Ok tt) t → Appends (view s) (view t) (concat all)
 each_appended view takes grows [] s t h = stays view s t h
 each_appended view takes grows (bytes ∷ rest) s t (inl h) = absurd h
 each_appended view takes grows (bytes ∷ rest) s t (inr h) =
-    appends_both (view s) (view h.0) (view t) bytes (concatenation rest) (grows s bytes h.0 h.1) (each_appended view takes grows rest h.0 t h.2)
+    appends_both (view s) (view h.0) (view t) bytes (concat rest) (grows s bytes h.0 h.1) (each_appended view takes grows rest h.0 t h.2)
 
 text_call : {T : Type 0} (view : T → Option (List ℕ)) (takes : Writing T) → Grows view takes →
     (s : T) (c : Call) (t : T) → WritesText takes s c (Ok tt) t → Appends (view s) (view t) (call_text c)
@@ -45,7 +46,7 @@ text_call view takes grows s (Start style) t h = stays view s t h
 text_call view takes grows s (Claim name place bytes claimed) t h = stays view s t h.1
 
 coloured_call : {T : Type 0} (view : T → Option (List ℕ)) (takes : Writing T) (paints : Painting T) → Grows view takes →
-    ((s : T) (look : _) (t : T) → paints s look (Ok tt) t → Appends (view s) (view t) (concatenation (sequences_of look))) →
+    ((s : T) (look : _) (t : T) → paints s look (Ok tt) t → Appends (view s) (view t) (concat (sequences_of look))) →
     (s : T) (c : Call) (t : T) → WritesInColour takes paints s c (Ok tt) t → Appends (view s) (view t) (coloured_bytes c)
 coloured_call view takes paints grows painted s (Text bytes) t h = grows s bytes t h
 coloured_call view takes paints grows painted s Newline t h = grows s (10 ∷ []) t h

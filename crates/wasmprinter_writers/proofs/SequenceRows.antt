@@ -1,37 +1,10 @@
 -- Worked rows of the sequences that a printer in colours writes, typed by hand.
-use Rattle.std.specs.Prelude.{◌≡◌, ℕ, List, [], ◌∷◌, ◌++◌, true, false, Some, None, codes, refl}
+use Rattle.std.specs.Prelude.{◌≡◌, [], ◌∷◌, ◌++◌, true, false, Some, None, codes, refl}
 use Rattle.std.specs.Fmt.{digits}
-use Rattle.wasmprinter_spec.specs.Call.{Text, Newline, Line, Start, Claim, Literal, Name, Keyword, TypeName, Comment, Reset}
+use Rattle.wasmprinter_spec.specs.Call.{Text, Newline, Line, Start, Claim, Keyword, Reset}
 use Rattle.wasmprinter_spec.specs.Looks.{sequences_of}
-use Rattle.wasmprinter_spec.specs.Coloured.{coloured_bytes, coloured_text}
-
--- ESC, [ and a text
-abbrev escape : List ℕ → List ℕ
-escape s = 27 ∷ 91 ∷ s
-
-literals : coloured_bytes (Start Literal) ≡ escape (codes "0m") ++ escape (codes "31m")
-unfolding digits
-literals = refl
-
-names : coloured_bytes (Start Name) ≡ escape (codes "0m") ++ escape (codes "35m")
-unfolding digits
-names = refl
-
-keywords : coloured_bytes (Start Keyword) ≡ escape (codes "0m") ++ escape (codes "1m") ++ escape (codes "38;5;11m")
-unfolding digits
-keywords = refl
-
-types : coloured_bytes (Start TypeName) ≡ escape (codes "0m") ++ escape (codes "1m") ++ escape (codes "38;5;10m")
-unfolding digits
-types = refl
-
-comments : coloured_bytes (Start Comment) ≡ escape (codes "0m") ++ escape (codes "36m")
-unfolding digits
-comments = refl
-
-back_to_plain : coloured_bytes (Start Reset) ≡ escape (codes "0m")
-unfolding digits
-back_to_plain = refl
+use Rattle.wasmprinter_spec.specs.Coloured.{coloured_text}
+use Rattle.wasmprinter_spec.proofs.Sequences.{escape}
 
 -- the module without fields
 empty_module : coloured_text (Line (Some 0) ∷ Text (codes "(") ∷ Start Keyword ∷ Text (codes "module") ∷ Start Reset ∷ Text (codes ")") ∷ Newline ∷ [])

@@ -1,12 +1,13 @@
 -- The sequences that a printer in colours adds are those that `uncolour` deletes.
 use Rattle.std.specs.Prelude.{◌≡◌, ℕ, List, [], ◌∷◌, ◌++◌, refl}
+use Rattle.std.specs.List.{concat}
 use Rattle.std.specs.Fmt.{digits}
 use Rattle.std.proofs.Common.{ap, ◌∙◌}
 use Rattle.wasmprinter_spec.specs.Call.{Text, Newline, Line, Start, Claim, Style, Literal, Name, Keyword, TypeName, Comment, Reset, text_of}
 use Rattle.wasmprinter_spec.specs.Colour.{uncolour}
 use Rattle.wasmprinter_spec.specs.Plain.{IsPlainText}
 use Rattle.wasmprinter_spec.specs.Looks.{sequences_of}
-use Rattle.wasmprinter_spec.specs.Coloured.{look_of, concatenation, coloured_text}
+use Rattle.wasmprinter_spec.specs.Coloured.{look_of, coloured_text}
 use Rattle.wasmprinter_lexical.proofs.Plain.{uncolour-byte}
 use Rattle.wasmprinter_writers.specs.Sequences.{ColoursKeepText}
 
@@ -20,7 +21,7 @@ behind [] rest h = h
 behind (b ∷ bs) rest h = behind bs rest h.1
 
 -- the sequences of a style go
-style_goes : (style : Style) (more : List ℕ) → uncolour (concatenation (sequences_of (look_of style)) ++ more) ≡ uncolour more
+style_goes : (style : Style) (more : List ℕ) → uncolour (concat (sequences_of (look_of style)) ++ more) ≡ uncolour more
 unfolding digits
 style_goes Literal more = refl
 style_goes Name more = refl

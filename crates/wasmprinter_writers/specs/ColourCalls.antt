@@ -1,7 +1,7 @@
 -- What the calls on a printer in colours make of the writer that it stands over.
-use Rattle.std.specs.Prelude.{◌≡◌, ℕ, [], ◌∷◌, true, false, Option, Some, None, Result, Ok, Err}
+use Rattle.std.specs.Prelude.{◌≡◌, [], ◌∷◌, false, Option, None, Result, Ok, Err}
 use Rattle.std.specs.declared.io.Error.{Error as IoError}
-use Rattle.wasmprinter_spec.specs.Call.{Call, Text, Newline, Line, Start, Claim, Style, Literal, Name, Keyword, TypeName, Comment, Reset}
+use Rattle.wasmprinter_spec.specs.Call.{Call, Text, Newline, Line, Start, Claim, IsTextOrStyle}
 use Rattle.wasmprinter_spec.specs.Meaning.{Meaning}
 use Rattle.wasmprinter_spec.specs.Looks.{Look, sequences_of}
 use Rattle.wasmprinter_spec.specs.Coloured.{look_of}
@@ -28,18 +28,11 @@ WritesInColour takes paints old (Line place) answer new = WritesNothing old answ
 WritesInColour takes paints old (Start style) answer new = paints old (look_of style) answer new
 WritesInColour takes paints old (Claim name place bytes claimed) answer new = (claimed ≡ false) × WritesNothing old answer new
 
--- only what writes or asks for a look can fail
-abbrev pub IsWrittenInColour : Call → Type 0
-IsWrittenInColour (Text bytes) = Unit {0}
-IsWrittenInColour Newline = Unit {0}
-IsWrittenInColour (Start style) = Unit {0}
-IsWrittenInColour _ = ⊥
-
--- the meaning of a printer in colours over the writer that `writer_of` gives
+-- the meaning of a printer in colours over the writer that `writer_of` gives: only what writes or asks for a look can fail
 abbrev pub coloured_meaning : {P T : Type 0} → (P → T) → Writing T → Painting T → Meaning P
 coloured_meaning writer_of takes paints = record {
   after = λ old call new. WritesInColour takes paints (writer_of old) call (Ok tt) (writer_of new);
-  may_fail = λ old call. IsWrittenInColour call;
+  may_fail = λ old call. IsTextOrStyle call;
   partly = λ old call error new. WritesInColour takes paints (writer_of old) call (Err error) (writer_of new);
   faults = λ old. None;
 }

@@ -1,7 +1,7 @@
 -- What the calls on a printer without colours make of the writer that it stands over.
 use Rattle.std.specs.Prelude.{◌≡◌, [], ◌∷◌, false, None, Result, Ok, Err}
 use Rattle.std.specs.declared.io.Error.{Error as IoError}
-use Rattle.wasmprinter_spec.specs.Call.{Call, Text, Newline, Line, Start, Claim}
+use Rattle.wasmprinter_spec.specs.Call.{Call, Text, Newline, Line, Start, Claim, IsText}
 use Rattle.wasmprinter_spec.specs.Meaning.{Meaning}
 use Rattle.wasmprinter_writers.specs.Writing.{Writing, WritesNothing}
 
@@ -14,17 +14,11 @@ WritesText takes old (Line place) answer new = WritesNothing old answer new
 WritesText takes old (Start style) answer new = WritesNothing old answer new
 WritesText takes old (Claim name place bytes claimed) answer new = (claimed ≡ false) × WritesNothing old answer new
 
--- only what writes can fail
-abbrev pub IsWritten : Call → Type 0
-IsWritten (Text bytes) = Unit {0}
-IsWritten Newline = Unit {0}
-IsWritten _ = ⊥
-
--- the meaning of a printer without colours over the writer that `writer_of` gives
+-- the meaning of a printer without colours over the writer that `writer_of` gives: only what writes can fail
 abbrev pub text_meaning : {P T : Type 0} → (P → T) → Writing T → Meaning P
 text_meaning writer_of takes = record {
   after = λ old call new. WritesText takes (writer_of old) call (Ok tt) (writer_of new);
-  may_fail = λ old call. IsWritten call;
+  may_fail = λ old call. IsText call;
   partly = λ old call error new. WritesText takes (writer_of old) call (Err error) (writer_of new);
   faults = λ old. None;
 }

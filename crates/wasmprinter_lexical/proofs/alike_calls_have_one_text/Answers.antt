@@ -1,4 +1,4 @@
-use Rattle.wasmprinter_lexical.proofs.Alike.{alike_texts}
+use Rattle.wasmprinter_spec.proofs.Texts.{alike_texts}
 use Rattle.wasmprinter_lexical.proofs.alike_calls_have_one_text.Goals as goal
 
 pub returns : goal.returns

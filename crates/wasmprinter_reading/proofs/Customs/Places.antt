@@ -1,10 +1,11 @@
 -- The custom sections at all places, one place behind the other, are all of them in their order.
 use Rattle.std.proofs.Common.{◌≡◌, ℕ, suc, ◌<◌, ◌≤◌, Bool, true, false, ◌&&◌, ◌||◌, leb, List, [], ◌∷◌, ◌++◌, Option, Some, None, refl, sym, ap, ◌∙◌, true≢false, arith}
 use Rattle.std.proofs.lemmas.Bool.{and_parts, leb-true}
-use Rattle.wasmprinter_spec.specs.Kinds.{Kind, CustomSection, TypeSection, ImportSection, FunctionSection, TableSection, MemorySection, TagSection, GlobalSection, ExportSection, StartSection, ElementSection, DataCountSection, CodeSection, DataSection, same_kind}
+use Rattle.wasmprinter_spec.specs.Kinds.{Kind, CustomSection, TypeSection, ImportSection, FunctionSection, TableSection, MemorySection, TagSection, GlobalSection, ExportSection, StartSection, ElementSection, DataCountSection, CodeSection, DataSection}
 use Rattle.wasmprinter_spec.specs.Placed.{CustomEntry}
 use Rattle.wasmprinter_spec.specs.Customs.{RawCustom, raw_customs}
 use Rattle.wasmprinter_spec.specs.Layout.Customs.{same_place}
+use Rattle.wasmprinter_spec.proofs.SameKinds.{same_kind-is}
 use Rattle.wasmprinter_reading.proofs.Customs.Ordered.{place_rank, is_any_place, AreInOrder}
 use Rattle.wasmprinter_reading.proofs.Customs.Notes.{at_place, raw_customs-append, AreAnywhere}
 
@@ -34,26 +35,9 @@ is_among k (p ∷ ps) = same_place k p || is_among k ps
 
 -- ---- one place
 
-same_kind_is : (j k : Kind) → same_kind j k ≡ true → j ≡ k
-same_kind_is CustomSection CustomSection e = refl
-same_kind_is TypeSection TypeSection e = refl
-same_kind_is ImportSection ImportSection e = refl
-same_kind_is FunctionSection FunctionSection e = refl
-same_kind_is TableSection TableSection e = refl
-same_kind_is MemorySection MemorySection e = refl
-same_kind_is TagSection TagSection e = refl
-same_kind_is GlobalSection GlobalSection e = refl
-same_kind_is ExportSection ExportSection e = refl
-same_kind_is StartSection StartSection e = refl
-same_kind_is ElementSection ElementSection e = refl
-same_kind_is DataCountSection DataCountSection e = refl
-same_kind_is CodeSection CodeSection e = refl
-same_kind_is DataSection DataSection e = refl
-same_kind_is _ _ e = absurd cc
-
 same_rank : (a b : Option Kind) → same_place a b ≡ true → place_rank a ≡ place_rank b
 same_rank None None e = refl
-same_rank (Some j) (Some k) e = ap (λ x. place_rank (Some x)) (same_kind_is j k e)
+same_rank (Some j) (Some k) e = ap (λ x. place_rank (Some x)) (same_kind-is j k e)
 same_rank None (Some k) e = absurd cc
 same_rank (Some j) None e = absurd cc
 

@@ -14,9 +14,9 @@ use Rattle.wasmprinter_spec.specs.Customs.Producers.{Value, Field, value, field,
 use Rattle.wasmprinter_spec.specs.Customs.Dylink.{MemInfo, Content, Sizes, Needed, Exports, Imports, Paths, Other, Subsection, mem_info, export_info, import_info, content_by_id, is_known, content, subsection, subsections, first_other, judgement_by, judgement_of}
 use Rattle.wasmprinter_lexical.proofs.Printed.{is_remark}
 use Rattle.wasmprinter_reading.proofs.Bytes.{bytes_same}
-use Rattle.wasmprinter_reading.proofs.AllSpelled.{AllSpelled, AllSpelled-any, AllSpelled-seq, AllSpelled-map_value, AllSpelled-choose, AllSpelled-value_with_place, AllSpelled-exactly}
+use Rattle.wasmprinter_reading.proofs.AllSpelled.{AllSpelled, Spelled-any, Spelled-seq, Spelled-map_value, Spelled-choose, Spelled-value_with_place, Spelled-exactly}
 use Rattle.wasmprinter_reading.proofs.AllGiven.{AllGiven, AllGiven-give, AllGiven-follow, AllGiven-repeat, AllGiven-unless_ended}
-use Rattle.wasmprinter_reading.proofs.Vectors.{AllSpelled-u32, AllSpelled-vec}
+use Rattle.wasmprinter_reading.proofs.Vectors.{AllSpelled-u32, Spelled-vec}
 use Rattle.wasmprinter_reading.proofs.PartRanges.{AllSpelled-name}
 use Rattle.wasmprinter_reading.proofs.Ranged.{IsRangedCustom}
 
@@ -34,10 +34,10 @@ abbrev pub IsRangedField : Field → Type 0
 IsRangedField f = (is_run f.name ≡ true) × AreRangedValues f
 
 AllSpelled-value : AllSpelled value IsRangedValue
-AllSpelled-value = AllSpelled-map_value (AllSpelled-seq AllSpelled-name (λ _. AllSpelled-name)) (λ x h. record { name = h.0; version = h.1 })
+AllSpelled-value = Spelled-map_value (Spelled-seq AllSpelled-name (λ _. AllSpelled-name)) (λ x h. record { name = h.0; version = h.1 })
 
 AllSpelled-field : AllSpelled field AreRangedValues
-AllSpelled-field = AllSpelled-map_value (AllSpelled-seq AllSpelled-name (λ _. AllSpelled-vec (AllSpelled-value_with_place AllSpelled-value))) (λ x h. h.1.each)
+AllSpelled-field = Spelled-map_value (Spelled-seq AllSpelled-name (λ _. Spelled-vec (Spelled-value_with_place AllSpelled-value))) (λ x h. h.1.each)
 
 fields_ranged : (fs : List Field) → AllByRecursion AreRangedValues fs → are_runs fs ≡ true → AllByRecursion IsRangedField fs
 fields_ranged [] h r = tt
@@ -64,30 +64,30 @@ AreRangedSubsections ss = AllByRecursion (λ s. IsRangedContent s.value) ss
 
 AllSpelled-mem_info : AllSpelled mem_info IsRangedMemInfo
 AllSpelled-mem_info =
-    AllSpelled-map_value (AllSpelled-seq AllSpelled-u32 (λ _. AllSpelled-seq AllSpelled-u32 (λ _. AllSpelled-seq AllSpelled-u32 (λ _. AllSpelled-u32))))
+    Spelled-map_value (Spelled-seq AllSpelled-u32 (λ _. Spelled-seq AllSpelled-u32 (λ _. Spelled-seq AllSpelled-u32 (λ _. AllSpelled-u32))))
     (λ x h. record { memory_size = h.0; memory_alignment = h.1.0; table_size = h.1.1.0; table_alignment = h.1.1.1 })
 
 AllSpelled-content_by_id : (id : ℕ) → AllSpelled (content_by_id id) IsRangedContent
 AllSpelled-content_by_id id =
-    AllSpelled-choose (id == 1) (AllSpelled-map_value AllSpelled-mem_info (λ m h. h))
-    (AllSpelled-choose (id == 2) (AllSpelled-map_value (AllSpelled-vec AllSpelled-name) (λ ns h. h.each))
-    (AllSpelled-choose (id == 3) (AllSpelled-map_value (AllSpelled-vec AllSpelled-export_info) (λ es h. h.each))
-    (AllSpelled-choose (id == 4) (AllSpelled-map_value (AllSpelled-vec AllSpelled-import_info) (λ is h. h.each))
-    (AllSpelled-map_value (AllSpelled-vec AllSpelled-name) (λ ps h. h.each)))))
+    Spelled-choose (id == 1) (Spelled-map_value AllSpelled-mem_info (λ m h. h))
+    (Spelled-choose (id == 2) (Spelled-map_value (Spelled-vec AllSpelled-name) (λ ns h. h.each))
+    (Spelled-choose (id == 3) (Spelled-map_value (Spelled-vec AllSpelled-export_info) (λ es h. h.each))
+    (Spelled-choose (id == 4) (Spelled-map_value (Spelled-vec AllSpelled-import_info) (λ is h. h.each))
+    (Spelled-map_value (Spelled-vec AllSpelled-name) (λ ps h. h.each)))))
   where
     AllSpelled-export_info : AllSpelled export_info (λ e. IsUtf8 e.name)
-    AllSpelled-export_info = AllSpelled-map_value (AllSpelled-seq AllSpelled-name (λ _. AllSpelled-u32)) (λ x h. h.0)
+    AllSpelled-export_info = Spelled-map_value (Spelled-seq AllSpelled-name (λ _. AllSpelled-u32)) (λ x h. h.0)
 
     AllSpelled-import_info : AllSpelled import_info (λ i. IsUtf8 i.source × IsUtf8 i.name)
-    AllSpelled-import_info = AllSpelled-map_value (AllSpelled-seq AllSpelled-name (λ _. AllSpelled-seq AllSpelled-name (λ _. AllSpelled-u32))) (λ x h. (h.0, h.1.0))
+    AllSpelled-import_info = Spelled-map_value (Spelled-seq AllSpelled-name (λ _. Spelled-seq AllSpelled-name (λ _. AllSpelled-u32))) (λ x h. (h.0, h.1.0))
 
 AllSpelled-content : (id size : ℕ) → AllSpelled (content id size) IsRangedContent
 AllSpelled-content id size =
-    AllSpelled-choose (is_known id) (AllSpelled-exactly (AllSpelled-content_by_id id) size) (AllSpelled-map_value (AllSpelled-any (take_bytes size)) (λ _ h. tt))
+    Spelled-choose (is_known id) (Spelled-exactly (AllSpelled-content_by_id id) size) (Spelled-map_value (Spelled-any (take_bytes size)) (λ _ h. tt))
 
 AllSpelled-subsection : AllSpelled subsection (λ s. IsRangedContent s.value)
 AllSpelled-subsection =
-    AllSpelled-value_with_place (AllSpelled-map_value (AllSpelled-seq (AllSpelled-any byte) (λ id. AllSpelled-seq AllSpelled-u32 (λ size. AllSpelled-content id size)))
+    Spelled-value_with_place (Spelled-map_value (Spelled-seq (Spelled-any byte) (λ id. Spelled-seq AllSpelled-u32 (λ size. AllSpelled-content id size)))
     (λ x h. h.1.1))
 
 AllGiven-subsections : (n : ℕ) → AllGiven (λ s. IsRangedContent s.value) (subsections n)
@@ -119,7 +119,7 @@ module _ (c : Custom) (h : IsRangedCustom c) where
   producers_ranged same (Some fields) e = by (are_runs fields) refl
     where
       values : AllByRecursion AreRangedValues fields
-      values = ((AllSpelled-vec AllSpelled-field).has c.bytes.place c.bytes.value fields h.bytes (producers.sound at fields e)).each
+      values = ((Spelled-vec AllSpelled-field).has c.bytes.place c.bytes.value fields h.bytes (producers.sound at fields e)).each
 
       by : (t : Bool) → are_runs fields ≡ t → IsRangedRole c (cond t (Listed fields) Raw)
       by true r = fields_ranged fields values r

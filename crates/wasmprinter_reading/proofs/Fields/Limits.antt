@@ -1,13 +1,14 @@
 -- Limits of memories and tables, with the type of addresses in front.
 use Rattle.std.proofs.Common.{◌≡◌, ℕ, ◌<◌, ◌^◌, Bool, true, false, Option, Some, None, refl, sym, ap, ◌∙◌, codes, decimal, bytes_eq, List, ◌∷◌}
-use Rattle.std.proofs.lemmas.Bool.{lt-ltb, false_from_ne_true}
+use Rattle.std.proofs.lemmas.Bool.{false_from_ne_true}
 use Rattle.wasmprinter_spec.specs.Character.{class}
 use Rattle.wasmprinter_spec.specs.Forest.{Forest, End, Word, onto}
-use Rattle.wasmprinter_spec.specs.Numeral.{numeral, natural, u64}
+use Rattle.wasmprinter_spec.specs.Numeral.{numeral, natural}
 use Rattle.wasmprinter_spec.specs.Types.{Limits, limits_of}
 use Rattle.wasmprinter_spec.specs.Layout.Limits.{wide_pieces, max_words, limits_pieces}
 use Rattle.wasmprinter_spec.specs.Text.Items.{identifier_in_front}
 use Rattle.wasmprinter_spec.specs.Text.Limits.{address_type, max_behind, limits}
+use Rattle.wasmprinter_reading.proofs.Operators.Numbers.{u64-decimal}
 use Rattle.wasmprinter_lexical.proofs.Runs.{are_words}
 use Rattle.wasmprinter_lexical.proofs.Numbers.{natural-decimal, is_word-decimal}
 use Rattle.wasmprinter_lexical.proofs.Pieces.{Free, Bound}
@@ -58,9 +59,6 @@ no_i64 = refl
 no_i32 : natural (codes "i32") ≡ None
 unfolding natural numeral
 no_i32 = refl
-
-u64-decimal : (n : ℕ) → n < 2 ^ 64 → u64 (decimal n) ≡ Some n
-u64-decimal n h = rw (natural-decimal n h, lt-ltb n (2 ^ 64) h)
 
 pub address_type-items : (wide : Bool) (l : Limits) (f : Forest) → l.min < 2 ^ 64 →
     address_type (onto (wide_items wide) (onto (limits_items l) f)) ≡ (wide, onto (limits_items l) f)

@@ -4,7 +4,7 @@ use Rattle.std.specs.List.{AllByRecursion}
 use Rattle.wasmprinter_spec.specs.Folding.Code.{Item, NestedCode, Done, Plain, Block, If, IfElse, flat}
 use Rattle.wasmprinter_spec.specs.Folding.Tree.{Head, Of, ThenCase, ElseCase, Nodes, Nil, Snoc, row_of_both, front, last, Operands, Fit, Passed, Short, operand_search, with_operands, with_operator, tree_behind, tree}
 use Rattle.wasmprinter_spec.proofs.Folding.{AreLast, AreLast-operand_search}
-use Rattle.wasmprinter_reading.proofs.Each.{all_parts}
+use Rattle.wasmprinter_spec.proofs.Each.{all_parts}
 
 module _ (P : Item → Type 0) where
   -- of the operator of a head; `then` has none of its own

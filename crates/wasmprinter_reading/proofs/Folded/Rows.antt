@@ -2,7 +2,7 @@
 use Rattle.std.proofs.Common.{◌≡◌, ℕ, Bool, true, false, List, ◌∷◌, ◌++◌, map, sym, ap, ◌∙◌, subst}
 use Rattle.std.specs.List.{AllByRecursion}
 use Rattle.wasmprinter_spec.specs.Row as row
-use Rattle.wasmprinter_spec.specs.Row.{Role, Opens, OpensIf, Turns, Ends}
+use Rattle.wasmprinter_spec.specs.Row.{Opens, OpensIf, Turns, Ends}
 use Rattle.wasmprinter_spec.specs.Stepped.{stops}
 use Rattle.wasmprinter_spec.specs.Nesting.{advance, at_start}
 use Rattle.wasmprinter_spec.specs.NestingSteps.{stops_at_end}
@@ -13,7 +13,7 @@ use Rattle.wasmprinter_spec.specs.Folding.Unfolding.{unfolding_of}
 use Rattle.wasmprinter_spec.specs.Code.{Chunk, role_by}
 use Rattle.wasmprinter_spec.proofs.Folding.{row_of_both-front-last, AreLast, AreLast-operand_search, unfolding_of-tree}
 use Rattle.wasmprinter_spec.proofs.FoldingCode.{nested_code_of-flat, nested_code_of-nests}
-use Rattle.wasmprinter_reading.proofs.Each.{all_parts}
+use Rattle.wasmprinter_spec.proofs.Each.{all_parts}
 use Rattle.wasmprinter_reading.proofs.Folded.Items.{IsPrinted, told_chunks, told_items, unasked, told_roles}
 
 abbrev pub are_nested : List Chunk → Bool

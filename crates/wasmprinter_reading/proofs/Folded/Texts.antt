@@ -1,7 +1,7 @@
 -- The text of folded operators is that of pieces that read by themselves: those of each operator's immediates,
 -- and the annotation of each hint.
-use Rattle.std.proofs.Common.{◌≡◌, ℕ, ◌+◌, ◌==◌, Bool, true, false, ◌&&◌, ◌||◌, true≢false, List, [], ◌∷◌, ◌++◌, Option, Some, None, refl, sym, ap, ◌∙◌, append_assoc, append-nil, codes}
-use Rattle.std.proofs.lemmas.Bool.{and_parts, and_from}
+use Rattle.std.proofs.Common.{◌≡◌, ℕ, ◌+◌, ◌==◌, Bool, true, false, ◌&&◌, true≢false, List, [], ◌∷◌, ◌++◌, Option, Some, None, refl, sym, ap, ◌∙◌, append_assoc, append-nil, codes}
+use Rattle.std.proofs.lemmas.Bool.{and_parts, and_from, or_parts}
 use Rattle.std.specs.Option.{is_none}
 use Rattle.wasmprinter_spec.specs.Grammar.{Placed}
 use Rattle.wasmprinter_spec.specs.Customs.Hints.{Hint}
@@ -87,13 +87,9 @@ module _ (o : Options) where
 
 -- ---- where no two semicolons follow one another, no comment goes up to the end of the line
 
-or_false : (p q : Bool) → (p || q) ≡ false → q ≡ false
-or_false true q h = absurd (true≢false h)
-or_false false q h = h
-
 comment_behind : (a : ℕ) (l : List ℕ) → has_line_comment (a ∷ l) ≡ false → has_line_comment l ≡ false
 comment_behind a [] h = refl
-comment_behind a (b ∷ cs) h = or_false ((a == 59) && (b == 59)) (has_line_comment (b ∷ cs)) h
+comment_behind a (b ∷ cs) h = (or_parts ((a == 59) && (b == 59)) (has_line_comment (b ∷ cs)) h).1
 
 pub no_comment_behind : (s t : List ℕ) → has_line_comment (s ++ t) ≡ false → has_line_comment t ≡ false
 no_comment_behind [] t h = h

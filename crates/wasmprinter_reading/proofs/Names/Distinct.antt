@@ -1,7 +1,7 @@
 -- Within one space no two indices have one identifier.
 use Rattle.std.proofs.Common.{◌≡◌, ◌≢◌, ℕ, ◌<◌, ◌^◌, List, [], ◌∷◌, ◌++◌, Bool, true, false, ◌||◌, ◌&&◌, not, bytes_eq, decimal, Option, Some, None, refl, sym, ap, ◌∙◌, subst, arith, true≢false}
 use Rattle.std.specs.Prelude.{nat_eq, if◌then◌else◌}
-use Rattle.std.proofs.lemmas.Bool.{eqb-true, eqb-false}
+use Rattle.std.proofs.lemmas.Bool.{eqb-true, eqb-false, or_left, or_right, or_parts}
 use Rattle.std.proofs.lemmas.Fmt.{decimal_injective}
 use Rattle.wasmprinter_spec.specs.Labels.{Named}
 use Rattle.wasmprinter_spec.specs.LabelNames.{is_clean}
@@ -60,22 +60,6 @@ data Calls (s : ℕ) (given : List (List ℕ)) (i : ℕ) (c : List ℕ) : Type 0
   Invented : c ≡ index_content (group_of s) i → Calls s given i c
   Given : is_among c given ≡ true → is_clean c ≡ true → Calls s given i c
 
-or-left : (a b : Bool) → (a || b) ≡ false → a ≡ false
-or-left true b e = e
-or-left false b e = refl
-
-or-right : (a b : Bool) → (a || b) ≡ false → b ≡ false
-or-right true b e = absurd (true≢false e)
-or-right false b e = e
-
-or-first : (a b : Bool) → a ≡ true → (a || b) ≡ true
-or-first true b e = refl
-or-first false b e = absurd (true≢false (sym e))
-
-or-second : (a b : Bool) → b ≡ true → (a || b) ≡ true
-or-second true b e = refl
-or-second false b e = e
-
 not-false : (a : Bool) → not a ≡ false → a ≡ true
 not-false true e = refl
 not-false false e = absurd (true≢false e)
@@ -89,7 +73,7 @@ abbrev needs_mark : ℕ → List (List ℕ) → Entry → Bool
 needs_mark s given e = not (is_clean e.name) || (is_counted s && is_among e.name given)
 
 clean : (s : ℕ) (given : List (List ℕ)) (e : Entry) → needs_mark s given e ≡ false → is_clean e.name ≡ true
-clean s given e h = not-false (is_clean e.name) (or-left (not (is_clean e.name)) (is_counted s && is_among e.name given) h)
+clean s given e h = not-false (is_clean e.name) (or_parts (not (is_clean e.name)) (is_counted s && is_among e.name given) h).0
 
 unclean : (c d : List ℕ) → is_clean c ≡ true → is_clean d ≡ false → c ≢ d
 unclean c d h k e = true≢false (sym h ∙ ap is_clean e ∙ k)
@@ -98,12 +82,12 @@ unclean c d h k e = true≢false (sym h ∙ ap is_clean e ∙ k)
 calls_by : (s : ℕ) (given : List (List ℕ)) (e : Entry) (b : Bool) → needs_mark s given e ≡ b
     → Calls s (e.name ∷ given) e.index (if b then marked_content (group_of s) e.index e.name else e.name)
 calls_by s given e true h = Marked e.name refl
-calls_by s given e false h = Given (or-first (bytes_eq e.name e.name) (is_among e.name given) (same_bytes e.name)) (clean s given e h)
+calls_by s given e false h = Given (or_left (bytes_eq e.name e.name) (is_among e.name given) (same_bytes e.name)) (clean s given e h)
 
 still_calls : (s : ℕ) (given : List (List ℕ)) (i : ℕ) (c n : List ℕ) → Calls s given i c → Calls s (n ∷ given) i c
 still_calls s given i c n (Marked m e) = Marked m e
 still_calls s given i c n (Invented e) = Invented e
-still_calls s given i c n (Given h k) = Given (or-second (bytes_eq n c) (is_among c given) h) k
+still_calls s given i c n (Given h k) = Given (or_right (bytes_eq n c) (is_among c given) h) k
 
 -- ---- two indices
 
@@ -118,7 +102,7 @@ module _ (s : ℕ) (counted : is_counted s ≡ true) where
   apart_by given e false j d h p q ne (Invented r) f = unclean e.name (index_content (group_of s) j) (clean s given e h) refl (f ∙ r)
   apart_by given e false j d h p q ne (Given a k) f =
       let new : is_among e.name given ≡ false =
-      and-right (is_counted s) (is_among e.name given) counted (or-right (not (is_clean e.name)) (is_counted s && is_among e.name given) h) in
+      and-right (is_counted s) (is_among e.name given) counted (or_parts (not (is_clean e.name)) (is_counted s && is_among e.name given) h).1 in
       true≢false (sym a ∙ ap (λ x. is_among x given) (sym f) ∙ new)
 
   -- the name of an index behind an entry

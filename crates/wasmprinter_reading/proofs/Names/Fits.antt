@@ -6,14 +6,15 @@ use Rattle.wasmprinter_spec.specs.Name.{u32, name}
 use Rattle.wasmprinter_spec.specs.Binary.{AreBytes}
 use Rattle.wasmprinter_spec.specs.Lenient.{give, follow, repeat, within, by_test, Groups}
 use Rattle.wasmprinter_spec.specs.Names.Section.{Entry, entry, entry_of, association, name_map, inner_map, indirect_map, module_name, module_subsection, tag_subsection, is_indirect, entries_by_id, content, subsection, all_of}
+use Rattle.wasmprinter_spec.proofs.Each.{all_both}
 use Rattle.wasmprinter_reading.specs.NameLaws.{IsEntry, AreEntries, BytesGiveEntries}
-use Rattle.wasmprinter_reading.proofs.AllSpelled.{AllSpelled, AllSpelled-seq}
-use Rattle.wasmprinter_reading.proofs.AllGiven.{all_append, Stays, AllGiven, AllGiven-give, AllGiven-follow, AllGiven-follow_any, AllGiven-repeat, AllGiven-within, AllGiven-by_test}
+use Rattle.wasmprinter_reading.proofs.AllSpelled.{AllSpelled, Spelled-seq}
+use Rattle.wasmprinter_reading.proofs.AllGiven.{Stays, AllGiven, AllGiven-give, AllGiven-follow, AllGiven-follow_any, AllGiven-repeat, AllGiven-within, AllGiven-by_test}
 use Rattle.wasmprinter_reading.proofs.Vectors.{AllSpelled-u32}
 use Rattle.wasmprinter_reading.proofs.PartRanges.{AllSpelled-name}
 
 AllSpelled-association : AllSpelled association (λ x. (x.0 < 2 ^ 32) × IsUtf8 x.1)
-AllSpelled-association = AllSpelled-seq AllSpelled-u32 (λ _. AllSpelled-name)
+AllSpelled-association = Spelled-seq AllSpelled-u32 (λ _. AllSpelled-name)
 
 fits_entry : (s outer : ℕ) → AllGiven IsEntry (entry s outer)
 fits_entry s outer =
@@ -47,8 +48,8 @@ fits_subsection =
 
 groups_by : (xs : List Entry) (groups : List (List Entry)) (end : Option Input) → AreEntries xs → Stays end → MatchOption end (groups ≡ []) (λ mid. Groups subsection mid groups)
     → ((mid : Input) → AreBytes mid.bytes → Groups subsection mid groups → AreEntries (all_of groups)) → AreEntries (xs ++ all_of groups)
-groups_by xs groups None s b m h = all_append IsEntry xs (all_of groups) s (subst (λ (gs : List (List Entry)). AreEntries (all_of gs)) (sym m) tt)
-groups_by xs groups (Some mid) s b m h = all_append IsEntry xs (all_of groups) s (h mid b m)
+groups_by xs groups None s b m h = all_both IsEntry xs (all_of groups) s (subst (λ (gs : List (List Entry)). AreEntries (all_of gs)) (sym m) tt)
+groups_by xs groups (Some mid) s b m h = all_both IsEntry xs (all_of groups) s (h mid b m)
 
 groups_fit : (groups : List (List Entry)) (at : Input) → AreBytes at.bytes → Groups subsection at groups → AreEntries (all_of groups)
 groups_fit [] at b g = tt

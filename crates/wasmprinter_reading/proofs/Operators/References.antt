@@ -28,7 +28,7 @@ use Rattle.wasmprinter_reading.proofs.Items.{one_item-reads, all_items-reads}
 use Rattle.wasmprinter_reading.proofs.Identifiers.{Reads}
 use Rattle.wasmprinter_reading.proofs.Types.Ranged.{IsRangedHeap, IsRangedVal}
 use Rattle.wasmprinter_reading.proofs.Types.Trees.{heap_items, ref_items_by, ref_items, val_items, types_items, heap_writes, ref_writes, val_writes, type_list_writes}
-use Rattle.wasmprinter_reading.proofs.Types.Back.{ref_item, val_types-items}
+use Rattle.wasmprinter_reading.proofs.Types.Back.{ref_item, val_types-items, same_flag_refl}
 use Rattle.wasmprinter_reading.proofs.Operators.Labels.{ids, Opened, named_items, target_items, label_items, label_arguments, label_reads, label_writes}
 use Rattle.wasmprinter_reading.proofs.Operators.Arguments.{AreArguments, arguments_onto}
 use Rattle.wasmprinter_reading.proofs.Operators.Spaces.{item_arguments}
@@ -69,10 +69,6 @@ module _ (names : Names) where
 
 -- ---- they read back
 
-same_flag-self : (b : Bool) → same_flag b b ≡ true
-same_flag-self true = refl
-same_flag-self false = refl
-
 -- a label stands by itself
 record IsAlone (f g : Forest) : Type 0 where
   first : first_alone (onto f g) ≡ f
@@ -102,7 +98,7 @@ module _ (names : Names) (c : Context) (bound : ℕ) (reads : Reads c.spaces.typ
       one_item-reads ref_named (ref_group c.spaces.types) (ref_items_by names null h) (ref_type null h) (ref_item names c.spaces.types bound reads null h r)
 
   pub test_reads : (null : Bool) (h : HeapType) → IsDeclaredHeap bound h → (reference_type c.spaces.types (ref_items_by names null h) >>= heap_with null) ≡ Some (Heap h)
-  test_reads null h r = rw (ref_reads null h r, same_flag-self null)
+  test_reads null h r = rw (ref_reads null h r, same_flag_refl null)
 
   -- and not where the other is wanted
   pub test_refuses : (null wanted : Bool) (h : HeapType) → IsDeclaredHeap bound h → not (same_flag null wanted) ≡ true →

@@ -17,9 +17,9 @@ use Rattle.wasmprinter_spec.specs.Instructions.{opcode_grammar, block_type, tag_
 use Rattle.wasmprinter_spec.specs.Module.{without_places}
 use Rattle.wasmprinter_spec.specs.Binary.{AreBytes}
 use Rattle.wasmprinter_reading.specs.Listed.{IsU32, IsByte, IsBlockInRange, IsCatchInRange, IsMemArgInRange, AreInRange, has_shape, has_row_shape, IsListed}
-use Rattle.wasmprinter_reading.proofs.AllSpelled.{AllSpelled, split_bytes, items_have, AllSpelled-any, AllSpelled-seq, AllSpelled-map_value, AllSpelled-succeed, AllSpelled-fail, AllSpelled-choose, AllSpelled-choose_by, AllSpelled-byte, AllSpelled-take_bytes, AllSpelled-behind_first_byte, AllSpelled-by_first_byte, AllSpelled-value_with_place}
+use Rattle.wasmprinter_reading.proofs.AllSpelled.{AllSpelled, split_bytes, items_have, Spelled-any, Spelled-seq, Spelled-map_value, Spelled-succeed, Spelled-fail, Spelled-choose, Spelled-choose_by, AllSpelled-byte, AllSpelled-take_bytes, Spelled-behind_first_byte, Spelled-by_first_byte, Spelled-value_with_place}
 use Rattle.wasmprinter_reading.proofs.LebRange.{AllSpelled-unsigned, AllSpelled-signed}
-use Rattle.wasmprinter_reading.proofs.Vectors.{AllSpelled-u32, AllSpelled-vec}
+use Rattle.wasmprinter_reading.proofs.Vectors.{AllSpelled-u32, Spelled-vec}
 use Rattle.wasmprinter_reading.proofs.Types.Ranges.{AllSpelled-signed_index, AllSpelled-heap_type, AllSpelled-val_type}
 
 -- of this shape, and in range
@@ -33,23 +33,23 @@ HasRowShape r i = (has_row_shape r i ≡ true) × AreInRange i
 
 -- A block type.
 AllSpelled-block_type : AllSpelled block_type IsBlockInRange
-AllSpelled-block_type = AllSpelled-by_first_byte (λ b.
-    AllSpelled-choose (b == 0x40) (AllSpelled-map_value (AllSpelled-any byte) (λ x h. tt))
-    (AllSpelled-choose (begins_val_type b) (AllSpelled-map_value AllSpelled-val_type (λ t h. h)) (AllSpelled-map_value AllSpelled-signed_index (λ n h. h))))
+AllSpelled-block_type = Spelled-by_first_byte (λ b.
+    Spelled-choose (b == 0x40) (Spelled-map_value (Spelled-any byte) (λ x h. tt))
+    (Spelled-choose (begins_val_type b) (Spelled-map_value AllSpelled-val_type (λ t h. h)) (Spelled-map_value AllSpelled-signed_index (λ n h. h))))
 
 -- A catch clause, behind the byte of its kind.
 AllSpelled-tag_and_label : (c : ℕ → ℕ → Catch) → ((t l : ℕ) → IsU32 t → IsU32 l → IsCatchInRange (c t l)) → AllSpelled (tag_and_label c) IsCatchInRange
-AllSpelled-tag_and_label c keeps = AllSpelled-map_value (AllSpelled-seq AllSpelled-u32 (λ _. AllSpelled-u32)) (λ x h. keeps x.0 x.1 h.0 h.1)
+AllSpelled-tag_and_label c keeps = Spelled-map_value (Spelled-seq AllSpelled-u32 (λ _. AllSpelled-u32)) (λ x h. keeps x.0 x.1 h.0 h.1)
 
 AllSpelled-catch_by : (k : ℕ) → AllSpelled (catch_by k) IsCatchInRange
 AllSpelled-catch_by k =
-    AllSpelled-choose (k == 0) (AllSpelled-tag_and_label One (λ t l h i. (h, i)))
-    (AllSpelled-choose (k == 1) (AllSpelled-tag_and_label OneRef (λ t l h i. (h, i)))
-    (AllSpelled-choose (k == 2) (AllSpelled-map_value AllSpelled-u32 (λ l h. h))
-    (AllSpelled-choose (k == 3) (AllSpelled-map_value AllSpelled-u32 (λ l h. h)) AllSpelled-fail)))
+    Spelled-choose (k == 0) (AllSpelled-tag_and_label One (λ t l h i. (h, i)))
+    (Spelled-choose (k == 1) (AllSpelled-tag_and_label OneRef (λ t l h i. (h, i)))
+    (Spelled-choose (k == 2) (Spelled-map_value AllSpelled-u32 (λ l h. h))
+    (Spelled-choose (k == 3) (Spelled-map_value AllSpelled-u32 (λ l h. h)) Spelled-fail)))
 
 AllSpelled-catch : AllSpelled catch IsCatchInRange
-AllSpelled-catch = AllSpelled-behind_first_byte AllSpelled-catch_by
+AllSpelled-catch = Spelled-behind_first_byte AllSpelled-catch_by
 
 -- A memory operand: its first number says whether a memory stands behind it.
 AllSpelled-u64 : AllSpelled u64 (λ n. n < 2 ^ 64)
@@ -57,26 +57,26 @@ AllSpelled-u64 = AllSpelled-unsigned 64
 
 AllSpelled-mem_arg : AllSpelled mem_arg IsMemArgInRange
 AllSpelled-mem_arg =
-    AllSpelled-map_value (AllSpelled-seq AllSpelled-u32 (λ n. by n)) (λ x h. h.1)
+    Spelled-map_value (Spelled-seq AllSpelled-u32 (λ n. by n)) (λ x h. h.1)
   where
     by : (n : ℕ) → AllSpelled (mem_arg_by n) IsMemArgInRange
     by n =
-        AllSpelled-choose_by (ltb n 64)
-        (λ small. AllSpelled-map_value AllSpelled-u64 (λ offset h. record { exponent = ltb-true n 64 small; memory = omega arith; offset = h }))
-        (λ _. AllSpelled-choose_by (ltb n 128)
-        (λ small. AllSpelled-map_value (AllSpelled-seq AllSpelled-u32 (λ _. AllSpelled-u64))
+        Spelled-choose_by (ltb n 64)
+        (λ small. Spelled-map_value AllSpelled-u64 (λ offset h. record { exponent = ltb-true n 64 small; memory = omega arith; offset = h }))
+        (λ _. Spelled-choose_by (ltb n 128)
+        (λ small. Spelled-map_value (Spelled-seq AllSpelled-u32 (λ _. AllSpelled-u64))
         (λ x h. record { exponent = omega (arith, ltb-true n 128 small); memory = h.0; offset = h.1 }))
-        (λ _. AllSpelled-fail))
+        (λ _. Spelled-fail))
 
 -- Two indices, or an index and a number.
 AllSpelled-indices : AllSpelled indices (HasShape FieldShape)
-AllSpelled-indices = AllSpelled-map_value (AllSpelled-seq AllSpelled-u32 (λ _. AllSpelled-u32)) (λ x h. (refl, h))
+AllSpelled-indices = Spelled-map_value (Spelled-seq AllSpelled-u32 (λ _. AllSpelled-u32)) (λ x h. (refl, h))
 
 -- A cast: a label, and two heap types.
 AllSpelled-cast : AllSpelled cast (HasShape CastShape)
 AllSpelled-cast =
-    AllSpelled-map_value (AllSpelled-seq (AllSpelled-any (try_map cast_nulls byte))
-    (λ _. AllSpelled-seq AllSpelled-u32 (λ _. AllSpelled-seq AllSpelled-heap_type (λ _. AllSpelled-heap_type))))
+    Spelled-map_value (Spelled-seq (Spelled-any (try_map cast_nulls byte))
+    (λ _. Spelled-seq AllSpelled-u32 (λ _. Spelled-seq AllSpelled-heap_type (λ _. AllSpelled-heap_type))))
     (λ x h. (refl, (h.1.0, h.1.1.0, h.1.1.1)))
 
 -- The number of so many bytes.
@@ -85,20 +85,20 @@ little_endian-below [] h = omega arith
 little_endian-below (b ∷ bs) h = omega (arith, h.0, little_endian-below bs h.1, pow-suc 256 (length bs))
 
 AllSpelled-float_bits : (n : ℕ) → AllSpelled (float_bits n) (λ bits. bits < 256 ^ n)
-AllSpelled-float_bits n = AllSpelled-map_value (AllSpelled-take_bytes n) (λ bs h. subst (λ k. little_endian bs < 256 ^ k) h.0 (little_endian-below bs h.1))
+AllSpelled-float_bits n = Spelled-map_value (AllSpelled-take_bytes n) (λ bs h. subst (λ k. little_endian bs < 256 ^ k) h.0 (little_endian-below bs h.1))
 
 AllSpelled-sixteen : AllSpelled (map_value Bytes (take_bytes 16)) (HasShape VectorShape)
-AllSpelled-sixteen = AllSpelled-map_value (AllSpelled-take_bytes 16) (λ bs h. (refl, record { count = h.0; each = h.1 }))
+AllSpelled-sixteen = Spelled-map_value (AllSpelled-take_bytes 16) (λ bs h. (refl, record { count = h.0; each = h.1 }))
 
 -- The immediates of each shape.
 AllSpelled-immediates : (s : Shape) → AllSpelled (immediates s) (HasShape s)
-AllSpelled-immediates NoneShape = AllSpelled-succeed (refl, tt)
-AllSpelled-immediates FenceShape = AllSpelled-map_value (AllSpelled-any (only 0x00)) (λ _ h. (refl, tt))
-AllSpelled-immediates BlockShape = AllSpelled-map_value AllSpelled-block_type (λ t h. (refl, h))
+AllSpelled-immediates NoneShape = Spelled-succeed (refl, tt)
+AllSpelled-immediates FenceShape = Spelled-map_value (Spelled-any (only 0x00)) (λ _ h. (refl, tt))
+AllSpelled-immediates BlockShape = Spelled-map_value AllSpelled-block_type (λ t h. (refl, h))
 AllSpelled-immediates TryTableShape =
-    AllSpelled-map_value (AllSpelled-seq AllSpelled-block_type (λ _. AllSpelled-vec AllSpelled-catch)) (λ x h. (refl, (h.0, h.1.each)))
-AllSpelled-immediates (IndexShape space) = AllSpelled-map_value AllSpelled-u32 (λ n h. (refl, h))
-AllSpelled-immediates (DefaultIndexShape space) = AllSpelled-map_value AllSpelled-u32 (λ n h. (refl, h))
+    Spelled-map_value (Spelled-seq AllSpelled-block_type (λ _. Spelled-vec AllSpelled-catch)) (λ x h. (refl, (h.0, h.1.each)))
+AllSpelled-immediates (IndexShape space) = Spelled-map_value AllSpelled-u32 (λ n h. (refl, h))
+AllSpelled-immediates (DefaultIndexShape space) = Spelled-map_value AllSpelled-u32 (λ n h. (refl, h))
 AllSpelled-immediates (PairShape first second) = AllSpelled-indices
 AllSpelled-immediates FieldShape = AllSpelled-indices
 AllSpelled-immediates CountShape = AllSpelled-indices
@@ -106,24 +106,24 @@ AllSpelled-immediates CallShape = AllSpelled-indices
 AllSpelled-immediates (SegmentShape segments space) = AllSpelled-indices
 AllSpelled-immediates (CopyShape space) = AllSpelled-indices
 AllSpelled-immediates BranchTableShape =
-    AllSpelled-map_value (AllSpelled-seq (AllSpelled-vec AllSpelled-u32) (λ _. AllSpelled-u32)) (λ x h. (refl, (h.0.each, h.1)))
-AllSpelled-immediates SelectShape = AllSpelled-map_value (AllSpelled-vec AllSpelled-val_type) (λ ts h. (refl, h.each))
-AllSpelled-immediates HeapShape = AllSpelled-map_value AllSpelled-heap_type (λ t h. (refl, h))
-AllSpelled-immediates (RefShape null) = AllSpelled-map_value AllSpelled-heap_type (λ t h. (refl, h))
+    Spelled-map_value (Spelled-seq (Spelled-vec AllSpelled-u32) (λ _. AllSpelled-u32)) (λ x h. (refl, (h.0.each, h.1)))
+AllSpelled-immediates SelectShape = Spelled-map_value (Spelled-vec AllSpelled-val_type) (λ ts h. (refl, h.each))
+AllSpelled-immediates HeapShape = Spelled-map_value AllSpelled-heap_type (λ t h. (refl, h))
+AllSpelled-immediates (RefShape null) = Spelled-map_value AllSpelled-heap_type (λ t h. (refl, h))
 AllSpelled-immediates CastShape = AllSpelled-cast
-AllSpelled-immediates (MemoryShape natural) = AllSpelled-map_value AllSpelled-mem_arg (λ m h. (refl, h))
-AllSpelled-immediates (MemoryLaneShape natural) = AllSpelled-map_value (AllSpelled-seq AllSpelled-mem_arg (λ _. AllSpelled-byte)) (λ x h. (refl, h))
-AllSpelled-immediates LaneShape = AllSpelled-map_value AllSpelled-byte (λ k h. (refl, h))
-AllSpelled-immediates I32Shape = AllSpelled-map_value (AllSpelled-signed 32) (λ z h. (refl, h))
-AllSpelled-immediates I64Shape = AllSpelled-map_value (AllSpelled-signed 64) (λ z h. (refl, h))
-AllSpelled-immediates F32Shape = AllSpelled-map_value (AllSpelled-float_bits 4) (λ bits h. (refl, h))
-AllSpelled-immediates F64Shape = AllSpelled-map_value (AllSpelled-float_bits 8) (λ bits h. (refl, h))
+AllSpelled-immediates (MemoryShape natural) = Spelled-map_value AllSpelled-mem_arg (λ m h. (refl, h))
+AllSpelled-immediates (MemoryLaneShape natural) = Spelled-map_value (Spelled-seq AllSpelled-mem_arg (λ _. AllSpelled-byte)) (λ x h. (refl, h))
+AllSpelled-immediates LaneShape = Spelled-map_value AllSpelled-byte (λ k h. (refl, h))
+AllSpelled-immediates I32Shape = Spelled-map_value (AllSpelled-signed 32) (λ z h. (refl, h))
+AllSpelled-immediates I64Shape = Spelled-map_value (AllSpelled-signed 64) (λ z h. (refl, h))
+AllSpelled-immediates F32Shape = Spelled-map_value (AllSpelled-float_bits 4) (λ bits h. (refl, h))
+AllSpelled-immediates F64Shape = Spelled-map_value (AllSpelled-float_bits 8) (λ bits h. (refl, h))
 AllSpelled-immediates VectorShape = AllSpelled-sixteen
 AllSpelled-immediates LanesShape = AllSpelled-sixteen
 
 -- The immediates of an opcode that the table lists; there are none of another.
 AllSpelled-immediates_of_row : (r : Option Row) → AllSpelled (immediates_of_row r) (HasRowShape r)
-AllSpelled-immediates_of_row None = AllSpelled-fail
+AllSpelled-immediates_of_row None = Spelled-fail
 AllSpelled-immediates_of_row (Some r) = AllSpelled-immediates r.shape
 
 -- ---- operators
@@ -131,7 +131,7 @@ AllSpelled-immediates_of_row (Some r) = AllSpelled-immediates r.shape
 -- An operator is listed with its immediates.
 AllSpelled-operator : AllSpelled operator IsListed
 AllSpelled-operator =
-    AllSpelled-map_value (AllSpelled-seq (AllSpelled-any opcode_grammar) (λ o. AllSpelled-immediates_of_row (by_opcode o))) (λ x h. record { shape = h.1.0; range = h.1.1 })
+    Spelled-map_value (Spelled-seq (Spelled-any opcode_grammar) (λ o. AllSpelled-immediates_of_row (by_opcode o))) (λ x h. record { shape = h.1.0; range = h.1.1 })
 
 listed_values : (os : List (Placed Operator)) → AllByRecursion (λ o. IsListed o.value) os → AllByRecursion IsListed (without_places os)
 listed_values [] h = tt
@@ -146,7 +146,7 @@ pub record AreNested (x : Closed (Placed Operator)) : Type 0 where
 pub AllSpelled-expression : AllSpelled expression AreNested
 AllSpelled-expression = record {
   has = λ p text x bytes s. record {
-    listed = listed_values x.items (items_have (AllSpelled-value_with_place AllSpelled-operator) x.items p s.0 (split_bytes s.0 (end_byte ∷ []) (subst AreBytes s.1 bytes)).0 s.2);
+    listed = listed_values x.items (items_have (Spelled-value_with_place AllSpelled-operator) x.items p s.0 (split_bytes s.0 (end_byte ∷ []) (subst AreBytes s.1 bytes)).0 s.2);
     nested = s.3;
   };
 }

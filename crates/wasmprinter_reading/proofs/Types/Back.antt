@@ -320,7 +320,7 @@ types-declared names i (t ∷ ts) = ap (λ us. t ∷ us) (types-declared names (
 same_heap_refl : (h : HeapType) → same_heap h h ≡ true
 same_heap_refl h = eq-eqb (heap_number h) (heap_number h) refl
 
-same_flag_refl : (b : Bool) → same_flag b b ≡ true
+pub same_flag_refl : (b : Bool) → same_flag b b ≡ true
 same_flag_refl true = refl
 same_flag_refl false = refl
 

@@ -1,5 +1,5 @@
 -- Types that bytes spell keep to their ranges.
-use Rattle.std.proofs.Common.{◌≡◌, ℕ, zero, suc, ℤ, pos, negsuc, ◌<◌, ◌^◌, Bool, true, false, List, [], ◌∷◌, ◌++◌, length, Some, arith, is_some, ◌==◌}
+use Rattle.std.proofs.Common.{◌≡◌, ℕ, zero, suc, ℤ, pos, negsuc, ◌<◌, ◌^◌, Bool, true, false, List, [], ◌∷◌, length, Some, arith, is_some, ◌==◌}
 use Rattle.std.specs.List.{AllByRecursion}
 use Rattle.std.proofs.lemmas.Int.{ints}
 use Rattle.wasmprinter_spec.specs.Grammar.{some_is, byte, Placed}
@@ -8,10 +8,11 @@ use Rattle.wasmprinter_spec.specs.Placed.{TypeGroup}
 use Rattle.wasmprinter_spec.specs.Module.{groups_of}
 use Rattle.wasmprinter_spec.specs.Binary.ValTypes.{number_type_of, abstract_heap_of, non_negative, signed_index, heap_type, ref_type_behind, reference_type, val_type_behind, val_type}
 use Rattle.wasmprinter_spec.specs.Binary.Types.{packed_type_of, storage_type, mutability, field, signature, composite_behind, sub_type_parts, sub_type_behind, group}
+use Rattle.wasmprinter_spec.proofs.Each.{all_both}
 use Rattle.wasmprinter_reading.specs.Listed.{IsSigned, IsU32, IsSignatureInRange}
-use Rattle.wasmprinter_reading.proofs.AllSpelled.{AllSpelled, AllSpelled-any, AllSpelled-seq, AllSpelled-try_map, AllSpelled-map_value, AllSpelled-fail, AllSpelled-choose, AllSpelled-value_if_any, AllSpelled-behind_first_byte, AllSpelled-by_first_byte}
+use Rattle.wasmprinter_reading.proofs.AllSpelled.{AllSpelled, Spelled-any, Spelled-seq, Spelled-try_map, Spelled-map_value, Spelled-fail, Spelled-choose, Spelled-value_if_any, Spelled-behind_first_byte, Spelled-by_first_byte}
 use Rattle.wasmprinter_reading.proofs.LebRange.{AllSpelled-signed}
-use Rattle.wasmprinter_reading.proofs.Vectors.{AllSpelled-u32, AllSpelled-vec}
+use Rattle.wasmprinter_reading.proofs.Vectors.{AllSpelled-u32, Spelled-vec}
 use Rattle.wasmprinter_reading.proofs.Types.Ranged.{IsRangedHeap, IsRangedVal, IsRangedStorage, IsRangedField, IsRangedFunc, IsRangedComposite, IsRangedSub, IsFewComposite, IsFewSub, IsRangedGroup}
 
 -- ---- value types
@@ -30,30 +31,30 @@ index_ranged (pos m) n e h = let same : m ≡ n = some_is m n e in omega (arith,
 index_ranged (negsuc m) n e h = absurd cc
 
 pub AllSpelled-signed_index : AllSpelled signed_index IsU32
-AllSpelled-signed_index = AllSpelled-try_map (AllSpelled-signed 33) index_ranged
+AllSpelled-signed_index = Spelled-try_map (AllSpelled-signed 33) index_ranged
 
 pub AllSpelled-heap_type : AllSpelled heap_type IsRangedHeap
 AllSpelled-heap_type =
-    AllSpelled-by_first_byte (λ b. AllSpelled-choose (is_some (abstract_heap_of b))
-    (AllSpelled-try_map (AllSpelled-any byte) (λ c h e _. abstract_ranged c h e))
-    (AllSpelled-map_value AllSpelled-signed_index (λ n h. h)))
+    Spelled-by_first_byte (λ b. Spelled-choose (is_some (abstract_heap_of b))
+    (Spelled-try_map (Spelled-any byte) (λ c h e _. abstract_ranged c h e))
+    (Spelled-map_value AllSpelled-signed_index (λ n h. h)))
 
 AllSpelled-ref_type_behind : (b : ℕ) → AllSpelled (ref_type_behind b) (λ r. IsRangedHeap r.heap)
 AllSpelled-ref_type_behind b =
-    AllSpelled-choose (b == 0x64) (AllSpelled-map_value AllSpelled-heap_type (λ t h. h))
-    (AllSpelled-choose (b == 0x63) (AllSpelled-map_value AllSpelled-heap_type (λ t h. h))
-    (AllSpelled-map_value (AllSpelled-value_if_any (abstract_heap_of b) (abstract_ranged b)) (λ t h. h)))
+    Spelled-choose (b == 0x64) (Spelled-map_value AllSpelled-heap_type (λ t h. h))
+    (Spelled-choose (b == 0x63) (Spelled-map_value AllSpelled-heap_type (λ t h. h))
+    (Spelled-map_value (Spelled-value_if_any (abstract_heap_of b) (abstract_ranged b)) (λ t h. h)))
 
 pub AllSpelled-reference_type : AllSpelled reference_type (λ r. IsRangedHeap r.heap)
-AllSpelled-reference_type = AllSpelled-behind_first_byte AllSpelled-ref_type_behind
+AllSpelled-reference_type = Spelled-behind_first_byte AllSpelled-ref_type_behind
 
 AllSpelled-val_type_behind : (b : ℕ) → AllSpelled (val_type_behind b) IsRangedVal
 AllSpelled-val_type_behind b =
-    AllSpelled-choose (is_some (number_type_of b)) (AllSpelled-value_if_any (number_type_of b) (number_ranged b))
-    (AllSpelled-map_value (AllSpelled-ref_type_behind b) (λ t h. h))
+    Spelled-choose (is_some (number_type_of b)) (Spelled-value_if_any (number_type_of b) (number_ranged b))
+    (Spelled-map_value (AllSpelled-ref_type_behind b) (λ t h. h))
 
 pub AllSpelled-val_type : AllSpelled val_type IsRangedVal
-AllSpelled-val_type = AllSpelled-behind_first_byte AllSpelled-val_type_behind
+AllSpelled-val_type = Spelled-behind_first_byte AllSpelled-val_type_behind
 
 -- ---- composite types
 
@@ -63,35 +64,35 @@ packed_ranged b _ e = tt
 
 AllSpelled-storage_type : AllSpelled storage_type IsRangedStorage
 AllSpelled-storage_type =
-    AllSpelled-behind_first_byte (λ b. AllSpelled-choose (is_some (packed_type_of b)) (AllSpelled-value_if_any (packed_type_of b) (packed_ranged b))
-    (AllSpelled-map_value (AllSpelled-val_type_behind b) (λ t h. h)))
+    Spelled-behind_first_byte (λ b. Spelled-choose (is_some (packed_type_of b)) (Spelled-value_if_any (packed_type_of b) (packed_ranged b))
+    (Spelled-map_value (AllSpelled-val_type_behind b) (λ t h. h)))
 
 AllSpelled-field : AllSpelled field IsRangedField
-AllSpelled-field = AllSpelled-map_value (AllSpelled-seq AllSpelled-storage_type (λ _. AllSpelled-any mutability)) (λ x h. h.0)
+AllSpelled-field = Spelled-map_value (Spelled-seq AllSpelled-storage_type (λ _. Spelled-any mutability)) (λ x h. h.0)
 
 AllSpelled-signature : AllSpelled signature (λ t. IsRangedFunc t × (length t.params < 2 ^ 32))
 AllSpelled-signature =
-    AllSpelled-map_value (AllSpelled-seq (AllSpelled-vec AllSpelled-val_type) (λ _. AllSpelled-vec AllSpelled-val_type))
+    Spelled-map_value (Spelled-seq (Spelled-vec AllSpelled-val_type) (λ _. Spelled-vec AllSpelled-val_type))
     (λ x h. (record { params = h.0.each; results = h.1.each }, h.0.count))
 
 AllSpelled-composite_behind : (b : ℕ) → AllSpelled (composite_behind b) (λ c. IsRangedComposite c × IsFewComposite c)
 AllSpelled-composite_behind b =
-    AllSpelled-choose (b == 0x5e) (AllSpelled-map_value AllSpelled-field (λ f h. (h, tt)))
-    (AllSpelled-choose (b == 0x5f) (AllSpelled-map_value (AllSpelled-vec AllSpelled-field) (λ fs h. (h.each, h.count)))
-    (AllSpelled-choose (b == 0x60) (AllSpelled-map_value AllSpelled-signature (λ t h. h)) AllSpelled-fail))
+    Spelled-choose (b == 0x5e) (Spelled-map_value AllSpelled-field (λ f h. (h, tt)))
+    (Spelled-choose (b == 0x5f) (Spelled-map_value (Spelled-vec AllSpelled-field) (λ fs h. (h.each, h.count)))
+    (Spelled-choose (b == 0x60) (Spelled-map_value AllSpelled-signature (λ t h. h)) Spelled-fail))
 
 -- ---- subtypes and groups
 
 AllSpelled-sub_type_parts : (final : Bool) → AllSpelled (sub_type_parts final) (λ t. IsRangedSub t × IsFewSub t)
 AllSpelled-sub_type_parts final =
-    AllSpelled-map_value (AllSpelled-seq (AllSpelled-vec AllSpelled-u32) (λ _. AllSpelled-behind_first_byte AllSpelled-composite_behind))
+    Spelled-map_value (Spelled-seq (Spelled-vec AllSpelled-u32) (λ _. Spelled-behind_first_byte AllSpelled-composite_behind))
     (λ x h. (record { supertypes = h.0.each; composite = h.1.0 }, h.1.1))
 
 AllSpelled-sub_type_behind : (b : ℕ) → AllSpelled (sub_type_behind b) (λ t. IsRangedSub t × IsFewSub t)
 AllSpelled-sub_type_behind b =
-    AllSpelled-choose (b == 0x50) (AllSpelled-sub_type_parts false)
-    (AllSpelled-choose (b == 0x4f) (AllSpelled-sub_type_parts true)
-    (AllSpelled-map_value (AllSpelled-composite_behind b) (λ c h. (record { supertypes = tt; composite = h.0 }, h.1))))
+    Spelled-choose (b == 0x50) (AllSpelled-sub_type_parts false)
+    (Spelled-choose (b == 0x4f) (AllSpelled-sub_type_parts true)
+    (Spelled-map_value (AllSpelled-composite_behind b) (λ c h. (record { supertypes = tt; composite = h.0 }, h.1))))
 
 -- the facts of each, one by one
 each_ranged : (ts : List SubType) → AllByRecursion (λ t. IsRangedSub t × IsFewSub t) ts → AllByRecursion IsRangedSub ts × AllByRecursion IsFewSub ts
@@ -100,20 +101,16 @@ each_ranged (t ∷ ts) h = let rest = each_ranged ts h.1 in ((h.0.0, rest.0), (h
 
 pub AllSpelled-group : AllSpelled group IsRangedGroup
 AllSpelled-group =
-    AllSpelled-behind_first_byte (λ b. AllSpelled-choose (b == 0x4e)
-    (AllSpelled-map_value (AllSpelled-vec (AllSpelled-behind_first_byte AllSpelled-sub_type_behind))
+    Spelled-behind_first_byte (λ b. Spelled-choose (b == 0x4e)
+    (Spelled-map_value (Spelled-vec (Spelled-behind_first_byte AllSpelled-sub_type_behind))
     (λ ts h. let both = each_ranged ts h.each in record { count = h.count; each = both.0; few = both.1; single = tt }))
-    (AllSpelled-map_value (AllSpelled-sub_type_behind b) (λ t h. record { count = omega arith; each = (h.0, tt); few = (h.1, tt); single = tt })))
+    (Spelled-map_value (AllSpelled-sub_type_behind b) (λ t h. record { count = omega arith; each = (h.0, tt); few = (h.1, tt); single = tt })))
 
 -- ---- the types of all groups
 
-both_ranged : (ts us : List SubType) → AllByRecursion IsRangedSub ts → AllByRecursion IsRangedSub us → AllByRecursion IsRangedSub (ts ++ us)
-both_ranged [] us h k = k
-both_ranged (t ∷ ts) us h k = (h.0, both_ranged ts us h.1 k)
-
 all_types_ranged : (gs : List (Placed TypeGroup)) → AllByRecursion (λ g. IsRangedGroup g.value) gs → AllByRecursion IsRangedSub (all_types (groups_of gs))
 all_types_ranged [] h = tt
-all_types_ranged (g ∷ gs) h = both_ranged g.value.types (all_types (groups_of gs)) h.0.each (all_types_ranged gs h.1)
+all_types_ranged (g ∷ gs) h = all_both IsRangedSub g.value.types (all_types (groups_of gs)) h.0.each (all_types_ranged gs h.1)
 
 composite_signature : (c : CompositeType) → IsRangedComposite c → IsSignatureInRange (func_type_of c)
 composite_signature (FuncComposite t) h = h

@@ -1,16 +1,17 @@
 use Rattle.std.proofs.Common.{false}
 use Rattle.wasmprinter_labels.specs.Scan.{names_of}
-use Rattle.wasmprinter_sections.specs.Sections.{module_laid, with_paints}
+use Rattle.wasmprinter_sections.specs.Sections.{module_laid}
 use Rattle.wasmprinter_sections.proofs.SectionParts.{stops_first}
 use Rattle.wasmprinter_sections.proofs.WholeModule.{by_folder}
 use Rattle.wasmprinter_sections.proofs.modules.write_module.Goals as goal
+use Rattle.wasmprinter_spec.specs.Options.{in_colours}
 
 pub returns-in_err-folder : goal.returns-in_err-folder
 returns-in_err-folder g c =
     let o = c.args.options.now in
     let refused = c.in_err-folder.ensures.memory in (
       (λ n. false),
-      stops_first g.P.Print.meaning o c.from_residual.result (module_laid (with_paints o (g.P.Print.colors c.args.p.now)) (λ n. false) (names_of c.args.labels) c.args.module.now) refused.1 refused.0 c.from_residual.ensures.1,
+      stops_first g.P.Print.meaning o c.from_residual.result (module_laid (in_colours o (g.P.Print.colors c.args.p.now)) (λ n. false) (names_of c.args.labels) c.args.module.now) refused.1 refused.0 c.from_residual.ensures.1,
     )
 
 pub returns : goal.returns

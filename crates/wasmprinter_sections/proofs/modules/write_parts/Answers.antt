@@ -1,15 +1,13 @@
-use Rattle.std.proofs.Common.{false, ap, List, ◌++◌, subst, ◌≡◌, Option, None, option_map}
-use Rattle.wasmprinter_spec.specs.Options.{Options}
+use Rattle.std.proofs.Common.{false, ◌≡◌, option_map}
+use Rattle.wasmprinter_spec.specs.Options.{in_colours}
 use Rattle.wasmprinter_spec.specs.Layout.{module_parts}
-use Rattle.wasmprinter_spec.specs.Layout.Declarations.{Scope, Folding, scope_of, folding_of}
-use Rattle.wasmprinter_spec.specs.Layout.Customs.{Part, parts_at}
+use Rattle.wasmprinter_spec.specs.Layout.Declarations.{scope_of, folding_of}
 use Rattle.wasmprinter_spec.specs.Types.{FuncKind}
+use Rattle.wasmprinter_spec.specs.Folding.Arities.{types_of}
 use Rattle.wasmprinter_entries.specs.Externs.{imported_count}
 use Rattle.wasmprinter_labels.specs.Scan.{names_of}
-use Rattle.wasmprinter_annotations.specs.Lines.{PrintsPartLines}
 use Rattle.wasmprinter_annotations.proofs.Parts.{part_lines_behind}
-use Rattle.wasmprinter_scope.specs.Scopes.{types_of}
-use Rattle.wasmprinter_sections.specs.Sections.{with_paints, sections_parts, kinds}
+use Rattle.wasmprinter_sections.specs.Sections.{kinds}
 use Rattle.wasmprinter_sections.proofs.Breaking.{leading-line}
 use Rattle.wasmprinter_sections.proofs.ModuleParts.{module_walk}
 use Rattle.wasmprinter_sections.proofs.Painting.{sections-paint, folding-of, keeps-folding}
@@ -19,7 +17,7 @@ use Rattle.wasmprinter_sections.proofs.modules.write_parts.Goals as goal
 pub returns-in_err-write_leading_mark : goal.returns-in_err-write_leading_mark
 returns-in_err-write_leading_mark g c paints folds =
     let o = c.args.options.now in
-    let by = with_paints o paints in (
+    let by = in_colours o paints in (
       (λ n. false),
       section_failed g.P.Print.meaning o c.from_residual.result (module_parts by (λ n. false) (names_of c.args.labels) c.args.module.now)
           c.from_residual.ensures.1 (rw (c.module.ensures, c.identifiers.ensures.named) at (c.in_err-write_leading_mark.ensures o)),
@@ -28,7 +26,7 @@ returns-in_err-write_leading_mark g c paints folds =
 pub returns : goal.returns
 returns g c paints folds =
     let o = c.args.options.now in
-    let by = with_paints o paints in
+    let by = in_colours o paints in
     let names = names_of c.args.labels in
     let m = c.args.module.now in
     let sections = rw c.imported_count.ensures.is at c.write_sections.ensures in

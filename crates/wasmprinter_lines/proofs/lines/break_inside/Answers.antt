@@ -1,6 +1,6 @@
 use Rattle.std.proofs.Common.{arith}
 use Rattle.wasmprinter_lines.proofs.Indents.{indented_alike}
-use Rattle.wasmprinter_flat.proofs.operators.break_inside.Goals as goal
+use Rattle.wasmprinter_lines.proofs.lines.break_inside.Goals as goal
 
 pub returns : goal.returns
 returns g c =

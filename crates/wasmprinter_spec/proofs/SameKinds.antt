@@ -1,0 +1,20 @@
+-- Kinds of sections that are the same.
+use Rattle.std.specs.Prelude.{◌≡◌, true, refl}
+use Rattle.wasmprinter_spec.specs.Kinds.{Kind, CustomSection, TypeSection, ImportSection, FunctionSection, TableSection, MemorySection, TagSection, GlobalSection, ExportSection, StartSection, ElementSection, DataCountSection, CodeSection, DataSection, same_kind}
+
+pub same_kind-is : (j k : Kind) → same_kind j k ≡ true → j ≡ k
+same_kind-is CustomSection CustomSection e = refl
+same_kind-is TypeSection TypeSection e = refl
+same_kind-is ImportSection ImportSection e = refl
+same_kind-is FunctionSection FunctionSection e = refl
+same_kind-is TableSection TableSection e = refl
+same_kind-is MemorySection MemorySection e = refl
+same_kind-is TagSection TagSection e = refl
+same_kind-is GlobalSection GlobalSection e = refl
+same_kind-is ExportSection ExportSection e = refl
+same_kind-is StartSection StartSection e = refl
+same_kind-is ElementSection ElementSection e = refl
+same_kind-is DataCountSection DataCountSection e = refl
+same_kind-is CodeSection CodeSection e = refl
+same_kind-is DataSection DataSection e = refl
+same_kind-is _ _ e = absurd cc

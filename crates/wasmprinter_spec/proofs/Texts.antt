@@ -1,0 +1,79 @@
+-- The text of lists of calls, without the sequences of styles and with them, and their lines: of two lists, and of calls that differ only in how
+-- text is cut.
+use Rattle.std.proofs.Common.{◌≡◌, ℕ, List, [], ◌∷◌, ◌++◌, map, refl, sym, ap, ap₂, ◌∙◌, append_assoc, append-nil}
+use Rattle.wasmprinter_spec.specs.Call.{Call, Text, Newline, Line, Start, Claim, call_text, text_of, calls_of_bytes, atoms}
+use Rattle.wasmprinter_spec.specs.Lines.{TextLine, text_before_line, lines_of}
+use Rattle.wasmprinter_spec.specs.Coloured.{coloured_bytes, coloured_text}
+
+pub text_of-append : (k l : List Call) → text_of (k ++ l) ≡ text_of k ++ text_of l
+text_of-append [] l = refl
+text_of-append (c ∷ k) l = ap (λ t. call_text c ++ t) (text_of-append k l) ∙ sym (append_assoc (call_text c) (text_of k) (text_of l))
+
+pub coloured_text-append : (k l : List Call) → coloured_text (k ++ l) ≡ coloured_text k ++ coloured_text l
+coloured_text-append [] l = refl
+coloured_text-append (c ∷ k) l = ap (λ t. coloured_bytes c ++ t) (coloured_text-append k l) ∙ sym (append_assoc (coloured_bytes c) (coloured_text k) (coloured_text l))
+
+bytes_text : (s : List ℕ) → text_of (map (λ b. Text (b ∷ [])) s) ≡ s
+bytes_text [] = refl
+bytes_text (b ∷ bs) = ap (λ t. b ∷ t) (bytes_text bs)
+
+bytes_coloured : (s : List ℕ) → coloured_text (map (λ b. Text (b ∷ [])) s) ≡ s
+bytes_coloured [] = refl
+bytes_coloured (b ∷ bs) = ap (λ t. b ∷ t) (bytes_coloured bs)
+
+cut_text : (c : Call) → text_of (calls_of_bytes c) ≡ call_text c
+cut_text (Text s) = bytes_text s
+cut_text Newline = refl
+cut_text (Line place) = refl
+cut_text (Start style) = refl
+cut_text (Claim name place bytes answer) = refl
+
+cut_coloured : (c : Call) → coloured_text (calls_of_bytes c) ≡ coloured_bytes c
+cut_coloured (Text s) = bytes_coloured s
+cut_coloured Newline = refl
+cut_coloured (Line place) = refl
+cut_coloured (Start style) = append-nil (coloured_bytes (Start style))
+cut_coloured (Claim name place bytes answer) = refl
+
+text_of-atoms : (cs : List Call) → text_of (atoms cs) ≡ text_of cs
+text_of-atoms [] = refl
+text_of-atoms (c ∷ cs) = text_of-append (calls_of_bytes c) (atoms cs) ∙ ap₂ (λ x y. x ++ y) (cut_text c) (text_of-atoms cs)
+
+coloured_text-atoms : (cs : List Call) → coloured_text (atoms cs) ≡ coloured_text cs
+coloured_text-atoms [] = refl
+coloured_text-atoms (c ∷ cs) = coloured_text-append (calls_of_bytes c) (atoms cs) ∙ ap₂ (λ x y. x ++ y) (cut_coloured c) (coloured_text-atoms cs)
+
+-- Calls that differ only in how text is cut have one text,
+pub alike_texts : (k l : List Call) → atoms k ≡ atoms l → text_of k ≡ text_of l
+alike_texts k l e = sym (text_of-atoms k) ∙ ap text_of e ∙ text_of-atoms l
+
+-- also with the sequences of their styles.
+pub alike_coloured : (k l : List Call) → atoms k ≡ atoms l → coloured_text k ≡ coloured_text l
+alike_coloured k l e = sym (coloured_text-atoms k) ∙ ap coloured_text e ∙ coloured_text-atoms l
+
+-- ---- lines
+
+bytes-before : (s : List ℕ) (k : List Call) → text_before_line (map (λ b. Text (b ∷ [])) s ++ k) ≡ s ++ text_before_line k
+bytes-before [] k = refl
+bytes-before (b ∷ s) k = ap (λ x. b ∷ x) (bytes-before s k)
+
+bytes-lines : (s : List ℕ) (k : List Call) → lines_of (map (λ b. Text (b ∷ [])) s ++ k) ≡ lines_of k
+bytes-lines [] k = refl
+bytes-lines (b ∷ s) k = bytes-lines s k
+
+before-atoms : (k : List Call) → text_before_line (atoms k) ≡ text_before_line k
+before-atoms [] = refl
+before-atoms (Text s ∷ k) = bytes-before s (atoms k) ∙ ap (λ x. s ++ x) (before-atoms k)
+before-atoms (Line p ∷ k) = refl
+before-atoms (c ∷ k) = ap (λ x. call_text c ++ x) (before-atoms k)
+
+lines_of-atoms : (k : List Call) → lines_of (atoms k) ≡ lines_of k
+lines_of-atoms [] = refl
+lines_of-atoms (Text s ∷ k) = bytes-lines s (atoms k) ∙ lines_of-atoms k
+lines_of-atoms (Line p ∷ k) =
+    ap₂ (λ (t : List ℕ) (lines : List TextLine). (p, t) ∷ lines) (before-atoms k) (lines_of-atoms k)
+lines_of-atoms (c ∷ k) = lines_of-atoms k
+
+-- lists of calls that differ only in how text is cut have the same lines
+pub alike_lines : (k l : List Call) → atoms k ≡ atoms l → lines_of k ≡ lines_of l
+alike_lines k l e = sym (lines_of-atoms k) ∙ ap lines_of e ∙ lines_of-atoms l
