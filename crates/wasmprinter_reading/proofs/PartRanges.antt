@@ -104,7 +104,7 @@ FewSpelled-table_by b =
     FewSpelled-choose (b == 0x40)
     (FewSpelled-map_value (FewSpelled-seq (FewSpelled-all (AllSpelled-any (only 0x40))) (λ _.
     FewSpelled-seq (FewSpelled-all (AllSpelled-any (only 0x00))) (λ _. FewSpelled-seq (FewSpelled-all AllSpelled-table_type) (λ _. FewSpelled-constant))))
-    (λ x h. record { type = h.1.1.0; init = h.1.1.1 }))
+    (λ x (_, (_, (type, init))). record { type = type; init = init }))
     (FewSpelled-map_value (FewSpelled-all AllSpelled-table_type) (λ t h. record { type = h; init = tt }))
 
 pub FewSpelled-table : FewSpelled table IsRangedTable
