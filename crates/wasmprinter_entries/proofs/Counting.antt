@@ -10,13 +10,15 @@ module _ {A : Type 0} (g : Grammar A) (at : Input) (x : List A × Input) (read :
   -- in front of a list stands the number of its items
   pub vec_counted : Counts at (length x.0)
   vec_counted =
-      let a = bind_some ((seq u32 (λ n. times g n)).parse at) (λ a. Some (a.0.1, a.1)) x read in
-      let b = bind_some (u32.parse at) (λ n. items_at g.parse n.0 n.1 >>= λ xs. Some ((n.0, xs.0), xs.1)) a.0 a.1 in
-      let c = bind_some (items_at g.parse b.0.0 b.0.1) (λ xs. Some ((b.0.0, xs.0), xs.1)) a.0 b.2 in
-      let first : c.0.0 ≡ a.0.0.1 = ap (λ (y : (ℕ × List A) × Input). y.0.1) (some_is ((b.0.0, c.0.0), c.0.1) a.0 c.2) in
-      let made : a.0.0.1 ≡ x.0 = ap (λ (y : List A × Input). y.0) (some_is (a.0.0.1, a.0.1) x a.2) in
-      let same : b.0.0 ≡ length x.0 = sym (times_sound g b.0.0 b.0.1 c.0 c.1).spelled.0 ∙ ap length (first ∙ made) in
-      record { after = b.0.1; counted = b.1 ∙ ap (λ (n : ℕ). Some (n, b.0.1)) same }
+      let (listed, parsed, given) = bind_some ((seq u32 (λ n. times g n)).parse at) (λ a. Some (a.0.1, a.1)) x read in
+      let (counted, has_count, behind) = bind_some (u32.parse at) (λ n. items_at g.parse n.0 n.1 >>= λ xs. Some ((n.0, xs.0), xs.1)) listed parsed in
+      let (count, after) = counted in
+      let (items, has_items, together) = bind_some (items_at g.parse count after) (λ xs. Some ((count, xs.0), xs.1)) listed behind in
+      let list : List A = listed.0.1 in
+      let first : items.0 ≡ list = ap (λ (y : (ℕ × List A) × Input). y.0.1) (some_is ((count, items.0), items.1) listed together) in
+      let made : list ≡ x.0 = ap (λ (y : List A × Input). y.0) (some_is (list, listed.1) x given) in
+      let same : count ≡ length x.0 = sym (times_sound g count after items has_items).spelled.0 ∙ ap length (first ∙ made) in
+      record { after = after; counted = has_count ∙ ap (λ (n : ℕ). Some (n, after)) same }
 
   -- which is a count above zero if there are items
   pub counts_items : 0 < length x.0 → CountsItems at

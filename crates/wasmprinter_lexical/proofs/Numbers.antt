@@ -85,7 +85,9 @@ natural_digits : (n : ℕ) (ds : List ℕ) → IsNumeral 10 ds → numeral 10 ds
 unfolding natural
 natural_digits n [] h e = absurd (omega (arith, h.0))
 natural_digits n (b ∷ []) h e = e
-natural_digits n (b ∷ c ∷ cs) h e = rw (not_x c h.1.1.0, and_false (eqb b 48), e)
+natural_digits n (b ∷ c ∷ cs) h e =
+    let (first, (second, others)) = h.1 in
+    rw (not_x c second, and_false (eqb b 48), e)
 
 pub natural-decimal : (n : ℕ) → n < 2 ^ 64 → natural (decimal n) ≡ Some n
 natural-decimal n h = natural_digits n (decimal n) (decimal_is_IsNumeral n h).0 (numeral-decimal n h)

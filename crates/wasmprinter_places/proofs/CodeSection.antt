@@ -105,12 +105,24 @@ module _ (P : ℕ → Type 0) where
         | inr own ↦ rw (ap (content_of CustomSection) own.1) (subst (λ (x : Section). AllByRecursion P (other_places x)) own.1 all.0, customs_each (place_behind last s) ss all.1)
       ]
 
+  -- the places that a custom section shows have the property
+  record GivenHave (c : Custom) (place : ℕ) : Type 0 where
+    section : P place
+    content : P c.bytes.place
+    role : AllByRecursion P (role_places (role_of c))
+    hints : AllByRecursion P (places_of_hints (hints_given c.bytes))
+
+  given_parts : (c : Custom) (place : ℕ) → AllByRecursion P (given_places (record { place = place; value = c })) → GivenHave c place
+  given_parts c place (section, (content, others)) =
+      let parts = all_parts P (role_places (role_of c)) (places_of_hints (hints_given c.bytes)) others in
+      record { section = section; content = content; role = parts.0; hints = parts.1 }
+
   customs_have : (cs : List CustomEntry) → HaveGiven cs → AllByRecursion P (flat_map custom_places cs)
   customs_have [] h = tt
   customs_have (c ∷ cs) h =
       let own : Custom = c.section.value in
-      let parts = all_parts P (role_places (role_of own)) (places_of_hints (hints_given own.bytes)) h.0.1.1 in
-      all_both P (custom_places c) (flat_map custom_places cs) (h.0.0, (h.0.1.0, parts.0)) (customs_have cs h.1)
+      let given = given_parts own c.section.place h.0 in
+      all_both P (custom_places c) (flat_map custom_places cs) (given.section, (given.content, given.role)) (customs_have cs h.1)
 
   hints_if : (b : Bool) (c : Custom) (last : Option Custom) → AllByRecursion P (places_of_hints (hints_given c.bytes)) → AllByRecursion P (places_of_hints (hints_by last)) →
       AllByRecursion P (places_of_hints (hints_by (if b then Some c else last)))
@@ -122,8 +134,8 @@ module _ (P : ℕ → Type 0) where
   hints_have n last [] h k = k
   hints_have n last (c ∷ cs) h k =
       let own : Custom = c.section.value in
-      let parts = all_parts P (role_places (role_of own)) (places_of_hints (hints_given own.bytes)) h.0.1.1 in
-      hints_have n (if bytes_eq own.name n then Some own else last) cs h.1 (hints_if (bytes_eq own.name n) own last parts.1 k)
+      let given = given_parts own c.section.place h.0 in
+      hints_have n (if bytes_eq own.name n then Some own else last) cs h.1 (hints_if (bytes_eq own.name n) own last given.hints k)
 
 -- ---- the module
 
@@ -169,7 +181,8 @@ module_apart size p text ss m some ends e spelled =
 
 pub apart : BodiesLieApart
 apart bytes m s =
-    let sections = s.spelled in
-    let parts = sections.2 in
-    let long : length parts.0 ≡ 8 = parts.3.2.0 in
-    module_apart (0 + length bytes) (0 + length parts.0) parts.1 sections.0.1 m (omega (arith, long)) (omega (arith, ap length parts.2, length-append parts.0 parts.1)) sections.1 parts.4
+    let (read, made, spelled) = s.spelled in
+    let (front, behind, parts, preamble, entries) = spelled in
+    let (marked, known, eight) = preamble in
+    let long : length front ≡ 8 = eight.0 in
+    module_apart (0 + length bytes) (0 + length front) behind read.1 m (omega (arith, long)) (omega (arith, ap length parts, length-append front behind)) made entries

@@ -383,8 +383,8 @@ module _ (o : Options) (names : Names) (m : PlacedModule) where
     read_table-own : (i : ℕ) (t : Placed (Table (Placed Operator))) →
         ((IsRangedTable t.value × HasNoEmptyInit t.value.init) × AllFoldable o m (init_list t)) × IsIndexedTable (module_of m) (table_without_places t.value) →
         read_table whole_context (own_table i t) ≡ Some (table_without_places t.value)
-    read_table-own i t d =
-        read_table-items early whole_context own_counts (scoped early.function) i t.value d.0.0.0 d.0.0.1 d.1.element (indexed_init t.value.init d.1.init d.0.1)
+    read_table-own i t (((ranged, some), folds), indexes) =
+        read_table-items early whole_context own_counts (scoped early.function) i t.value ranged some indexes.element (indexed_init t.value.init indexes.init folds)
 
     read_global-own : (i : ℕ) (g : Placed (Global (Placed Operator))) → (IsRangedGlobal g.value × Foldable o m g.value.init) × IsIndexedGlobal (module_of m) (global_without_places g.value) →
         read_global whole_context (own_global i g) ≡ Some (global_without_places g.value)

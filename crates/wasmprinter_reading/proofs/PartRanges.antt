@@ -104,7 +104,7 @@ FewSpelled-table_by b =
     Spelled-choose (b == 0x40)
     (Spelled-map_value (Spelled-seq (Spelled-any (only 0x40)) (λ _.
     Spelled-seq (Spelled-any (only 0x00)) (λ _. Spelled-seq (Spelled-of_all AllSpelled-table_type) (λ _. FewSpelled-constant))))
-    (λ x h. record { type = h.1.1.0; init = h.1.1.1 }))
+    (λ x (_, (_, (type, init))). record { type = type; init = init }))
     (Spelled-map_value (Spelled-of_all AllSpelled-table_type) (λ t h. record { type = h; init = tt }))
 
 pub FewSpelled-table : FewSpelled table IsRangedTable

@@ -104,13 +104,13 @@ AllSpelled-placed_body = record {
 AllSpelled-code_entry : AllSpelled code_entry IsRangedBody
 AllSpelled-code_entry =
     Spelled-map_value (Spelled-seq AllSpelled-u32 (λ size. Spelled-within {size = λ b. length b.value.operators} body_takes AllSpelled-placed_body size))
-    (λ x h. record {
-      groups = h.1.0.0.locals.count;
-      locals = h.1.0.0.locals.each;
-      listed = h.1.0.0.listed;
-      nested = h.1.0.0.nested;
-      count = omega (arith, h.0, h.1.1, length-map x.1.value.operators (λ (o : Placed Operator). o.value));
-      places = h.1.0.1;
+    (λ x (small, ((own, placed), few)). record {
+      groups = own.locals.count;
+      locals = own.locals.each;
+      listed = own.listed;
+      nested = own.nested;
+      count = omega (arith, small, few, length-map x.1.value.operators (λ (o : Placed Operator). o.value));
+      places = placed;
     })
 
 -- A size and what a section holds.

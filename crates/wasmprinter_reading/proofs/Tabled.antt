@@ -238,6 +238,19 @@ pub record StandsAlone (w : List ℕ) : Type 0 where
   pub part : is_part_word w ≡ false
   pub others : AllByRecursion (λ v. bytes_eq w v ≡ false) group_words
 
+-- a word that is none of these is another than each of them
+differs_from : (w v : List ℕ) (us : List (List ℕ)) → AllByRecursion (λ u. bytes_eq w u ≡ false) us → list_any (λ u. bytes_eq v u) us ≡ true → bytes_eq w v ≡ false
+differs_from w v [] apart h = absurd cc
+differs_from w v (u ∷ us) apart h = by (bytes_eq v u) refl h (differs_from w v us apart.1)
+  where
+    by : (t : Bool) → bytes_eq v u ≡ t → (t || list_any (λ x. bytes_eq v x) us) ≡ true → (list_any (λ x. bytes_eq v x) us ≡ true → bytes_eq w v ≡ false) → bytes_eq w v ≡ false
+    by true same k more = ap (λ x. bytes_eq w x) (bytes_same v u same) ∙ apart.0
+    by false other k more = more k
+
+-- it is none of the words that begin groups of another kind
+pub differs : (w v : List ℕ) → StandsAlone w → is_group_word v ≡ true → bytes_eq w v ≡ false
+differs w v a h = differs_from w v group_words a.others h
+
 pub none_among : (w : List ℕ) (vs : List (List ℕ)) → list_any (λ v. bytes_eq w v) vs ≡ false → AllByRecursion (λ v. bytes_eq w v ≡ false) vs
 none_among w [] h = tt
 none_among w (v ∷ vs) h = by (bytes_eq w v) refl h (none_among w vs)

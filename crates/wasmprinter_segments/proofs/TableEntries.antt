@@ -40,7 +40,7 @@ plain = map_value (λ t. table_of t None) table_type
 
 -- one with an initialiser
 abbrev initialised : Grammar (Table (Placed Operator))
-initialised = map_value (λ x. table_of x.1.1.0 (Some x.1.1.1)) (seq (only 0x40) (λ _. seq (only 0x00) (λ _. seq table_type (λ _. constant))))
+initialised = map_value (λ (_, (_, (type, init))). table_of type (Some init)) (seq (only 0x40) (λ _. seq (only 0x00) (λ _. seq table_type (λ _. constant))))
 
 -- both begin with a byte
 plain_takes : (at : Input) (x : Table (Placed Operator) × Input) → plain.parse at ≡ Some x → length x.1.bytes < length at.bytes

@@ -29,12 +29,13 @@ module _ (at mid : Input) (locals : Entries) (read : (vec (value_with_place loca
   -- the locals of the body
   body_locals : (x : Body × Input) → body.parse at ≡ Some x → x.0.locals ≡ locals
   body_locals x e =
-      let a = bind_some ((seq (vec (value_with_place local_entry)) (λ _. expression)).parse at) (λ a. Some (body_from a.0.0 a.0.1, a.1)) x e in
-      let b = bind_some ((vec (value_with_place local_entry)).parse at) (λ l. expression.parse l.1 >>= λ c. Some ((l.0, c.0), c.1)) a.0 a.1 in
-      let c = bind_some (expression.parse b.0.1) (λ c. Some ((b.0.0, c.0), c.1)) a.0 b.2 in
-      let same : b.0.0 ≡ locals = ap (λ (y : Entries × Input). y.0) (some_is b.0 (locals, mid) (sym b.1 ∙ read)) in
-      let first : b.0.0 ≡ a.0.0.0 = ap (λ (y : (Entries × Closed (Placed Operator)) × Input). y.0.0) (some_is ((b.0.0, c.0.0), c.0.1) a.0 c.2) in
-      let made : a.0.0.0 ≡ x.0.locals = ap (λ (y : Body × Input). y.0.locals) (some_is (body_from a.0.0.0 a.0.0.1, a.0.1) x a.2) in
+      let (parts, parsed, given) = bind_some ((seq (vec (value_with_place local_entry)) (λ _. expression)).parse at) (λ a. Some (body_from a.0.0 a.0.1, a.1)) x e in
+      let (own, has_own, behind) = bind_some ((vec (value_with_place local_entry)).parse at) (λ l. expression.parse l.1 >>= λ c. Some ((l.0, c.0), c.1)) parts parsed in
+      let (code, has_code, together) = bind_some (expression.parse own.1) (λ c. Some ((own.0, c.0), c.1)) parts behind in
+      let pair : Entries × Closed (Placed Operator) = parts.0 in
+      let same : own.0 ≡ locals = ap (λ (y : Entries × Input). y.0) (some_is own (locals, mid) (sym has_own ∙ read)) in
+      let first : own.0 ≡ pair.0 = ap (λ (y : (Entries × Closed (Placed Operator)) × Input). y.0.0) (some_is ((own.0, code.0), code.1) parts together) in
+      let made : pair.0 ≡ x.0.locals = ap (λ (y : Body × Input). y.0.locals) (some_is (body_from pair.0 pair.1, parts.1) x given) in
       sym made ∙ sym first ∙ same
 
   -- the body has too many locals
@@ -78,9 +79,10 @@ module _ (old mid part new : Input) (size : ℕ) (size_read : u32.parse old ≡ 
   -- the body that stands in the entry is read of the part
   entry_body : (x : Placed Body × Input) → code_entry.parse old ≡ Some x → (after : Input) × ((value_with_place body).parse part ≡ Some (x.0, after))
   entry_body x e =
-      let a = bind_some ((sized old mid part new size size_read cut begins (alone (value_with_place body))).parse old) (λ a. Some (a.0.1, a.1)) x e in
-      let same : a.0.0.1 ≡ x.0 = ap (λ (y : Placed Body × Input). y.0) (some_is (a.0.0.1, a.0.1) x a.2) in
-      alone_some (value_with_place body) part x.0 (sized_some old mid part new size size_read cut begins (alone (value_with_place body)) a.0 a.1 ∙ ap (λ (b : Placed Body). Some b) same)
+      let (entry, parsed, given) = bind_some ((sized old mid part new size size_read cut begins (alone (value_with_place body))).parse old) (λ a. Some (a.0.1, a.1)) x e in
+      let read : Placed Body = entry.0.1 in
+      let same : read ≡ x.0 = ap (λ (y : Placed Body × Input). y.0) (some_is (read, entry.1) x given) in
+      alone_some (value_with_place body) part x.0 (sized_some old mid part new size size_read cut begins (alone (value_with_place body)) entry parsed ∙ ap (λ (b : Placed Body). Some b) same)
 
   -- it has too many locals
   entry_over : (place : ℕ) → (body_reasons (value_with_place body).parse (HasBlocks part) part).locals place → (body_reasons code_entry.parse (HasEntryBlocks old) old).locals place

@@ -219,11 +219,11 @@ no_such_tag i = omega (arith, i.functions.0.operators.0)
 
 no_such_caught_tag : IsIndexed (one_operator (opcode 0 0x1f) (TryTable Empty (All 0 ∷ One 0 0 ∷ []))) → ⊥
 unfolding table
-no_such_caught_tag i = omega (arith, i.functions.0.operators.0.1.1.0)
+no_such_caught_tag i = let (block, catches) = i.functions.0.operators.0 in omega (arith, catches.1.0)
 
 no_such_caught_tag_ref : IsIndexed (one_operator (opcode 0 0x1f) (TryTable Empty (OneRef 0 0 ∷ []))) → ⊥
 unfolding table
-no_such_caught_tag_ref i = omega (arith, i.functions.0.operators.0.1.0)
+no_such_caught_tag_ref i = let (block, catches) = i.functions.0.operators.0 in omega (arith, catches.0)
 
 block_without_type : IsIndexed (one_operator (opcode 0 0x02) NoImmediates) → ⊥
 unfolding table

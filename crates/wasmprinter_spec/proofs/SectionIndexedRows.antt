@@ -105,7 +105,7 @@ function_in_items i = omega (arith, i.elements.0.items.0)
 
 function_in_expressions : IsIndexed (using own_ref [] (element_of Passive (Expressions own_ref ((ref_func 2 ∷ []) ∷ []))) own_data) → ⊥
 unfolding table
-function_in_expressions i = omega (arith, i.elements.0.items.1.0.0)
+function_in_expressions i = let (element, expressions) = i.elements.0.items in omega (arith, expressions.0.0)
 
 other_table : IsIndexed (using own_ref [] (element_of (Active 1 []) (Functions [])) own_data) → ⊥
 other_table i = omega (arith, i.elements.0.mode.0)

@@ -74,7 +74,7 @@ cast_nulls b = lookup ((0x00, (false, false)) ∷ (0x01, (true, false)) ∷ (0x0
 -- these, a label, and two heap types
 abbrev pub cast : Grammar Immediates
 cast =
-    map_value (λ x. Cast x.1.0 (ref_type x.0.0 x.1.1.0) (ref_type x.0.1 x.1.1.1))
+    map_value (λ ((from_null, to_null), (label, (from, to))). Cast label (ref_type from_null from) (ref_type to_null to))
     (seq (try_map cast_nulls byte) (λ _. seq u32 (λ _. seq heap_type (λ _. heap_type))))
 
 -- the number whose bytes these are, the lowest first

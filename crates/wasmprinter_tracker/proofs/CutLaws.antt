@@ -50,8 +50,9 @@ lines_at_starts-longer (x ∷ []) t s h =
     ap (λ (l : List ℕ). (x.place, l) ∷ [])
     (whole x.at (t ++ s) ∙ drop-append-le x.at t s h.0.0 ∙ ap (λ l. l ++ s) (sym (whole x.at t)))
 lines_at_starts-longer (x ∷ y ∷ starts) t s h =
-    let within : y.at ≤ length t = h.2.0.0 in
-    ap₂ (λ (l : List ℕ) (m : List TextLine). (x.place, l) ∷ m) (part-longer x.at y.at t s h.0.0 within) (lines_at_starts-longer (y ∷ starts) t s h.2)
+    let next : IsCuttable (y ∷ starts) t = h.2 in
+    let within : y.at ≤ length t = next.0.0 in
+    ap₂ (λ (l : List ℕ) (m : List TextLine). (x.place, l) ∷ m) (part-longer x.at y.at t s h.0.0 within) (lines_at_starts-longer (y ∷ starts) t s next)
 
 pub lines_at_starts-more : (starts : List LineStart) (t : List ℕ) (p : Option ℕ) → IsCuttable starts t →
     lines_at_starts (starts ++ record { place = p; at = length t } ∷ []) t ≡ lines_at_starts starts t ++ (p, []) ∷ []

@@ -8,16 +8,21 @@ use Rattle.wasmprinter_tracker.specs.Tracked.{extend_last}
 
 -- ---- calls more
 
+-- A line has begun: what is added does not stand in front of the first one.
+record HasBegun (k l : List Call) : Type 0 where
+  first : TextLine
+  others : List TextLine
+  lines : lines_of k ≡ first ∷ others
+  before : text_before_line (k ++ l) ≡ text_before_line k
+
 -- Either no line has begun, and what is added stands in front of the first line too, or it does not.
-before-append : (k l : List Call) →
-    ((lines_of k ≡ []) × (text_before_line (k ++ l) ≡ text_before_line k ++ text_before_line l))
-    ⊎ ((x : TextLine) × ((r : List TextLine) × ((lines_of k ≡ x ∷ r) × (text_before_line (k ++ l) ≡ text_before_line k))))
+before-append : (k l : List Call) → ((lines_of k ≡ []) × (text_before_line (k ++ l) ≡ text_before_line k ++ text_before_line l)) ⊎ HasBegun k l
 before-append [] l = inl (refl, refl)
-before-append (Line p ∷ k) l = inr ((p, text_before_line k), (lines_of k, (refl, refl)))
+before-append (Line p ∷ k) l = inr (record { first = (p, text_before_line k); others = lines_of k; lines = refl; before = refl })
 before-append (c ∷ k) l =
     elim (before-append k l) [
       | inl e ↦ inl (e.0, ap (λ x. call_text c ++ x) e.1 ∙ sym (append_assoc (call_text c) (text_before_line k) (text_before_line l)))
-      | inr e ↦ inr (e.0, (e.1.0, (e.1.1.0, ap (λ x. call_text c ++ x) e.1.1.1)))
+      | inr e ↦ inr (record { first = e.first; others = e.others; lines = e.lines; before = ap (λ x. call_text c ++ x) e.before })
     ]
 
 -- calls that begin no line add their text to the last one
@@ -26,7 +31,7 @@ lines_of-text [] l h = h
 lines_of-text (Line p ∷ k) l h =
     elim (before-append k l) [
       | inl e ↦ simp (lines_of-text k l h, e.1, e.0)
-      | inr e ↦ simp (lines_of-text k l h, e.1.1.1, e.1.1.0)
+      | inr e ↦ simp (lines_of-text k l h, e.before, e.lines)
     ]
 lines_of-text (c ∷ k) l h = lines_of-text k l h
 

@@ -64,8 +64,9 @@ module _ (old behind mid part new : Input) (id size : ℕ) (id_read : byte.parse
     -- the section that stands there is read of the part
     section_content : (x : Section × Input) → section.parse old ≡ Some x → (c : Content kind) × ((content kind).parse part ≡ Some c) × (holds kind c ≡ x.0)
     section_content x r =
-        let a = bind_some ((sized behind mid part new size size_read cut begins (content kind)).parse behind) (λ a. Some (holds kind a.0.1, a.1)) x (sym into ∙ r) in
-        (a.0.0.1, sized_some behind mid part new size size_read cut begins (content kind) a.0 a.1, ap (λ (y : Section × Input). y.0) (some_is (holds kind a.0.0.1, a.0.1) x a.2))
+        let (sized_content, parsed, given) = bind_some ((sized behind mid part new size size_read cut begins (content kind)).parse behind) (λ a. Some (holds kind a.0.1, a.1)) x (sym into ∙ r) in
+        let c : Content kind = sized_content.0.1 in
+        (c, sized_some behind mid part new size size_read cut begins (content kind) sized_content parsed, ap (λ (y : Section × Input). y.0) (some_is (holds kind c, sized_content.1) x given))
 
     -- what is so of the section, if the part spells one, is so of the section that stands there
     of_section : (P : Section → Type 0) → ((c : Content kind) → (content kind).parse part ≡ Some c → P (holds kind c)) → (x : Section × Input) → section.parse old ≡ Some x → P x.0

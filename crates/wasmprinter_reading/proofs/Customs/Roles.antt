@@ -65,7 +65,7 @@ AreRangedSubsections ss = AllByRecursion (λ s. IsRangedContent s.value) ss
 AllSpelled-mem_info : AllSpelled mem_info IsRangedMemInfo
 AllSpelled-mem_info =
     Spelled-map_value (Spelled-seq AllSpelled-u32 (λ _. Spelled-seq AllSpelled-u32 (λ _. Spelled-seq AllSpelled-u32 (λ _. AllSpelled-u32))))
-    (λ x h. record { memory_size = h.0; memory_alignment = h.1.0; table_size = h.1.1.0; table_alignment = h.1.1.1 })
+    (λ x (size, (alignment, (table_size, table_alignment))). record { memory_size = size; memory_alignment = alignment; table_size = table_size; table_alignment = table_alignment })
 
 AllSpelled-content_by_id : (id : ℕ) → AllSpelled (content_by_id id) IsRangedContent
 AllSpelled-content_by_id id =

@@ -24,7 +24,7 @@ use Rattle.wasmprinter_lexical.proofs.Writes.{Writes, is_open, both_write, nothi
 use Rattle.wasmprinter_reading.specs.Listed.{AreSignaturesInRange, IsListed}
 use Rattle.wasmprinter_reading.specs.OperatorLaws.{HaveSameTypes, HaveSameNames}
 use Rattle.wasmprinter_reading.proofs.Bytes.{same_bytes}
-use Rattle.wasmprinter_reading.proofs.Tabled.{HasRow, row_for, StandsAlone}
+use Rattle.wasmprinter_reading.proofs.Tabled.{HasRow, row_for, StandsAlone, differs}
 use Rattle.wasmprinter_reading.proofs.Ranged.{IsRangedExpression}
 use Rattle.wasmprinter_reading.proofs.Operators.Arguments.{AreArguments}
 use Rattle.wasmprinter_reading.proofs.Operators.Alone.{IsAlone, alone_for, chunks_of_forest-alone}
@@ -159,11 +159,12 @@ pub offset_stands : (s : Scope) (os : List (Placed Operator)) → IsRangedExpres
 offset_stands s [] h = record { word = codes "offset"; rest = _; is = refl; ref = refl; table = refl; memory = refl }
 offset_stands s (o ∷ []) h =
     let a : StandsAlone (word_of o.value.opcode) = (alone_for o.value h.listed.0 h.nested).alone in
-    record { word = word_of o.value.opcode; rest = _; is = refl; ref = a.others.1.1.1.1.0; table = a.others.1.1.1.1.1.0; memory = a.others.1.1.1.1.1.1.0 }
+    let w : List ℕ = word_of o.value.opcode in
+    record { word = w; rest = _; is = refl; ref = differs w (codes "ref") a refl; table = differs w (codes "table") a refl; memory = differs w (codes "memory") a refl }
 offset_stands s (o ∷ p ∷ os) h = record { word = codes "offset"; rest = _; is = refl; ref = refl; table = refl; memory = refl }
 
 pub no_offset : (v : List ℕ) → StandsAlone v → bytes_eq v (codes "offset") ≡ false
-no_offset v a = a.others.1.1.0
+no_offset v a = differs v (codes "offset") a refl
 
 pub no_item : (v : List ℕ) → StandsAlone v → bytes_eq v (codes "item") ≡ false
-no_item v a = a.others.1.1.1.0
+no_item v a = differs v (codes "item") a refl

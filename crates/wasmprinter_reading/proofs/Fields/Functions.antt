@@ -38,7 +38,7 @@ use Rattle.wasmprinter_reading.proofs.Types.Ranged.{IsRangedVal}
 use Rattle.wasmprinter_reading.proofs.Types.Trees.{groups_items, signature_items, type_use_items, HaveTypes, HaveNames, grouped_types, grouped_names, variables_write, groups_write}
 use Rattle.wasmprinter_reading.proofs.Types.Back.{variables_leave, variables_take, IsBehindSignature, printed_signature, signature-items, own_parameters}
 use Rattle.wasmprinter_reading.proofs.Operators.Lists.{expression_items, hinted_items, chunks_of, hinted_write, expression_reads}
-use Rattle.wasmprinter_reading.proofs.Tabled.{StandsAlone}
+use Rattle.wasmprinter_reading.proofs.Tabled.{StandsAlone, differs}
 use Rattle.wasmprinter_reading.proofs.Folded.Lists.{IsUnpainted, AreFoldable, list_items, folded_list_writes, chunks_of_forest-list}
 use Rattle.wasmprinter_reading.proofs.Folded.Begins.{BeginsCode, list_begins}
 use Rattle.wasmprinter_reading.proofs.Fields.Scopes.{own_index, AreScoped, own_index-reads, type_bound, type_indices-read, vals_bounded, signature_bounded, signature_declared}
@@ -213,13 +213,13 @@ groups_operators read w off (Note id g f) b = refl
 groups_operators read w off _ b = absurd b
 
 no_param : (v : List ℕ) → StandsAlone v → bytes_eq v (codes "param") ≡ false
-no_param v a = a.others.1.1.1.1.1.1.1.1.0
+no_param v a = differs v (codes "param") a refl
 
 no_result : (v : List ℕ) → StandsAlone v → bytes_eq v (codes "result") ≡ false
-no_result v a = a.others.1.1.1.1.1.1.1.1.1.0
+no_result v a = differs v (codes "result") a refl
 
 no_local : (v : List ℕ) → StandsAlone v → bytes_eq v (codes "local") ≡ false
-no_local v a = a.others.1.1.1.1.1.1.1.0
+no_local v a = differs v (codes "local") a refl
 
 -- parameters and the locals behind them are one space
 variables_space : (named : ℕ → Option Named) → AreDistinct named → (count : ℕ) (ls : List ValType) → count + length ls ≤ 2 ^ 64 →

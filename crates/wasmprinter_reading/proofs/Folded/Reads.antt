@@ -237,8 +237,9 @@ module _ (hints : Bool) where
       (λ g is e. operator_reads form x h (row_items hints node) g (map as_folded j.folds ++ code.Then yes ∷ []) is (as_folded n) (ap is_folded p) cases
       (rw (p, branches-folds j.folds (code.Then yes ∷ []) [] yes refl) refl) e)
   row_reads form f (an_if_else b x r given q held y t other p h rb rg rh nested py hy ro nested_other) a =
-      let j : Reads hints given = row_reads form given rg a.2.1.1 in
-      let k : Reads hints held = row_reads form held rh a.2.1.2 in
+      let taken : AllHeads (IsHintless hints) (Snoc given (ThenCase x) q held) = a.2.1 in
+      let j : Reads hints given = row_reads form given rg taken.1 in
+      let k : Reads hints held = row_reads form held rh taken.2 in
       let l : Reads hints other = row_reads form other ro a.2.2 in
       let end : Chunk = word_chunk (codes "end") in
       let turn : Chunk = word_chunk (codes "else") in

@@ -26,7 +26,7 @@ use Rattle.wasmprinter_spec.specs.Text.Hints.{header_words, body_of, chunk_hints
 use Rattle.wasmprinter_lexical.proofs.Noted.{Noted, no_items, a_word, a_group, a_note}
 use Rattle.wasmprinter_reading.specs.Listed.{IsListed, AreSignaturesInRange}
 use Rattle.wasmprinter_reading.proofs.Bytes.{bytes_same, same_bytes}
-use Rattle.wasmprinter_reading.proofs.Tabled.{StandsAlone}
+use Rattle.wasmprinter_reading.proofs.Tabled.{StandsAlone, differs}
 use Rattle.wasmprinter_reading.proofs.Folded.Items.{item_chunk, noted_chunk, own_chunk, IsHintless}
 use Rattle.wasmprinter_reading.proofs.Folded.ReadBack.{tree_row, tree_unfolds_at}
 use Rattle.wasmprinter_reading.proofs.Folded.Lists.{AreFoldable, code_items, folded_items, list_items, has_tree}
@@ -51,10 +51,10 @@ neither false q e f = f
 -- an operator is no part of a header
 not_header : (w : List ℕ) → StandsAlone w → list_any (λ v. bytes_eq v w) header_words ≡ false
 not_header w a =
-    neither _ _ (other_way (codes "type") w a.others.1.1.1.1.1.1.1.1.1.1.0)
-    (neither _ _ (other_way (codes "param") w a.others.1.1.1.1.1.1.1.1.0)
-    (neither _ _ (other_way (codes "result") w a.others.1.1.1.1.1.1.1.1.1.0)
-    (neither _ _ (other_way (codes "local") w a.others.1.1.1.1.1.1.1.0) refl)))
+    neither _ _ (other_way (codes "type") w (differs w (codes "type") a refl))
+    (neither _ _ (other_way (codes "param") w (differs w (codes "param") a refl))
+    (neither _ _ (other_way (codes "result") w (differs w (codes "result") a refl))
+    (neither _ _ (other_way (codes "local") w (differs w (codes "local") a refl)) refl)))
 
 begins_noted : {z g : Forest} → Noted z g → BeginsCode g → body_of z ≡ z
 begins_noted no_items b = refl

@@ -77,7 +77,7 @@ AllSpelled-cast : AllSpelled cast (HasShape CastShape)
 AllSpelled-cast =
     Spelled-map_value (Spelled-seq (Spelled-any (try_map cast_nulls byte))
     (λ _. Spelled-seq AllSpelled-u32 (λ _. Spelled-seq AllSpelled-heap_type (λ _. AllSpelled-heap_type))))
-    (λ x h. (refl, (h.1.0, h.1.1.0, h.1.1.1)))
+    (λ x (_, (label, (from, to))). (refl, (label, from, to)))
 
 -- The number of so many bytes.
 little_endian-below : (bs : List ℕ) → AllByRecursion IsByte bs → little_endian bs < 256 ^ length bs

@@ -103,11 +103,19 @@ record AreFourBytes (a b c d : ℕ) : Type 0 where
   third : c < 256
   fourth : d < 256
 
+-- the first four of bytes, and the others
+four_parts : (a b c d : ℕ) (bs : List ℕ) → AllByRecursion IsByte (a ∷ b ∷ c ∷ d ∷ bs) → AreFourBytes a b c d × AllByRecursion IsByte bs
+four_parts a b c d bs (first, (second, (third, (fourth, others)))) = (record { first = first; second = second; third = third; fourth = fourth }, others)
+
+-- the bytes, the last first
+are_bytes-back : (a b c d : ℕ) → AreFourBytes a b c d → AllByRecursion IsByte (d ∷ (c ∷ (b ∷ (a ∷ []))))
+are_bytes-back a b c d h = (h.fourth, (h.third, (h.second, (h.first, tt))))
+
 -- a word reads as its four bytes
 word_reads : (a b c d : ℕ) → AreFourBytes a b c d → vector_lane 4 (hex_word (a ∷ (b ∷ (c ∷ (d ∷ []))))) ≡ Some (a ∷ (b ∷ (c ∷ (d ∷ []))))
 word_reads a b c d h =
     let bs : List ℕ = d ∷ (c ∷ (b ∷ (a ∷ []))) in
-    let are : AllByRecursion IsByte bs = (h.fourth, (h.third, (h.second, (h.first, tt)))) in
+    let are : AllByRecursion IsByte bs = are_bytes-back a b c d h in
     let n : ℕ = ((d * 256 + c) * 256 + b) * 256 + a in
     let small : n < 2 ^ 32 = omega (arith, h.first, h.second, h.third, h.fourth) in
     let value : digits_value_after 16 0 (hex_digits bs) ≡ n = hex_value 0 bs are ∙ omega arith in
@@ -134,8 +142,8 @@ concat-fours n bs e = absurd (omega (arith, e))
 words_read : (bs : List ℕ) → AllByRecursion IsByte bs → all_items (vector_lane 4) no_group (words_before (hex_words bs) End) ≡ Some (fours bs)
 unfolding hex_words
 words_read (a ∷ b ∷ c ∷ d ∷ bs) h =
-    let are : AreFourBytes a b c d = record { first = h.0; second = h.1.0; third = h.1.1.0; fourth = h.1.1.1.0 } in
-    rw (word_reads a b c d are, words_read bs h.1.1.1.1)
+    let parts = four_parts a b c d bs h in
+    rw (word_reads a b c d parts.0, words_read bs parts.1)
 words_read _ h = refl
 
 pub vector_reads : (bs : List ℕ) → IsVectorInRange bs → vector (vector_items bs) ≡ Some (Bytes bs)
@@ -158,9 +166,10 @@ is_word-hex ds h = run_hexadecimal ds h
 hex_are_words : (bs : List ℕ) → AllByRecursion IsByte bs → are_words (hex_words bs) ≡ true
 unfolding hex_words
 hex_are_words (a ∷ b ∷ c ∷ d ∷ bs) h =
+    let parts = four_parts a b c d bs h in
     let word : is_word (hex_word (a ∷ (b ∷ (c ∷ (d ∷ []))))) ≡ true =
-    is_word-hex (hex_digits (d ∷ (c ∷ (b ∷ (a ∷ []))))) (hex_are_digits (d ∷ (c ∷ (b ∷ (a ∷ [])))) (h.1.1.1.0, (h.1.1.0, (h.1.0, (h.0, tt))))) in
-    and_from (is_word (hex_word (a ∷ (b ∷ (c ∷ (d ∷ [])))))) (are_words (hex_words bs)) word (hex_are_words bs h.1.1.1.1)
+    is_word-hex (hex_digits (d ∷ (c ∷ (b ∷ (a ∷ []))))) (hex_are_digits (d ∷ (c ∷ (b ∷ (a ∷ [])))) (are_bytes-back a b c d parts.0)) in
+    and_from (is_word (hex_word (a ∷ (b ∷ (c ∷ (d ∷ [])))))) (are_words (hex_words bs)) word (hex_are_words bs parts.1)
 hex_are_words _ h = refl
 
 pub vector_writes : (bs : List ℕ) → IsVectorInRange bs → Writes Bound (vector_pieces bs) Bound (vector_items bs)

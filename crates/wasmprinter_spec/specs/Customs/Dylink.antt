@@ -34,7 +34,7 @@ Subsection = Placed Content
 
 abbrev pub mem_info : Grammar MemInfo
 mem_info =
-    map_value (λ x. record { memory_size = x.0; memory_alignment = x.1.0; table_size = x.1.1.0; table_alignment = x.1.1.1 })
+    map_value (λ (size, (alignment, (table_size, table_alignment))). record { memory_size = size; memory_alignment = alignment; table_size = table_size; table_alignment = table_alignment })
     (seq u32 (λ _. seq u32 (λ _. seq u32 (λ _. u32))))
 
 abbrev pub export_info : Grammar ExportInfo
