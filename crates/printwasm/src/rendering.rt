@@ -18,8 +18,7 @@ pub trait Render<X> {
         ensures { renders self.now error.now (inline_text result) };
 }
 
-/// The text is what `Display` makes of the error. One of more than 512 bytes is cut, and ends in dots; no error of printing or of the
-/// system has one.
+/// The text is what `Display` makes of the error. One of more than 512 bytes is cut, and ends in dots.
 #[derive(Clone, Copy)]
 pub struct ByDisplay;
 

@@ -9,7 +9,7 @@ use wasmprinter::Error;
 use wasmprinter_samples::expect_text;
 
 /// The text of a module whose function has these lines.
-fn expected(alloc: Global, lines: &[&str]) -> Result<String, AllocError> {
+fn text_with_lines(alloc: Global, lines: &[&str]) -> Result<String, AllocError> {
     let mut text = String::from_str(
         alloc,
         "(module\n  (type (;0;) (func))\n  (func (;0;) (type 0)\n",
@@ -77,7 +77,7 @@ fn first_fault(alloc: Global, groups: &[Group]) -> Result<Option<String>, Fail> 
     for group in groups {
         for sample in &samples_of(alloc, group)? {
             let text = text_of(alloc, &sample.bytes)?;
-            if text != expected(alloc, &[sample.line.as_str()])? {
+            if text != text_with_lines(alloc, &[sample.line.as_str()])? {
                 return Ok(Some(text));
             }
         }
@@ -144,7 +144,7 @@ const BLOCK_OPCODES: u32 = 10;
 fn prints_operators_of_blocks(rt: HostRuntime) -> Result<(), Fail> {
     for (operators, lines) in BLOCKS {
         let text = text_of(rt.alloc(), operators)?;
-        expect_text(text.as_str(), expected(rt.alloc(), lines)?.as_str())?;
+        expect_text(text.as_str(), text_with_lines(rt.alloc(), lines)?.as_str())?;
     }
     Ok(())
 }
@@ -194,7 +194,10 @@ const SPECIAL: [(&[u8], &str); 20] = [
 fn prints_other_immediates(rt: HostRuntime) -> Result<(), Fail> {
     for (operator, line) in SPECIAL {
         let text = text_of(rt.alloc(), operator)?;
-        expect_text(text.as_str(), expected(rt.alloc(), &[line])?.as_str())?;
+        expect_text(
+            text.as_str(),
+            text_with_lines(rt.alloc(), &[line])?.as_str(),
+        )?;
     }
     Ok(())
 }

@@ -113,7 +113,7 @@ fn refuses_other_data_segments(rt: HostRuntime) -> Result<(), Fail> {
 }
 
 /// The text of a module with a count of data segments and these segments.
-fn counted(alloc: Global, count: u8, content: &[u8]) -> Result<String, Error> {
+fn with_count(alloc: Global, count: u8, content: &[u8]) -> Result<String, Error> {
     let mut wasm = Vec::from_slice(alloc, &PREAMBLE)?;
     add_section(&mut wasm, DATA_COUNT, &[count])?;
     add_section(&mut wasm, DATA, content)?;
@@ -123,11 +123,11 @@ fn counted(alloc: Global, count: u8, content: &[u8]) -> Result<String, Error> {
 #[test]
 fn compares_the_count_of_data_segments(rt: HostRuntime) -> Result<(), Fail> {
     let one = [0x01, 0x01, 0x00];
-    let text = counted(rt.alloc(), 1, &one)?;
+    let text = with_count(rt.alloc(), 1, &one)?;
     expect_text(text.as_str(), "(module\n  (data (;0;) \"\")\n)\n")?;
-    let more = counted(rt.alloc(), 2, &one);
+    let more = with_count(rt.alloc(), 2, &one);
     assert!(rt; matches!(more, Err(Error::Malformed { .. })));
-    let none = counted(rt.alloc(), 0, &one);
+    let none = with_count(rt.alloc(), 0, &one);
     assert!(rt; matches!(none, Err(Error::Malformed { .. })));
     // none are counted and none stand there
     let empty = text_of(rt.alloc(), DATA_COUNT, &[0x00])?;

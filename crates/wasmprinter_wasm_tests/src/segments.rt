@@ -187,10 +187,10 @@ fn imports_have_types(rt: HostRuntime) -> Result<(), Fail> {
     let decoded = decode(rt.alloc(), &bytes)?;
     let wanted = imports_wanted();
     assert!(rt; decoded.imports().len() == wanted.len());
-    for (import, (place, name, ty)) in decoded.imports().iter().zip(wanted.iter().copied()) {
+    for (import, (place, name, ty)) in decoded.imports().iter().zip(wanted) {
         assert!(rt; import.place() == place);
         expect_text(import.module(), "m")?;
-        assert!(rt; import.name() == name);
+        expect_text(import.name(), name)?;
         assert!(rt; import.ty() == ty);
     }
     for kind in [
