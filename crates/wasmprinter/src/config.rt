@@ -81,8 +81,8 @@ impl Config {
         self
     }
 
-    /// The text that stands once for each level of nesting, of the first 50, two blanks by default. A text of other characters than blanks and tabs is
-    /// printed as it stands; what is printed then isn't promised to read back. Takes no memory.
+    /// The text that stands once for each level of nesting, of the first 50, two blanks by default. A text of other characters than
+    /// blanks and tabs is printed as it stands; what is printed then isn't promised to read back. Takes no memory.
     pub fn indent_text(&mut self, text: String) -> &mut Self
         ensures itself { result.ghost_name ≡ self.entry.ghost_name }
         ensures options { result.now ≡ record self.old { indent = string_bytes text } }
@@ -111,10 +111,11 @@ impl Config {
     /// # Errors
     ///
     /// `Component`, `Malformed`, `TooManyLocals`, `TooManyFunctions` and `EmptyTableInit` as `decode` answers them, `Component`
-    /// before all others; `FoldLegacy` and `FoldHint`, where operators are folded, for what can't be; `Memory` where a growth was refused to
-    /// the decoder or to what keeps the names. The printer took no call before these. `Memory` also where a growth was refused to what folds:
-    /// a beginning was printed then. `DylinkSubsection` where a custom section `dylink.0` that the printer doesn't take has a subsection that isn't known: what
-    /// stands in front of it was printed. `Printer` where a call on the printer failed, with that call's error.
+    /// before all others; `FoldLegacy` and `FoldHint`, where operators are folded, for what can't be; `Memory` where a growth was refused
+    /// to the decoder or to what keeps the names. The printer took no call before these. `Memory` also where a growth was refused to what
+    /// folds: a beginning was printed then. `DylinkSubsection` where a custom section `dylink.0` that the printer doesn't take has a
+    /// subsection that isn't known: what stands in front of it was printed. `Printer` where a call on the printer failed, with that
+    /// call's error.
     pub fn print<P: Print>(&self, alloc: Global, wasm: &[u8], printer: &mut P) -> Result<(), Error>
         ensures printed { OnOk result (Printed P.meaning (P.colors printer.old) self.now wasm.now printer.old printer.new) }
         ensures caused { IfErr result (HasCause P.meaning self.now wasm.now printer.old printer.new) }

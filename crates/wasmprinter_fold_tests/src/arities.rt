@@ -1,5 +1,5 @@
-//! How many operands each operator takes and how many results it gives, shown by the nodes that are printed: each stands behind six constants
-//! and in front of an operator that takes one operand.
+//! How many operands each operator takes and how many results it gives, shown by the nodes that are printed: each stands behind six
+//! constants and in front of an operator that takes one operand.
 
 use crate::arity_rows::{AGGREGATES, CONTROL, NUMBERS};
 use crate::modules::{add_code, folded_text};

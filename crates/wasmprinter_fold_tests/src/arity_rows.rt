@@ -2,8 +2,8 @@
 //! its bytes, and its text. All is typed from tables of opcodes, and none of it made from a table of the program or of the definitions.
 
 /// Operators of control, variables and references. A function 0 takes two operands and gives one, function 1 gives two and has a body with
-/// the operator; types 0, 1 and 4 are of functions (the last one takes an operand), 2 of structures with three fields and 3 of arrays; tag 0
-/// takes an operand. There are no others.
+/// the operator; types 0, 1 and 4 are of functions (the last one takes an operand), 2 of structures with three fields and 3 of arrays;
+/// tag 0 takes an operand. There are no others.
 pub const CONTROL: &str = "\
 0>0: 00: unreachable
 0>0: 01: nop
