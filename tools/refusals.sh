@@ -1,66 +1,91 @@
 #!/bin/sh
-# Refuses each request for memory of the program `refusals` in turn, and judges how it takes that. A run in which one is refused has to end
-# with status 1, with one line `out of memory` and all others `printed`; any other with status 0 and all `printed`. Ends with another status than
-# 0 where a run doesn't, or faults or hangs. It proves nothing (`rt try`), and takes some minutes.
+# Refuses each request for memory of the program `refusals` in turn, and judges how it takes that. Ends with another status than 0 where a run
+# doesn't end as it has to, or faults or hangs. It proves nothing (`rt try`), and takes some minutes.
 #
-# tools/refusals.sh [LAST]: each run has request number LAST refused, 330 if not given. Before it begins, it makes requests of its own, one
-# fewer than the run before, so that another one of the library's comes to be that request. LAST has to be greater than the number of the
-# library's requests (one of those counted is the program's own, for the text that lines are appended to); in the runs past them nothing is
-# refused. The runs are dealt out to as many builds as there are processors.
+# First each shape is printed, with the empty module behind it, and nothing is refused: status 0, and a line `printed` for each of the two. That
+# also tells how many requests are made (one of those counted is the program's own, for the text that lines are appended to). Then each of
+# these requests is refused in a run of its own, which has to end with status 1, with `out of memory` for one of the two and `printed` for the other.
+# Always the same request is refused, by its number. A run makes requests of its own before it prints, one fewer than the run before, so that
+# another one of the library's comes to be the one with that number. The runs are dealt out to as many builds as there are processors.
 set -eu
 cd "$(dirname "$0")/../crates/refusals"
-last=${1:-330}
+shapes=$(wc -l <stdout)
 hands=$(nproc)
 began=$(date +%s)
 work=$(mktemp -d)
 trap 'rm -rf "$work"' EXIT
-run=1
-while [ "$run" -le "$last" ]; do
-    mkdir -p "$work/cases$((run % hands))"
-    echo $((last - run)) >"$work/cases$((run % hands))/$run"
-    run=$((run + 1))
+
+# runs NUMBER: runs the cases in $work/cases*, the request of that number refused; what they write goes to $work/out, what is told of them to
+# $work/err. A case's file holds how many requests are to be made first, and the number of the shape, both with four digits.
+runs() {
+    for cases in "$work"/cases*; do
+        rt try --fail-alloc "$1" --cases "$cases" >"$cases.out" 2>"$cases.err" || touch "$cases.failed" &
+    done
+    wait
+    cat "$work"/cases*.out >"$work/out"
+    cat "$work"/cases*.err >"$work/err"
+    if ls "$work"/cases*.failed >"$work/failed" 2>&1; then
+        cat "$work/err"
+        echo "refusals: a run faulted, hung, or differed between the two ways in which it is run"
+        exit 1
+    fi
+    rm -r "$work"/cases*
+}
+
+# ended REFUSED: writes a line for each run, `SHAPE REQUEST STATUS PRINTED REFUSED REQUESTS`: its name's two parts, how it ended, how many
+# lines were `printed` and `out of memory` (any other line makes the status 9), and how many requests were made in all.
+ended() {
+    awk -v err="$work/err" '
+        FILENAME != err && /^== / { run = $2; next }
+        FILENAME != err && /: printed$/ { printed[run]++; next }
+        FILENAME != err && /: out of memory$/ { refused[run]++; next }
+        FILENAME != err { other[run] = 1 }
+        FILENAME == err && /^allocations: / { made = $2 }
+        FILENAME == err && /^case=/ {
+            run = substr($1, 6)
+            status = 9
+            for (i = 2; i <= NF; i++) if ($i ~ /^status=/ && !other[run]) status = substr($i, 8)
+            split(run, name, "-")
+            print name[1], name[2], status, printed[run] + 0, refused[run] + 0, made
+        }
+    ' "$work/out" "$work/err"
+}
+
+# nothing is refused: no run makes so many requests
+mkdir "$work/cases0"
+shape=0
+while [ "$shape" -lt "$shapes" ]; do
+    printf '0000%04d' "$shape" >"$work/cases0/$shape-0"
+    shape=$((shape + 1))
 done
-for cases in "$work"/cases*; do
-    rt try --fail-alloc "$last" --cases "$cases" >"$cases.out" 2>"$cases.err" || touch "$cases.failed" &
-done
-wait
-cat "$work"/cases*.out >"$work/out"
-cat "$work"/cases*.err >"$work/err"
-if ls "$work"/cases*.failed >"$work/failed" 2>&1; then
-    cat "$work/err"
-    echo "refusals: a run faulted, hung, or differed between the two ways in which it is run"
+runs 9999
+ended >"$work/whole"
+if ! awk -v shapes="$shapes" '$3 == 0 && $5 == 0 && $6 > 0 && $4 == ($1 + 1 == shapes ? 1 : 2) { well++ } END { exit well != shapes }' "$work/whole"; then
+    cat "$work/whole"
+    echo "refusals: a shape is not printed"
     exit 1
 fi
-awk -v last="$last" -v err="$work/err" '
-    # standard output: a line `== RUN`, and then one for each ending
-    FILENAME != err && /^== / { run = $2; next }
-    FILENAME != err && /: printed$/ { printed[run]++; next }
-    FILENAME != err && /: out of memory$/ { refused[run]++; next }
-    FILENAME != err { print "refusals: run " run ": " $0; bad = 1 }
-    # standard error: how many requests a run made, and how it ended
-    FILENAME == err && /^allocations: / { made = $2 }
-    FILENAME == err && /^case=/ {
-        run = substr($1, 6)
-        requests[run] = made - (last - run)
-        for (i = 2; i <= NF; i++) if ($i ~ /^status=/) status[run] = substr($i, 8)
-    }
+
+# each request is refused
+last=$(awk '$6 >= last { last = $6 + 1 } END { print last }' "$work/whole")
+run=0
+while read -r shape _ _ _ _ requests; do
+    request=1
+    while [ "$request" -le "$requests" ]; do
+        mkdir -p "$work/cases$((run % hands))"
+        printf '%04d%04d' "$((last - request))" "$shape" >"$work/cases$((run % hands))/$shape-$request"
+        request=$((request + 1))
+        run=$((run + 1))
+    done
+done <"$work/whole"
+runs "$last"
+ended >"$work/refused"
+awk -v runs="$run" -v shapes="$shapes" '
+    $3 == 1 && $5 == 1 && $4 == ($1 + 1 == shapes ? 0 : 1) { answered++; next }
+    { print "refusals: request " $2 " of shape " $1 ": status " $3 ", " $4 " printed, " $5 " out of memory" }
     END {
-        # the last run makes no request of its own, and none of its requests is refused
-        count = requests[last]
-        if (count == 0 || count >= last) {
-            print "refusals: " count + 0 " requests: give a number that is greater"
-            exit 1
-        }
-        for (run = 1; run <= last; run++) {
-            if (run <= count && status[run] == 1 && refused[run] == 1 && printed[run] == printed[last] - 1) {
-                answered++
-            } else if (run <= count || status[run] != 0 || refused[run] || printed[run] != printed[last]) {
-                print "refusals: request " run " of " count ": status " status[run] ", " printed[run] + 0 " printed, " refused[run] + 0 " out of memory"
-                bad = 1
-            }
-        }
-        print "refusals: of " count " requests, " answered + 0 " were answered by `Memory` when refused; " last " runs"
-        exit bad
+        print "refusals: of " runs " requests, " answered + 0 " were answered by `Memory` when refused"
+        exit answered != runs
     }
-' "$work/out" "$work/err"
+' "$work/refused"
 echo "refusals: $(($(date +%s) - began)) seconds"

@@ -1,7 +1,7 @@
 //! How printing a module ended.
 
 use crate::comparing::Comparing;
-use crate::shapes::Shape;
+use crate::shapes::{Shape, Way};
 use std::alloc::Global;
 use wasmprinter::wasm::decode;
 use wasmprinter::{Config, Error, OffsetsAndLines, Print, print_bytes};
@@ -100,7 +100,7 @@ fn by_decode(alloc: Global, shape: &Shape) -> Ending {
 }
 
 /// The worst ending of the three calls that take a module.
-pub fn ending_of(alloc: Global, shape: &Shape) -> Ending {
+fn by_each_call(alloc: Global, shape: &Shape) -> Ending {
     by_print_bytes(alloc, shape)
         .or(by_config(alloc, &Config::new(), shape))
         .or(by_decode(alloc, shape))
@@ -115,8 +115,8 @@ fn are_text(lines: OffsetsAndLines<'_>, text: &str) -> bool {
     comparing.is_whole()
 }
 
-/// By the call that appends lines to a text.
-pub fn ending_of_lines(alloc: Global, shape: &Shape) -> Ending {
+/// By the call that appends lines to a text, which keeps what stood there.
+fn by_lines(alloc: Global, shape: &Shape) -> Ending {
     let mut storage = String::new(alloc);
     if storage.push_str(OLD).is_err() {
         return Ending::OutOfMemory;
@@ -129,7 +129,7 @@ pub fn ending_of_lines(alloc: Global, shape: &Shape) -> Ending {
 }
 
 /// By the call that gives a text in colours, of which only the length is judged.
-pub fn ending_of_colors(alloc: Global, shape: &Shape) -> Ending {
+fn by_colors(alloc: Global, shape: &Shape) -> Ending {
     match Config::new().print_to_ansi(alloc, shape.wasm) {
         Ok(text) => Ending::of(text.len() > shape.text.len(), "no colours"),
         Err(error) => Ending::of_error(error),
@@ -137,7 +137,7 @@ pub fn ending_of_colors(alloc: Global, shape: &Shape) -> Ending {
 }
 
 /// By the calls that take a module, with its operators folded.
-pub fn ending_of_folded(alloc: Global, shape: &Shape) -> Ending {
+fn by_folding(alloc: Global, shape: &Shape) -> Ending {
     let mut config = Config::new();
     config.fold_instructions(true);
     let by_text = match config.print_to_string(alloc, shape.wasm) {
@@ -145,4 +145,14 @@ pub fn ending_of_folded(alloc: Global, shape: &Shape) -> Ending {
         Err(error) => Ending::of_error(error),
     };
     by_text.or(by_config(alloc, &config, shape))
+}
+
+/// How printing ended, in the way that is wanted.
+pub fn ending_of(alloc: Global, shape: &Shape) -> Ending {
+    match shape.way {
+        Way::Plain => by_each_call(alloc, shape),
+        Way::Lines => by_lines(alloc, shape),
+        Way::Colors => by_colors(alloc, shape),
+        Way::Folded => by_folding(alloc, shape),
+    }
 }

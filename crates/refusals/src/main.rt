@@ -10,18 +10,18 @@ mod comparing;
 mod ending;
 mod shapes;
 
-use ending::{Ending, ending_of, ending_of_colors, ending_of_folded, ending_of_lines};
-use shapes::{FOLDED, LINED, SHAPES};
+use ending::{Ending, ending_of};
+use shapes::{SHAPES, Shape};
 use std::alloc::{AllocError, Global};
 use std::io;
 use std::io::Read;
 use std::process::ExitCode;
 
-/// The most digits of the number that standard input holds.
+/// How many digits each number on standard input has.
 const DIGITS: usize = 4;
 
-/// How many requests standard input wants to be made first.
-fn wanted_requests<R: Read>(input: &mut R) -> io::Result<u32> {
+/// The next number on standard input, if one follows.
+fn next_number<R: Read>(input: &mut R) -> io::Result<Option<u32>> {
     let mut digits = [0; DIGITS];
     let len = input.read(&mut digits)?;
     let mut number: u32 = 0;
@@ -32,7 +32,34 @@ fn wanted_requests<R: Read>(input: &mut R) -> io::Result<u32> {
                 .wrapping_add(u32::from(digit.wrapping_sub(b'0')));
         }
     }
-    Ok(number)
+    Ok(if len == 0 { None } else { Some(number) })
+}
+
+/// What standard input wants.
+#[derive(Drop)]
+struct Wanted {
+    /// How many requests for memory are to be made first.
+    requests: u32,
+    /// The number of the only shape that is to be printed, with the empty module behind it; all of them, where none is said.
+    shape: Option<u32>,
+}
+
+impl Wanted {
+    /// Reads the two numbers.
+    fn read<R: Read>(input: &mut R) -> io::Result<Wanted> {
+        let requests = next_number(input)?.unwrap_or(0);
+        let shape = next_number(input)?;
+        Ok(Wanted { requests, shape })
+    }
+
+    /// Whether the shape of this number is to be printed.
+    fn has(&self, number: usize) -> bool {
+        let is_last = number.saturating_add(1) == SHAPES.len();
+        match self.shape {
+            Some(shape) => shape as usize == number || is_last,
+            None => true,
+        }
+    }
 }
 
 /// Asks for memory once.
@@ -51,24 +78,25 @@ fn are_granted(alloc: Global, count: u32) -> bool {
     true
 }
 
-/// Tells how something ended, and answers its status.
-fn tell(rt: &HostRuntime, name: &str, ending: Ending) -> io::Result<u8> {
-    println!(rt; "{}: {}", name, ending.word())?;
+/// Prints a shape, tells how that ended, and answers the status of the ending.
+fn print_shape(rt: &HostRuntime, shape: &Shape) -> io::Result<u8> {
+    let ending = ending_of(rt.alloc(), shape);
+    println!(rt; "{}: {}", shape.name, ending.word())?;
     Ok(ending.status())
 }
 
-/// Prints each module, one also in lines and in colours, and one folded, writes how each ended, and answers the status of the worst ending.
+/// Prints what is wanted, writes how each ended, and answers the status of the worst ending.
 fn print_all(rt: &HostRuntime) -> io::Result<u8> {
-    if !are_granted(rt.alloc(), wanted_requests(&mut rt.stdin())?) {
+    let wanted = Wanted::read(&mut rt.stdin())?;
+    if !are_granted(rt.alloc(), wanted.requests) {
         return Ok(Ending::Other("own request").status());
     }
     let mut status = Ending::Printed.status();
-    for shape in &SHAPES {
-        status = status.max(tell(rt, shape.name, ending_of(rt.alloc(), shape))?);
+    for (number, shape) in SHAPES.iter().enumerate() {
+        if wanted.has(number) {
+            status = status.max(print_shape(rt, shape)?);
+        }
     }
-    status = status.max(tell(rt, "lines", ending_of_lines(rt.alloc(), &LINED))?);
-    status = status.max(tell(rt, "colours", ending_of_colors(rt.alloc(), &LINED))?);
-    status = status.max(tell(rt, FOLDED.name, ending_of_folded(rt.alloc(), &FOLDED))?);
     Ok(status)
 }
 

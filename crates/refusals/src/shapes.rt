@@ -1,86 +1,121 @@
 //! Modules of every shape, with their texts. Bytes and texts are typed by hand.
 
+/// How a module is printed.
+#[derive(Clone, Copy)]
+pub enum Way {
+    /// By each of the calls that take a module.
+    Plain,
+    /// Appended to a text, with its lines.
+    Lines,
+    /// In colours.
+    Colors,
+    /// With its operators folded.
+    Folded,
+}
+
 /// A module, and what is wanted of it.
 #[derive(Drop)]
 pub struct Shape {
     pub name: &'static str,
+    pub way: Way,
     pub wasm: &'static [u8],
     pub text: &'static str,
     /// How many functions it defines.
     pub functions: u32,
 }
 
-/// The module of which lines and colours are asked for too.
-pub const LINED: Shape = Shape {
-    name: "blocks",
-    wasm: &BLOCKS,
-    text: BLOCKS_TEXT,
-    functions: 1,
-};
-
-/// The module that is printed with its operators folded.
-pub const FOLDED: Shape = Shape {
-    name: "folded",
-    wasm: &OPERANDS,
-    text: FOLDED_TEXT,
-    functions: 1,
-};
-
-pub const SHAPES: [Shape; 10] = [
-    Shape {
-        name: "empty",
-        wasm: &EMPTY,
-        text: "(module)\n",
-        functions: 0,
-    },
+/// What is printed; the last is the empty module.
+pub const SHAPES: [Shape; 13] = [
     Shape {
         name: "types",
+        way: Way::Plain,
         wasm: &TYPES,
         text: TYPES_TEXT,
         functions: 0,
     },
     Shape {
         name: "exports",
+        way: Way::Plain,
         wasm: &EXPORTS,
         text: EXPORTS_TEXT,
         functions: 0,
     },
     Shape {
         name: "locals",
+        way: Way::Plain,
         wasm: &LOCALS,
         text: LOCALS_TEXT,
         functions: 1,
     },
     Shape {
         name: "bodies",
+        way: Way::Plain,
         wasm: &BODIES,
         text: BODIES_TEXT,
         functions: 2,
     },
-    LINED,
+    Shape {
+        name: "blocks",
+        way: Way::Plain,
+        wasm: &BLOCKS,
+        text: BLOCKS_TEXT,
+        functions: 1,
+    },
     Shape {
         name: "fields",
+        way: Way::Plain,
         wasm: &FIELDS,
         text: FIELDS_TEXT,
         functions: 0,
     },
     Shape {
         name: "names",
+        way: Way::Plain,
         wasm: &NAMES,
         text: NAMES_TEXT,
         functions: 1,
     },
     Shape {
         name: "customs",
+        way: Way::Plain,
         wasm: &CUSTOMS,
         text: CUSTOMS_TEXT,
         functions: 1,
     },
     Shape {
         name: "everything",
+        way: Way::Plain,
         wasm: &EVERYTHING,
         text: EVERYTHING_TEXT,
         functions: 1,
+    },
+    Shape {
+        name: "lines",
+        way: Way::Lines,
+        wasm: &BLOCKS,
+        text: BLOCKS_TEXT,
+        functions: 1,
+    },
+    Shape {
+        name: "colours",
+        way: Way::Colors,
+        wasm: &BLOCKS,
+        text: BLOCKS_TEXT,
+        functions: 1,
+    },
+    Shape {
+        name: "folded",
+        way: Way::Folded,
+        wasm: &OPERANDS,
+        text: FOLDED_TEXT,
+        functions: 1,
+    },
+    Shape {
+        name: "empty",
+        way: Way::Plain,
+        wasm: &EMPTY,
+        text: "(module)\n",
+        functions: 0,
     },
 ];
 

@@ -1,12 +1,10 @@
 //! Custom sections: their names and bytes, what is at fault in one, and the names of a module. What is expected is typed by hand.
 
-use crate::modules::{CODE, FUNCTIONS, TYPES, is_accepted, module};
+use crate::modules::{CODE, FUNCTIONS, TYPES, fault_place, is_accepted, module};
 use std::alloc::{AllocError, Global};
 use std::test::Fail;
-use wasmprinter_error::Error;
-use wasmprinter_names::Space;
-use wasmprinter_samples::expect_text;
-use wasmprinter_wasm::decode;
+use wasmprinter_names::{Names, Space};
+use wasmprinter_wasm::{CustomEntry, decode};
 
 /// A name section that calls the module `m` and function 0 `a`.
 const FIRST_NAMES: &[u8] = b"\x00\x0f\x04name\x00\x02\x01m\x01\x04\x01\x00\x01a";
@@ -46,36 +44,46 @@ const PLACED: [(Places, &'static [u64]); 8] = [
     ([NO_NAMES, NO_NAMES, NO_NAMES], &[0x0a, 0x1b, 0x28]),
 ];
 
+/// Whether custom sections are name sections with contents at these places.
+fn are_name_sections_at(customs: &[CustomEntry], places: &[u64]) -> bool {
+    for (custom, place) in customs.iter().zip(places) {
+        let section = &custom.section;
+        if section.place() != *place || section.name() != "name" || !section.is_name_section() {
+            return false;
+        }
+    }
+    customs.len() == places.len()
+}
+
 #[test]
 fn name_sections_may_stand_anywhere(rt: HostRuntime) -> Result<(), Fail> {
     for (sections, places) in PLACED {
         let bytes = with_names(rt.alloc(), sections)?;
         let decoded = decode(rt.alloc(), &bytes)?;
-        assert!(rt; decoded.customs().len() == places.len());
-        for (custom, place) in decoded.customs().iter().zip(places.iter().copied()) {
-            assert!(rt; custom.section.place() == place);
-            expect_text(custom.section.name(), "name")?;
-            assert!(rt; custom.section.is_name_section());
-        }
+        assert!(rt; are_name_sections_at(decoded.customs(), places));
     }
     Ok(())
+}
+
+/// Whether there are two custom sections, one without bytes at 0x0f, and one with the first name section's at 0x20.
+fn hold_names_behind_none(customs: &[CustomEntry]) -> bool {
+    let [first, second] = customs else {
+        return false;
+    };
+    first.section.bytes().len() == 0
+        && first.section.bytes_place() == 0x0f
+        && second.section.place() == 0x1b
+        && second.section.bytes_place() == 0x20
+        && second.section.bytes() == b"\x00\x02\x01m\x01\x04\x01\x00\x01a".as_slice()
+        && second.section.cursor().place() == 0x20
+        && second.section.cursor().len() == 10
 }
 
 #[test]
 fn custom_sections_hold_the_bytes_behind_their_name(rt: HostRuntime) -> Result<(), Fail> {
     let bytes = with_names(rt.alloc(), [NO_NAMES, FIRST_NAMES, NONE])?;
     let decoded = decode(rt.alloc(), &bytes)?;
-    let [first, second] = decoded.customs() else {
-        assert!(rt; false);
-        return Ok(());
-    };
-    assert!(rt; first.section.bytes().len() == 0);
-    assert!(rt; first.section.bytes_place() == 0x0f);
-    assert!(rt; second.section.place() == 0x1b);
-    assert!(rt; second.section.bytes_place() == 0x20);
-    assert!(rt; second.section.bytes() == b"\x00\x02\x01m\x01\x04\x01\x00\x01a".as_slice());
-    assert!(rt; second.section.cursor().place() == 0x20);
-    assert!(rt; second.section.cursor().len() == 10);
+    assert!(rt; hold_names_behind_none(decoded.customs()));
     Ok(())
 }
 
@@ -98,17 +106,26 @@ const OTHERS: [(&[u8], &str, &[u8]); 6] = [
     (b"\x00\x0b\x09producers\x00", "producers", b"\x00"),
 ];
 
+/// Whether a custom section is no name section, but has this name and these bytes behind it.
+fn is_other(custom: &CustomEntry, name: &str, content: &[u8]) -> bool {
+    let section = &custom.section;
+    section.name() == name && section.bytes() == content && !section.is_name_section()
+}
+
+/// Whether there are two custom sections, both of which are no name sections, but have this name and these bytes behind it.
+fn are_others(customs: &[CustomEntry], name: &str, content: &[u8]) -> bool {
+    match customs {
+        [first, second] => is_other(first, name, content) && is_other(second, name, content),
+        _ => false,
+    }
+}
+
 #[test]
 fn custom_sections_may_have_any_name(rt: HostRuntime) -> Result<(), Fail> {
     for (section, name, content) in OTHERS {
         let bytes = with_names(rt.alloc(), [section, NONE, section])?;
         let decoded = decode(rt.alloc(), &bytes)?;
-        assert!(rt; decoded.customs().len() == 2);
-        for custom in decoded.customs() {
-            assert!(rt; custom.section.name() == name);
-            assert!(rt; custom.section.bytes() == content);
-            assert!(rt; !custom.section.is_name_section());
-        }
+        assert!(rt; are_others(decoded.customs(), name, content));
     }
     Ok(())
 }
@@ -124,27 +141,13 @@ const REFUSED: [(&[u8], u64); 6] = [
     (b"\x00\x0a\x84\x80\x80\x80\x80\x00name", 6),
 ];
 
-/// The place of the fault, if the bytes are malformed.
-fn fault_place(alloc: Global, bytes: &[u8]) -> Option<u64> {
-    match decode(alloc, bytes) {
-        Err(Error::Malformed { place }) => Some(place),
-        _ => None,
-    }
-}
-
 #[test]
 fn custom_sections_without_a_whole_name_are_refused(rt: HostRuntime) -> Result<(), Fail> {
     for (section, offset) in REFUSED {
         let before = with_names(rt.alloc(), [section, NONE, NONE])?;
-        assert!(rt;
-            fault_place(rt.alloc(), &before) == Some(0x08 + offset),
-            "{section:?}"
-        );
+        assert!(rt; fault_place(rt.alloc(), &before) == Some(0x08 + offset));
         let behind = with_names(rt.alloc(), [NONE, NONE, section])?;
-        assert!(rt;
-            fault_place(rt.alloc(), &behind) == Some(0x18 + offset),
-            "{section:?}"
-        );
+        assert!(rt; fault_place(rt.alloc(), &behind) == Some(0x18 + offset));
     }
     Ok(())
 }
@@ -177,16 +180,21 @@ const NAMED: [Named; 8] = [
     ),
 ];
 
+/// Whether the module and functions 0 and 1 have these names.
+fn are_given(names: &Names, of_module: Option<&str>, of_functions: [Option<&str>; 2]) -> bool {
+    let [first, second] = of_functions;
+    names.module() == of_module
+        && names.identifier(Space::Func, 0, 0) == first
+        && names.identifier(Space::Func, 0, 1) == second
+}
+
 #[test]
 fn all_name_sections_give_names(rt: HostRuntime) -> Result<(), Fail> {
     for (sections, of_module, of_functions) in NAMED {
         let bytes = with_names(rt.alloc(), sections)?;
         let decoded = decode(rt.alloc(), &bytes)?;
         let names = decoded.names(rt.alloc())?;
-        assert!(rt; names.module() == of_module);
-        for (index, wanted) in (0..).zip(of_functions) {
-            assert!(rt; names.identifier(Space::Func, 0, index) == wanted);
-        }
+        assert!(rt; are_given(&names, of_module, of_functions));
     }
     Ok(())
 }

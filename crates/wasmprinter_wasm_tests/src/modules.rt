@@ -2,13 +2,13 @@
 
 use std::alloc::{AllocError, Global};
 use std::test::Fail;
-use wasmprinter_entries::exports::ExternKind;
-use wasmprinter_entries::limits::Limits;
-use wasmprinter_entries::memories::MemoryType;
 use wasmprinter_error::Error;
+use wasmprinter_ops::expression::OperatorsReader;
 use wasmprinter_ops::types::ValType;
-use wasmprinter_samples::expect_text;
-use wasmprinter_wasm::decode;
+use wasmprinter_ops::types::composite::FuncType;
+use wasmprinter_wasm::{
+    Export, ExternKind, Limits, Memory, MemoryType, Module, Tag, TypeGroup, decode,
+};
 
 /// The magic and the version.
 const PREAMBLE: [u8; 8] = [0x00, 0x61, 0x73, 0x6d, 0x01, 0x00, 0x00, 0x00];
@@ -47,6 +47,24 @@ pub(crate) fn is_accepted(alloc: Global, bytes: &[u8]) -> bool {
 /// Whether the bytes are refused as malformed.
 pub(crate) fn is_malformed(alloc: Global, bytes: &[u8]) -> bool {
     matches!(decode(alloc, bytes), Err(Error::Malformed { .. }))
+}
+
+/// Whether these sections make up a module that is refused as malformed.
+pub(crate) fn are_malformed(alloc: Global, sections: &[&[u8]]) -> Result<bool, AllocError> {
+    Ok(is_malformed(alloc, &module(alloc, sections)?))
+}
+
+/// Whether these sections make up a module that is accepted.
+pub(crate) fn are_accepted(alloc: Global, sections: &[&[u8]]) -> Result<bool, AllocError> {
+    Ok(is_accepted(alloc, &module(alloc, sections)?))
+}
+
+/// The place of the fault, if the bytes are malformed.
+pub(crate) fn fault_place(alloc: Global, bytes: &[u8]) -> Option<u64> {
+    match decode(alloc, bytes) {
+        Err(Error::Malformed { place }) => Some(place),
+        _ => None,
+    }
 }
 
 #[test]
@@ -109,32 +127,39 @@ fn functions_are_limited(rt: HostRuntime) -> Result<(), Fail> {
     Ok(())
 }
 
+/// Sections of modules that are malformed.
+const MALFORMED: [&[&[u8]]; 9] = [
+    // two functions with one body, types twice, types behind functions
+    &[&TYPES, &[0x03, 0x03, 0x02, 0x00, 0x00], &CODE],
+    &[&TYPES, &TYPES],
+    &[&FUNCTIONS, &TYPES, &CODE],
+    // a body with a byte behind its end, and one without end
+    &[
+        &TYPES,
+        &FUNCTIONS,
+        &[0x0a, 0x05, 0x01, 0x03, 0x00, 0x0b, 0x0b],
+    ],
+    &[&TYPES, &FUNCTIONS, &[0x0a, 0x04, 0x01, 0x02, 0x00, 0x1a]],
+    // a section that is longer than the module
+    &[&[0x01, 0x7f, 0x01, 0x60]],
+    // a name that isn't UTF-8, more types than bytes, an unknown section
+    &[
+        &TYPES,
+        &FUNCTIONS,
+        &[0x07, 0x05, 0x01, 0x01, 0xff, 0x00, 0x00],
+        &CODE,
+    ],
+    &[&[0x01, 0x05, 0xff, 0xff, 0xff, 0xff, 0x0f]],
+    &[&[0x0e, 0x01, 0x00]],
+];
+
 #[test]
 fn malformed_modules_are_refused(rt: HostRuntime) -> Result<(), Fail> {
-    let alloc = rt.alloc();
-    let two_functions: [u8; 5] = [0x03, 0x03, 0x02, 0x00, 0x00];
-    let behind_end: [u8; 7] = [0x0a, 0x05, 0x01, 0x03, 0x00, 0x0b, 0x0b];
-    let ends_early: [u8; 6] = [0x0a, 0x04, 0x01, 0x02, 0x00, 0x1a];
-    let past_the_end: [u8; 4] = [0x01, 0x7f, 0x01, 0x60];
-    let not_utf8: [u8; 7] = [0x07, 0x05, 0x01, 0x01, 0xff, 0x00, 0x00];
-    let many: [u8; 7] = [0x01, 0x05, 0xff, 0xff, 0xff, 0xff, 0x0f];
-    let unknown: [u8; 3] = [0x0e, 0x01, 0x00];
-    assert!(rt; is_accepted(alloc, &module(alloc, &[&TYPES, &FUNCTIONS, &CODE])?));
-    assert!(rt; is_malformed(alloc, &module(alloc, &[&TYPES, &two_functions, &CODE])?));
-    assert!(rt; is_malformed(alloc, &module(alloc, &[&TYPES, &TYPES])?));
-    assert!(rt; is_malformed(alloc, &module(alloc, &[&FUNCTIONS, &TYPES, &CODE])?));
-    assert!(rt; is_malformed(alloc, &module(alloc, &[&TYPES, &FUNCTIONS, &behind_end])?));
-    assert!(rt; is_malformed(alloc, &module(alloc, &[&TYPES, &FUNCTIONS, &ends_early])?));
-    assert!(rt; is_malformed(alloc, &module(alloc, &[&past_the_end])?));
-    assert!(rt;
-        is_malformed(
-            alloc,
-            &module(alloc, &[&TYPES, &FUNCTIONS, &not_utf8, &CODE])?
-        )
-    );
-    assert!(rt; is_malformed(alloc, &module(alloc, &[&many])?));
-    assert!(rt; is_malformed(alloc, &module(alloc, &[&unknown])?));
-    assert!(rt; is_malformed(alloc, &PREAMBLE[..7]));
+    assert!(rt; are_accepted(rt.alloc(), &[&TYPES, &FUNCTIONS, &CODE])?);
+    for sections in MALFORMED {
+        assert!(rt; are_malformed(rt.alloc(), sections)?, "{sections:?}");
+    }
+    assert!(rt; is_malformed(rt.alloc(), &PREAMBLE[..7]));
     Ok(())
 }
 
@@ -143,23 +168,36 @@ fn with_code(alloc: Global, code: &[u8]) -> Result<Vec<u8>, AllocError> {
     module(alloc, &[&TYPES, &FUNCTIONS, code])
 }
 
+/// Code sections with one body, and whether they are accepted.
+const NESTINGS: [(&[u8], bool); 4] = [
+    // block end end
+    (
+        &[0x0a, 0x07, 0x01, 0x05, 0x00, 0x02, 0x40, 0x0b, 0x0b],
+        true,
+    ),
+    // block end
+    (&[0x0a, 0x06, 0x01, 0x04, 0x00, 0x02, 0x40, 0x0b], false),
+    // block end end end
+    (
+        &[0x0a, 0x08, 0x01, 0x06, 0x00, 0x02, 0x40, 0x0b, 0x0b, 0x0b],
+        false,
+    ),
+    // if else else end end
+    (
+        &[
+            0x0a, 0x09, 0x01, 0x07, 0x00, 0x04, 0x40, 0x05, 0x05, 0x0b, 0x0b,
+        ],
+        false,
+    ),
+];
+
 #[test]
 fn bodies_end_at_the_end_that_closes_them(rt: HostRuntime) -> Result<(), Fail> {
-    let alloc = rt.alloc();
-    // block end end
-    let closed = [0x0a, 0x07, 0x01, 0x05, 0x00, 0x02, 0x40, 0x0b, 0x0b];
-    assert!(rt; is_accepted(alloc, &with_code(alloc, &closed)?));
-    // block end
-    let in_a_block = [0x0a, 0x06, 0x01, 0x04, 0x00, 0x02, 0x40, 0x0b];
-    assert!(rt; is_malformed(alloc, &with_code(alloc, &in_a_block)?));
-    // block end end end
-    let behind_the_last = [0x0a, 0x08, 0x01, 0x06, 0x00, 0x02, 0x40, 0x0b, 0x0b, 0x0b];
-    assert!(rt; is_malformed(alloc, &with_code(alloc, &behind_the_last)?));
-    // if else else end end
-    let two_elses = [
-        0x0a, 0x09, 0x01, 0x07, 0x00, 0x04, 0x40, 0x05, 0x05, 0x0b, 0x0b,
-    ];
-    assert!(rt; is_malformed(alloc, &with_code(alloc, &two_elses)?));
+    for (code, accepted) in NESTINGS {
+        let sections: [&[u8]; 3] = [&TYPES, &FUNCTIONS, code];
+        assert!(rt; are_accepted(rt.alloc(), &sections)? == accepted);
+        assert!(rt; are_malformed(rt.alloc(), &sections)? != accepted);
+    }
     Ok(())
 }
 
@@ -190,6 +228,18 @@ fn components_are_refused(rt: HostRuntime) {
     assert!(rt; matches!(decode(rt.alloc(), &component), Err(Error::Component)));
 }
 
+/// Whether the operators to be read have these places and words, and none follows.
+fn are_operators(reader: &mut OperatorsReader, wanted: &[(u64, &str)]) -> bool {
+    for (wanted_place, word) in wanted {
+        match reader.next() {
+            Some((place, operator)) if place == *wanted_place && operator.opcode.word() == *word =>
+                {}
+            _ => return false,
+        }
+    }
+    reader.next().is_none()
+}
+
 #[test]
 fn operators_have_their_places(rt: HostRuntime) -> Result<(), Fail> {
     let types = [0x01, 0x05, 0x01, 0x60, 0x00, 0x01, 0x7e];
@@ -197,61 +247,78 @@ fn operators_have_their_places(rt: HostRuntime) -> Result<(), Fail> {
         0x0a, 0x0c, 0x01, 0x0a, 0x01, 0x01, 0x7e, 0x42, 0x7f, 0x21, 0x00, 0x20, 0x00, 0x0b,
     ];
     let bytes = module(rt.alloc(), &[&types, &FUNCTIONS, &code])?;
-    let Ok(decoded) = decode(rt.alloc(), &bytes) else {
-        assert!(rt; false);
-        return Ok(());
-    };
-    assert!(rt; decoded.function_count() == 1);
-    assert!(rt; decoded.body(1).is_none());
-    let Some(body) = decoded.body(0) else {
-        assert!(rt; false);
-        return Ok(());
-    };
+    let decoded = decode(rt.alloc(), &bytes)?;
+    assert!(rt; decoded.function_count() == 1 && decoded.body(1).is_none());
+    let mut reader = decoded.body(0).ok_or("no body")?.operators();
     let wanted = [
         (0x1a, "i64.const"),
         (0x1c, "local.set"),
         (0x1e, "local.get"),
     ];
-    let mut reader = body.operators();
-    for (wanted_place, word) in wanted {
-        let Some((place, operator)) = reader.next() else {
-            assert!(rt; false, "no operator at {wanted_place}");
-            return Ok(());
-        };
-        assert!(rt; place == wanted_place);
-        expect_text(operator.opcode.word(), word)?;
-    }
-    assert!(rt; reader.next().is_none());
+    assert!(rt; are_operators(&mut reader, &wanted));
     Ok(())
 }
 
-/// Whether a module with this type section alone is accepted.
-fn is_type_section(alloc: Global, section: &[u8]) -> Result<bool, AllocError> {
-    Ok(is_accepted(alloc, &module(alloc, &[section])?))
-}
+/// Type sections, and whether they are accepted.
+const TYPE_SECTIONS: [(&[u8], bool); 9] = [
+    // a group of one, a structure, an open array, a function type below another, an empty group
+    (&[0x01, 0x06, 0x01, 0x4e, 0x01, 0x60, 0x00, 0x00], true),
+    (
+        &[0x01, 0x07, 0x01, 0x5f, 0x02, 0x78, 0x01, 0x7f, 0x00],
+        true,
+    ),
+    (&[0x01, 0x06, 0x01, 0x50, 0x00, 0x5e, 0x7f, 0x00], true),
+    (
+        &[0x01, 0x07, 0x01, 0x4f, 0x01, 0x00, 0x60, 0x00, 0x00],
+        true,
+    ),
+    (&[0x01, 0x03, 0x01, 0x4e, 0x00], true),
+    // a group in a group, another storage type, another mutability, another type
+    (&[0x01, 0x05, 0x01, 0x4e, 0x01, 0x4e, 0x00], false),
+    (&[0x01, 0x04, 0x01, 0x5e, 0x79, 0x00], false),
+    (&[0x01, 0x04, 0x01, 0x5e, 0x7f, 0x02], false),
+    (&[0x01, 0x02, 0x01, 0x5d], false),
+];
 
 #[test]
 fn type_sections_hold_groups(rt: HostRuntime) -> Result<(), Fail> {
-    let alloc = rt.alloc();
-    let group = [0x01, 0x06, 0x01, 0x4e, 0x01, 0x60, 0x00, 0x00];
-    let structure = [0x01, 0x07, 0x01, 0x5f, 0x02, 0x78, 0x01, 0x7f, 0x00];
-    let open = [0x01, 0x06, 0x01, 0x50, 0x00, 0x5e, 0x7f, 0x00];
-    let below = [0x01, 0x07, 0x01, 0x4f, 0x01, 0x00, 0x60, 0x00, 0x00];
-    let empty = [0x01, 0x03, 0x01, 0x4e, 0x00];
-    assert!(rt; is_type_section(alloc, &group)?);
-    assert!(rt; is_type_section(alloc, &structure)?);
-    assert!(rt; is_type_section(alloc, &open)?);
-    assert!(rt; is_type_section(alloc, &below)?);
-    assert!(rt; is_type_section(alloc, &empty)?);
-    let nested = [0x01, 0x05, 0x01, 0x4e, 0x01, 0x4e, 0x00];
-    let other_storage = [0x01, 0x04, 0x01, 0x5e, 0x79, 0x00];
-    let other_mutability = [0x01, 0x04, 0x01, 0x5e, 0x7f, 0x02];
-    let other_type = [0x01, 0x02, 0x01, 0x5d];
-    assert!(rt; !is_type_section(alloc, &nested)?);
-    assert!(rt; !is_type_section(alloc, &other_storage)?);
-    assert!(rt; !is_type_section(alloc, &other_mutability)?);
-    assert!(rt; !is_type_section(alloc, &other_type)?);
+    for (section, accepted) in TYPE_SECTIONS {
+        assert!(rt;
+            are_accepted(rt.alloc(), &[section])? == accepted,
+            "{section:?}"
+        );
+    }
     Ok(())
+}
+
+/// Whether groups of types have these places, are written so, and have so many types.
+fn are_groups(groups: &[TypeGroup], wanted: &[(u64, bool, u32)]) -> bool {
+    for (group, (place, is_written, len)) in groups.iter().zip(wanted) {
+        if group.place() != *place
+            || group.is_written() != *is_written
+            || group.types().len() != *len
+        {
+            return false;
+        }
+    }
+    groups.len() == wanted.len()
+}
+
+/// Whether a function type has one parameter, of type f32, and no results.
+fn takes_a_float(signature: &FuncType) -> bool {
+    let mut params = signature.params();
+    params.next() == Some(ValType::F32) && params.next().is_none() && signature.results().len() == 0
+}
+
+/// Whether types 1 and 2 alone of five are function types, and the first of them takes a float.
+fn has_signatures(decoded: &Module) -> bool {
+    decoded.signature(0).is_none()
+        && decoded
+            .signature(1)
+            .is_some_and(|signature| takes_a_float(&signature))
+        && decoded.signature(2).is_some()
+        && decoded.signature(3).is_none()
+        && decoded.signature(4).is_none()
 }
 
 #[test]
@@ -261,32 +328,15 @@ fn type_indices_count_the_types_of_all_groups(rt: HostRuntime) -> Result<(), Fai
         0x60, 0x00, 0x00, 0x5e, 0x78, 0x01,
     ];
     let bytes = module(rt.alloc(), &[&section])?;
-    let Ok(decoded) = decode(rt.alloc(), &bytes) else {
-        assert!(rt; false);
-        return Ok(());
-    };
+    let decoded = decode(rt.alloc(), &bytes)?;
     let wanted = [
         (0x0b, true, 0),
         (0x0d, false, 1),
         (0x0f, true, 2),
         (0x1a, false, 1),
     ];
-    assert!(rt; decoded.types().len() == wanted.len());
-    for (group, (place, is_written, len)) in decoded.types().iter().zip(wanted.iter().copied()) {
-        assert!(rt; group.place() == place);
-        assert!(rt; group.is_written() == is_written);
-        assert!(rt; group.types().len() == len);
-    }
-    assert!(rt; decoded.signature(0).is_none());
-    let Some(signature) = decoded.signature(1) else {
-        assert!(rt; false);
-        return Ok(());
-    };
-    assert!(rt; signature.params().next() == Some(ValType::F32));
-    assert!(rt; signature.results().len() == 0);
-    assert!(rt; decoded.signature(2).is_some());
-    assert!(rt; decoded.signature(3).is_none());
-    assert!(rt; decoded.signature(4).is_none());
+    assert!(rt; are_groups(decoded.types(), &wanted));
+    assert!(rt; has_signatures(&decoded));
     Ok(())
 }
 
@@ -327,8 +377,10 @@ const ORDERS: [(&[&[u8]], bool); 13] = [
 #[test]
 fn sections_of_a_kind_stand_in_their_place_once(rt: HostRuntime) -> Result<(), Fail> {
     for (sections, accepted) in ORDERS {
-        let bytes = module(rt.alloc(), sections)?;
-        assert!(rt; is_accepted(rt.alloc(), &bytes) == accepted);
+        assert!(rt;
+            are_accepted(rt.alloc(), sections)? == accepted,
+            "{sections:?}"
+        );
     }
     Ok(())
 }
@@ -411,12 +463,10 @@ const REFUSED_SECTIONS: [&[u8]; 43] = [
 #[test]
 fn sections_hold_what_they_say(rt: HostRuntime) -> Result<(), Fail> {
     for section in ACCEPTED_SECTIONS {
-        let bytes = module(rt.alloc(), &[section])?;
-        assert!(rt; is_accepted(rt.alloc(), &bytes), "{section:?}");
+        assert!(rt; are_accepted(rt.alloc(), &[section])?, "{section:?}");
     }
     for section in REFUSED_SECTIONS {
-        let bytes = module(rt.alloc(), &[section])?;
-        assert!(rt; is_malformed(rt.alloc(), &bytes), "{section:?}");
+        assert!(rt; are_malformed(rt.alloc(), &[section])?, "{section:?}");
     }
     Ok(())
 }
@@ -502,18 +552,33 @@ fn flags_say_what_a_memory_is(rt: HostRuntime) -> Result<(), Fail> {
     Ok(())
 }
 
+/// Whether memories have these places and least sizes.
+fn are_memories(memories: &[Memory], wanted: &[(u64, u64)]) -> bool {
+    for (memory, (place, min)) in memories.iter().zip(wanted) {
+        if memory.place() != *place || memory.ty().limits.min != *min {
+            return false;
+        }
+    }
+    memories.len() == wanted.len()
+}
+
 #[test]
 fn memories_have_their_places(rt: HostRuntime) -> Result<(), Fail> {
     let section = [0x05, 0x06, 0x02, 0x01, 0x01, 0x02, 0x04, 0x07];
     let bytes = module(rt.alloc(), &[&section])?;
     let decoded = decode(rt.alloc(), &bytes)?;
-    let wanted = [(0x0b, 1), (0x0e, 7)];
-    assert!(rt; decoded.memories().len() == wanted.len());
-    for (memory, (place, min)) in decoded.memories().iter().zip(wanted.iter().copied()) {
-        assert!(rt; memory.place() == place);
-        assert!(rt; memory.ty().limits.min == min);
-    }
+    assert!(rt; are_memories(decoded.memories(), &[(0x0b, 1), (0x0e, 7)]));
     Ok(())
+}
+
+/// Whether tags have these places and types.
+fn are_tags(tags: &[Tag], wanted: &[(u64, u32)]) -> bool {
+    for (tag, (place, type_index)) in tags.iter().zip(wanted) {
+        if tag.place() != *place || tag.type_index() != *type_index {
+            return false;
+        }
+    }
+    tags.len() == wanted.len()
 }
 
 #[test]
@@ -521,13 +586,34 @@ fn tags_have_types_and_places(rt: HostRuntime) -> Result<(), Fail> {
     let section = [0x0d, 0x08, 0x03, 0x00, 0x07, 0x00, 0x81, 0x00, 0x00, 0x02];
     let bytes = module(rt.alloc(), &[&section])?;
     let decoded = decode(rt.alloc(), &bytes)?;
-    let wanted = [(0x0b, 7), (0x0d, 1), (0x10, 2)];
-    assert!(rt; decoded.tags().len() == wanted.len());
-    for (tag, (place, type_index)) in decoded.tags().iter().zip(wanted.iter().copied()) {
-        assert!(rt; tag.place() == place);
-        assert!(rt; tag.type_index() == type_index);
-    }
+    assert!(rt; are_tags(decoded.tags(), &[(0x0b, 7), (0x0d, 1), (0x10, 2)]));
     Ok(())
+}
+
+/// An export: its place, its name, of which kind of thing, and with which index.
+type Exported = (u64, &'static str, ExternKind, u32);
+
+/// One export of each kind.
+const EXPORTED: [Exported; 5] = [
+    (0x0b, "a", ExternKind::Func, 5),
+    (0x0f, "b", ExternKind::Table, 6),
+    (0x13, "c", ExternKind::Memory, 7),
+    (0x18, "", ExternKind::Global, 8),
+    (0x1b, "e", ExternKind::Tag, 9),
+];
+
+/// Whether exports are these.
+fn are_exports(exports: &[Export], wanted: &[Exported]) -> bool {
+    for (export, (place, name, kind, index)) in exports.iter().zip(wanted) {
+        if export.place() != *place
+            || export.name() != *name
+            || export.kind() != *kind
+            || export.index() != *index
+        {
+            return false;
+        }
+    }
+    exports.len() == wanted.len()
 }
 
 #[test]
@@ -538,24 +624,7 @@ fn exports_have_kinds(rt: HostRuntime) -> Result<(), Fail> {
     ];
     let bytes = module(rt.alloc(), &[&section])?;
     let decoded = decode(rt.alloc(), &bytes)?;
-    let wanted = [
-        (0x0b, "a", ExternKind::Func, 5),
-        (0x0f, "b", ExternKind::Table, 6),
-        (0x13, "c", ExternKind::Memory, 7),
-        (0x18, "", ExternKind::Global, 8),
-        (0x1b, "e", ExternKind::Tag, 9),
-    ];
-    assert!(rt; decoded.exports().len() == wanted.len());
-    for (export, (place, name, kind, index)) in decoded
-        .exports()
-        .iter()
-        .zip(wanted.iter().copied())
-    {
-        assert!(rt; export.place() == place);
-        assert!(rt; export.name() == name);
-        assert!(rt; export.kind() == kind);
-        assert!(rt; export.index() == index);
-    }
+    assert!(rt; are_exports(decoded.exports(), &EXPORTED));
     Ok(())
 }
 
@@ -564,8 +633,7 @@ fn start_functions_have_places(rt: HostRuntime) -> Result<(), Fail> {
     let bytes = module(rt.alloc(), &[&TYPES, &[0x08, 0x02, 0x87, 0x00]])?;
     let decoded = decode(rt.alloc(), &bytes)?;
     let start = decoded.start().ok_or("no start function")?;
-    assert!(rt; start.place() == 0x10);
-    assert!(rt; start.function() == 7);
+    assert!(rt; start.place() == 0x10 && start.function() == 7);
     assert!(rt; decode(rt.alloc(), &IDENTITY)?.start().is_none());
     Ok(())
 }

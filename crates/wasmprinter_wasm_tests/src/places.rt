@@ -2,8 +2,7 @@
 
 use crate::modules::{CODE, EXPORTS, FUNCTIONS, MEMORIES, START, TAGS, TYPES, module};
 use std::test::Fail;
-use wasmprinter_entries::places::SectionKind;
-use wasmprinter_wasm::decode;
+use wasmprinter_wasm::{CustomEntry, SectionKind, decode};
 
 /// A custom section called `n`.
 const NOTE: &[u8] = b"\x00\x02\x01n";
@@ -158,15 +157,22 @@ const EMPTY: Row = (
     &[None; 12],
 );
 
+/// Whether custom sections stand behind these.
+fn stand_behind(customs: &[CustomEntry], places: &[Option<SectionKind>]) -> bool {
+    for (custom, place) in customs.iter().zip(places) {
+        if custom.behind != *place {
+            return false;
+        }
+    }
+    customs.len() == places.len()
+}
+
 #[test]
 fn custom_sections_stand_behind_what_holds_something(rt: HostRuntime) -> Result<(), Fail> {
     for (sections, places) in SOME.into_iter().chain([ALL, EMPTY]) {
         let bytes = module(rt.alloc(), sections)?;
         let decoded = decode(rt.alloc(), &bytes)?;
-        assert!(rt; decoded.customs().len() == places.len(), "{sections:?}");
-        for (custom, place) in decoded.customs().iter().zip(places.iter().copied()) {
-            assert!(rt; custom.behind == place, "{sections:?}");
-        }
+        assert!(rt; stand_behind(decoded.customs(), places));
     }
     Ok(())
 }

@@ -1,20 +1,14 @@
 //! Imports, tables, globals, element and data segments that are decoded, and such that are refused. What is
 //! expected is typed by hand.
 
-use crate::modules::{is_accepted, is_malformed, module};
+use crate::modules::{are_accepted, are_malformed, module};
 use std::test::Fail;
-use wasmprinter_entries::exports::ExternKind;
-use wasmprinter_entries::global_types::GlobalType;
-use wasmprinter_entries::imports::ExternType;
-use wasmprinter_entries::limits::Limits;
-use wasmprinter_entries::memories::MemoryType;
-use wasmprinter_entries::table_types::TableType;
 use wasmprinter_error::Error;
 use wasmprinter_ops::types::{HeapType, RefType, ValType};
-use wasmprinter_samples::expect_text;
-use wasmprinter_segments::data::DataMode;
-use wasmprinter_segments::elements::{ElementItems, ElementMode};
-use wasmprinter_wasm::decode;
+use wasmprinter_wasm::{
+    Data, DataMode, Element, ElementItems, ElementMode, ExternKind, ExternType, Global, GlobalType,
+    Import, Limits, MemoryType, Module, Table, TableType, decode,
+};
 
 /// The place of the first item of the first section.
 const FIRST: u64 = 0x0b;
@@ -26,6 +20,14 @@ const TABLE_TYPES: [(&[u8], bool, Option<u64>); 4] = [
     (&[0x04, 0x04, 0x01, 0x6f, 0x04, 0x03], true, None),
     (&[0x04, 0x05, 0x01, 0x6f, 0x05, 0x03, 0x07], true, Some(7)),
 ];
+
+/// Whether there is one table, of this type and without an initialiser.
+fn is_only_table(tables: &[Table], wanted: &TableType) -> bool {
+    match tables {
+        [table] => { table.place() == FIRST && table.ty() == *wanted && table.init().is_none() }
+        _ => false,
+    }
+}
 
 #[test]
 fn tables_have_types(rt: HostRuntime) -> Result<(), Fail> {
@@ -40,14 +42,23 @@ fn tables_have_types(rt: HostRuntime) -> Result<(), Fail> {
                 heap: HeapType::Extern,
             },
         };
-        assert!(rt; decoded.tables().len() == 1);
-        for table in decoded.tables() {
-            assert!(rt; table.place() == FIRST);
-            assert!(rt; table.ty() == wanted);
-            assert!(rt; table.init().is_none());
-        }
+        assert!(rt; is_only_table(decoded.tables(), &wanted));
     }
     Ok(())
+}
+
+/// Whether there is a table without an initialiser, and one with one operator at 0x0e, whose initialiser ends at 0x15.
+fn are_plain_and_initialised(tables: &[Table]) -> bool {
+    let [plain, initialised] = tables else {
+        return false;
+    };
+    let Some(init) = initialised.init() else {
+        return false;
+    };
+    plain.init().is_none()
+        && initialised.place() == 0x0e
+        && init.end() == 0x15
+        && init.operators().count() == 1
 }
 
 #[test]
@@ -55,21 +66,13 @@ fn tables_have_initialisers(rt: HostRuntime) -> Result<(), Fail> {
     let section = [
         0x04, 0x0d, 0x02, 0x70, 0x00, 0x01, 0x40, 0x00, 0x70, 0x00, 0x01, 0xd0, 0x70, 0x0b, 0x00,
     ];
-    let bytes = module(rt.alloc(), &[&section[..14]])?;
-    assert!(rt; is_malformed(rt.alloc(), &bytes));
+    assert!(rt; are_malformed(rt.alloc(), &[&section[..14]])?);
     let section = [
         0x04, 0x0c, 0x02, 0x70, 0x00, 0x01, 0x40, 0x00, 0x70, 0x00, 0x01, 0xd0, 0x70, 0x0b,
     ];
     let bytes = module(rt.alloc(), &[&section])?;
     let decoded = decode(rt.alloc(), &bytes)?;
-    let [plain, initialised] = decoded.tables() else {
-        panic!(rt; "two tables are defined");
-    };
-    assert!(rt; plain.init().is_none());
-    assert!(rt; initialised.place() == 0x0e);
-    let init = initialised.init().expect(&rt, "an initialiser");
-    assert!(rt; init.end() == 0x15);
-    assert!(rt; init.operators().count() == 1);
+    assert!(rt; are_plain_and_initialised(decoded.tables()));
     Ok(())
 }
 
@@ -121,10 +124,16 @@ const REFUSED: [&[u8]; 16] = [
 #[test]
 fn other_sections_are_refused(rt: HostRuntime) -> Result<(), Fail> {
     for section in REFUSED {
-        let bytes = module(rt.alloc(), &[section])?;
-        assert!(rt; is_malformed(rt.alloc(), &bytes), "{section:?}");
+        assert!(rt; are_malformed(rt.alloc(), &[section])?, "{section:?}");
     }
     Ok(())
+}
+
+/// Whether a global has this place and type, and an initialiser of one operator.
+fn is_global(global: &Global, place: u64, mutable: bool, ty: ValType) -> bool {
+    global.place() == place
+        && global.ty() == GlobalType { mutable, ty }
+        && global.init().operators().count() == 1
 }
 
 #[test]
@@ -134,13 +143,11 @@ fn globals_have_types(rt: HostRuntime) -> Result<(), Fail> {
     ];
     let bytes = module(rt.alloc(), &[&section])?;
     let decoded = decode(rt.alloc(), &bytes)?;
-    let wanted = [(FIRST, false, ValType::I32), (0x10, true, ValType::I64)];
-    assert!(rt; decoded.globals().len() == wanted.len());
-    for (global, (place, mutable, ty)) in decoded.globals().iter().zip(wanted.iter().copied()) {
-        assert!(rt; global.place() == place);
-        assert!(rt; global.ty() == GlobalType { mutable, ty });
-        assert!(rt; global.init().operators().count() == 1);
-    }
+    let [constant, variable] = decoded.globals() else {
+        return Err("two globals are wanted")?;
+    };
+    assert!(rt; is_global(constant, FIRST, false, ValType::I32));
+    assert!(rt; is_global(variable, 0x10, true, ValType::I64));
     Ok(())
 }
 
@@ -151,57 +158,71 @@ const IMPORTS: [u8; 38] = [
     0x6d, 0x01, 0x78, 0x04, 0x00, 0x02,
 ];
 
-/// Their places, names and types.
-fn imports_wanted() -> [(u64, &'static str, ExternType); 5] {
-    let limits = Limits { min: 1, max: None };
-    let table = TableType {
-        wide: false,
-        limits,
-        element: RefType {
-            nullable: true,
-            heap: HeapType::Func,
-        },
-    };
-    let memory = MemoryType {
-        wide: false,
-        shared: false,
-        limits,
-        page: None,
-    };
-    let global = GlobalType {
-        mutable: true,
-        ty: ValType::I32,
-    };
-    [
-        (0x0b, "f", ExternType::Func(3)),
-        (0x11, "t", ExternType::Table(table)),
-        (0x19, "e", ExternType::Memory(memory)),
-        (0x20, "g", ExternType::Global(global)),
-        (0x27, "x", ExternType::Tag(2)),
-    ]
+/// An import: its place, its name, and what it is.
+type Imported = (u64, &'static str, ExternType);
+
+/// What the imports of `IMPORTS` are, which are all from `m`.
+const IMPORTED: [Imported; 5] = [
+    (0x0b, "f", ExternType::Func(3)),
+    (0x11, "t", ExternType::Table(TABLE)),
+    (0x19, "e", ExternType::Memory(MEMORY)),
+    (0x20, "g", ExternType::Global(GLOBAL)),
+    (0x27, "x", ExternType::Tag(2)),
+];
+
+/// The limits of the table and of the memory.
+const LIMITS: Limits = Limits { min: 1, max: None };
+
+const TABLE: TableType = TableType {
+    wide: false,
+    limits: LIMITS,
+    element: RefType {
+        nullable: true,
+        heap: HeapType::Func,
+    },
+};
+
+const MEMORY: MemoryType = MemoryType {
+    wide: false,
+    shared: false,
+    limits: LIMITS,
+    page: None,
+};
+
+const GLOBAL: GlobalType = GlobalType {
+    mutable: true,
+    ty: ValType::I32,
+};
+
+/// Whether imports are these.
+fn are_imports(imports: &[Import], wanted: &[Imported]) -> bool {
+    for (import, (place, name, ty)) in imports.iter().zip(wanted) {
+        if import.place() != *place
+            || import.module() != "m"
+            || import.name() != *name
+            || import.ty() != *ty
+        {
+            return false;
+        }
+    }
+    imports.len() == wanted.len()
+}
+
+/// Whether one thing of each kind is imported.
+fn imports_one_of_each(decoded: &Module) -> bool {
+    decoded.imported_count(ExternKind::Func) == 1
+        && decoded.imported_count(ExternKind::Table) == 1
+        && decoded.imported_count(ExternKind::Memory) == 1
+        && decoded.imported_count(ExternKind::Global) == 1
+        && decoded.imported_count(ExternKind::Tag) == 1
 }
 
 #[test]
 fn imports_have_types(rt: HostRuntime) -> Result<(), Fail> {
     let bytes = module(rt.alloc(), &[&IMPORTS])?;
     let decoded = decode(rt.alloc(), &bytes)?;
-    let wanted = imports_wanted();
-    assert!(rt; decoded.imports().len() == wanted.len());
-    for (import, (place, name, ty)) in decoded.imports().iter().zip(wanted) {
-        assert!(rt; import.place() == place);
-        expect_text(import.module(), "m")?;
-        expect_text(import.name(), name)?;
-        assert!(rt; import.ty() == ty);
-    }
-    for kind in [
-        ExternKind::Func,
-        ExternKind::Table,
-        ExternKind::Memory,
-        ExternKind::Global,
-        ExternKind::Tag,
-    ] {
-        assert!(rt; decoded.imported_count(kind) == 1);
-    }
+    assert!(rt; are_imports(decoded.imports(), &IMPORTED));
+    assert!(rt; imports_one_of_each(&decoded));
     assert!(rt; decoded.function_count() == 0);
     Ok(())
 }
@@ -222,115 +243,124 @@ fn counts_of(items: &ElementItems) -> (u32, usize) {
     }
 }
 
-/// Element segments of all flags: the table of active ones, whether it is named, functions, expressions.
-const ELEMENTS: [(&[u8], Option<u32>, bool, u32, usize); 8] = [
+/// What an element segment is: the table of an active one, whether it is named, functions, expressions.
+type Segment = (Option<u32>, bool, u32, usize);
+
+/// Element segments of all flags.
+const ELEMENTS: [(&[u8], Segment); 8] = [
     (
         &[0x09, 0x08, 0x01, 0x00, 0x41, 0x00, 0x0b, 0x02, 0x05, 0x06],
-        Some(0),
-        false,
-        2,
-        0,
+        (Some(0), false, 2, 0),
     ),
     (
         &[0x09, 0x05, 0x01, 0x01, 0x00, 0x01, 0x07],
-        None,
-        false,
-        1,
-        0,
+        (None, false, 1, 0),
     ),
     (
         &[
             0x09, 0x09, 0x01, 0x02, 0x03, 0x41, 0x00, 0x0b, 0x00, 0x01, 0x08,
         ],
-        Some(3),
-        true,
-        1,
-        0,
+        (Some(3), true, 1, 0),
     ),
     (
         &[0x09, 0x06, 0x01, 0x03, 0x00, 0x02, 0x01, 0x01],
-        None,
-        false,
-        2,
-        0,
+        (None, false, 2, 0),
     ),
     (
         &[
             0x09, 0x09, 0x01, 0x04, 0x41, 0x00, 0x0b, 0x01, 0xd2, 0x00, 0x0b,
         ],
-        Some(0),
-        false,
-        0,
-        1,
+        (Some(0), false, 0, 1),
     ),
     (
         &[
             0x09, 0x0a, 0x01, 0x05, 0x6f, 0x02, 0xd0, 0x6f, 0x0b, 0xd0, 0x6f, 0x0b,
         ],
-        None,
-        false,
-        0,
-        2,
+        (None, false, 0, 2),
     ),
     (
         &[0x09, 0x08, 0x01, 0x06, 0x03, 0x41, 0x00, 0x0b, 0x70, 0x00],
-        Some(3),
-        true,
-        0,
-        0,
+        (Some(3), true, 0, 0),
     ),
     (
         &[0x09, 0x07, 0x01, 0x07, 0x70, 0x01, 0xd2, 0x01, 0x0b],
-        None,
-        false,
-        0,
-        1,
+        (None, false, 0, 1),
     ),
 ];
 
+/// Whether a segment is this one, and its offset, where it is active, has one operator.
+fn is_segment(element: &Element, wanted: Segment) -> bool {
+    let (table, names_table, functions, expressions) = wanted;
+    let is_placed = match (active(element.mode()), table) {
+        (Some((found, operators)), Some(wanted)) => found == wanted && operators == 1,
+        (None, None) => true,
+        _ => false,
+    };
+    is_placed
+        && element.place() == FIRST
+        && element.names_table() == names_table
+        && counts_of(element.items()) == (functions, expressions)
+}
+
+/// Whether there is one segment, and it is this one.
+fn is_only_segment(elements: &[Element], wanted: Segment) -> bool {
+    match elements {
+        [element] => is_segment(element, wanted),
+        _ => false,
+    }
+}
+
 #[test]
 fn flags_say_what_an_element_segment_is(rt: HostRuntime) -> Result<(), Fail> {
-    for (section, table, names_table, functions, expressions) in ELEMENTS {
+    for (section, wanted) in ELEMENTS {
         let bytes = module(rt.alloc(), &[section])?;
         let decoded = decode(rt.alloc(), &bytes)?;
-        assert!(rt; decoded.elements().len() == 1);
-        for element in decoded.elements() {
-            assert!(rt; element.place() == FIRST);
-            assert!(rt; element.names_table() == names_table);
-            assert!(rt; active(element.mode()) == table.map(|index| (index, 1)));
-            assert!(rt; counts_of(element.items()) == (functions, expressions));
-        }
+        assert!(rt; is_only_segment(decoded.elements(), wanted));
     }
     Ok(())
 }
 
+/// A data section with an active segment, a passive one, and one for memory 5.
+const DATA: &[u8] = &[
+    0x0b, 0x11, 0x03, 0x00, 0x41, 0x00, 0x0b, 0x02, 0xaa, 0xbb, 0x01, 0x01, 0xcc, 0x02, 0x05, 0x41,
+    0x01, 0x0b, 0x00,
+];
+
+/// Whether a segment has this place, is for this memory if it is active, and has these bytes.
+fn is_data(data: &Data, place: u64, memory: Option<u32>, bytes: &[u8]) -> bool {
+    let found = match data.mode() {
+        DataMode::Active { memory, .. } => Some(*memory),
+        DataMode::Passive => None,
+    };
+    data.place() == place && found == memory && data.bytes() == bytes
+}
+
+/// Whether segments are those of `DATA`, the first of which lies at 0x0e.
+fn are_datas(datas: &[Data]) -> bool {
+    let [active, passive, last] = datas else {
+        return false;
+    };
+    is_data(active, 0x0e, Some(0), &[0xaa, 0xbb])
+        && is_data(passive, 0x15, None, &[0xcc])
+        && is_data(last, 0x18, Some(5), &[])
+}
+
 #[test]
 fn data_segments_have_bytes(rt: HostRuntime) -> Result<(), Fail> {
-    let section = [
-        0x0b, 0x11, 0x03, 0x00, 0x41, 0x00, 0x0b, 0x02, 0xaa, 0xbb, 0x01, 0x01, 0xcc, 0x02, 0x05,
-        0x41, 0x01, 0x0b, 0x00,
-    ];
-    let bytes = module(rt.alloc(), &[&[0x0c, 0x01, 0x03], &section])?;
+    let bytes = module(rt.alloc(), &[&[0x0c, 0x01, 0x03], DATA])?;
     let decoded = decode(rt.alloc(), &bytes)?;
-    let wanted: [(u64, Option<u32>, &[u8]); 3] = [
-        (0x0e, Some(0), &[0xaa, 0xbb]),
-        (0x15, None, &[0xcc]),
-        (0x18, Some(5), &[]),
-    ];
-    assert!(rt; decoded.datas().len() == wanted.len());
-    for (data, (place, memory, bytes)) in decoded.datas().iter().zip(wanted.iter().copied()) {
-        let found = match data.mode() {
-            DataMode::Active { memory, .. } => Some(*memory),
-            DataMode::Passive => None,
-        };
-        assert!(rt; data.place() == place);
-        assert!(rt; found == memory);
-        assert!(rt; data.bytes() == bytes);
-    }
-    assert!(rt; is_accepted(rt.alloc(), &module(rt.alloc(), &[&section])?));
+    assert!(rt; are_datas(decoded.datas()));
+    Ok(())
+}
+
+#[test]
+fn data_segments_are_counted(rt: HostRuntime) -> Result<(), Fail> {
+    assert!(rt; are_accepted(rt.alloc(), &[DATA])?);
     for count in [0x00, 0x02, 0x04] {
-        let counted = module(rt.alloc(), &[&[0x0c, 0x01, count], &section])?;
-        assert!(rt; is_malformed(rt.alloc(), &counted), "{count}");
+        assert!(rt;
+            are_malformed(rt.alloc(), &[&[0x0c, 0x01, count], DATA])?,
+            "{count}"
+        );
     }
     Ok(())
 }
