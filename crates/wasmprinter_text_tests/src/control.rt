@@ -1,9 +1,10 @@
 //! Blocks, labels and branches: texts of functions, what isn't well nested, and deep nesting.
 
+use crate::printing::{expect_printed, is_malformed};
 use std::alloc::{AllocError, Global};
 use std::test::Fail;
 use wasmprinter::{Error, print_bytes};
-use wasmprinter_samples::{PREAMBLE, expect_text};
+use wasmprinter_samples::PREAMBLE;
 
 /// A type section with the type of functions without parameters and results.
 const NO_PARAMS: [u8; 6] = [0x01, 0x04, 0x01, 0x60, 0x00, 0x00];
@@ -26,18 +27,28 @@ fn with_operators(alloc: Global, types: &[u8], operators: &[u8]) -> Result<Vec<u
 
 /// The text of such a module with functions that have no parameters.
 pub fn text_of(alloc: Global, operators: &[u8]) -> Result<String, Error> {
-    let wasm = with_operators(alloc, &NO_PARAMS, operators)?;
-    print_bytes(alloc, &wasm)
+    print_bytes(alloc, &with_operators(alloc, &NO_PARAMS, operators)?)
+}
+
+/// Holds that it is the typed one.
+///
+/// # Errors
+///
+/// Where the module is refused, or its text is another.
+pub fn expect_operators(alloc: Global, operators: &[u8], typed: &str) -> Result<(), Fail> {
+    expect_printed(alloc, &with_operators(alloc, &NO_PARAMS, operators)?, typed)
+}
+
+/// Whether such a module is refused as malformed.
+pub fn are_malformed(alloc: Global, operators: &[u8]) -> Result<bool, AllocError> {
+    Ok(is_malformed(alloc, &with_operators(alloc, &NO_PARAMS, operators)?))
 }
 
 #[test]
 fn prints_branches_of_a_table(rt: HostRuntime) -> Result<(), Fail> {
-    let text = text_of(
+    expect_operators(
         rt.alloc(),
         &[0x02, 0x40, 0x41, 0x00, 0x0e, 0x01, 0x00, 0x01, 0x0b],
-    )?;
-    expect_text(
-        text.as_str(),
         r#"(module
   (type (;0;) (func))
   (func (;0;) (type 0)
@@ -48,15 +59,14 @@ fn prints_branches_of_a_table(rt: HostRuntime) -> Result<(), Fail> {
   )
 )
 "#,
-    )?;
-    Ok(())
+    )
 }
 
 #[test]
 fn prints_catch_clauses(rt: HostRuntime) -> Result<(), Fail> {
-    let text = text_of(rt.alloc(), &[0x1f, 0x40, 0x01, 0x02, 0x00, 0x0b])?;
-    expect_text(
-        text.as_str(),
+    expect_operators(
+        rt.alloc(),
+        &[0x1f, 0x40, 0x01, 0x02, 0x00, 0x0b],
         r#"(module
   (type (;0;) (func))
   (func (;0;) (type 0)
@@ -65,21 +75,17 @@ fn prints_catch_clauses(rt: HostRuntime) -> Result<(), Fail> {
   )
 )
 "#,
-    )?;
-    Ok(())
+    )
 }
 
 #[test]
 fn prints_clauses_that_name_a_tag(rt: HostRuntime) -> Result<(), Fail> {
-    let text = text_of(
+    expect_operators(
         rt.alloc(),
         &[
             0x02, 0x40, 0x1f, 0x7f, 0x03, 0x00, 0x02, 0x00, 0x01, 0x03, 0x01, 0x03, 0x02, 0x0b,
             0x0b,
         ],
-    )?;
-    expect_text(
-        text.as_str(),
         r#"(module
   (type (;0;) (func))
   (func (;0;) (type 0)
@@ -90,16 +96,15 @@ fn prints_clauses_that_name_a_tag(rt: HostRuntime) -> Result<(), Fail> {
   )
 )
 "#,
-    )?;
-    Ok(())
+    )
 }
 
 #[test]
 fn prints_the_signature_of_a_block(rt: HostRuntime) -> Result<(), Fail> {
     let wasm = with_operators(rt.alloc(), &ONE_PARAM, &[0x03, 0x00, 0x0b])?;
-    let text = print_bytes(rt.alloc(), &wasm)?;
-    expect_text(
-        text.as_str(),
+    expect_printed(
+        rt.alloc(),
+        &wasm,
         r#"(module
   (type (;0;) (func (param i32)))
   (func (;0;) (type 0) (param i32)
@@ -108,8 +113,7 @@ fn prints_the_signature_of_a_block(rt: HostRuntime) -> Result<(), Fail> {
   )
 )
 "#,
-    )?;
-    Ok(())
+    )
 }
 
 /// A type section with the type of functions without parameters and results, and that of arrays of i32.
@@ -120,9 +124,9 @@ fn prints_no_signature_of_a_type_that_has_none(rt: HostRuntime) -> Result<(), Fa
     // the type of a block is that of arrays, and then one that isn't declared
     let operators = [0x02, 0x01, 0x0b, 0x03, 0x02, 0x0b];
     let wasm = with_operators(rt.alloc(), &ARRAY, &operators)?;
-    let text = print_bytes(rt.alloc(), &wasm)?;
-    expect_text(
-        text.as_str(),
+    expect_printed(
+        rt.alloc(),
+        &wasm,
         r#"(module
   (type (;0;) (func))
   (type (;1;) (array i32))
@@ -134,18 +138,14 @@ fn prints_no_signature_of_a_type_that_has_none(rt: HostRuntime) -> Result<(), Fa
   )
 )
 "#,
-    )?;
-    Ok(())
+    )
 }
 
 #[test]
 fn leaves_the_block_of_a_delegate(rt: HostRuntime) -> Result<(), Fail> {
-    let text = text_of(
+    expect_operators(
         rt.alloc(),
         &[0x06, 0x40, 0x18, 0x00, 0x02, 0x40, 0x0c, 0x00, 0x0b],
-    )?;
-    expect_text(
-        text.as_str(),
         r#"(module
   (type (;0;) (func))
   (func (;0;) (type 0)
@@ -157,15 +157,14 @@ fn leaves_the_block_of_a_delegate(rt: HostRuntime) -> Result<(), Fail> {
   )
 )
 "#,
-    )?;
-    Ok(())
+    )
 }
 
 #[test]
 fn prints_the_label_of_the_body(rt: HostRuntime) -> Result<(), Fail> {
-    let text = text_of(rt.alloc(), &[0x02, 0x40, 0x0c, 0x00, 0x0c, 0x01, 0x0b])?;
-    expect_text(
-        text.as_str(),
+    expect_operators(
+        rt.alloc(),
+        &[0x02, 0x40, 0x0c, 0x00, 0x0c, 0x01, 0x0b],
         r#"(module
   (type (;0;) (func))
   (func (;0;) (type 0)
@@ -176,15 +175,14 @@ fn prints_the_label_of_the_body(rt: HostRuntime) -> Result<(), Fail> {
   )
 )
 "#,
-    )?;
-    Ok(())
+    )
 }
 
 #[test]
 fn marks_a_number_that_is_no_label(rt: HostRuntime) -> Result<(), Fail> {
-    let text = text_of(rt.alloc(), &[0x0c, 0x07])?;
-    expect_text(
-        text.as_str(),
+    expect_operators(
+        rt.alloc(),
+        &[0x0c, 0x07],
         r#"(module
   (type (;0;) (func))
   (func (;0;) (type 0)
@@ -192,20 +190,16 @@ fn marks_a_number_that_is_no_label(rt: HostRuntime) -> Result<(), Fail> {
   )
 )
 "#,
-    )?;
-    Ok(())
+    )
 }
 
 #[test]
 fn prints_both_arms_of_an_if(rt: HostRuntime) -> Result<(), Fail> {
-    let text = text_of(
+    expect_operators(
         rt.alloc(),
         &[
             0x41, 0x00, 0x04, 0x7f, 0x41, 0x01, 0x05, 0x41, 0x02, 0x0b, 0x1a,
         ],
-    )?;
-    expect_text(
-        text.as_str(),
         r#"(module
   (type (;0;) (func))
   (func (;0;) (type 0)
@@ -219,18 +213,14 @@ fn prints_both_arms_of_an_if(rt: HostRuntime) -> Result<(), Fail> {
   )
 )
 "#,
-    )?;
-    Ok(())
+    )
 }
 
 #[test]
 fn prints_catches_of_a_try(rt: HostRuntime) -> Result<(), Fail> {
-    let text = text_of(
+    expect_operators(
         rt.alloc(),
         &[0x06, 0x40, 0x01, 0x07, 0x00, 0x01, 0x19, 0x09, 0x00, 0x0b],
-    )?;
-    expect_text(
-        text.as_str(),
         r#"(module
   (type (;0;) (func))
   (func (;0;) (type 0)
@@ -244,18 +234,14 @@ fn prints_catches_of_a_try(rt: HostRuntime) -> Result<(), Fail> {
   )
 )
 "#,
-    )?;
-    Ok(())
+    )
 }
 
 #[test]
 fn refuses_what_is_not_nested(rt: HostRuntime) -> Result<(), Fail> {
-    let alone = text_of(rt.alloc(), &[0x05]);
-    assert!(rt; matches!(alone, Err(Error::Malformed { .. })));
-    let twice = text_of(rt.alloc(), &[0x04, 0x40, 0x05, 0x05, 0x0b]);
-    assert!(rt; matches!(twice, Err(Error::Malformed { .. })));
-    let in_block = text_of(rt.alloc(), &[0x02, 0x40, 0x07, 0x00, 0x0b]);
-    assert!(rt; matches!(in_block, Err(Error::Malformed { .. })));
+    assert!(rt; are_malformed(rt.alloc(), &[0x05])?);
+    assert!(rt; are_malformed(rt.alloc(), &[0x04, 0x40, 0x05, 0x05, 0x0b])?);
+    assert!(rt; are_malformed(rt.alloc(), &[0x02, 0x40, 0x07, 0x00, 0x0b])?);
     Ok(())
 }
 
@@ -263,90 +249,73 @@ fn refuses_what_is_not_nested(rt: HostRuntime) -> Result<(), Fail> {
 const INNERMOST: &str =
     "\n                                                                                                    block ;; label = @100000\n";
 
+/// Appends bytes so many times.
+fn repeat(wasm: &mut Vec<u8>, times: u32, bytes: &[u8]) -> Result<(), AllocError> {
+    for _ in 0..times {
+        wasm.extend_from_slice(bytes)?;
+    }
+    Ok(())
+}
+
 /// A module whose function opens so many blocks in one another by these two bytes each, and closes each by these.
-/// Given are the sizes of the code section and of the body, as the binary format spells them.
+/// Given are the bytes from the code section on up to the first block: its number and size, the count of bodies, the size of the body, and no
+/// locals.
 fn with_blocks(
     alloc: Global,
     depth: u32,
     opens: &[u8],
     closes: &[u8],
-    code_size: &[u8],
-    body_size: &[u8],
+    code: &[u8],
 ) -> Result<Vec<u8>, AllocError> {
     let mut wasm = Vec::from_slice(alloc, &PREAMBLE)?;
     wasm.extend_from_slice(&NO_PARAMS)?;
     wasm.extend_from_slice(&[0x03, 0x02, 0x01, 0x00])?;
-    wasm.push(0x0a)?;
-    wasm.extend_from_slice(code_size)?;
-    wasm.push(0x01)?;
-    wasm.extend_from_slice(body_size)?;
-    wasm.push(0x00)?;
-    for _ in 0..depth {
-        wasm.extend_from_slice(opens)?;
-    }
-    for _ in 0..depth {
-        wasm.extend_from_slice(closes)?;
-    }
+    wasm.extend_from_slice(code)?;
+    repeat(&mut wasm, depth, opens)?;
+    repeat(&mut wasm, depth, closes)?;
     wasm.push(0x0b)?;
     Ok(wasm)
 }
 
+/// Whether a text has so many lines, this line, and this end.
+fn has_lines(text: &str, count: usize, line: &str, end: &str) -> bool {
+    text.matches("\n").count() == count && text.contains(line) && text.ends_with(end)
+}
+
 #[test]
 fn prints_deep_blocks(rt: HostRuntime) -> Result<(), Fail> {
-    let wasm = with_blocks(
-        rt.alloc(),
-        100_000,
-        &[0x02, 0x40],
-        &[0x0b],
-        &[0xe6, 0xa7, 0x12], // 300,006
-        &[0xe2, 0xa7, 0x12], // 300,002
-    )?;
+    // a section of 300,006 bytes, with a body of 300,002
+    let code = [0x0a, 0xe6, 0xa7, 0x12, 0x01, 0xe2, 0xa7, 0x12, 0x00];
+    let wasm = with_blocks(rt.alloc(), 100_000, &[0x02, 0x40], &[0x0b], &code)?;
     let text = print_bytes(rt.alloc(), &wasm)?;
     // the module, its type, the function, two lines for each block, and two parentheses
-    assert!(rt; text.as_str().matches("\n").count() == 200_005);
-    assert!(rt; text.as_str().contains(INNERMOST));
+    let end = "\n      end\n    end\n  )\n)\n";
+    assert!(rt; has_lines(text.as_str(), 200_005, INNERMOST, end));
     assert!(rt; !text.as_str().contains("@100001"));
-    assert!(rt; text.as_str().ends_with("\n      end\n    end\n  )\n)\n"));
     Ok(())
 }
 
 #[test]
 fn prints_deep_ifs(rt: HostRuntime) -> Result<(), Fail> {
-    let wasm = with_blocks(
-        rt.alloc(),
-        20_000,
-        &[0x04, 0x40],
-        &[0x05, 0x0b],
-        &[0x86, 0xf1, 0x04], // 80,006
-        &[0x82, 0xf1, 0x04], // 80,002
-    )?;
+    // a section of 80,006 bytes, with a body of 80,002
+    let code = [0x0a, 0x86, 0xf1, 0x04, 0x01, 0x82, 0xf1, 0x04, 0x00];
+    let wasm = with_blocks(rt.alloc(), 20_000, &[0x04, 0x40], &[0x05, 0x0b], &code)?;
     let text = print_bytes(rt.alloc(), &wasm)?;
-    assert!(rt; text.as_str().matches("\n").count() == 60_005);
-    assert!(rt; text.as_str().contains("  if ;; label = @20000\n"));
-    assert!(rt;
-        text.as_str()
-            .ends_with("\n      else\n      end\n    else\n    end\n  )\n)\n")
-    );
+    let line = "  if ;; label = @20000\n";
+    let end = "\n      else\n      end\n    else\n    end\n  )\n)\n";
+    assert!(rt; has_lines(text.as_str(), 60_005, line, end));
     Ok(())
 }
 
 #[test]
 fn prints_deep_tries(rt: HostRuntime) -> Result<(), Fail> {
-    let wasm = with_blocks(
-        rt.alloc(),
-        20_000,
-        &[0x06, 0x40],
-        &[0x18, 0x00],
-        &[0x86, 0xf1, 0x04], // 80,006
-        &[0x82, 0xf1, 0x04], // 80,002
-    )?;
+    // a section of 80,006 bytes, with a body of 80,002
+    let code = [0x0a, 0x86, 0xf1, 0x04, 0x01, 0x82, 0xf1, 0x04, 0x00];
+    let wasm = with_blocks(rt.alloc(), 20_000, &[0x06, 0x40], &[0x18, 0x00], &code)?;
     let text = print_bytes(rt.alloc(), &wasm)?;
-    assert!(rt; text.as_str().matches("\n").count() == 40_005);
-    assert!(rt; text.as_str().contains("  try ;; label = @20000\n"));
+    let line = "  try ;; label = @20000\n";
+    let end = "\n      delegate 0 (;@1;)\n    delegate 0\n  )\n)\n";
+    assert!(rt; has_lines(text.as_str(), 40_005, line, end));
     assert!(rt; text.as_str().contains("  delegate 0 (;@19999;)\n"));
-    assert!(rt;
-        text.as_str()
-            .ends_with("\n      delegate 0 (;@1;)\n    delegate 0\n  )\n)\n")
-    );
     Ok(())
 }

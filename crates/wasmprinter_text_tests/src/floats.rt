@@ -88,18 +88,20 @@ fn makes_the_calls_of_infinity_and_nan(rt: HostRuntime) -> Result<(), Fail> {
     Ok(())
 }
 
+/// Whether a float whose call of this number is refused ends with that error, and no call is made behind it.
+fn is_refused_at(alloc: Global, call: u32) -> bool {
+    let mut recorder = Recorder::with_refusal(alloc, call, ErrorKind::BrokenPipe);
+    let refused = write_f64(&mut recorder, 0xfff0_0000_0000_0001);
+    matches!(refused, Err(Error::Printer(e)) if e.kind() == ErrorKind::BrokenPipe)
+        && recorder.call_count() == call
+}
+
 #[test]
 fn answers_the_error_of_the_printer(rt: HostRuntime) -> Result<(), Fail> {
     let mut whole = Recorder::new(rt.alloc());
     write_f64(&mut whole, 0xfff0_0000_0000_0001)?;
     for call in 1..=whole.call_count() {
-        let mut recorder = Recorder::with_refusal(rt.alloc(), call, ErrorKind::BrokenPipe);
-        let refused = write_f64(&mut recorder, 0xfff0_0000_0000_0001);
-        assert!(rt;
-            matches!(refused, Err(Error::Printer(e)) if e.kind() == ErrorKind::BrokenPipe),
-            "at call {call}"
-        );
-        assert!(rt; recorder.call_count() == call);
+        assert!(rt; is_refused_at(rt.alloc(), call), "at call {call}");
     }
     Ok(())
 }

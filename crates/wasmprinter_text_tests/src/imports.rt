@@ -1,11 +1,9 @@
 //! Imports of each kind, and the numbers of what is defined behind them.
 
-use crate::sections::text_of;
+use crate::printing::{expect_printed, is_malformed_section, with_sections};
 use std::test::Fail;
 use wasmprinter::wasm::decode;
-use wasmprinter::{Error, print_bytes};
-use wasmprinter_samples::sections::IMPORT;
-use wasmprinter_samples::{PREAMBLE, expect_text};
+use wasmprinter_samples::sections::{IMPORT, TYPE};
 
 /// A function type; imports of two functions, a table, a memory, a global and a tag; and one of each defined.
 const ALL_KINDS: [u8; 93] = [
@@ -28,9 +26,9 @@ const ALL_KINDS: [u8; 93] = [
 
 #[test]
 fn numbers_definitions_behind_imports(rt: HostRuntime) -> Result<(), Fail> {
-    let text = print_bytes(rt.alloc(), &ALL_KINDS)?;
-    expect_text(
-        text.as_str(),
+    expect_printed(
+        rt.alloc(),
+        &ALL_KINDS,
         r#"(module
   (type (;0;) (func))
   (import "a" "f" (func (;0;) (type 0)))
@@ -46,37 +44,32 @@ fn numbers_definitions_behind_imports(rt: HostRuntime) -> Result<(), Fail> {
   (func (;2;) (type 0))
 )
 "#,
-    )?;
-    Ok(())
+    )
 }
 
 #[test]
 fn counts_defined_functions_alone(rt: HostRuntime) -> Result<(), Fail> {
     let module = decode(rt.alloc(), &ALL_KINDS)?;
     assert!(rt; module.function_count() == 1);
-    assert!(rt; module.body(0).is_some());
-    assert!(rt; module.body(1).is_none());
+    assert!(rt; module.body(0).is_some() && module.body(1).is_none());
     Ok(())
 }
 
 #[test]
 fn prints_signatures_of_imports(rt: HostRuntime) -> Result<(), Fail> {
-    let mut wasm = Vec::from_slice(rt.alloc(), &PREAMBLE)?;
-    wasm.extend_from_slice(&[0x01, 0x06, 0x01, 0x60, 0x01, 0x7f, 0x01, 0x7e])?;
-    wasm.extend_from_slice(&[
-        0x02, 0x0a, 0x02, 0x00, 0x00, 0x00, 0x00, 0x00, 0x00, 0x04, 0x00, 0x00,
-    ])?;
-    let text = print_bytes(rt.alloc(), &wasm)?;
-    expect_text(
-        text.as_str(),
+    let types = [0x01, 0x60, 0x01, 0x7f, 0x01, 0x7e];
+    let imports = [0x02, 0x00, 0x00, 0x00, 0x00, 0x00, 0x00, 0x04, 0x00, 0x00];
+    let wasm = with_sections(rt.alloc(), (TYPE, &types), (IMPORT, &imports))?;
+    expect_printed(
+        rt.alloc(),
+        &wasm,
         r#"(module
   (type (;0;) (func (param i32) (result i64)))
   (import "" "" (func (;0;) (type 0) (param i32) (result i64)))
   (import "" "" (tag (;0;) (type 0) (param i32) (result i64)))
 )
 "#,
-    )?;
-    Ok(())
+    )
 }
 
 #[test]
@@ -92,8 +85,7 @@ fn refuses_other_imports(rt: HostRuntime) -> Result<(), Fail> {
         &[0x01, 0x00, 0x00, 0x01, 0x7f, 0x00, 0x00],
     ];
     for content in contents {
-        let refused = text_of(rt.alloc(), IMPORT, content);
-        assert!(rt; matches!(refused, Err(Error::Malformed { .. })));
+        assert!(rt; is_malformed_section(rt.alloc(), IMPORT, content)?);
     }
     Ok(())
 }

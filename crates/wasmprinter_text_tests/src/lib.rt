@@ -13,6 +13,8 @@ mod opcode_words;
 #[cfg(test)]
 mod opcodes;
 #[cfg(test)]
+mod printing;
+#[cfg(test)]
 mod sections;
 #[cfg(test)]
 mod segments;

@@ -1,12 +1,10 @@
 //! All opcodes: the line of each operator, and the numbers that no operator has, which are malformed.
 
-use crate::control::text_of;
+use crate::control::{are_malformed, expect_operators, text_of};
 use crate::opcode_words::{Group, INDICES, LANES, MEMORIES, OTHERS, PLAIN};
 use std::alloc::{AllocError, Global};
 use std::num::ParseIntError;
 use std::test::Fail;
-use wasmprinter::Error;
-use wasmprinter_samples::expect_text;
 
 /// The text of a module whose function has these lines.
 fn text_with_lines(alloc: Global, lines: &[&str]) -> Result<String, AllocError> {
@@ -21,6 +19,16 @@ fn text_with_lines(alloc: Global, lines: &[&str]) -> Result<String, AllocError> 
     }
     text.push_str("  )\n)\n")?;
     Ok(text)
+}
+
+/// Holds that operators are printed on these lines.
+///
+/// # Errors
+///
+/// Where they are refused, or their lines are others.
+fn expect_lines(alloc: Global, operators: &[u8], lines: &[&str]) -> Result<(), Fail> {
+    let typed = text_with_lines(alloc, lines)?;
+    expect_operators(alloc, operators, typed.as_str())
 }
 
 /// The bytes of an opcode: its number alone where it has no prefix, else the prefix and the number. Numbers are below 2^14.
@@ -143,8 +151,7 @@ const BLOCK_OPCODES: u32 = 10;
 #[test]
 fn prints_operators_of_blocks(rt: HostRuntime) -> Result<(), Fail> {
     for (operators, lines) in BLOCKS {
-        let text = text_of(rt.alloc(), operators)?;
-        expect_text(text.as_str(), text_with_lines(rt.alloc(), lines)?.as_str())?;
+        expect_lines(rt.alloc(), operators, lines)?;
     }
     Ok(())
 }
@@ -193,11 +200,7 @@ const SPECIAL: [(&[u8], &str); 20] = [
 #[test]
 fn prints_other_immediates(rt: HostRuntime) -> Result<(), Fail> {
     for (operator, line) in SPECIAL {
-        let text = text_of(rt.alloc(), operator)?;
-        expect_text(
-            text.as_str(),
-            text_with_lines(rt.alloc(), &[line])?.as_str(),
-        )?;
+        expect_lines(rt.alloc(), operator, &[line])?;
     }
     Ok(())
 }
@@ -217,8 +220,7 @@ const MISSPELLED: [&[u8]; 7] = [
 #[test]
 fn refuses_immediates_of_no_operator(rt: HostRuntime) -> Result<(), Fail> {
     for operator in MISSPELLED {
-        let refused = text_of(rt.alloc(), operator);
-        assert!(rt; matches!(refused, Err(Error::Malformed { .. })));
+        assert!(rt; are_malformed(rt.alloc(), operator)?);
     }
     Ok(())
 }
@@ -256,19 +258,20 @@ const NUMBERS: u32 = 251 + 64 + 64 + 512 + 128;
 /// Zeros, which could be the immediates of an operator of any shape, or operators.
 const ZEROS: [u8; 20] = [0x00; 20];
 
+/// Whether an opcode is refused, with zeros behind it, and also where it would open a block.
+fn is_refused(alloc: Global, prefix: u8, number: u32) -> Result<bool, AllocError> {
+    let mut bytes = opcode(alloc, prefix, number)?;
+    bytes.extend_from_slice(&ZEROS)?;
+    let is_refused_alone = are_malformed(alloc, &bytes)?;
+    bytes.push(0x0b)?;
+    Ok(is_refused_alone && are_malformed(alloc, &bytes)?)
+}
+
 #[test]
 fn refuses_each_other_number(rt: HostRuntime) -> Result<(), Fail> {
-    let alloc = rt.alloc();
     for (prefix, first, last) in UNLISTED {
         for number in first..=last {
-            let mut bytes = opcode(alloc, prefix, number)?;
-            bytes.extend_from_slice(&ZEROS)?;
-            let refused = text_of(alloc, &bytes);
-            assert!(rt; matches!(refused, Err(Error::Malformed { .. })));
-            // the same where it would open a block
-            bytes.push(0x0b)?;
-            let refused = text_of(alloc, &bytes);
-            assert!(rt; matches!(refused, Err(Error::Malformed { .. })));
+            assert!(rt; is_refused(rt.alloc(), prefix, number)?);
         }
     }
     Ok(())

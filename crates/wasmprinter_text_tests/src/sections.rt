@@ -1,17 +1,10 @@
 //! Memories, tags and the start function: texts of modules with one section, or with types and one section.
 
-use std::alloc::{AllocError, Global};
+use crate::printing::{
+    expect_printed, expect_section, is_malformed, is_malformed_section, with_sections,
+};
 use std::test::Fail;
-use wasmprinter::{Error, print_bytes};
-use wasmprinter_samples::sections::{MEMORY, START, TAG, TYPE, add_section};
-use wasmprinter_samples::{PREAMBLE, expect_text};
-
-/// The text of a module with one section.
-pub fn text_of(alloc: Global, id: u8, content: &[u8]) -> Result<String, Error> {
-    let mut wasm = Vec::from_slice(alloc, &PREAMBLE)?;
-    add_section(&mut wasm, id, content)?;
-    print_bytes(alloc, &wasm)
-}
+use wasmprinter_samples::sections::{MEMORY, START, TAG, TYPE};
 
 /// Memory sections of one memory each, and its text.
 const MEMORIES: [(&[u8], &str); 5] = [
@@ -43,8 +36,7 @@ const MEMORIES: [(&[u8], &str); 5] = [
 #[test]
 fn prints_each_memory(rt: HostRuntime) -> Result<(), Fail> {
     for (content, expected) in MEMORIES {
-        let text = text_of(rt.alloc(), MEMORY, content)?;
-        expect_text(text.as_str(), expected)?;
+        expect_section(rt.alloc(), MEMORY, content, expected)?;
     }
     Ok(())
 }
@@ -58,9 +50,10 @@ const FLAGS: [u8; 21] = [
 
 #[test]
 fn prints_memories_by_their_flags(rt: HostRuntime) -> Result<(), Fail> {
-    let text = text_of(rt.alloc(), MEMORY, &FLAGS)?;
-    expect_text(
-        text.as_str(),
+    expect_section(
+        rt.alloc(),
+        MEMORY,
+        &FLAGS,
         r#"(module
   (memory (;0;) 1)
   (memory (;1;) 1 2)
@@ -72,8 +65,7 @@ fn prints_memories_by_their_flags(rt: HostRuntime) -> Result<(), Fail> {
   (memory (;7;) i64 1 2 shared)
 )
 "#,
-    )?;
-    Ok(())
+    )
 }
 
 #[test]
@@ -87,8 +79,7 @@ fn refuses_other_memories(rt: HostRuntime) -> Result<(), Fail> {
         &[0x01, 0x01, 0x01],
     ];
     for content in contents {
-        let refused = text_of(rt.alloc(), MEMORY, content);
-        assert!(rt; matches!(refused, Err(Error::Malformed { .. })));
+        assert!(rt; is_malformed_section(rt.alloc(), MEMORY, content)?);
     }
     Ok(())
 }
@@ -100,16 +91,11 @@ const TYPES: [u8; 12] = [
 
 #[test]
 fn prints_tags_with_their_signatures(rt: HostRuntime) -> Result<(), Fail> {
-    let mut wasm = Vec::from_slice(rt.alloc(), &PREAMBLE)?;
-    add_section(&mut wasm, TYPE, &TYPES)?;
-    add_section(
-        &mut wasm,
-        TAG,
-        &[0x04, 0x00, 0x01, 0x00, 0x00, 0x00, 0x02, 0x00, 0x07],
-    )?;
-    let text = print_bytes(rt.alloc(), &wasm)?;
-    expect_text(
-        text.as_str(),
+    let tags = [0x04, 0x00, 0x01, 0x00, 0x00, 0x00, 0x02, 0x00, 0x07];
+    let wasm = with_sections(rt.alloc(), (TYPE, &TYPES), (TAG, &tags))?;
+    expect_printed(
+        rt.alloc(),
+        &wasm,
         r#"(module
   (type (;0;) (func (param i32 (ref null 0))))
   (type (;1;) (func))
@@ -120,25 +106,18 @@ fn prints_tags_with_their_signatures(rt: HostRuntime) -> Result<(), Fail> {
   (tag (;3;) (type 7))
 )
 "#,
-    )?;
-    Ok(())
+    )
 }
 
 #[test]
 fn prints_the_start_function(rt: HostRuntime) -> Result<(), Fail> {
-    let text = text_of(rt.alloc(), START, &[0x05])?;
-    expect_text(text.as_str(), "(module\n  (start 5)\n)\n")?;
-    Ok(())
+    expect_section(rt.alloc(), START, &[0x05], "(module\n  (start 5)\n)\n")
 }
 
 #[test]
 fn refuses_two_start_functions(rt: HostRuntime) -> Result<(), Fail> {
-    let behind_another = text_of(rt.alloc(), START, &[0x05, 0x06]);
-    assert!(rt; matches!(behind_another, Err(Error::Malformed { .. })));
-    let mut wasm = Vec::from_slice(rt.alloc(), &PREAMBLE)?;
-    add_section(&mut wasm, START, &[0x05])?;
-    add_section(&mut wasm, START, &[0x05])?;
-    let in_another_section = print_bytes(rt.alloc(), &wasm);
-    assert!(rt; matches!(in_another_section, Err(Error::Malformed { .. })));
+    assert!(rt; is_malformed_section(rt.alloc(), START, &[0x05, 0x06])?);
+    let in_two_sections = with_sections(rt.alloc(), (START, &[0x05]), (START, &[0x05]))?;
+    assert!(rt; is_malformed(rt.alloc(), &in_two_sections));
     Ok(())
 }

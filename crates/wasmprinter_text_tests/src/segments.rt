@@ -1,11 +1,11 @@
 //! Element and data segments: texts of modules with one section, and what is refused.
 
-use crate::sections::text_of;
-use std::alloc::Global;
+use crate::printing::{
+    expect_printed, expect_section, is_malformed, is_malformed_section, with_sections,
+};
+use std::alloc::{AllocError, Global};
 use std::test::Fail;
-use wasmprinter::{Error, print_bytes};
-use wasmprinter_samples::sections::{DATA, DATA_COUNT, ELEMENT, add_section};
-use wasmprinter_samples::{PREAMBLE, expect_text};
+use wasmprinter_samples::sections::{DATA, DATA_COUNT, ELEMENT};
 
 /// Element segments of each flags.
 const ELEMENTS: [u8; 58] = [
@@ -22,9 +22,10 @@ const ELEMENTS: [u8; 58] = [
 
 #[test]
 fn prints_each_element_segment(rt: HostRuntime) -> Result<(), Fail> {
-    let text = text_of(rt.alloc(), ELEMENT, &ELEMENTS)?;
-    expect_text(
-        text.as_str(),
+    expect_section(
+        rt.alloc(),
+        ELEMENT,
+        &ELEMENTS,
         r#"(module
   (elem (;0;) (i32.const 1) func 0 1)
   (elem (;1;) func 0)
@@ -36,19 +37,18 @@ fn prints_each_element_segment(rt: HostRuntime) -> Result<(), Fail> {
   (elem (;7;) declare funcref (item ) (item i32.const 0 drop))
 )
 "#,
-    )?;
-    Ok(())
+    )
 }
 
 #[test]
 fn prints_a_segment_of_no_functions_with_its_table(rt: HostRuntime) -> Result<(), Fail> {
     let content = [0x01, 0x02, 0x00, 0x41, 0x00, 0x0b, 0x00, 0x00];
-    let text = text_of(rt.alloc(), ELEMENT, &content)?;
-    expect_text(
-        text.as_str(),
+    expect_section(
+        rt.alloc(),
+        ELEMENT,
+        &content,
         "(module\n  (elem (;0;) (table 0) (i32.const 0) func)\n)\n",
-    )?;
-    Ok(())
+    )
 }
 
 #[test]
@@ -62,8 +62,7 @@ fn refuses_other_element_segments(rt: HostRuntime) -> Result<(), Fail> {
         &[0x01, 0x05, 0x7f, 0x00],
     ];
     for content in contents {
-        let refused = text_of(rt.alloc(), ELEMENT, content);
-        assert!(rt; matches!(refused, Err(Error::Malformed { .. })));
+        assert!(rt; is_malformed_section(rt.alloc(), ELEMENT, content)?);
     }
     Ok(())
 }
@@ -81,9 +80,10 @@ const DATAS: [u8; 42] = [
 
 #[test]
 fn prints_each_data_segment(rt: HostRuntime) -> Result<(), Fail> {
-    let text = text_of(rt.alloc(), DATA, &DATAS)?;
-    expect_text(
-        text.as_str(),
+    expect_section(
+        rt.alloc(),
+        DATA,
+        &DATAS,
         r#"(module
   (data (;0;) (i32.const 8) "a\22\5c\00\ff")
   (data (;1;) "")
@@ -93,8 +93,7 @@ fn prints_each_data_segment(rt: HostRuntime) -> Result<(), Fail> {
   (data (;5;) (offset ) "")
 )
 "#,
-    )?;
-    Ok(())
+    )
 }
 
 #[test]
@@ -106,33 +105,28 @@ fn refuses_other_data_segments(rt: HostRuntime) -> Result<(), Fail> {
         &[0x01, 0x01, 0x02, 0x00],
     ];
     for content in contents {
-        let refused = text_of(rt.alloc(), DATA, content);
-        assert!(rt; matches!(refused, Err(Error::Malformed { .. })));
+        assert!(rt; is_malformed_section(rt.alloc(), DATA, content)?);
     }
     Ok(())
 }
 
-/// The text of a module with a count of data segments and these segments.
-fn with_count(alloc: Global, count: u8, content: &[u8]) -> Result<String, Error> {
-    let mut wasm = Vec::from_slice(alloc, &PREAMBLE)?;
-    add_section(&mut wasm, DATA_COUNT, &[count])?;
-    add_section(&mut wasm, DATA, content)?;
-    print_bytes(alloc, &wasm)
+/// A data section with one segment, which is passive and has no bytes.
+const ONE: [u8; 3] = [0x01, 0x01, 0x00];
+
+/// A module with this count of data segments, and one segment.
+fn with_count(alloc: Global, count: u8) -> Result<Vec<u8>, AllocError> {
+    with_sections(alloc, (DATA_COUNT, &[count]), (DATA, &ONE))
 }
 
 #[test]
 fn compares_the_count_of_data_segments(rt: HostRuntime) -> Result<(), Fail> {
-    let one = [0x01, 0x01, 0x00];
-    let text = with_count(rt.alloc(), 1, &one)?;
-    expect_text(text.as_str(), "(module\n  (data (;0;) \"\")\n)\n")?;
-    let more = with_count(rt.alloc(), 2, &one);
-    assert!(rt; matches!(more, Err(Error::Malformed { .. })));
-    let none = with_count(rt.alloc(), 0, &one);
-    assert!(rt; matches!(none, Err(Error::Malformed { .. })));
+    let typed = "(module\n  (data (;0;) \"\")\n)\n";
+    expect_printed(rt.alloc(), &with_count(rt.alloc(), 1)?, typed)?;
+    for count in [0, 2] {
+        assert!(rt; is_malformed(rt.alloc(), &with_count(rt.alloc(), count)?));
+    }
     // none are counted and none stand there
-    let empty = text_of(rt.alloc(), DATA_COUNT, &[0x00])?;
-    expect_text(empty.as_str(), "(module)\n")?;
-    let missing = text_of(rt.alloc(), DATA_COUNT, &[0x01]);
-    assert!(rt; matches!(missing, Err(Error::Malformed { .. })));
+    expect_section(rt.alloc(), DATA_COUNT, &[0x00], "(module)\n")?;
+    assert!(rt; is_malformed_section(rt.alloc(), DATA_COUNT, &[0x01])?);
     Ok(())
 }

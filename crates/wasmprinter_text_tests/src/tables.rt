@@ -1,9 +1,9 @@
 //! Tables and globals: texts of modules with one section, and what is refused.
 
-use crate::sections::text_of;
+use crate::printing::{expect_section, is_malformed_section, with_section};
+use std::alloc::{AllocError, Global};
 use std::test::Fail;
-use wasmprinter::Error;
-use wasmprinter_samples::expect_text;
+use wasmprinter::{Error, print_bytes};
 use wasmprinter_samples::sections::{GLOBAL, TABLE};
 
 /// Tables of each flags, and one with an initialiser.
@@ -18,9 +18,10 @@ const TABLES: [u8; 26] = [
 
 #[test]
 fn prints_each_table(rt: HostRuntime) -> Result<(), Fail> {
-    let text = text_of(rt.alloc(), TABLE, &TABLES)?;
-    expect_text(
-        text.as_str(),
+    expect_section(
+        rt.alloc(),
+        TABLE,
+        &TABLES,
         r#"(module
   (table (;0;) 1 funcref)
   (table (;1;) 1 2 externref)
@@ -29,21 +30,23 @@ fn prints_each_table(rt: HostRuntime) -> Result<(), Fail> {
   (table (;4;) 3 funcref ref.null func)
 )
 "#,
-    )?;
-    Ok(())
+    )
+}
+
+/// The place of the table with an empty initialiser for which a table section is refused, if it is.
+fn empty_initialiser(alloc: Global, content: &[u8]) -> Result<Option<u64>, AllocError> {
+    match print_bytes(alloc, &with_section(alloc, TABLE, content)?) {
+        Err(Error::EmptyTableInit { place }) => Ok(Some(place)),
+        _ => Ok(None),
+    }
 }
 
 #[test]
 fn refuses_an_initialiser_without_operators(rt: HostRuntime) -> Result<(), Fail> {
-    let first = text_of(
-        rt.alloc(),
-        TABLE,
-        &[0x01, 0x40, 0x00, 0x70, 0x00, 0x01, 0x0b],
-    );
-    assert!(rt; matches!(first, Err(Error::EmptyTableInit { place: 11 })));
-    let content = [0x02, 0x70, 0x00, 0x01, 0x40, 0x00, 0x70, 0x00, 0x03, 0x0b];
-    let second = text_of(rt.alloc(), TABLE, &content);
-    assert!(rt; matches!(second, Err(Error::EmptyTableInit { place: 14 })));
+    let first = [0x01, 0x40, 0x00, 0x70, 0x00, 0x01, 0x0b];
+    assert!(rt; empty_initialiser(rt.alloc(), &first)? == Some(11));
+    let second = [0x02, 0x70, 0x00, 0x01, 0x40, 0x00, 0x70, 0x00, 0x03, 0x0b];
+    assert!(rt; empty_initialiser(rt.alloc(), &second)? == Some(14));
     Ok(())
 }
 
@@ -60,8 +63,7 @@ fn refuses_other_tables(rt: HostRuntime) -> Result<(), Fail> {
         &[0x01, 0x7f, 0x00, 0x01],
     ];
     for content in contents {
-        let refused = text_of(rt.alloc(), TABLE, content);
-        assert!(rt; matches!(refused, Err(Error::Malformed { .. })));
+        assert!(rt; is_malformed_section(rt.alloc(), TABLE, content)?);
     }
     Ok(())
 }
@@ -77,9 +79,10 @@ const GLOBALS: [u8; 28] = [
 
 #[test]
 fn prints_each_global(rt: HostRuntime) -> Result<(), Fail> {
-    let text = text_of(rt.alloc(), GLOBAL, &GLOBALS)?;
-    expect_text(
-        text.as_str(),
+    expect_section(
+        rt.alloc(),
+        GLOBAL,
+        &GLOBALS,
         r#"(module
   (global (;0;) i32 i32.const -1)
   (global (;1;) (mut i64) i64.const 1 i64.const 2 i64.add)
@@ -87,15 +90,17 @@ fn prints_each_global(rt: HostRuntime) -> Result<(), Fail> {
   (global (;3;) f32 f32.const 0x1.8p+0)
 )
 "#,
-    )?;
-    Ok(())
+    )
 }
 
 #[test]
 fn prints_an_initialiser_of_no_operators(rt: HostRuntime) -> Result<(), Fail> {
-    let text = text_of(rt.alloc(), GLOBAL, &[0x01, 0x7f, 0x00, 0x0b])?;
-    expect_text(text.as_str(), "(module\n  (global (;0;) i32 )\n)\n")?;
-    Ok(())
+    expect_section(
+        rt.alloc(),
+        GLOBAL,
+        &[0x01, 0x7f, 0x00, 0x0b],
+        "(module\n  (global (;0;) i32 )\n)\n",
+    )
 }
 
 #[test]
@@ -103,12 +108,12 @@ fn prints_blocks_of_an_initialiser_in_its_line(rt: HostRuntime) -> Result<(), Fa
     let content = [
         0x01, 0x7f, 0x00, 0x02, 0x7f, 0x41, 0x01, 0x0c, 0x00, 0x0b, 0x0b,
     ];
-    let text = text_of(rt.alloc(), GLOBAL, &content)?;
-    expect_text(
-        text.as_str(),
+    expect_section(
+        rt.alloc(),
+        GLOBAL,
+        &content,
         "(module\n  (global (;0;) i32 block (result i32)  (; label = @1 ;) i32.const 1 br 0 (;@1;) end)\n)\n",
-    )?;
-    Ok(())
+    )
 }
 
 #[test]
@@ -122,8 +127,7 @@ fn refuses_other_globals(rt: HostRuntime) -> Result<(), Fail> {
         &[0x01, 0x7f, 0x00, 0x02, 0x40, 0x0b],
     ];
     for content in contents {
-        let refused = text_of(rt.alloc(), GLOBAL, content);
-        assert!(rt; matches!(refused, Err(Error::Malformed { .. })));
+        assert!(rt; is_malformed_section(rt.alloc(), GLOBAL, content)?);
     }
     Ok(())
 }

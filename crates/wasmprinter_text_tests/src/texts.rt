@@ -1,26 +1,28 @@
 //! Whole texts.
 
+use crate::printing::expect_printed;
+use std::alloc::{AllocError, Global};
 use std::test::Fail;
-use wasmprinter::print_bytes;
 use wasmprinter_samples::{
     CONTROL, CONTROL_TEXT, EMPTY_TEXT, EVERYTHING, EVERYTHING_TEXT, FIELDS, FIELDS_TEXT, IDENTITY,
-    IDENTITY_TEXT, KINDS, KINDS_TEXT, MINUS_ONE, MINUS_ONE_TEXT, PREAMBLE, expect_text,
+    IDENTITY_TEXT, KINDS, KINDS_TEXT, MINUS_ONE, MINUS_ONE_TEXT, PREAMBLE,
 };
+
+/// Modules with their texts.
+const MODULES: [(&[u8], &str); 7] = [
+    (&PREAMBLE, EMPTY_TEXT),
+    (&IDENTITY, IDENTITY_TEXT),
+    (&MINUS_ONE, MINUS_ONE_TEXT),
+    (&EVERYTHING, EVERYTHING_TEXT),
+    (&KINDS, KINDS_TEXT),
+    (&CONTROL, CONTROL_TEXT),
+    (&FIELDS, FIELDS_TEXT),
+];
 
 #[test]
 fn prints_each_module(rt: HostRuntime) -> Result<(), Fail> {
-    let modules: [(&[u8], &str); 7] = [
-        (&PREAMBLE, EMPTY_TEXT),
-        (&IDENTITY, IDENTITY_TEXT),
-        (&MINUS_ONE, MINUS_ONE_TEXT),
-        (&EVERYTHING, EVERYTHING_TEXT),
-        (&KINDS, KINDS_TEXT),
-        (&CONTROL, CONTROL_TEXT),
-        (&FIELDS, FIELDS_TEXT),
-    ];
-    for (wasm, text) in modules {
-        let printed = print_bytes(rt.alloc(), wasm)?;
-        expect_text(printed.as_str(), text)?;
+    for (wasm, text) in MODULES {
+        expect_printed(rt.alloc(), wasm, text)?;
     }
     Ok(())
 }
@@ -68,20 +70,24 @@ const LONGER: [Longer; 5] = [
     },
 ];
 
+/// `IDENTITY` with this number.
+fn with_longer(alloc: Global, longer: &Longer) -> Result<Vec<u8>, AllocError> {
+    let mut wasm = Vec::new(alloc);
+    for (place, byte) in IDENTITY.iter().enumerate() {
+        if place == longer.from {
+            wasm.extend_from_slice(longer.by)?;
+        }
+        if place < longer.from || longer.to <= place {
+            wasm.push(*byte)?;
+        }
+    }
+    Ok(wasm)
+}
+
 #[test]
 fn prints_longer_spellings_as_the_shortest(rt: HostRuntime) -> Result<(), Fail> {
     for longer in &LONGER {
-        let mut wasm = Vec::new(rt.alloc());
-        for (place, byte) in IDENTITY.iter().enumerate() {
-            if place == longer.from {
-                wasm.extend_from_slice(longer.by)?;
-            }
-            if place < longer.from || longer.to <= place {
-                wasm.push(*byte)?;
-            }
-        }
-        let text = print_bytes(rt.alloc(), &wasm)?;
-        assert!(rt; text.as_str() == IDENTITY_TEXT, "from {}", longer.from);
+        expect_printed(rt.alloc(), &with_longer(rt.alloc(), longer)?, IDENTITY_TEXT)?;
     }
     Ok(())
 }

@@ -1,23 +1,11 @@
 //! Types: texts of value types, composite types, subtypes and groups, their places, and many types.
 
+use crate::printing::{expect_printed, expect_section, with_section};
 use std::alloc::{AllocError, Global};
 use std::test::Fail;
-use wasmprinter::{Error, print_bytes};
-use wasmprinter_samples::{PREAMBLE, expect_text};
-
-/// A module with a type section of these bytes, a count in front. There are fewer than 100.
-fn with_types(alloc: Global, content: &[u8]) -> Result<Vec<u8>, AllocError> {
-    let mut wasm = Vec::from_slice(alloc, &PREAMBLE)?;
-    wasm.extend_from_slice(&[0x01, content.len().min(100) as u8])?;
-    wasm.extend_from_slice(content)?;
-    Ok(wasm)
-}
-
-/// The text of such a module.
-fn text_of(alloc: Global, content: &[u8]) -> Result<String, Error> {
-    let wasm = with_types(alloc, content)?;
-    print_bytes(alloc, &wasm)
-}
+use wasmprinter::print_bytes;
+use wasmprinter_samples::PREAMBLE;
+use wasmprinter_samples::sections::TYPE;
 
 /// The contents of type sections, and the texts of their modules.
 const ROWS: [(&[u8], &str); 8] = [
@@ -64,8 +52,7 @@ const ROWS: [(&[u8], &str); 8] = [
 #[test]
 fn prints_each_type(rt: HostRuntime) -> Result<(), Fail> {
     for (content, expected) in ROWS {
-        let text = text_of(rt.alloc(), content)?;
-        expect_text(text.as_str(), expected)?;
+        expect_section(rt.alloc(), TYPE, content, expected)?;
     }
     Ok(())
 }
@@ -79,35 +66,34 @@ const ABSTRACT: [u8; 40] = [
     0x64, 0x6f, 0x64, 0x70, 0x64, 0x71, 0x64, 0x72, 0x64, 0x73, 0x64, 0x74,
 ];
 
+/// How its parameters are printed.
+const ABSTRACT_PARAMS: &str =
+    "(param exnref arrayref structref i31ref eqref anyref externref funcref nullref nullexternref nullfuncref nullexnref) (result";
+
+/// How its results are printed, to the end of the type.
+const ABSTRACT_RESULTS: &str =
+    "(result (ref exn) (ref array) (ref struct) (ref i31) (ref eq) (ref any) (ref extern) (ref func) \
+     (ref none) (ref noextern) (ref nofunc) (ref noexn))))\n";
+
 #[test]
 fn prints_references_to_abstract_types(rt: HostRuntime) -> Result<(), Fail> {
-    let text = text_of(rt.alloc(), &ABSTRACT)?;
+    let text = print_bytes(rt.alloc(), &with_section(rt.alloc(), TYPE, &ABSTRACT)?)?;
     assert!(rt;
-        text.as_str().contains(
-            "(param exnref arrayref structref i31ref eqref anyref externref funcref nullref nullexternref nullfuncref nullexnref) (result"
-        )
-    );
-    assert!(rt;
-        text.as_str().contains(
-            "(result (ref exn) (ref array) (ref struct) (ref i31) (ref eq) (ref any) (ref extern) (ref func) \
-             (ref none) (ref noextern) (ref nofunc) (ref noexn))))\n"
-        )
+        text.as_str().contains(ABSTRACT_PARAMS) && text.as_str().contains(ABSTRACT_RESULTS)
     );
     Ok(())
 }
 
 #[test]
 fn numbers_types_over_all_groups(rt: HostRuntime) -> Result<(), Fail> {
-    let text = text_of(
+    expect_section(
         rt.alloc(),
+        TYPE,
         &[
             0x03, 0x4e, 0x00, // no types
             0x4e, 0x02, 0x5f, 0x01, 0x63, 0x01, 0x01, 0x5e, 0x64, 0x00, 0x00, // two
             0x60, 0x00, 0x00, // by itself
         ],
-    )?;
-    expect_text(
-        text.as_str(),
         r#"(module
   (rec)
   (rec
@@ -117,8 +103,7 @@ fn numbers_types_over_all_groups(rt: HostRuntime) -> Result<(), Fail> {
   (type (;2;) (func))
 )
 "#,
-    )?;
-    Ok(())
+    )
 }
 
 /// A function whose locals are references.
@@ -131,9 +116,9 @@ const LOCALS: [u8; 29] = [
 
 #[test]
 fn prints_locals_that_are_references(rt: HostRuntime) -> Result<(), Fail> {
-    let text = print_bytes(rt.alloc(), &LOCALS)?;
-    expect_text(
-        text.as_str(),
+    expect_printed(
+        rt.alloc(),
+        &LOCALS,
         r#"(module
   (type (;0;) (func))
   (func (;0;) (type 0)
@@ -141,24 +126,30 @@ fn prints_locals_that_are_references(rt: HostRuntime) -> Result<(), Fail> {
   )
 )
 "#,
-    )?;
-    Ok(())
+    )
 }
 
-#[test]
-fn prints_a_thousand_types(rt: HostRuntime) -> Result<(), Fail> {
-    let mut wasm = Vec::from_slice(rt.alloc(), &PREAMBLE)?;
+/// A module with a thousand types of functions without parameters and results.
+fn with_a_thousand_types(alloc: Global) -> Result<Vec<u8>, AllocError> {
+    let mut wasm = Vec::from_slice(alloc, &PREAMBLE)?;
     // 3,002 bytes, of which two are the count
     wasm.extend_from_slice(&[0x01, 0xba, 0x17, 0xe8, 0x07])?;
     for _ in 0..1000 {
         wasm.extend_from_slice(&[0x60, 0x00, 0x00])?;
     }
-    let text = print_bytes(rt.alloc(), &wasm)?;
-    assert!(rt; text.as_str().matches("\n").count() == 1002);
-    assert!(rt;
-        text.as_str()
-            .contains("\n  (type (;500;) (func))\n  (type (;501;) (func))\n")
-    );
-    assert!(rt; text.as_str().ends_with("\n  (type (;999;) (func))\n)\n"));
+    Ok(wasm)
+}
+
+/// Whether a text has 1,002 lines, two of these types in its middle, and ends with the last.
+fn has_a_thousand_types(text: &str) -> bool {
+    text.matches("\n").count() == 1002
+        && text.contains("\n  (type (;500;) (func))\n  (type (;501;) (func))\n")
+        && text.ends_with("\n  (type (;999;) (func))\n)\n")
+}
+
+#[test]
+fn prints_a_thousand_types(rt: HostRuntime) -> Result<(), Fail> {
+    let text = print_bytes(rt.alloc(), &with_a_thousand_types(rt.alloc())?)?;
+    assert!(rt; has_a_thousand_types(text.as_str()));
     Ok(())
 }
