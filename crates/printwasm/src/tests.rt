@@ -2,6 +2,7 @@
 
 use crate::program::{run, start};
 use crate::rendering::ByDisplay;
+use crate::system::Sink;
 use std::alloc::AllocError;
 use std::io::Write;
 use std::process::ExitCode;
@@ -17,6 +18,12 @@ const MANY_LOCALS: [u8; 28] = [
 
 const USAGE: &str =
     "usage: printwasm [--offsets] [--skeleton] [--name-unnamed] [--fold] [--color] FILE\n";
+
+/// What is told where a file can't be read.
+const UNREADABLE: &str = "error: the file can't be read\n";
+
+/// What is told where the text can't be written.
+const UNWRITTEN: &str = "error: the printer failed\n";
 
 /// What a run wrote, and its status.
 #[derive(Drop)]
@@ -35,13 +42,22 @@ fn strings_of(rt: &HostRuntime, words: &[&str]) -> Result<Vec<String>, Fail> {
     Ok(owned)
 }
 
+/// The status of the program over these words, which writes to these sinks.
+fn run_into<O: Sink, E: Sink>(
+    rt: &HostRuntime,
+    words: &[&str],
+    out: &mut O,
+    err: &mut E,
+) -> Result<u8, Fail> {
+    let owned = strings_of(rt, words)?;
+    Ok(run(rt, &ByDisplay, rt.alloc(), &owned, out, err))
+}
+
 /// The program over these words.
 fn run_with(rt: &HostRuntime, words: &[&str]) -> Result<Outcome, Fail> {
-    let alloc = rt.alloc();
-    let owned = strings_of(rt, words)?;
-    let mut out = Vec::new(alloc);
-    let mut err = Vec::new(alloc);
-    let status = run(rt, &ByDisplay, alloc, &owned, &mut out, &mut err);
+    let mut out = Vec::new(rt.alloc());
+    let mut err = Vec::new(rt.alloc());
+    let status = run_into(rt, words, &mut out, &mut err)?;
     Ok(Outcome { out, err, status })
 }
 
@@ -53,12 +69,39 @@ fn run_over(rt: &HostRuntime, name: &str, bytes: &[u8]) -> Result<Outcome, Fail>
     Ok(outcome)
 }
 
+/// Whether a run ended well, printed this text, and told nothing.
+fn has_printed(outcome: &Outcome, text: &str) -> bool {
+    outcome.status == 0 && outcome.out.as_slice() == text.as_bytes() && outcome.err.is_empty()
+}
+
+/// Whether a run ended with this status, printed nothing, and told this text.
+fn has_told(outcome: &Outcome, status: u8, text: &str) -> bool {
+    outcome.status == status && outcome.out.is_empty() && outcome.err.as_slice() == text.as_bytes()
+}
+
+/// Whether the program over these words prints this text alone.
+fn prints(rt: &HostRuntime, words: &[&str], text: &str) -> Result<bool, Fail> {
+    Ok(has_printed(&run_with(rt, words)?, text))
+}
+
+/// Whether the program over a file that holds these bytes prints this text alone.
+fn prints_file(rt: &HostRuntime, name: &str, bytes: &[u8], text: &str) -> Result<bool, Fail> {
+    Ok(has_printed(&run_over(rt, name, bytes)?, text))
+}
+
+/// Whether the program over these words ends with this status, and tells this text alone.
+fn tells(rt: &HostRuntime, words: &[&str], status: u8, text: &str) -> Result<bool, Fail> {
+    Ok(has_told(&run_with(rt, words)?, status, text))
+}
+
+/// Whether the program refuses a file that holds these bytes, and tells this text alone.
+fn refuses_file(rt: &HostRuntime, name: &str, bytes: &[u8], text: &str) -> Result<bool, Fail> {
+    Ok(has_told(&run_over(rt, name, bytes)?, 1, text))
+}
+
 #[test]
 fn prints_the_empty_module(rt: HostRuntime) -> Result<(), Fail> {
-    let printed = run_over(&rt, "empty.wasm", &PREAMBLE)?;
-    assert_eq!(rt; printed.status, 0);
-    assert_eq!(rt; printed.out.as_slice(), b"(module)\n".as_slice());
-    assert_eq!(rt; printed.err.len(), 0);
+    assert!(rt; prints_file(&rt, "empty.wasm", &PREAMBLE, "(module)\n")?);
     Ok(())
 }
 
@@ -70,10 +113,7 @@ fn prints_a_function(rt: HostRuntime) -> Result<(), Fail> {
         (func (;0;) (type 0) (param i32) (result i32)\n    \
         local.get 0\n  \
         )\n)\n";
-    let printed = run_over(&rt, "identity.wasm", &IDENTITY)?;
-    assert_eq!(rt; printed.status, 0);
-    assert_eq!(rt; printed.out.as_slice(), text.as_bytes());
-    assert_eq!(rt; printed.err.len(), 0);
+    assert!(rt; prints_file(&rt, "identity.wasm", &IDENTITY, text)?);
     Ok(())
 }
 
@@ -85,28 +125,26 @@ const WITH_OPTIONS: &str = r#"(module
 (;@23    ;))
 "#;
 
+/// Words that choose those options, in whatever order.
+const OPTION_ORDERS: [&[&str]; 3] = [
+    &["--offsets", "--skeleton", "--name-unnamed", "options.wasm"],
+    &["options.wasm", "--name-unnamed", "--skeleton", "--offsets"],
+    &[
+        "--skeleton",
+        "--offsets",
+        "--skeleton",
+        "options.wasm",
+        "--name-unnamed",
+    ],
+];
+
 #[test]
 fn prints_by_its_options(rt: HostRuntime) -> Result<(), Fail> {
-    let file = "options.wasm";
-    fs::write(&rt, file, &IDENTITY)?;
-    let orders: [&[&str]; 3] = [
-        &["--offsets", "--skeleton", "--name-unnamed", file],
-        &[file, "--name-unnamed", "--skeleton", "--offsets"],
-        &[
-            "--skeleton",
-            "--offsets",
-            "--skeleton",
-            file,
-            "--name-unnamed",
-        ],
-    ];
-    for words in orders {
-        let printed = run_with(&rt, words)?;
-        assert_eq!(rt; printed.status, 0);
-        assert_eq!(rt; printed.out.as_slice(), WITH_OPTIONS.as_bytes());
-        assert_eq!(rt; printed.err.len(), 0);
+    fs::write(&rt, "options.wasm", &IDENTITY)?;
+    for words in OPTION_ORDERS {
+        assert!(rt; prints(&rt, words, WITH_OPTIONS)?, "{words:?}");
     }
-    fs::remove_file(&rt, file)?;
+    fs::remove_file(&rt, "options.wasm")?;
     Ok(())
 }
 
@@ -187,60 +225,50 @@ const OUTLINE_COLORED: &str = "(\x1b[0m\x1b[1m\x1b[38;5;11mmodule\x1b[0m
 \x1b[0m\x1b[36m(;@23    ;)\x1b[0m)
 ";
 
+/// Words that choose those options, in whatever order.
+const COLOR_ORDERS: [&[&str]; 2] = [
+    &["--color", "--offsets", "--skeleton", "colors.wasm"],
+    &[
+        "colors.wasm",
+        "--skeleton",
+        "--color",
+        "--offsets",
+        "--color",
+    ],
+];
+
 #[test]
 fn prints_in_colors_by_other_options(rt: HostRuntime) -> Result<(), Fail> {
-    let file = "colors.wasm";
-    fs::write(&rt, file, &IDENTITY)?;
-    let orders: [&[&str]; 2] = [
-        &["--color", "--offsets", "--skeleton", file],
-        &[file, "--skeleton", "--color", "--offsets", "--color"],
-    ];
-    for words in orders {
-        let printed = run_with(&rt, words)?;
-        assert_eq!(rt; printed.status, 0);
-        assert_eq!(rt; printed.out.as_slice(), OUTLINE_COLORED.as_bytes());
-        assert_eq!(rt; printed.err.len(), 0);
+    fs::write(&rt, "colors.wasm", &IDENTITY)?;
+    for words in COLOR_ORDERS {
+        assert!(rt; prints(&rt, words, OUTLINE_COLORED)?, "{words:?}");
     }
-    fs::remove_file(&rt, file)?;
+    fs::remove_file(&rt, "colors.wasm")?;
     Ok(())
 }
 
 #[test]
 fn prints_by_one_option(rt: HostRuntime) -> Result<(), Fail> {
-    let file = "option.wasm";
-    fs::write(&rt, file, &IDENTITY)?;
+    fs::write(&rt, "option.wasm", &IDENTITY)?;
     for (option, text) in BY_ONE_OPTION {
-        let printed = run_with(&rt, &[option, file])?;
-        assert_eq!(rt; printed.status, 0);
-        assert_eq!(rt; printed.out.as_slice(), text.as_bytes());
-        assert_eq!(rt; printed.err.len(), 0);
+        assert!(rt; prints(&rt, &[option, "option.wasm"], text)?, "{option}");
     }
-    fs::remove_file(&rt, file)?;
+    fs::remove_file(&rt, "option.wasm")?;
     Ok(())
 }
 
 #[test]
 fn refuses_a_module_that_is_cut(rt: HostRuntime) -> Result<(), Fail> {
     // the preamble is blamed where it begins
-    let refused = run_over(&rt, "cut.wasm", &PREAMBLE[..7])?;
-    assert_eq!(rt; refused.status, 1);
-    assert_eq!(rt; refused.out.len(), 0);
-    assert_eq!(rt;
-        refused.err.as_slice(),
-        b"error: malformed module at byte 0x0\n".as_slice()
-    );
+    let told = "error: malformed module at byte 0x0\n";
+    assert!(rt; refuses_file(&rt, "cut.wasm", &PREAMBLE[..7], told)?);
     Ok(())
 }
 
 #[test]
 fn refuses_too_many_locals(rt: HostRuntime) -> Result<(), Fail> {
-    let refused = run_over(&rt, "locals.wasm", &MANY_LOCALS)?;
-    assert_eq!(rt; refused.status, 1);
-    assert_eq!(rt; refused.out.len(), 0);
-    assert_eq!(rt;
-        refused.err.as_slice(),
-        b"error: function at byte 0x16 has more than 50000 locals\n".as_slice()
-    );
+    let told = "error: function at byte 0x16 has more than 50000 locals\n";
+    assert!(rt; refuses_file(&rt, "locals.wasm", &MANY_LOCALS, told)?);
     Ok(())
 }
 
@@ -250,101 +278,89 @@ const OLDER_TRY: [u8; 28] = [
     0x01, 0x00, 0x0a, 0x08, 0x01, 0x06, 0x00, 0x06, 0x40, 0x19, 0x0b, 0x0b,
 ];
 
+/// Words that want it folded.
+const FOLD_ORDERS: [&[&str]; 2] = [&["--fold", "try.wasm"], &["--color", "--fold", "try.wasm"]];
+
+/// It without its body.
+const OLDER_TRY_OUTLINE: &str = r#"(module
+  (type (;0;) (func))
+  (func (;0;) (type 0) ...)
+)
+"#;
+
 #[test]
 fn refuses_what_cannot_be_folded_in_colors_or_without(rt: HostRuntime) -> Result<(), Fail> {
-    let file = "try.wasm";
-    fs::write(&rt, file, &OLDER_TRY)?;
-    let orders: [&[&str]; 2] = [&["--fold", file], &["--color", "--fold", file]];
-    for words in orders {
-        let refused = run_with(&rt, words)?;
-        assert_eq!(rt; refused.status, 1);
-        assert_eq!(rt; refused.out.len(), 0);
-        assert_eq!(rt;
-            refused.err.as_slice(),
-            b"error: legacy exception operator at byte 0x17 can't be folded\n".as_slice()
-        );
+    let told = "error: legacy exception operator at byte 0x17 can't be folded\n";
+    fs::write(&rt, "try.wasm", &OLDER_TRY)?;
+    for words in FOLD_ORDERS {
+        assert!(rt; tells(&rt, words, 1, told)?, "{words:?}");
     }
     // a skeleton holds no bodies
-    let printed = run_with(&rt, &["--fold", "--skeleton", file])?;
-    assert_eq!(rt; printed.status, 0);
-    assert_eq!(rt; printed.err.len(), 0);
-    fs::remove_file(&rt, file)?;
+    let words = ["--fold", "--skeleton", "try.wasm"];
+    assert!(rt; prints(&rt, &words, OLDER_TRY_OUTLINE)?);
+    fs::remove_file(&rt, "try.wasm")?;
     Ok(())
 }
+
+/// A `dylink.0` section with subsection 9.
+const UNKNOWN_SUBSECTION: &[u8] = b"\0asm\x01\0\0\0\0\x0b\x08dylink.0\x09\0";
 
 #[test]
 fn refuses_an_unknown_subsection(rt: HostRuntime) -> Result<(), Fail> {
-    let refused = run_over(
-        &rt,
-        "dylink.wasm",
-        b"\0asm\x01\0\0\0\0\x0b\x08dylink.0\x09\0",
-    )?;
-    assert_eq!(rt; refused.status, 1);
-    assert_eq!(rt; refused.out.len(), 0);
-    assert_eq!(rt;
-        refused.err.as_slice(),
-        b"error: unknown dylink.0 subsection 9\n".as_slice()
-    );
+    let told = "error: unknown dylink.0 subsection 9\n";
+    assert!(rt; refuses_file(&rt, "dylink.wasm", UNKNOWN_SUBSECTION, told)?);
     Ok(())
 }
 
+/// The preamble of a component.
+const COMPONENT: [u8; 8] = [0x00, 0x61, 0x73, 0x6d, 0x0d, 0x00, 0x01, 0x00];
+
 #[test]
 fn refuses_a_component(rt: HostRuntime) -> Result<(), Fail> {
-    let component = [0x00, 0x61, 0x73, 0x6d, 0x0d, 0x00, 0x01, 0x00];
-    let refused = run_over(&rt, "component.wasm", &component)?;
-    assert_eq!(rt; refused.status, 1);
-    assert_eq!(rt; refused.out.len(), 0);
-    assert_eq!(rt;
-        refused.err.as_slice(),
-        b"error: components are not supported\n".as_slice()
-    );
+    let told = "error: components are not supported\n";
+    assert!(rt; refuses_file(&rt, "component.wasm", &COMPONENT, told)?);
     Ok(())
+}
+
+/// Whether the program over a file that holds these bytes ends with status 1, and prints nothing.
+fn prints_nothing(rt: &HostRuntime, name: &str, bytes: &[u8]) -> Result<bool, Fail> {
+    let refused = run_over(rt, name, bytes)?;
+    Ok(refused.status == 1 && refused.out.is_empty())
 }
 
 #[test]
 fn reads_the_file_of_that_very_name(rt: HostRuntime) -> Result<(), Fail> {
     fs::write(&rt, "named.wasm", &PREAMBLE)?;
-    let other = run_over(&rt, "named.wasm ", &IDENTITY[..9])?;
-    let printed = run_with(&rt, &["named.wasm"])?;
+    assert!(rt; prints_nothing(&rt, "named.wasm ", &IDENTITY[..9])?);
+    assert!(rt; prints(&rt, &["named.wasm"], "(module)\n")?);
     fs::remove_file(&rt, "named.wasm")?;
-    assert_eq!(rt; other.status, 1);
-    assert_eq!(rt; other.out.len(), 0);
-    assert_eq!(rt; printed.status, 0);
-    assert_eq!(rt; printed.out.as_slice(), b"(module)\n".as_slice());
     Ok(())
 }
 
 #[test]
 fn refuses_a_file_that_is_missing(rt: HostRuntime) -> Result<(), Fail> {
-    let refused = run_with(&rt, &["no such file"])?;
-    assert_eq!(rt; refused.status, 1);
-    assert_eq!(rt; refused.out.len(), 0);
-    assert_eq!(rt;
-        refused.err.as_slice(),
-        b"error: the file can't be read\n".as_slice()
-    );
+    assert!(rt; tells(&rt, &["no such file"], 1, UNREADABLE)?);
     Ok(())
 }
 
+/// Words that name no file, two, or an option that there isn't.
+const MISUSES: [&[&str]; 10] = [
+    &[],
+    &["a.wasm", "b.wasm"],
+    &["a.wasm", "b.wasm", "c.wasm"],
+    &["a.wasm", "b.wasm", "c.wasm", "d.wasm"],
+    &["--offsets"],
+    &["--offsets", "a.wasm", "--help"],
+    &["--", "a.wasm"],
+    &["a.wasm", "--offset"],
+    &["--color"],
+    &["--colors", "a.wasm"],
+];
+
 #[test]
 fn tells_its_usage(rt: HostRuntime) -> Result<(), Fail> {
-    let misuses: [&[&str]; 10] = [
-        &[],
-        &["a.wasm", "b.wasm"],
-        &["a.wasm", "b.wasm", "c.wasm"],
-        &["a.wasm", "b.wasm", "c.wasm", "d.wasm"],
-        &["--offsets"],
-        &["--offsets", "a.wasm", "--help"],
-        &["--", "a.wasm"],
-        &["a.wasm", "--offset"],
-        &["--color"],
-        &["--colors", "a.wasm"],
-    ];
-    for words in misuses {
-        let misused = run_with(&rt, words)?;
-        assert_eq!(rt; misused.status, 2);
-        assert_eq!(rt; misused.out.len(), 0);
-        assert_eq!(rt; misused.err.as_slice(), USAGE.as_bytes());
+    for words in MISUSES {
+        assert!(rt; tells(&rt, words, 2, USAGE)?, "{words:?}");
     }
     Ok(())
 }
@@ -381,121 +397,148 @@ impl Write for Narrow {
     }
 }
 
+/// Whether the program over these words fills a sink with this room by the beginning of a text, and tells that it could not be written.
+fn fills(rt: &HostRuntime, words: &[&str], text: &str, room: usize) -> Result<bool, Fail> {
+    let mut out = Narrow::new(rt, room);
+    let mut err = Vec::new(rt.alloc());
+    let status = run_into(rt, words, &mut out, &mut err)?;
+    Ok(
+        status == 1
+            && out.taken.len() == room
+            && text.as_bytes().starts_with(&out.taken)
+            && err.as_slice() == UNWRITTEN.as_bytes(),
+    )
+}
+
 #[test]
 fn tells_that_the_text_could_not_be_written(rt: HostRuntime) -> Result<(), Fail> {
-    let words = strings_of(&rt, &["narrow.wasm"])?;
     fs::write(&rt, "narrow.wasm", &PREAMBLE)?;
     for room in [0, 5] {
-        let mut out = Narrow::new(&rt, room);
-        let mut err = Vec::new(rt.alloc());
-        let status = run(&rt, &ByDisplay, rt.alloc(), &words, &mut out, &mut err);
-        assert_eq!(rt; status, 1);
-        assert_eq!(rt; out.taken.as_slice(), &b"(module)\n"[..room]);
-        assert_eq!(rt; err.as_slice(), b"error: the printer failed\n".as_slice());
+        assert!(rt; fills(&rt, &["narrow.wasm"], "(module)\n", room)?, "{room}");
     }
     fs::remove_file(&rt, "narrow.wasm")?;
     Ok(())
 }
 
+/// Whether the program over these words ends with this status, and prints nothing, where what it tells fills a sink with this room.
+fn keeps_status(rt: &HostRuntime, words: &[&str], room: usize, status: u8) -> Result<bool, Fail> {
+    let mut out = Vec::new(rt.alloc());
+    let mut err = Narrow::new(rt, room);
+    let answer = run_into(rt, words, &mut out, &mut err)?;
+    Ok(answer == status && out.is_empty() && err.taken.len() == room)
+}
+
+/// Words that can't be met, and the status of that.
+const UNMET: [(&[&str], u8); 2] = [(&["no such file"], 1), (&[], 2)];
+
 #[test]
 fn keeps_its_status_where_errors_can_not_be_told(rt: HostRuntime) -> Result<(), Fail> {
-    let cases: [(&[&str], u8); 2] = [(&["no such file"], 1), (&[], 2)];
-    for (words, status) in cases {
+    for (words, status) in UNMET {
         for room in [0, 5] {
-            let words = strings_of(&rt, words)?;
-            let mut out = Vec::new(rt.alloc());
-            let mut err = Narrow::new(&rt, room);
-            assert_eq!(rt;
-                run(&rt, &ByDisplay, rt.alloc(), &words, &mut out, &mut err),
-                status
-            );
-            assert_eq!(rt; out.len(), 0);
-            assert_eq!(rt; err.taken.len(), room);
+            assert!(rt; keeps_status(&rt, words, room, status)?, "{words:?}");
         }
     }
     Ok(())
 }
 
+/// Whether the program that is started with these words ends with this status, and tells this text alone.
+fn starts(rt: &HostRuntime, words: &[&str], status: u8, text: &str) -> Result<bool, Fail> {
+    let args = Ok(strings_of(rt, words)?.into_iter());
+    let mut out = Vec::new(rt.alloc());
+    let mut err = Vec::new(rt.alloc());
+    let code = start(rt, &ByDisplay, rt.alloc(), args, &mut out, &mut err);
+    Ok(code == ExitCode::from(status) && out.is_empty() && err.as_slice() == text.as_bytes())
+}
+
+/// Words that the program is started with, its own name first, its status, and what it tells.
+const STARTS: [(&[&str], u8, &str); 6] = [
+    (&[], 2, USAGE),
+    (&["printwasm"], 2, USAGE),
+    (&["printwasm", "no such file"], 1, UNREADABLE),
+    (&["printwasm", "no such file", "nor this"], 2, USAGE),
+    (
+        &["printwasm", "no such file", "nor this", "nor that"],
+        2,
+        USAGE,
+    ),
+    (&["printwasm", "a", "b", "c", "d", "e", "f", "g"], 2, USAGE),
+];
+
 #[test]
 fn starts_with_all_words_but_its_name(rt: HostRuntime) -> Result<(), Fail> {
-    let missing = "error: the file can't be read\n";
-    let starts: [(&[&str], u8, &str); 6] = [
-        (&[], 2, USAGE),
-        (&["printwasm"], 2, USAGE),
-        (&["printwasm", "no such file"], 1, missing),
-        (&["printwasm", "no such file", "nor this"], 2, USAGE),
-        (
-            &["printwasm", "no such file", "nor this", "nor that"],
-            2,
-            USAGE,
-        ),
-        (&["printwasm", "a", "b", "c", "d", "e", "f", "g"], 2, USAGE),
-    ];
-    for (words, status, told) in starts {
-        let args = Ok(strings_of(&rt, words)?.into_iter());
-        let mut out = Vec::new(rt.alloc());
-        let mut err = Vec::new(rt.alloc());
-        let code = start(&rt, &ByDisplay, rt.alloc(), args, &mut out, &mut err);
-        assert_eq!(rt; code, ExitCode::from(status));
-        assert_eq!(rt; out.len(), 0);
-        assert_eq!(rt; err.as_slice(), told.as_bytes());
+    for (words, status, told) in STARTS {
+        assert!(rt; starts(&rt, words, status, told)?, "{words:?}");
     }
     Ok(())
 }
 
-#[test]
-fn tells_that_its_words_can_not_be_held(rt: HostRuntime) -> Result<(), Fail> {
-    let args: io::Result<env::Args> = Err(io::Error::from(AllocError));
+/// Whether the program that is given this error for its words refuses, and tells this text alone.
+fn refuses_to_start(rt: &HostRuntime, error: io::Error, text: &str) -> bool {
+    let args: io::Result<env::Args> = Err(error);
     let mut out = Vec::new(rt.alloc());
     let mut err = Vec::new(rt.alloc());
-    let code = start(&rt, &ByDisplay, rt.alloc(), args, &mut out, &mut err);
-    assert_eq!(rt; code, ExitCode::from(1));
-    assert_eq!(rt; out.len(), 0);
-    assert_eq!(rt; err.as_slice(), b"error: out of memory\n".as_slice());
-    Ok(())
+    let code = start(rt, &ByDisplay, rt.alloc(), args, &mut out, &mut err);
+    code == ExitCode::from(1) && out.is_empty() && err.as_slice() == text.as_bytes()
 }
 
 #[test]
-fn tells_why_the_system_gives_no_words(rt: HostRuntime) -> Result<(), Fail> {
-    let args: io::Result<env::Args> = Err(io::Error::other("no words"));
-    let mut out = Vec::new(rt.alloc());
-    let mut err = Vec::new(rt.alloc());
-    let code = start(&rt, &ByDisplay, rt.alloc(), args, &mut out, &mut err);
-    assert_eq!(rt; code, ExitCode::from(1));
-    assert_eq!(rt; out.len(), 0);
-    assert_eq!(rt; err.as_slice(), b"error: no words\n".as_slice());
-    Ok(())
+fn tells_that_its_words_can_not_be_held(rt: HostRuntime) {
+    let error = io::Error::from(AllocError);
+    assert!(rt; refuses_to_start(&rt, error, "error: out of memory\n"));
 }
 
-/// How many functions the large module has, and that count as the binary format spells it.
+#[test]
+fn tells_why_the_system_gives_no_words(rt: HostRuntime) {
+    let error = io::Error::other("no words");
+    assert!(rt; refuses_to_start(&rt, error, "error: no words\n"));
+}
+
+/// How many functions the large module has.
 const MANY: u32 = 30_000;
 
-const MANY_SPELLED: [u8; 3] = [0xb0, 0xea, 0x01];
+/// Its type section, and the beginning of a function section of 30,003 bytes, up to the count.
+const LARGE_TYPES: [u8; 13] = [
+    0x01, 0x04, 0x01, 0x60, 0x00, 0x00, // types
+    0x03, 0xb3, 0xea, 0x01, // functions
+    0xb0, 0xea, 0x01, // their count
+];
+
+/// The beginning of its code section of 90,003 bytes, up to the count.
+const LARGE_CODE: [u8; 7] = [
+    0x0a, 0x93, 0xbf, 0x05, // code
+    0xb0, 0xea, 0x01, // the count
+];
+
+/// Adds an item for each function of the large module.
+fn extend_many(wasm: &mut Vec<u8>, item: &[u8]) -> Result<(), AllocError> {
+    for _ in 0..MANY {
+        wasm.extend_from_slice(item)?;
+    }
+    Ok(())
+}
+
+/// Adds the large module.
+fn extend_large(wasm: &mut Vec<u8>) -> Result<(), AllocError> {
+    wasm.extend_from_slice(&PREAMBLE)?;
+    wasm.extend_from_slice(&LARGE_TYPES)?;
+    // type 0 for each
+    extend_many(wasm, &[0x00])?;
+    wasm.extend_from_slice(&LARGE_CODE)?;
+    // a body without locals and operators for each
+    extend_many(wasm, &[0x02, 0x00, 0x0b])
+}
+
+/// Whether a run ended well, and this is the end of what it printed.
+fn has_printed_to(outcome: &Outcome, end: &str) -> bool {
+    outcome.status == 0 && outcome.out.ends_with(end.as_bytes())
+}
 
 #[test]
 fn prints_a_large_file_to_its_end(rt: HostRuntime) -> Result<(), Fail> {
-    let mut wasm = Vec::from_slice(rt.alloc(), &PREAMBLE)?;
-    wasm.extend_from_slice(&[0x01, 0x04, 0x01, 0x60, 0x00, 0x00])?;
-    // a function section of 30,003 bytes: the count, and type 0 for each
-    wasm.extend_from_slice(&[0x03, 0xb3, 0xea, 0x01])?;
-    wasm.extend_from_slice(&MANY_SPELLED)?;
-    for _ in 0..MANY {
-        wasm.push(0x00)?;
-    }
-    // a code section of 90,003 bytes: the count, and a body without locals and operators for each
-    wasm.extend_from_slice(&[0x0a, 0x93, 0xbf, 0x05])?;
-    wasm.extend_from_slice(&MANY_SPELLED)?;
-    for _ in 0..MANY {
-        wasm.extend_from_slice(&[0x02, 0x00, 0x0b])?;
-    }
+    let mut wasm = Vec::new(rt.alloc());
+    extend_large(&mut wasm)?;
     let printed = run_over(&rt, "large.wasm", &wasm)?;
-    assert_eq!(rt; printed.status, 0);
-    assert!(rt;
-        printed
-            .out
-            .as_slice()
-            .ends_with(b"\n  (func (;29999;) (type 0))\n)\n")
-    );
+    assert!(rt; has_printed_to(&printed, "\n  (func (;29999;) (type 0))\n)\n"));
     Ok(())
 }
 
@@ -521,20 +564,21 @@ impl Write for Late {
     }
 }
 
-#[test]
-fn writes_nothing_behind_a_failed_write(rt: HostRuntime) -> Result<(), Fail> {
-    let words = strings_of(&rt, &["late.wasm"])?;
-    fs::write(&rt, "late.wasm", &PREAMBLE)?;
+/// Whether the program over these words writes nothing to a sink that has refused a write, and tells that the text could not be written.
+fn stops_behind_a_failed_write(rt: &HostRuntime, words: &[&str]) -> Result<bool, Fail> {
     let mut out = Late {
         taken: Vec::new(rt.alloc()),
         is_late: false,
     };
     let mut err = Vec::new(rt.alloc());
-    let status = run(&rt, &ByDisplay, rt.alloc(), &words, &mut out, &mut err);
+    let status = run_into(rt, words, &mut out, &mut err)?;
+    Ok(status == 1 && out.is_late && out.taken.is_empty() && err.as_slice() == UNWRITTEN.as_bytes())
+}
+
+#[test]
+fn writes_nothing_behind_a_failed_write(rt: HostRuntime) -> Result<(), Fail> {
+    fs::write(&rt, "late.wasm", &PREAMBLE)?;
+    assert!(rt; stops_behind_a_failed_write(&rt, &["late.wasm"])?);
     fs::remove_file(&rt, "late.wasm")?;
-    assert_eq!(rt; status, 1);
-    assert!(rt; out.is_late);
-    assert_eq!(rt; out.taken.len(), 0);
-    assert_eq!(rt; err.as_slice(), b"error: the printer failed\n".as_slice());
     Ok(())
 }

@@ -1,8 +1,7 @@
 //! Folded bodies: blocks, the arms of an `if`, and what branches take.
 
-use crate::modules::{NO_PARAMS, around, folded_text, with_body};
+use crate::modules::{expect_body, expect_lines, with_body};
 use std::test::Fail;
-use wasmprinter_samples::expect_text;
 
 /// Operators of a function without parameters and results, and their lines.
 const BLOCKS: [(&[u8], &str); 17] = [
@@ -173,10 +172,8 @@ const BLOCKS: [(&[u8], &str); 17] = [
 
 #[test]
 fn prints_blocks_with_their_contents(rt: HostRuntime) -> Result<(), Fail> {
-    let alloc = rt.alloc();
-    for (operators, lines) in BLOCKS {
-        let text = folded_text(alloc, &with_body(alloc, &NO_PARAMS, operators)?)?;
-        expect_text(text.as_str(), around(alloc, lines)?.as_str())?;
+    for (operators, lines) in &BLOCKS {
+        expect_lines(rt.alloc(), operators, lines)?;
     }
     Ok(())
 }
@@ -254,19 +251,19 @@ const OF_TYPES: [(&[u8], &str); 6] = [
     ),
 ];
 
+/// The lines in front of the body of a function among those types.
+const OF_TYPES_HEADER: &str = "(module
+  (type (;0;) (func))
+  (type (;1;) (func (param i32) (result i64 i64)))
+  (type (;2;) (array i32))
+  (func (;0;) (type 0)
+";
+
 #[test]
 fn counts_parameters_and_results_of_block_types(rt: HostRuntime) -> Result<(), Fail> {
-    let alloc = rt.alloc();
-    for (operators, lines) in OF_TYPES {
-        let text = folded_text(alloc, &with_body(alloc, &TYPES, operators)?)?;
-        let mut expected = String::from_str(
-            alloc,
-            "(module\n  (type (;0;) (func))\n  (type (;1;) (func (param i32) (result i64 i64)))\n",
-        )?;
-        expected.push_str("  (type (;2;) (array i32))\n  (func (;0;) (type 0)\n")?;
-        expected.push_str(lines)?;
-        expected.push_str("  )\n)\n")?;
-        expect_text(text.as_str(), expected.as_str())?;
+    for (operators, lines) in &OF_TYPES {
+        let wasm = with_body(rt.alloc(), &TYPES, operators)?;
+        expect_body(rt.alloc(), &wasm, OF_TYPES_HEADER, lines)?;
     }
     Ok(())
 }

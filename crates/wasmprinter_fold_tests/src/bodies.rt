@@ -1,9 +1,10 @@
 //! Folded bodies: which nodes an operator takes as its operands.
 
-use crate::modules::{NO_PARAMS, add_code, around, folded_text, with_body};
+use crate::modules::{
+    NO_PARAMS, Section, expect_body, expect_folded, expect_lines, with_body, with_code,
+};
 use std::test::Fail;
-use wasmprinter_samples::sections::{FUNCTION, IMPORT, TAG, TYPE, add_section};
-use wasmprinter_samples::{PREAMBLE, expect_text};
+use wasmprinter_samples::sections::{FUNCTION, IMPORT, TAG, TYPE};
 
 /// Operators of a function without parameters and results, and their lines.
 const BODIES: [(&[u8], &str); 15] = [
@@ -134,10 +135,8 @@ const BODIES: [(&[u8], &str); 15] = [
 
 #[test]
 fn takes_the_shortest_run_of_operands(rt: HostRuntime) -> Result<(), Fail> {
-    let alloc = rt.alloc();
-    for (operators, lines) in BODIES {
-        let text = folded_text(alloc, &with_body(alloc, &NO_PARAMS, operators)?)?;
-        expect_text(text.as_str(), around(alloc, lines)?.as_str())?;
+    for (operators, lines) in &BODIES {
+        expect_lines(rt.alloc(), operators, lines)?;
     }
     Ok(())
 }
@@ -200,23 +199,20 @@ const OF_A_PAIR: [(&[u8], &str); 5] = [
     ),
 ];
 
+/// What stands in front of that function's body, and its lines.
+const PAIR_SECTIONS: [Section; 2] = [(TYPE, &ARRAY_AND_PAIR), (FUNCTION, &[0x01, 0x01])];
+
+const PAIR_HEADER: &str = "(module
+  (type (;0;) (array i32))
+  (type (;1;) (func (result i32 i32)))
+  (func (;0;) (type 1) (result i32 i32)
+";
+
 #[test]
 fn counts_results_up_to_the_greatest_number(rt: HostRuntime) -> Result<(), Fail> {
-    let alloc = rt.alloc();
-    for (operators, lines) in OF_A_PAIR {
-        let mut wasm = Vec::from_slice(alloc, &PREAMBLE)?;
-        add_section(&mut wasm, TYPE, &ARRAY_AND_PAIR)?;
-        add_section(&mut wasm, FUNCTION, &[0x01, 0x01])?;
-        add_code(&mut wasm, operators)?;
-        let text = folded_text(alloc, &wasm)?;
-        let mut expected = String::from_str(
-            alloc,
-            "(module\n  (type (;0;) (array i32))\n  (type (;1;) (func (result i32 i32)))\n",
-        )?;
-        expected.push_str("  (func (;0;) (type 1) (result i32 i32)\n")?;
-        expected.push_str(lines)?;
-        expected.push_str("  )\n)\n")?;
-        expect_text(text.as_str(), expected.as_str())?;
+    for (operators, lines) in &OF_A_PAIR {
+        let wasm = with_code(rt.alloc(), &PAIR_SECTIONS, operators)?;
+        expect_body(rt.alloc(), &wasm, PAIR_HEADER, lines)?;
     }
     Ok(())
 }
@@ -229,24 +225,25 @@ const THREE_TYPES: [u8; 13] = [
     0x60, 0x00, 0x01, 0x7f, // a result
 ];
 
+/// What stands in front of the body: those types, a function of the first, and a tag of the second.
+const THREE_TYPES_SECTIONS: [Section; 3] = [
+    (TYPE, &THREE_TYPES),
+    (FUNCTION, &[0x01, 0x00]),
+    (TAG, &[0x01, 0x00, 0x01]),
+];
+
+const USING_TYPES: [u8; 19] = [
+    0xd0, 0x02, 0x14, 0x02, 0x42, 0x05, 0x08, 0x00, // ref.null, call_ref, i64.const, throw
+    0x41, 0x00, 0x11, 0x02, 0x00, 0x15, 0x01, // i32.const, call_indirect, return_call_ref
+    0x12, 0x09, 0x08, 0x09, // return_call and throw of what isn't there
+];
+
 #[test]
 fn knows_operands_of_types(rt: HostRuntime) -> Result<(), Fail> {
-    let alloc = rt.alloc();
-    let mut wasm = Vec::from_slice(alloc, &PREAMBLE)?;
-    add_section(&mut wasm, TYPE, &THREE_TYPES)?;
-    add_section(&mut wasm, FUNCTION, &[0x01, 0x00])?;
-    add_section(&mut wasm, TAG, &[0x01, 0x00, 0x01])?;
-    add_code(
-        &mut wasm,
-        &[
-            0xd0, 0x02, 0x14, 0x02, 0x42, 0x05, 0x08, 0x00, // ref.null, call_ref, i64.const, throw
-            0x41, 0x00, 0x11, 0x02, 0x00, 0x15, 0x01, // i32.const, call_indirect, return_call_ref
-            0x12, 0x09, 0x08, 0x09, // return_call and throw of what isn't there
-        ],
-    )?;
-    let text = folded_text(alloc, &wasm)?;
-    expect_text(
-        text.as_str(),
+    let wasm = with_code(rt.alloc(), &THREE_TYPES_SECTIONS, &USING_TYPES)?;
+    expect_folded(
+        rt.alloc(),
+        &wasm,
         r#"(module
   (type (;0;) (func))
   (type (;1;) (func (param i32 i64)))
@@ -265,24 +262,21 @@ fn knows_operands_of_types(rt: HostRuntime) -> Result<(), Fail> {
   )
 )
 "#,
-    )?;
-    Ok(())
+    )
 }
+
+/// Branches, a return and a call of the function itself.
+const OF_ANOTHER_KIND: [u8; 14] = [
+    0x41, 0x00, 0x0d, 0x00, 0x0f, 0x0e, 0x00, 0x00, 0xd5, 0x00, 0xd6, 0x00, 0x10, 0x00,
+];
 
 /// A function whose type is one of arrays: of its results nothing is known, and what names them takes nothing.
 #[test]
 fn takes_nothing_where_the_type_is_of_another_kind(rt: HostRuntime) -> Result<(), Fail> {
-    let alloc = rt.alloc();
-    let wasm = with_body(
-        alloc,
-        &[0x01, 0x5e, 0x7f, 0x00],
-        &[
-            0x41, 0x00, 0x0d, 0x00, 0x0f, 0x0e, 0x00, 0x00, 0xd5, 0x00, 0xd6, 0x00, 0x10, 0x00,
-        ],
-    )?;
-    let text = folded_text(alloc, &wasm)?;
-    expect_text(
-        text.as_str(),
+    let wasm = with_body(rt.alloc(), &[0x01, 0x5e, 0x7f, 0x00], &OF_ANOTHER_KIND)?;
+    expect_folded(
+        rt.alloc(),
+        &wasm,
         r#"(module
   (type (;0;) (array i32))
   (func (;0;) (type 0)
@@ -296,8 +290,7 @@ fn takes_nothing_where_the_type_is_of_another_kind(rt: HostRuntime) -> Result<()
   )
 )
 "#,
-    )?;
-    Ok(())
+    )
 }
 
 /// A function, a table, a memory, a global and a tag are imported, and a function is defined.
@@ -315,13 +308,10 @@ const AMONG_IMPORTS: &str = r#"(module
 )
 "#;
 
-#[test]
-fn folds_beside_imports_of_each_kind(rt: HostRuntime) -> Result<(), Fail> {
-    let alloc = rt.alloc();
-    let mut wasm = Vec::from_slice(alloc, &PREAMBLE)?;
-    add_section(&mut wasm, TYPE, &NO_PARAMS)?;
-    add_section(
-        &mut wasm,
+/// What stands in front of the body of that function.
+const IMPORTING_SECTIONS: [Section; 3] = [
+    (TYPE, &NO_PARAMS),
+    (
         IMPORT,
         &[
             0x05, // five imports without names
@@ -331,10 +321,12 @@ fn folds_beside_imports_of_each_kind(rt: HostRuntime) -> Result<(), Fail> {
             0x00, 0x00, 0x03, 0x7f, 0x00, // a global
             0x00, 0x00, 0x04, 0x00, 0x00, // a tag
         ],
-    )?;
-    add_section(&mut wasm, FUNCTION, &[0x01, 0x00])?;
-    add_code(&mut wasm, &[0x10, 0x00, 0x08, 0x00])?;
-    let text = folded_text(alloc, &wasm)?;
-    expect_text(text.as_str(), AMONG_IMPORTS)?;
-    Ok(())
+    ),
+    (FUNCTION, &[0x01, 0x00]),
+];
+
+#[test]
+fn folds_beside_imports_of_each_kind(rt: HostRuntime) -> Result<(), Fail> {
+    let wasm = with_code(rt.alloc(), &IMPORTING_SECTIONS, &[0x10, 0x00, 0x08, 0x00])?;
+    expect_folded(rt.alloc(), &wasm, AMONG_IMPORTS)
 }

@@ -1,7 +1,7 @@
 //! The calls on a printer that folded operators make, in their order, and which error comes where one of them fails. For a printer that
 //! takes no colours within a text, an operator and what is added by folding are text without styles.
 
-use crate::modules::{NO_PARAMS, with_body};
+use crate::modules::{NO_PARAMS, folding, with_body};
 use std::alloc::Global;
 use std::io::ErrorKind;
 use std::test::Fail;
@@ -49,21 +49,39 @@ fn print_to<P: Print>(
     config.print(alloc, wasm, printer)
 }
 
+/// Holds that a printer is called so for a module, and that each call was written down.
+fn expect_calls_to(
+    alloc: Global,
+    config: &Config,
+    wasm: &[u8],
+    recorder: &mut Recorder,
+    calls: &str,
+) -> Result<(), Fail> {
+    print_to(config, alloc, wasm, recorder)?;
+    expect_text(recorder.calls(), calls)?;
+    if !recorder.is_complete() {
+        return Err(Fail::new("a call is lost"));
+    }
+    Ok(())
+}
+
+/// Holds that a printer which takes no section itself is called so for a module.
+fn expect_calls(alloc: Global, config: &Config, wasm: &[u8], calls: &str) -> Result<(), Fail> {
+    let mut recorder = Recorder::new(alloc);
+    expect_calls_to(alloc, config, wasm, &mut recorder, calls)
+}
+
+/// Modules, and the calls for each.
+const MODULES: [(&[u8], &str); 3] = [
+    (&PREAMBLE, EMPTY_CALLS),
+    (&IDENTITY, IDENTITY_FOLDED),
+    (&FIELDS, FIELDS_FOLDED),
+];
+
 #[test]
 fn makes_each_call_in_order(rt: HostRuntime) -> Result<(), Fail> {
-    let alloc = rt.alloc();
-    let modules: [(&[u8], &str); 3] = [
-        (&PREAMBLE, EMPTY_CALLS),
-        (&IDENTITY, IDENTITY_FOLDED),
-        (&FIELDS, FIELDS_FOLDED),
-    ];
-    let mut config = Config::new();
-    config.fold_instructions(true);
-    for (wasm, calls) in modules {
-        let mut recorder = Recorder::new(alloc);
-        print_to(&config, alloc, wasm, &mut recorder)?;
-        expect_text(recorder.calls(), calls)?;
-        assert!(rt; recorder.is_complete());
+    for (wasm, calls) in &MODULES {
+        expect_calls(rt.alloc(), &folding(), wasm, calls)?;
     }
     Ok(())
 }
@@ -83,24 +101,18 @@ const PLACED: &str = r#"[0x0]({K}module{R}
 [0x24]{C}(;@24    ;){R})
 "#;
 
+/// The operators of that body. The index takes a byte more than it needs.
+const PLACED_OPERATORS: [u8; 12] = [
+    0x02, 0x40, 0x0b, 0x20, 0x80, 0x00, 0x04, 0x40, 0x0c, 0x00, 0x05, 0x0b,
+];
+
 #[test]
 fn makes_calls_for_places(rt: HostRuntime) -> Result<(), Fail> {
     let alloc = rt.alloc();
-    // the index takes a byte more than it needs
-    let wasm = with_body(
-        alloc,
-        &NO_PARAMS,
-        &[
-            0x02, 0x40, 0x0b, 0x20, 0x80, 0x00, 0x04, 0x40, 0x0c, 0x00, 0x05, 0x0b,
-        ],
-    )?;
-    let mut recorder = Recorder::new(alloc);
-    let mut config = Config::new();
-    config.fold_instructions(true).print_offsets(true);
-    print_to(&config, alloc, &wasm, &mut recorder)?;
-    expect_text(recorder.calls(), PLACED)?;
-    assert!(rt; recorder.is_complete());
-    Ok(())
+    let wasm = with_body(alloc, &NO_PARAMS, &PLACED_OPERATORS)?;
+    let mut config = folding();
+    config.print_offsets(true);
+    expect_calls(alloc, &config, &wasm, PLACED)
 }
 
 /// Calls that are refused in turn, each with those before it: the first, one in the middle, the line of a node, and the last.
@@ -117,32 +129,61 @@ const BEGINNINGS: [&str; 4] = [
     IDENTITY_FOLDED,
 ];
 
-#[test]
-fn stops_at_the_call_that_fails_and_answers_its_error(rt: HostRuntime) -> Result<(), Fail> {
-    let alloc = rt.alloc();
-    let mut config = Config::new();
-    config.fold_instructions(true);
+/// How many calls that can fail are made for `IDENTITY`.
+fn call_count(alloc: Global, config: &Config) -> Result<u32, Error> {
     let mut whole = Recorder::new(alloc);
-    print_to(&config, alloc, &IDENTITY, &mut whole)?;
-    let mut seen: usize = 0;
-    for call in 1..=whole.call_count() {
-        let mut recorder = Recorder::with_refusal(alloc, call, ErrorKind::BrokenPipe);
-        let refused = print_to(&config, alloc, &IDENTITY, &mut recorder);
-        assert!(rt;
-            matches!(refused, Err(Error::Printer(e)) if e.kind() == ErrorKind::BrokenPipe),
-            "at call {call}"
-        );
-        assert!(rt; recorder.is_complete());
-        let beginning = recorder
-            .calls()
-            .strip_suffix(REFUSED)
-            .ok_or("calls behind the one that failed")?;
-        assert!(rt; IDENTITY_FOLDED.starts_with(beginning), "at call {call}");
-        if BEGINNINGS.iter().any(|wanted| *wanted == beginning) {
-            seen = seen.saturating_add(1);
+    print_to(config, alloc, &IDENTITY, &mut whole)?;
+    Ok(whole.call_count())
+}
+
+/// Whether the error that a printer answers for `IDENTITY` is what comes, and each call was written down.
+fn answers_its_error(alloc: Global, config: &Config, recorder: &mut Recorder) -> bool {
+    let refused = print_to(config, alloc, &IDENTITY, recorder);
+    matches!(refused, Err(Error::Printer(e)) if e.kind() == ErrorKind::BrokenPipe)
+        && recorder.is_complete()
+}
+
+/// The calls before the one that was refused, where it is the last and they are the first for `IDENTITY`.
+fn calls_before(calls: &str) -> Option<&str> {
+    let beginning = calls.strip_suffix(REFUSED)?;
+    IDENTITY_FOLDED.starts_with(beginning).then_some(beginning)
+}
+
+/// How often these calls stand in `BEGINNINGS`.
+fn times_told(calls: &str) -> usize {
+    let mut count: usize = 0;
+    for beginning in &BEGINNINGS {
+        if *beginning == calls {
+            count = count.saturating_add(1);
         }
     }
-    assert!(rt; seen == BEGINNINGS.len());
+    count
+}
+
+/// How often the calls before the one with this number, which is refused, stand in `BEGINNINGS`; nothing where it isn't the last, or its
+/// error isn't answered.
+fn times_told_before(alloc: Global, config: &Config, call: u32) -> Option<usize> {
+    let mut recorder = Recorder::with_refusal(alloc, call, ErrorKind::BrokenPipe);
+    if !answers_its_error(alloc, config, &mut recorder) {
+        return None;
+    }
+    let calls = calls_before(recorder.calls())?;
+    Some(times_told(calls))
+}
+
+/// How often calls that stand in front of one that is refused stand in `BEGINNINGS`, for each call that can fail.
+fn times_told_in_all(alloc: Global, config: &Config) -> Result<usize, Fail> {
+    let mut count: usize = 0;
+    for call in 1..=call_count(alloc, config)? {
+        let told = times_told_before(alloc, config, call).ok_or(call)?;
+        count = count.saturating_add(told);
+    }
+    Ok(count)
+}
+
+#[test]
+fn stops_at_the_call_that_fails_and_answers_its_error(rt: HostRuntime) -> Result<(), Fail> {
+    assert!(rt; times_told_in_all(rt.alloc(), &folding())? == BEGINNINGS.len());
     Ok(())
 }
 
@@ -162,10 +203,5 @@ fn folds_beside_a_section_that_is_taken(rt: HostRuntime) -> Result<(), Fail> {
     let mut wasm = with_body(alloc, &NO_PARAMS, &[0x41, 0x00, 0x1a])?;
     add_custom(alloc, &mut wasm, "a", &[0x01])?;
     let mut recorder = Recorder::with_section_taken(alloc, "a");
-    let mut config = Config::new();
-    config.fold_instructions(true);
-    print_to(&config, alloc, &wasm, &mut recorder)?;
-    expect_text(recorder.calls(), TAKEN)?;
-    assert!(rt; recorder.is_complete());
-    Ok(())
+    expect_calls_to(alloc, &folding(), &wasm, &mut recorder, TAKEN)
 }

@@ -1,19 +1,11 @@
 //! Folded operators with the sequences that colour them on a terminal. The sequences are typed by hand: those of an operator's immediates
 //! stand in its node, and what folding adds has none.
 
-use crate::modules::{NO_PARAMS, add_code, with_body};
+use crate::modules::{NO_PARAMS, Section, around, folding, with_body, with_hints, with_sections};
 use std::alloc::Global;
 use std::test::Fail;
 use wasmprinter::{Config, Error};
-use wasmprinter_samples::PREAMBLE;
-use wasmprinter_samples::sections::{DATA, FUNCTION, GLOBAL, TYPE, add_custom, add_section};
-
-/// The text of a module, folded and in colours.
-fn text_in_colors(alloc: Global, wasm: &[u8]) -> Result<Vec<u8>, Error> {
-    let mut config = Config::new();
-    config.fold_instructions(true);
-    config.print_to_ansi(alloc, wasm)
-}
+use wasmprinter_samples::sections::{DATA, GLOBAL};
 
 /// The lines in front of the body of a function without parameters and results.
 const HEADER: &str = "(\x1b[0m\x1b[1m\x1b[38;5;11mmodule\x1b[0m
@@ -67,63 +59,73 @@ const BODIES: [(&[u8], &str); 8] = [
     (&[0x0c, 0x01], "    (br 1 (; INVALID ;))\n"),
 ];
 
+/// The text of a module, folded and in colours.
+fn text_in_colors(alloc: Global, wasm: &[u8]) -> Result<Vec<u8>, Error> {
+    folding().print_to_ansi(alloc, wasm)
+}
+
+/// Whether the text of a module in colours, folded, is the typed one.
+fn is_in_colors(alloc: Global, wasm: &[u8], typed: &str) -> Result<bool, Error> {
+    let text = text_in_colors(alloc, wasm)?;
+    Ok(text.as_slice() == typed.as_bytes())
+}
+
+/// Whether the text of a module in colours, folded, begins and ends so.
+fn is_in_colors_between(
+    alloc: Global,
+    wasm: &[u8],
+    beginning: &[u8],
+    end: &[u8],
+) -> Result<bool, Error> {
+    let text = text_in_colors(alloc, wasm)?;
+    Ok(text.starts_with(beginning) && text.ends_with(end))
+}
+
+/// Whether a body with these operators is printed by these lines.
+fn is_body_in_colors(alloc: Global, operators: &[u8], lines: &str) -> Result<bool, Fail> {
+    let wasm = with_body(alloc, &NO_PARAMS, operators)?;
+    let typed = around(alloc, HEADER, lines)?;
+    Ok(is_in_colors(alloc, &wasm, typed.as_str())?)
+}
+
 #[test]
 fn colors_nodes_as_operators(rt: HostRuntime) -> Result<(), Fail> {
-    let alloc = rt.alloc();
-    for (operators, lines) in BODIES {
-        let text = text_in_colors(alloc, &with_body(alloc, &NO_PARAMS, operators)?)?;
-        let mut expected = String::from_str(alloc, HEADER)?;
-        expected.push_str(lines)?;
-        expected.push_str("  )\n)\n")?;
-        assert!(rt; text.as_slice() == expected.as_bytes());
+    for (operators, lines) in &BODIES {
+        assert!(rt; is_body_in_colors(rt.alloc(), operators, lines)?);
     }
     Ok(())
 }
 
+/// The data of a hint section: one of function 0, of the operator at its first byte.
+const HINT: [u8; 6] = [0x01, 0x00, 0x01, 0x01, 0x01, 0x01];
+
+/// The end of a body in colours, an `if` with a hint.
+const HINTED: &[u8] = b"\n    (@metadata.code.branch_hint \"\\01\")\n    \
+(if \x1b[0m\x1b[36m;; label = @1\x1b[0m\n      (then))\n  )\n)\n";
+
 #[test]
 fn colors_no_hint(rt: HostRuntime) -> Result<(), Fail> {
     let alloc = rt.alloc();
-    let mut wasm = Vec::from_slice(alloc, &PREAMBLE)?;
-    add_section(&mut wasm, TYPE, &NO_PARAMS)?;
-    add_section(&mut wasm, FUNCTION, &[0x01, 0x00])?;
-    add_custom(
-        alloc,
-        &mut wasm,
-        "metadata.code.branch_hint",
-        &[0x01, 0x00, 0x01, 0x01, 0x01, 0x01],
-    )?;
-    add_code(&mut wasm, &[0x04, 0x40, 0x0b])?;
-    let text = text_in_colors(alloc, &wasm)?;
-    assert!(rt; text.starts_with(HEADER.as_bytes()));
-    assert!(rt;
-        text.ends_with(
-            b"\n    (@metadata.code.branch_hint \"\\01\")\n    \
-            (if \x1b[0m\x1b[36m;; label = @1\x1b[0m\n      (then))\n  )\n)\n"
-        )
-    );
+    let wasm = with_hints(alloc, &NO_PARAMS, &HINT, &[0x04, 0x40, 0x0b])?;
+    assert!(rt; is_in_colors_between(alloc, &wasm, HEADER.as_bytes(), HINTED)?);
     Ok(())
 }
 
-/// A block, and offsets of one operator and of two.
-#[test]
-fn colors_expressions(rt: HostRuntime) -> Result<(), Fail> {
-    let alloc = rt.alloc();
-    let mut wasm = Vec::from_slice(alloc, &PREAMBLE)?;
-    add_section(
-        &mut wasm,
+/// A global with a block, and segments with an offset of one operator and of two.
+const EXPRESSIONS: [Section; 2] = [
+    (
         GLOBAL,
         &[0x01, 0x7f, 0x00, 0x02, 0x7f, 0x41, 0x01, 0x0b, 0x0b],
-    )?;
-    // an offset of one operator, and one of two
-    add_section(
-        &mut wasm,
+    ),
+    (
         DATA,
         &[
             0x02, 0x00, 0x41, 0x02, 0x0b, 0x00, 0x00, 0x41, 0x03, 0x45, 0x0b, 0x00,
         ],
-    )?;
-    let text = text_in_colors(alloc, &wasm)?;
-    let expected = "(\x1b[0m\x1b[1m\x1b[38;5;11mmodule\x1b[0m
+    ),
+];
+
+const EXPRESSIONS_IN_COLORS: &str = "(\x1b[0m\x1b[1m\x1b[38;5;11mmodule\x1b[0m
   (\x1b[0m\x1b[1m\x1b[38;5;11mglobal \x1b[0m\x1b[0m\x1b[35m(;0;)\x1b[0m \x1b[0m\x1b[1m\x1b[38;5;10mi32\x1b[0m \
 (block (\x1b[0m\x1b[1m\x1b[38;5;11mresult \x1b[0m\x1b[0m\x1b[1m\x1b[38;5;10mi32\x1b[0m) \
 \x1b[0m\x1b[36m (; label = @1 ;)\x1b[0m (i32.const\x1b[0m\x1b[31m 1\x1b[0m)))
@@ -133,26 +135,34 @@ fn colors_expressions(rt: HostRuntime) -> Result<(), Fail> {
 (\x1b[0m\x1b[1m\x1b[38;5;11m\x1b[0moffset (i32.eqz (i32.const\x1b[0m\x1b[31m 3\x1b[0m))) \x1b[0m\x1b[31m\"\"\x1b[0m)
 )
 ";
-    assert!(rt; text.as_slice() == expected.as_bytes());
+
+#[test]
+fn colors_expressions(rt: HostRuntime) -> Result<(), Fail> {
+    let wasm = with_sections(rt.alloc(), &EXPRESSIONS)?;
+    assert!(rt; is_in_colors(rt.alloc(), &wasm, EXPRESSIONS_IN_COLORS)?);
     Ok(())
+}
+
+/// The end of a module in colours and with places.
+const PLACED: &[u8] = b"
+\x1b[0m\x1b[36m(;@19    ;)\x1b[0m    (drop
+\x1b[0m\x1b[36m(;@17    ;)\x1b[0m      (i32.const\x1b[0m\x1b[31m 1\x1b[0m))
+\x1b[0m\x1b[36m(;@1a    ;)\x1b[0m  )
+\x1b[0m\x1b[36m(;@1b    ;)\x1b[0m)
+";
+
+/// Whether the text of a module in colours ends so, by these options.
+fn ends_in_colors(alloc: Global, config: &Config, wasm: &[u8], end: &[u8]) -> Result<bool, Error> {
+    let text = config.print_to_ansi(alloc, wasm)?;
+    Ok(text.ends_with(end))
 }
 
 #[test]
 fn colors_places(rt: HostRuntime) -> Result<(), Fail> {
     let alloc = rt.alloc();
     let wasm = with_body(alloc, &NO_PARAMS, &[0x41, 0x01, 0x1a])?;
-    let mut config = Config::new();
-    config.fold_instructions(true).print_offsets(true);
-    let text = config.print_to_ansi(alloc, &wasm)?;
-    assert!(rt;
-        text.ends_with(
-            b"
-\x1b[0m\x1b[36m(;@19    ;)\x1b[0m    (drop
-\x1b[0m\x1b[36m(;@17    ;)\x1b[0m      (i32.const\x1b[0m\x1b[31m 1\x1b[0m))
-\x1b[0m\x1b[36m(;@1a    ;)\x1b[0m  )
-\x1b[0m\x1b[36m(;@1b    ;)\x1b[0m)
-"
-        )
-    );
+    let mut config = folding();
+    config.print_offsets(true);
+    assert!(rt; ends_in_colors(alloc, &config, &wasm, PLACED)?);
     Ok(())
 }

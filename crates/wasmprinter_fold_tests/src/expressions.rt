@@ -1,11 +1,8 @@
 //! Folded constant expressions: nodes stand on the line of their field, parted by blanks, and a label's comment is a block comment.
 
-use crate::modules::{NO_PARAMS, add_code, around_field, folded_text, with_section};
+use crate::modules::{NO_PARAMS, Section, expect_field, expect_folded, with_code};
 use std::test::Fail;
-use wasmprinter_samples::sections::{
-    DATA, ELEMENT, FUNCTION, GLOBAL, TABLE, TAG, TYPE, add_section,
-};
-use wasmprinter_samples::{PREAMBLE, expect_text};
+use wasmprinter_samples::sections::{DATA, ELEMENT, FUNCTION, GLOBAL, TABLE, TAG, TYPE};
 
 /// Global sections of one global each, and its text.
 const GLOBALS: [(&[u8], &str); 11] = [
@@ -64,10 +61,8 @@ const GLOBALS: [(&[u8], &str); 11] = [
 
 #[test]
 fn prints_initialisers_on_one_line(rt: HostRuntime) -> Result<(), Fail> {
-    let alloc = rt.alloc();
-    for (globals, field) in GLOBALS {
-        let text = folded_text(alloc, &with_section(alloc, GLOBAL, globals)?)?;
-        expect_text(text.as_str(), around_field(alloc, field)?.as_str())?;
+    for (globals, field) in &GLOBALS {
+        expect_field(rt.alloc(), GLOBAL, globals, field)?;
     }
     Ok(())
 }
@@ -132,39 +127,37 @@ const SHORT_FORMS: [(u8, &[u8], &str); 9] = [
 
 #[test]
 fn folds_expressions_but_of_one_operator(rt: HostRuntime) -> Result<(), Fail> {
-    let alloc = rt.alloc();
-    for (id, content, field) in SHORT_FORMS {
-        let text = folded_text(alloc, &with_section(alloc, id, content)?)?;
-        expect_text(text.as_str(), around_field(alloc, field)?.as_str())?;
+    for (id, content, field) in &SHORT_FORMS {
+        expect_field(rt.alloc(), *id, content, field)?;
     }
     Ok(())
 }
 
-/// An initialiser stands in front of the tags, and of the bodies, whose types it needs.
-#[test]
-fn knows_types_of_what_stands_behind(rt: HostRuntime) -> Result<(), Fail> {
-    let alloc = rt.alloc();
-    let mut wasm = Vec::from_slice(alloc, &PREAMBLE)?;
-    add_section(
-        &mut wasm,
+/// Two tables whose initialisers need the types of a tag and of a function.
+const USING_TYPES: [Section; 4] = [
+    (
         TYPE,
         &[0x02, 0x60, 0x01, 0x7f, 0x00, 0x60, 0x01, 0x7f, 0x01, 0x70],
-    )?;
-    add_section(&mut wasm, FUNCTION, &[0x01, 0x01])?;
-    add_section(
-        &mut wasm,
+    ),
+    (FUNCTION, &[0x01, 0x01]),
+    (
         TABLE,
         &[
             0x02, // two tables
             0x40, 0x00, 0x70, 0x00, 0x01, 0x41, 0x05, 0x08, 0x00, 0x0b, // with a throw
             0x40, 0x00, 0x70, 0x00, 0x01, 0x41, 0x05, 0x10, 0x00, 0xd1, 0x0b, // with a call
         ],
-    )?;
-    add_section(&mut wasm, TAG, &[0x01, 0x00, 0x00])?;
-    add_code(&mut wasm, &[])?;
-    let text = folded_text(alloc, &wasm)?;
-    expect_text(
-        text.as_str(),
+    ),
+    (TAG, &[0x01, 0x00, 0x00]),
+];
+
+/// An initialiser stands in front of the tags, and of the bodies, whose types it needs.
+#[test]
+fn knows_types_of_what_stands_behind(rt: HostRuntime) -> Result<(), Fail> {
+    let wasm = with_code(rt.alloc(), &USING_TYPES, &[])?;
+    expect_folded(
+        rt.alloc(),
+        &wasm,
         r#"(module
   (type (;0;) (func (param i32)))
   (type (;1;) (func (param i32) (result funcref)))
@@ -174,21 +167,22 @@ fn knows_types_of_what_stands_behind(rt: HostRuntime) -> Result<(), Fail> {
   (func (;0;) (type 1) (param i32) (result funcref))
 )
 "#,
-    )?;
-    Ok(())
+    )
 }
+
+/// A global with an initialiser, in front of a body.
+const BEFORE_A_BODY: [Section; 3] = [
+    (TYPE, &NO_PARAMS),
+    (FUNCTION, &[0x01, 0x00]),
+    (GLOBAL, &[0x01, 0x7f, 0x00, 0x41, 0x01, 0x0b]),
+];
 
 #[test]
 fn keeps_to_the_line_behind_an_expression(rt: HostRuntime) -> Result<(), Fail> {
-    let alloc = rt.alloc();
-    let mut wasm = Vec::from_slice(alloc, &PREAMBLE)?;
-    add_section(&mut wasm, TYPE, &NO_PARAMS)?;
-    add_section(&mut wasm, FUNCTION, &[0x01, 0x00])?;
-    add_section(&mut wasm, GLOBAL, &[0x01, 0x7f, 0x00, 0x41, 0x01, 0x0b])?;
-    add_code(&mut wasm, &[0x23, 0x00, 0x24, 0x00])?;
-    let text = folded_text(alloc, &wasm)?;
-    expect_text(
-        text.as_str(),
+    let wasm = with_code(rt.alloc(), &BEFORE_A_BODY, &[0x23, 0x00, 0x24, 0x00])?;
+    expect_folded(
+        rt.alloc(),
+        &wasm,
         r#"(module
   (type (;0;) (func))
   (global (;0;) i32 (i32.const 1))
@@ -198,6 +192,5 @@ fn keeps_to_the_line_behind_an_expression(rt: HostRuntime) -> Result<(), Fail> {
   )
 )
 "#,
-    )?;
-    Ok(())
+    )
 }

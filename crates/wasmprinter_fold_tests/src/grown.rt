@@ -1,13 +1,14 @@
 //! What is kept grows where it has to: several imports, blocks in blocks, long texts, lists of many operators, hints of later functions.
 
 use crate::modules::{
-    NO_PARAMS, add_code, around, around_field, folded_text, with_body, with_section,
+    HEADER, NO_PARAMS, Section, expect_body, expect_field, expect_folded, expect_lines, with_code,
+    with_section, with_sections,
 };
+use std::alloc::{AllocError, Global};
 use std::test::Fail;
 use wasmprinter_samples::sections::{
-    CODE, DATA, ELEMENT, FUNCTION, IMPORT, TYPE, add_custom, add_section,
+    CODE, CUSTOM, DATA, ELEMENT, FUNCTION, IMPORT, TYPE, add_section,
 };
-use wasmprinter_samples::{PREAMBLE, expect_text};
 
 /// Operators in blocks, and their lines.
 const NESTED: [(&[u8], &str); 2] = [
@@ -51,10 +52,8 @@ const NESTED: [(&[u8], &str); 2] = [
 
 #[test]
 fn folds_blocks_in_blocks(rt: HostRuntime) -> Result<(), Fail> {
-    let alloc = rt.alloc();
-    for (operators, lines) in NESTED {
-        let text = folded_text(alloc, &with_body(alloc, &NO_PARAMS, operators)?)?;
-        expect_text(text.as_str(), around(alloc, lines)?.as_str())?;
+    for (operators, lines) in &NESTED {
+        expect_lines(rt.alloc(), operators, lines)?;
     }
     Ok(())
 }
@@ -99,58 +98,82 @@ const FOUR_IMPORTS_TEXT: &str = r#"(module
 )
 "#;
 
+/// What stands in front of that body.
+const IMPORTING_SECTIONS: [Section; 3] = [
+    (TYPE, &FOUR_TYPES),
+    (IMPORT, &FOUR_IMPORTS),
+    (FUNCTION, &[0x01, 0x03]),
+];
+
 #[test]
 fn folds_beside_several_imports(rt: HostRuntime) -> Result<(), Fail> {
-    let alloc = rt.alloc();
-    let mut wasm = Vec::from_slice(alloc, &PREAMBLE)?;
-    add_section(&mut wasm, TYPE, &FOUR_TYPES)?;
-    add_section(&mut wasm, IMPORT, &FOUR_IMPORTS)?;
-    add_section(&mut wasm, FUNCTION, &[0x01, 0x03])?;
-    add_code(&mut wasm, &USING_IMPORTS)?;
-    expect_text(folded_text(alloc, &wasm)?.as_str(), FOUR_IMPORTS_TEXT)?;
-    Ok(())
+    let wasm = with_code(rt.alloc(), &IMPORTING_SECTIONS, &USING_IMPORTS)?;
+    expect_folded(rt.alloc(), &wasm, FOUR_IMPORTS_TEXT)
+}
+
+/// How many labels a table of branches has, with the last.
+const LABELS: usize = 101;
+
+/// A code section with a body of 107 bytes without locals: an operand, and a table of 100 labels beside the last.
+fn branching_code(alloc: Global) -> Result<Vec<u8>, AllocError> {
+    let mut code = Vec::from_slice(alloc, &[0x01, 0x6b, 0x00, 0x41, 0x00, 0x0e, 0x64])?;
+    code.extend_from_slice(&[0x00; LABELS])?;
+    code.push(0x0b)?;
+    Ok(code)
+}
+
+/// Adds the line of that table, and that of its operand.
+fn add_branches(lines: &mut String) -> Result<(), AllocError> {
+    lines.push_str("    (br_table")?;
+    for _ in 0..LABELS {
+        lines.push_str(" 0")?;
+    }
+    lines.push_str("\n      (i32.const 0))\n")
+}
+
+/// A module with a function of that code.
+fn with_branches(alloc: Global) -> Result<Vec<u8>, AllocError> {
+    let code = branching_code(alloc)?;
+    let mut wasm = with_section(alloc, TYPE, &NO_PARAMS)?;
+    add_section(&mut wasm, FUNCTION, &[0x01, 0x00])?;
+    add_section(&mut wasm, CODE, &code)?;
+    Ok(wasm)
 }
 
 #[test]
 fn folds_a_long_table_of_branches(rt: HostRuntime) -> Result<(), Fail> {
     let alloc = rt.alloc();
-    // a body of 107 bytes without locals: an operand, and a table of 100 labels beside the last
-    let mut code = Vec::from_slice(alloc, &[0x01, 0x6b, 0x00, 0x41, 0x00, 0x0e, 0x64])?;
-    let mut lines = String::from_str(alloc, "    (br_table")?;
-    for _ in 0..101 {
-        code.push(0x00)?;
-        lines.push_str(" 0")?;
-    }
-    code.push(0x0b)?;
-    lines.push_str("\n      (i32.const 0))\n")?;
-    let mut wasm = with_section(alloc, TYPE, &NO_PARAMS)?;
-    add_section(&mut wasm, FUNCTION, &[0x01, 0x00])?;
-    add_section(&mut wasm, CODE, &code)?;
-    let text = folded_text(alloc, &wasm)?;
-    expect_text(text.as_str(), around(alloc, lines.as_str())?.as_str())?;
-    Ok(())
+    let wasm = with_branches(alloc)?;
+    let mut lines = String::new(alloc);
+    add_branches(&mut lines)?;
+    expect_body(alloc, &wasm, HEADER, lines.as_str())
 }
 
-#[test]
-fn folds_a_hint_of_a_later_function(rt: HostRuntime) -> Result<(), Fail> {
-    let alloc = rt.alloc();
-    let mut wasm = with_section(alloc, TYPE, &NO_PARAMS)?;
-    add_section(&mut wasm, IMPORT, &[0x01, 0x00, 0x00, 0x00, 0x00])?;
-    add_section(&mut wasm, FUNCTION, &[0x02, 0x00, 0x00])?;
+/// Two functions behind an imported one, with a hint of the last.
+const HINTED: [Section; 5] = [
+    (TYPE, &NO_PARAMS),
+    (IMPORT, &[0x01, 0x00, 0x00, 0x00, 0x00]),
+    (FUNCTION, &[0x02, 0x00, 0x00]),
     // function 2, at its fourth byte
-    let hints = [0x01, 0x02, 0x01, 0x03, 0x01, 0x01];
-    add_custom(alloc, &mut wasm, "metadata.code.branch_hint", &hints)?;
-    add_section(
-        &mut wasm,
+    (
+        CUSTOM,
+        b"\x19metadata.code.branch_hint\x01\x02\x01\x03\x01\x01",
+    ),
+    (
         CODE,
         &[
             0x02, 0x02, 0x00, 0x0b, // an empty body
             0x07, 0x00, 0x41, 0x00, 0x04, 0x40, 0x0b, 0x0b, // i32.const and if
         ],
-    )?;
-    let text = folded_text(alloc, &wasm)?;
-    expect_text(
-        text.as_str(),
+    ),
+];
+
+#[test]
+fn folds_a_hint_of_a_later_function(rt: HostRuntime) -> Result<(), Fail> {
+    let wasm = with_sections(rt.alloc(), &HINTED)?;
+    expect_folded(
+        rt.alloc(),
+        &wasm,
         r#"(module
   (type (;0;) (func))
   (import "" "" (func (;0;) (type 0)))
@@ -163,8 +186,7 @@ fn folds_a_hint_of_a_later_function(rt: HostRuntime) -> Result<(), Fail> {
   )
 )
 "#,
-    )?;
-    Ok(())
+    )
 }
 
 /// The content of a section of one entry, and its field: an item and an offset of many operators.
@@ -190,10 +212,8 @@ const LONG: [(u8, &[u8], &str); 2] = [
 
 #[test]
 fn folds_long_expressions(rt: HostRuntime) -> Result<(), Fail> {
-    let alloc = rt.alloc();
-    for (id, content, field) in LONG {
-        let text = folded_text(alloc, &with_section(alloc, id, content)?)?;
-        expect_text(text.as_str(), around_field(alloc, field)?.as_str())?;
+    for (id, content, field) in &LONG {
+        expect_field(rt.alloc(), *id, content, field)?;
     }
     Ok(())
 }

@@ -1,24 +1,19 @@
 //! Branch hints of folded operators (Code Metadata): each stands on a line of its own, in front of the node of its operator; and those of
 //! operators that have no node of their own, or whose node a hint can't stand in front of, which are refused.
 
-use crate::modules::{add_code, folded_text, refusal_of_lines};
+use crate::modules::{
+    Refusal, expect_body, expect_folded, expect_printed, expect_refusal, folded_text, folding,
+    is_text_refused, with_hints,
+};
 use std::alloc::{AllocError, Global};
 use std::test::Fail;
-use wasmprinter::{Config, Error};
-use wasmprinter_samples::sections::{FUNCTION, TYPE, add_custom, add_section};
-use wasmprinter_samples::{PREAMBLE, expect_text};
 
-/// The name of hint sections.
-const HINTS: &str = "metadata.code.branch_hint";
+/// The type of functions with one parameter, alone.
+const ONE_PARAM: [u8; 5] = [0x01, 0x60, 0x01, 0x7f, 0x00];
 
 /// A module with a function of one parameter and these operators, and a hint section with this data, which begins at byte 0x2f.
 fn module_with_hints(alloc: Global, data: &[u8], operators: &[u8]) -> Result<Vec<u8>, AllocError> {
-    let mut wasm = Vec::from_slice(alloc, &PREAMBLE)?;
-    add_section(&mut wasm, TYPE, &[0x01, 0x60, 0x01, 0x7f, 0x00])?;
-    add_section(&mut wasm, FUNCTION, &[0x01, 0x00])?;
-    add_custom(alloc, &mut wasm, HINTS, data)?;
-    add_code(&mut wasm, operators)?;
-    Ok(wasm)
+    with_hints(alloc, &ONE_PARAM, data, operators)
 }
 
 /// A parameter tested in an `if`.
@@ -71,18 +66,17 @@ const ROWS: [(&[u8], &str); 5] = [
     ),
 ];
 
+/// The lines in front of the function's body.
+const ONE_PARAM_HEADER: &str = "(module
+  (type (;0;) (func (param i32)))
+  (func (;0;) (type 0) (param i32)
+";
+
 #[test]
 fn prints_hints_in_front_of_nodes(rt: HostRuntime) -> Result<(), Fail> {
-    let alloc = rt.alloc();
-    for (data, lines) in ROWS {
-        let text = folded_text(alloc, &module_with_hints(alloc, data, &TESTED)?)?;
-        let mut expected = String::from_str(
-            alloc,
-            "(module\n  (type (;0;) (func (param i32)))\n  (func (;0;) (type 0) (param i32)\n",
-        )?;
-        expected.push_str(lines)?;
-        expected.push_str("  )\n)\n")?;
-        expect_text(text.as_str(), expected.as_str())?;
+    for (data, lines) in &ROWS {
+        let wasm = module_with_hints(rt.alloc(), data, &TESTED)?;
+        expect_body(rt.alloc(), &wasm, ONE_PARAM_HEADER, lines)?;
     }
     Ok(())
 }
@@ -92,11 +86,12 @@ fn prints_hints_in_front_of_nodes(rt: HostRuntime) -> Result<(), Fail> {
 fn places_hints_as_nodes(rt: HostRuntime) -> Result<(), Fail> {
     let alloc = rt.alloc();
     let wasm = module_with_hints(alloc, &[0x01, 0x00, 0x01, 0x03, 0x01, 0x01], &TESTED)?;
-    let mut config = Config::new();
-    config.fold_instructions(true).print_offsets(true);
-    let text = config.print_to_string(alloc, &wasm)?;
-    expect_text(
-        text.as_str(),
+    let mut config = folding();
+    config.print_offsets(true);
+    expect_printed(
+        alloc,
+        &config,
+        &wasm,
         r#"(module
 (;@b     ;)  (type (;0;) (func (param i32)))
 (;@39    ;)  (func (;0;) (type 0) (param i32)
@@ -107,24 +102,23 @@ fn places_hints_as_nodes(rt: HostRuntime) -> Result<(), Fail> {
 (;@3f    ;)  )
 (;@40    ;))
 "#,
-    )?;
-    Ok(())
+    )
 }
+
+/// A branch, whose value an operator takes.
+const OPERANDS: [u8; 11] = [
+    0x02, 0x7f, 0x41, 0x01, 0x20, 0x00, 0x0d, 0x00, 0x45, 0x0b, 0x1a,
+];
 
 /// Hints of a branch, and of the operator that takes its value.
 #[test]
 fn prints_hints_of_operands(rt: HostRuntime) -> Result<(), Fail> {
     let alloc = rt.alloc();
-    let wasm = module_with_hints(
+    let hints = [0x01, 0x00, 0x02, 0x07, 0x01, 0x01, 0x09, 0x01, 0x00];
+    let wasm = module_with_hints(alloc, &hints, &OPERANDS)?;
+    expect_folded(
         alloc,
-        &[0x01, 0x00, 0x02, 0x07, 0x01, 0x01, 0x09, 0x01, 0x00],
-        &[
-            0x02, 0x7f, 0x41, 0x01, 0x20, 0x00, 0x0d, 0x00, 0x45, 0x0b, 0x1a,
-        ],
-    )?;
-    let text = folded_text(alloc, &wasm)?;
-    expect_text(
-        text.as_str(),
+        &wasm,
         r#"(module
   (type (;0;) (func (param i32)))
   (func (;0;) (type 0) (param i32)
@@ -139,8 +133,7 @@ fn prints_hints_of_operands(rt: HostRuntime) -> Result<(), Fail> {
   )
 )
 "#,
-    )?;
-    Ok(())
+    )
 }
 
 /// Blocks of each kind: at byte 1 a block, which ends at 3; at 4 a loop, which ends at 6; at 7 a `try_table`, which ends at 10; at 13 an
@@ -149,33 +142,53 @@ const EACH_KIND: [u8; 16] = [
     0x02, 0x40, 0x0b, 0x03, 0x40, 0x0b, 0x1f, 0x40, 0x00, 0x0b, 0x41, 0x00, 0x04, 0x40, 0x05, 0x0b,
 ];
 
+/// Where a block, a loop and a `try_table` stand, their ends, and the `else` and `end` of the `if`.
+const OF_BLOCKS: [u8; 8] = [1, 3, 4, 6, 7, 10, 15, 16];
+
+/// Where the constant stands, the `if`, and the last `end`.
+const OF_OTHERS: [u8; 3] = [11, 13, 17];
+
+/// Whether blocks of each kind are refused for a hint at this place, where this is the data of their hints.
+fn is_hint_refused(alloc: Global, data: &[u8], place: u64) -> Result<bool, AllocError> {
+    let wasm = module_with_hints(alloc, data, &EACH_KIND)?;
+    Ok(is_text_refused(alloc, &folding(), &wasm, Refusal::Hint(place)))
+}
+
+/// Whether blocks of each kind are printed where this is the data of their hints.
+fn are_hints_printed(alloc: Global, data: &[u8]) -> Result<bool, AllocError> {
+    let wasm = module_with_hints(alloc, data, &EACH_KIND)?;
+    Ok(folded_text(alloc, &wasm).is_ok())
+}
+
+/// Where the constant stands, whose hint is printed.
+const CONSTANT: u8 = 0x0b;
+
+/// The data of a hint of the operator at this byte, behind the count of functions, the function and the count of its hints.
+fn hint_at(offset: u8) -> [u8; 6] {
+    [0x01, 0x00, 0x01, offset, 0x01, 0x01]
+}
+
+/// Whether a hint of the operator at this byte is refused alone, and behind one of the constant if it stands behind the constant.
+fn is_refused_at(alloc: Global, offset: u8) -> Result<bool, AllocError> {
+    let second = [0x01, 0x00, 0x02, CONSTANT, 0x01, 0x01, offset, 0x01, 0x01];
+    let is_judged_second = if offset < CONSTANT {
+        are_hints_printed(alloc, &second)?
+    } else {
+        is_hint_refused(alloc, &second, 0x35)?
+    };
+    Ok(is_judged_second && is_hint_refused(alloc, &hint_at(offset), 0x32)?)
+}
+
 #[test]
 fn refuses_hints_of_blocks_and_of_their_ends(rt: HostRuntime) -> Result<(), Fail> {
-    let alloc = rt.alloc();
-    for offset in [1, 3, 4, 6, 7, 10, 15, 16] {
-        // behind the count of functions, the function and the count of its hints
-        let data = [0x01, 0x00, 0x01, offset, 0x01, 0x01];
-        let refused = folded_text(alloc, &module_with_hints(alloc, &data, &EACH_KIND)?);
+    for offset in &OF_BLOCKS {
+        assert!(rt; is_refused_at(rt.alloc(), *offset)?, "at {offset}");
+    }
+    for offset in &OF_OTHERS {
         assert!(rt;
-            matches!(refused, Err(Error::FoldHint { place: 0x32 })),
+            are_hints_printed(rt.alloc(), &hint_at(*offset))?,
             "at {offset}"
         );
-        // behind one of the constant, which is printed
-        let data = [0x01, 0x00, 0x02, 0x0b, 0x01, 0x01, offset, 0x01, 0x01];
-        let second = folded_text(alloc, &module_with_hints(alloc, &data, &EACH_KIND)?);
-        if offset < 0x0b {
-            assert!(rt; second.is_ok(), "at {offset}");
-        } else {
-            assert!(rt;
-                matches!(second, Err(Error::FoldHint { place: 0x35 })),
-                "at {offset}"
-            );
-        }
-    }
-    for offset in [11, 13, 17] {
-        let data = [0x01, 0x00, 0x01, offset, 0x01, 0x01];
-        let printed = folded_text(alloc, &module_with_hints(alloc, &data, &EACH_KIND)?);
-        assert!(rt; printed.is_ok(), "at {offset}");
     }
     Ok(())
 }
@@ -191,31 +204,8 @@ const BLOCK_HINTED: [u8; 61] = [
     0x0a, 0x07, 0x01, 0x05, 0x00, 0x02, 0x40, 0x0b, 0x0b, // code
 ];
 
-#[test]
-fn tells_where_the_hint_stands(rt: HostRuntime) -> Result<(), Fail> {
-    let alloc = rt.alloc();
-    let refused = folded_text(alloc, &BLOCK_HINTED);
-    assert!(rt; matches!(refused, Err(Error::FoldHint { place: 49 })));
-    let mut storage = String::from_str(alloc, "old")?;
-    let mut config = Config::new();
-    config.fold_instructions(true);
-    let refused = refusal_of_lines(alloc, &config, &BLOCK_HINTED, &mut storage);
-    assert!(rt; matches!(refused, Some(Error::FoldHint { place: 49 })));
-    assert!(rt; storage.as_str().starts_with("old"));
-    let refused = config.print_to_ansi(alloc, &BLOCK_HINTED);
-    assert!(rt; matches!(refused, Err(Error::FoldHint { place: 49 })));
-    // no body is printed, and none folded
-    config.print_skeleton(true);
-    let outline = config.print_to_string(alloc, &BLOCK_HINTED)?;
-    expect_text(
-        outline.as_str(),
-        "(module\n  (type (;0;) (func))\n  (func (;0;) (type 0) ...)\n)\n",
-    )?;
-    config.print_skeleton(false).fold_instructions(false);
-    let flat = config.print_to_string(alloc, &BLOCK_HINTED)?;
-    expect_text(
-        flat.as_str(),
-        r#"(module
+/// The text of that function, flat.
+const BLOCK_HINTED_FLAT: &str = r#"(module
   (type (;0;) (func))
   (func (;0;) (type 0)
     (@metadata.code.branch_hint "\01")
@@ -223,7 +213,16 @@ fn tells_where_the_hint_stands(rt: HostRuntime) -> Result<(), Fail> {
     end
   )
 )
-"#,
-    )?;
-    Ok(())
+"#;
+
+/// No body is printed in an outline, and none folded.
+#[test]
+fn tells_where_the_hint_stands(rt: HostRuntime) -> Result<(), Fail> {
+    expect_refusal(
+        rt.alloc(),
+        &BLOCK_HINTED,
+        Refusal::Hint(49),
+        "(module\n  (type (;0;) (func))\n  (func (;0;) (type 0) ...)\n)\n",
+        BLOCK_HINTED_FLAT,
+    )
 }

@@ -1,37 +1,35 @@
 //! Folded operators with names: a line begins behind a node without children whose text holds two semicolons, which could begin a comment,
 //! also where these stand in a name.
 
-use crate::modules::{add_code, folded_text};
+use crate::modules::{NO_PARAMS, Section, expect_folded, with_body, with_names};
+use std::alloc::{AllocError, Global};
 use std::test::Fail;
-use wasmprinter_samples::sections::{
-    DATA, ELEMENT, FUNCTION, GLOBAL, TYPE, add_custom, add_section,
-};
-use wasmprinter_samples::{PREAMBLE, expect_text};
+use wasmprinter_samples::sections::{CODE, DATA, ELEMENT, FUNCTION, GLOBAL, TYPE, add_custom};
+
+/// Globals, and segments whose offsets begin as the first.
+const GLOBALS_AND_SEGMENTS: [Section; 3] = [
+    (
+        GLOBAL,
+        &[
+            0x02, 0x7f, 0x00, 0x41, 0x00, 0x0b, 0x7f, 0x00, 0x23, 0x00, 0x0b,
+        ],
+    ),
+    (
+        ELEMENT,
+        &[0x01, 0x00, 0x23, 0x00, 0x41, 0x01, 0x6a, 0x0b, 0x00],
+    ),
+    (DATA, &[0x01, 0x00, 0x23, 0x00, 0x0b, 0x00]),
+];
 
 /// Names of globals: that of the first is `a;;b`.
 const OF_GLOBALS: [u8; 9] = [0x07, 0x07, 0x01, 0x00, 0x04, 0x61, 0x3b, 0x3b, 0x62];
 
 #[test]
 fn begins_a_line_behind_a_name_with_semicolons(rt: HostRuntime) -> Result<(), Fail> {
-    let alloc = rt.alloc();
-    let mut wasm = Vec::from_slice(alloc, &PREAMBLE)?;
-    add_section(
-        &mut wasm,
-        GLOBAL,
-        &[
-            0x02, 0x7f, 0x00, 0x41, 0x00, 0x0b, 0x7f, 0x00, 0x23, 0x00, 0x0b,
-        ],
-    )?;
-    add_section(
-        &mut wasm,
-        ELEMENT,
-        &[0x01, 0x00, 0x23, 0x00, 0x41, 0x01, 0x6a, 0x0b, 0x00],
-    )?;
-    add_section(&mut wasm, DATA, &[0x01, 0x00, 0x23, 0x00, 0x0b, 0x00])?;
-    add_custom(alloc, &mut wasm, "name", &OF_GLOBALS)?;
-    let text = folded_text(alloc, &wasm)?;
-    expect_text(
-        text.as_str(),
+    let wasm = with_names(rt.alloc(), &GLOBALS_AND_SEGMENTS, &OF_GLOBALS)?;
+    expect_folded(
+        rt.alloc(),
+        &wasm,
         r#"(module
   (global $"a;;b" (;0;) i32 (i32.const 0))
   (global (;1;) i32 (global.get $"a;;b"
@@ -44,8 +42,19 @@ fn begins_a_line_behind_a_name_with_semicolons(rt: HostRuntime) -> Result<(), Fa
   (data (;0;) (global.get $"a;;b") "")
 )
 "#,
-    )?;
-    Ok(())
+    )
+}
+
+/// A module with a function of the first of these types, its operators, and names with this data.
+fn with_named_body(
+    alloc: Global,
+    types: &[u8],
+    operators: &[u8],
+    names: &[u8],
+) -> Result<Vec<u8>, AllocError> {
+    let mut wasm = with_body(alloc, types, operators)?;
+    add_custom(alloc, &mut wasm, "name", names)?;
+    Ok(wasm)
 }
 
 /// Names of a function's locals and labels.
@@ -73,15 +82,15 @@ const NAMED_OPERATORS: [u8; 35] = [
 
 #[test]
 fn prints_names_of_labels_and_locals(rt: HostRuntime) -> Result<(), Fail> {
-    let alloc = rt.alloc();
-    let mut wasm = Vec::from_slice(alloc, &PREAMBLE)?;
-    add_section(&mut wasm, TYPE, &[0x01, 0x60, 0x01, 0x7f, 0x00])?;
-    add_section(&mut wasm, FUNCTION, &[0x01, 0x00])?;
-    add_code(&mut wasm, &NAMED_OPERATORS)?;
-    add_custom(alloc, &mut wasm, "name", &OF_A_BODY)?;
-    let text = folded_text(alloc, &wasm)?;
-    expect_text(
-        text.as_str(),
+    let wasm = with_named_body(
+        rt.alloc(),
+        &[0x01, 0x60, 0x01, 0x7f, 0x00],
+        &NAMED_OPERATORS,
+        &OF_A_BODY,
+    )?;
+    expect_folded(
+        rt.alloc(),
+        &wasm,
         r##"(module
   (type (;0;) (func (param i32)))
   (func (;0;) (type 0) (param $"a;;b" i32)
@@ -108,38 +117,34 @@ fn prints_names_of_labels_and_locals(rt: HostRuntime) -> Result<(), Fail> {
   )
 )
 "##,
-    )?;
-    Ok(())
+    )
 }
+
+/// A global, a function and a segment with a block each.
+const WITH_LABELS: [Section; 5] = [
+    (TYPE, &NO_PARAMS),
+    (FUNCTION, &[0x01, 0x00]),
+    (
+        GLOBAL,
+        &[0x01, 0x7f, 0x00, 0x02, 0x7f, 0x41, 0x01, 0x0b, 0x0b],
+    ),
+    (CODE, &[0x01, 0x05, 0x00, 0x02, 0x40, 0x0b, 0x0b]),
+    (
+        DATA,
+        &[0x01, 0x00, 0x02, 0x7f, 0x41, 0x01, 0x0b, 0x0b, 0x00],
+    ),
+];
+
+/// Label 0 of function 0 is called x.
+const CALLED_X: [u8; 8] = [0x03, 0x06, 0x01, 0x00, 0x01, 0x00, 0x01, 0x78];
 
 /// Labels of initialisers, and of what stands in front of the bodies, have the names of function 0; behind its body they have none.
 #[test]
 fn prints_names_of_labels_in_expressions(rt: HostRuntime) -> Result<(), Fail> {
-    let alloc = rt.alloc();
-    let mut wasm = Vec::from_slice(alloc, &PREAMBLE)?;
-    add_section(&mut wasm, TYPE, &[0x01, 0x60, 0x00, 0x00])?;
-    add_section(&mut wasm, FUNCTION, &[0x01, 0x00])?;
-    add_section(
-        &mut wasm,
-        GLOBAL,
-        &[0x01, 0x7f, 0x00, 0x02, 0x7f, 0x41, 0x01, 0x0b, 0x0b],
-    )?;
-    add_code(&mut wasm, &[0x02, 0x40, 0x0b])?;
-    add_section(
-        &mut wasm,
-        DATA,
-        &[0x01, 0x00, 0x02, 0x7f, 0x41, 0x01, 0x0b, 0x0b, 0x00],
-    )?;
-    // label 0 of function 0 is called x
-    add_custom(
-        alloc,
-        &mut wasm,
-        "name",
-        &[0x03, 0x06, 0x01, 0x00, 0x01, 0x00, 0x01, 0x78],
-    )?;
-    let text = folded_text(alloc, &wasm)?;
-    expect_text(
-        text.as_str(),
+    let wasm = with_names(rt.alloc(), &WITH_LABELS, &CALLED_X)?;
+    expect_folded(
+        rt.alloc(),
+        &wasm,
         r#"(module
   (type (;0;) (func))
   (global (;0;) i32 (block $x (result i32) (i32.const 1)))
@@ -149,36 +154,27 @@ fn prints_names_of_labels_in_expressions(rt: HostRuntime) -> Result<(), Fail> {
   (data (;0;) (offset (block (result i32)  (; label = @1 ;) (i32.const 1))) "")
 )
 "#,
-    )?;
-    Ok(())
+    )
 }
+
+/// An `if` in a block, with a branch in its predicate.
+const WITH_PREDICATE: [u8; 14] = [
+    0x02, 0x40, 0x41, 0x00, 0x0d, 0x00, // block, i32.const and br_if
+    0x04, 0x40, 0x0c, 0x00, 0x0c, 0x01, 0x0b, 0x0b, // if, with two branches
+];
+
+/// Labels 0 and 1 of function 0 are called a.
+const BOTH_CALLED_A: [u8; 11] = [
+    0x03, 0x09, 0x01, 0x00, 0x02, 0x00, 0x01, 0x61, 0x01, 0x01, 0x61,
+];
 
 /// A predicate stands inside the group of its `if` and outside its block: there the name means the block around.
 #[test]
 fn prints_names_of_labels_in_a_predicate(rt: HostRuntime) -> Result<(), Fail> {
-    let alloc = rt.alloc();
-    let mut wasm = Vec::from_slice(alloc, &PREAMBLE)?;
-    add_section(&mut wasm, TYPE, &[0x01, 0x60, 0x00, 0x00])?;
-    add_section(&mut wasm, FUNCTION, &[0x01, 0x00])?;
-    add_code(
-        &mut wasm,
-        &[
-            0x02, 0x40, 0x41, 0x00, 0x0d, 0x00, // block, i32.const and br_if
-            0x04, 0x40, 0x0c, 0x00, 0x0c, 0x01, 0x0b, 0x0b, // if, with two branches
-        ],
-    )?;
-    // labels 0 and 1 of function 0 are called a
-    add_custom(
-        alloc,
-        &mut wasm,
-        "name",
-        &[
-            0x03, 0x09, 0x01, 0x00, 0x02, 0x00, 0x01, 0x61, 0x01, 0x01, 0x61,
-        ],
-    )?;
-    let text = folded_text(alloc, &wasm)?;
-    expect_text(
-        text.as_str(),
+    let wasm = with_named_body(rt.alloc(), &NO_PARAMS, &WITH_PREDICATE, &BOTH_CALLED_A)?;
+    expect_folded(
+        rt.alloc(),
+        &wasm,
         r#"(module
   (type (;0;) (func))
   (func (;0;) (type 0)
@@ -192,6 +188,5 @@ fn prints_names_of_labels_in_a_predicate(rt: HostRuntime) -> Result<(), Fail> {
   )
 )
 "#,
-    )?;
-    Ok(())
+    )
 }

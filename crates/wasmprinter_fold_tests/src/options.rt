@@ -1,10 +1,10 @@
 //! Folded operators together with the other options, in each list of operators that a module has; and the lines of folded texts.
 
-use crate::modules::folded_text;
-use std::alloc::{AllocError, Global};
+use crate::modules::{Section, expect_folded, expect_printed, folding, with_names};
+use std::alloc::Global;
 use std::test::Fail;
-use wasmprinter::{Config, OffsetsAndLines};
-use wasmprinter_samples::sections::{GLOBAL, add_custom, add_section};
+use wasmprinter::{Config, Error, OffsetsAndLines};
+use wasmprinter_samples::sections::GLOBAL;
 use wasmprinter_samples::{EMPTY_TEXT, EVERYTHING, EVERYTHING_TEXT, PREAMBLE, expect_text};
 
 /// A table with an initialiser, a global, element and data segments with offsets and items, and a function with an `if`.
@@ -75,24 +75,17 @@ const SAMPLE_FLAT: &str = r#"(module
 #[test]
 fn folds_each_list_and_takes_it_back(rt: HostRuntime) -> Result<(), Fail> {
     let alloc = rt.alloc();
-    let mut config = Config::new();
-    config.fold_instructions(true);
-    let text = config.print_to_string(alloc, &SAMPLE)?;
-    expect_text(text.as_str(), SAMPLE_FOLDED)?;
+    let mut config = folding();
+    expect_printed(alloc, &config, &SAMPLE, SAMPLE_FOLDED)?;
     config.fold_instructions(false);
-    let text = config.print_to_string(alloc, &SAMPLE)?;
-    expect_text(text.as_str(), SAMPLE_FLAT)?;
-    let text = Config::new().print_to_string(alloc, &SAMPLE)?;
-    expect_text(text.as_str(), SAMPLE_FLAT)?;
-    Ok(())
+    expect_printed(alloc, &config, &SAMPLE, SAMPLE_FLAT)?;
+    expect_printed(alloc, &Config::new(), &SAMPLE, SAMPLE_FLAT)
 }
 
 /// A module that holds nothing to fold is printed as it is flat.
 #[test]
 fn folds_an_empty_module(rt: HostRuntime) -> Result<(), Fail> {
-    let text = folded_text(rt.alloc(), &PREAMBLE)?;
-    expect_text(text.as_str(), EMPTY_TEXT)?;
-    Ok(())
+    expect_folded(rt.alloc(), &PREAMBLE, EMPTY_TEXT)
 }
 
 /// With places: a block's and its arm's are those of the opening operator, and the `else` has its own.
@@ -122,18 +115,17 @@ const SAMPLE_PLACES: &str = r#"(module
 fn folds_with_places(rt: HostRuntime) -> Result<(), Fail> {
     let mut config = Config::new();
     config.print_offsets(true).fold_instructions(true);
-    let text = config.print_to_string(rt.alloc(), &SAMPLE)?;
-    expect_text(text.as_str(), SAMPLE_PLACES)?;
-    Ok(())
+    expect_printed(rt.alloc(), &config, &SAMPLE, SAMPLE_PLACES)
 }
 
 #[test]
 fn folds_what_an_outline_prints(rt: HostRuntime) -> Result<(), Fail> {
     let mut config = Config::new();
     config.print_skeleton(true).fold_instructions(true);
-    let text = config.print_to_string(rt.alloc(), &SAMPLE)?;
-    expect_text(
-        text.as_str(),
+    expect_printed(
+        rt.alloc(),
+        &config,
+        &SAMPLE,
         r#"(module
   (type (;0;) (func (param i32) (result i32)))
   (table (;0;) 1 funcref (table.get 0 (i32.const 0)))
@@ -146,17 +138,17 @@ fn folds_what_an_outline_prints(rt: HostRuntime) -> Result<(), Fail> {
   (data (;0;) (offset (i32.add (global.get 0) (i32.const 4))) ...)
 )
 "#,
-    )?;
-    Ok(())
+    )
 }
 
 #[test]
 fn folds_with_identifiers_that_are_made_up(rt: HostRuntime) -> Result<(), Fail> {
     let mut config = Config::new();
     config.name_unnamed(true).fold_instructions(true);
-    let text = config.print_to_string(rt.alloc(), &SAMPLE)?;
-    expect_text(
-        text.as_str(),
+    expect_printed(
+        rt.alloc(),
+        &config,
+        &SAMPLE,
         r#"(module
   (type $#type0 (;0;) (func (param i32) (result i32)))
   (table $#table0 (;0;) 1 funcref (table.get $#table0 (i32.const 0)))
@@ -178,8 +170,7 @@ fn folds_with_identifiers_that_are_made_up(rt: HostRuntime) -> Result<(), Fail> 
   (data $#data0 (;0;) (offset (i32.add (global.get $#global0) (i32.const 4))) "hi")
 )
 "#,
-    )?;
-    Ok(())
+    )
 }
 
 /// With places, identifiers made up, and indented by tabs.
@@ -228,21 +219,18 @@ fn folds_by_all_options_at_once(rt: HostRuntime) -> Result<(), Fail> {
         .print_offsets(true)
         .name_unnamed(true)
         .indent_text(String::from_str(alloc, "\t")?);
-    let text = config.print_to_string(alloc, &SAMPLE)?;
-    expect_text(text.as_str(), SAMPLE_BY_TABS)?;
+    expect_printed(alloc, &config, &SAMPLE, SAMPLE_BY_TABS)?;
     config.print_skeleton(true);
-    let text = config.print_to_string(alloc, &SAMPLE)?;
-    expect_text(text.as_str(), SAMPLE_BY_ALL)?;
-    Ok(())
+    expect_printed(alloc, &config, &SAMPLE, SAMPLE_BY_ALL)
 }
 
 /// Locals stand on a line of their own, in front of the nodes, and a function without operators has no nodes.
 #[test]
 fn folds_behind_locals(rt: HostRuntime) -> Result<(), Fail> {
     let alloc = rt.alloc();
-    let text = folded_text(alloc, &EVERYTHING)?;
-    expect_text(
-        text.as_str(),
+    expect_folded(
+        alloc,
+        &EVERYTHING,
         r#"(module
   (type (;0;) (func))
   (type (;1;) (func (param i32) (result i64)))
@@ -264,9 +252,7 @@ fn folds_behind_locals(rt: HostRuntime) -> Result<(), Fail> {
     )?;
     let mut config = Config::new();
     config.fold_instructions(true).fold_instructions(false);
-    let text = config.print_to_string(alloc, &EVERYTHING)?;
-    expect_text(text.as_str(), EVERYTHING_TEXT)?;
-    Ok(())
+    expect_printed(alloc, &config, &EVERYTHING, EVERYTHING_TEXT)
 }
 
 // ---- lines
@@ -324,36 +310,37 @@ fn are_lines(found: OffsetsAndLines<'_>, expected: &[Line]) -> bool {
     found.eq(expected.iter().copied())
 }
 
+/// Whether a module has these lines. Its text is stored.
+fn has_lines(
+    alloc: Global,
+    config: &Config,
+    wasm: &[u8],
+    storage: &mut String,
+    expected: &[Line],
+) -> Result<bool, Error> {
+    let lines = config.offsets_and_lines(alloc, wasm, storage)?;
+    Ok(are_lines(lines, expected))
+}
+
 #[test]
 fn gives_each_folded_line_with_its_place(rt: HostRuntime) -> Result<(), Fail> {
     let alloc = rt.alloc();
-    let mut config = Config::new();
-    config.fold_instructions(true);
     let mut storage = String::new(alloc);
-    let lines = config.offsets_and_lines(alloc, &SAMPLE, &mut storage)?;
-    assert!(rt; are_lines(lines, &SAMPLE_LINES));
+    assert!(rt; has_lines(alloc, &folding(), &SAMPLE, &mut storage, &SAMPLE_LINES)?);
     expect_text(storage.as_str(), SAMPLE_FOLDED)?;
     Ok(())
 }
 
-/// Two globals, the first of which is called `a;;b`, and is what the second begins as.
-fn with_semicolons(alloc: Global) -> Result<Vec<u8>, AllocError> {
-    let mut wasm = Vec::from_slice(alloc, &PREAMBLE)?;
-    add_section(
-        &mut wasm,
-        GLOBAL,
-        &[
-            0x02, 0x7f, 0x00, 0x41, 0x00, 0x0b, 0x7f, 0x00, 0x23, 0x00, 0x0b,
-        ],
-    )?;
-    add_custom(
-        alloc,
-        &mut wasm,
-        "name",
-        &[0x07, 0x07, 0x01, 0x00, 0x04, 0x61, 0x3b, 0x3b, 0x62],
-    )?;
-    Ok(wasm)
-}
+/// Two globals: the first is what the second begins as.
+const GLOBALS: [Section; 1] = [(
+    GLOBAL,
+    &[
+        0x02, 0x7f, 0x00, 0x41, 0x00, 0x0b, 0x7f, 0x00, 0x23, 0x00, 0x0b,
+    ],
+)];
+
+/// Their names: that of the first is `a;;b`.
+const OF_GLOBALS: [u8; 9] = [0x07, 0x07, 0x01, 0x00, 0x04, 0x61, 0x3b, 0x3b, 0x62];
 
 /// Their lines: the one that begins within the initialiser has its operator's place.
 const SEMICOLON_LINES: [Line; 6] = [
@@ -368,16 +355,15 @@ const SEMICOLON_LINES: [Line; 6] = [
 #[test]
 fn gives_lines_within_an_initialiser(rt: HostRuntime) -> Result<(), Fail> {
     let alloc = rt.alloc();
-    let wasm = with_semicolons(alloc)?;
-    let mut config = Config::new();
-    config.fold_instructions(true);
+    let wasm = with_names(alloc, &GLOBALS, &OF_GLOBALS)?;
+    let mut config = folding();
     let mut storage = String::new(alloc);
-    let lines = config.offsets_and_lines(alloc, &wasm, &mut storage)?;
-    assert!(rt; are_lines(lines, &SEMICOLON_LINES));
+    assert!(rt; has_lines(alloc, &config, &wasm, &mut storage, &SEMICOLON_LINES)?);
     config.print_offsets(true);
-    let text = config.print_to_string(alloc, &wasm)?;
-    expect_text(
-        text.as_str(),
+    expect_printed(
+        alloc,
+        &config,
+        &wasm,
         r#"(module
 (;@b     ;)  (global $"a;;b" (;0;) i32 (i32.const 0))
 (;@10    ;)  (global (;1;) i32 (global.get $"a;;b"
@@ -385,6 +371,5 @@ fn gives_lines_within_an_initialiser(rt: HostRuntime) -> Result<(), Fail> {
              )
 (;@25    ;))
 "#,
-    )?;
-    Ok(())
+    )
 }

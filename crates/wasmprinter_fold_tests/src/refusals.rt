@@ -1,10 +1,11 @@
 //! Legacy exception operators, which can't be folded, in each list of operators; and lists that aren't printed, in which they stay.
 
-use crate::modules::{folded_text, refusal_of_lines, with_section};
+use crate::modules::{
+    Refusal, expect_printed, expect_refusal, folding, is_text_refused, with_section,
+};
 use std::alloc::{AllocError, Global};
 use std::test::Fail;
-use wasmprinter::{Config, Error};
-use wasmprinter_samples::expect_text;
+use wasmprinter::Config;
 use wasmprinter_samples::sections::{DATA, ELEMENT, GLOBAL, TABLE};
 
 /// A function with a `try` at byte 23, and a `catch_all` in it.
@@ -15,30 +16,8 @@ const CAUGHT: [u8; 28] = [
     0x0a, 0x08, 0x01, 0x06, 0x00, 0x06, 0x40, 0x19, 0x0b, 0x0b, // code
 ];
 
-#[test]
-fn refuses_legacy_operators_in_bodies(rt: HostRuntime) -> Result<(), Fail> {
-    let alloc = rt.alloc();
-    let mut config = Config::new();
-    config.fold_instructions(true);
-    let refused = config.print_to_string(alloc, &CAUGHT);
-    assert!(rt; matches!(refused, Err(Error::FoldLegacy { place: 23 })));
-    let refused = config.print_to_ansi(alloc, &CAUGHT);
-    assert!(rt; matches!(refused, Err(Error::FoldLegacy { place: 23 })));
-    let mut storage = String::from_str(alloc, "old")?;
-    let refused = refusal_of_lines(alloc, &config, &CAUGHT, &mut storage);
-    assert!(rt; matches!(refused, Some(Error::FoldLegacy { place: 23 })));
-    assert!(rt; storage.as_str().starts_with("old"));
-    config.print_skeleton(true);
-    let outline = config.print_to_string(alloc, &CAUGHT)?;
-    expect_text(
-        outline.as_str(),
-        "(module\n  (type (;0;) (func))\n  (func (;0;) (type 0) ...)\n)\n",
-    )?;
-    config.print_skeleton(false).fold_instructions(false);
-    let flat = config.print_to_string(alloc, &CAUGHT)?;
-    expect_text(
-        flat.as_str(),
-        r#"(module
+/// The text of that function, flat.
+const CAUGHT_FLAT: &str = r#"(module
   (type (;0;) (func))
   (func (;0;) (type 0)
     try ;; label = @1
@@ -46,14 +25,17 @@ fn refuses_legacy_operators_in_bodies(rt: HostRuntime) -> Result<(), Fail> {
     end
   )
 )
-"#,
-    )?;
-    Ok(())
-}
+"#;
 
-/// Whether a module is refused for a legacy operator at this place.
-fn is_refused_at(printed: Result<String, Error>, wanted: u64) -> bool {
-    matches!(printed, Err(Error::FoldLegacy { place }) if place == wanted)
+#[test]
+fn refuses_legacy_operators_in_bodies(rt: HostRuntime) -> Result<(), Fail> {
+    expect_refusal(
+        rt.alloc(),
+        &CAUGHT,
+        Refusal::Legacy(23),
+        "(module\n  (type (;0;) (func))\n  (func (;0;) (type 0) ...)\n)\n",
+        CAUGHT_FLAT,
+    )
 }
 
 /// Sections with one `try` in an initialiser or an offset, and where it stands.
@@ -85,47 +67,51 @@ const PRINTED_IN_A_SKELETON: [(u8, &[u8], u64); 4] = [
     ),
 ];
 
+/// Options by which operators are folded, and bodies, items and bytes left out.
+fn folding_outlines() -> Config {
+    let mut config = folding();
+    config.print_skeleton(true);
+    config
+}
+
+/// Whether a module of one section is refused folded for this, also as an outline, and is printed flat.
+fn is_refused_where_folded(
+    alloc: Global,
+    id: u8,
+    content: &[u8],
+    refusal: Refusal,
+) -> Result<bool, AllocError> {
+    let wasm = with_section(alloc, id, content)?;
+    Ok(
+        is_text_refused(alloc, &folding(), &wasm, refusal)
+            && is_text_refused(alloc, &folding_outlines(), &wasm, refusal)
+            && Config::new().print_to_string(alloc, &wasm).is_ok(),
+    )
+}
+
 #[test]
 fn refuses_legacy_operators_in_initialisers_and_offsets(rt: HostRuntime) -> Result<(), Fail> {
-    let alloc = rt.alloc();
-    let mut config = Config::new();
-    config.fold_instructions(true).print_skeleton(true);
-    for (id, content, place) in PRINTED_IN_A_SKELETON {
-        let wasm = with_section(alloc, id, content)?;
+    for (id, content, place) in &PRINTED_IN_A_SKELETON {
         assert!(rt;
-            is_refused_at(folded_text(alloc, &wasm), place),
+            is_refused_where_folded(rt.alloc(), *id, content, Refusal::Legacy(*place))?,
             "in section {id}"
-        );
-        let outline = config.print_to_string(alloc, &wasm);
-        assert!(rt;
-            is_refused_at(outline, place),
-            "in an outline, in section {id}"
-        );
-        assert!(rt;
-            Config::new().print_to_string(alloc, &wasm).is_ok(),
-            "flat, in section {id}"
         );
     }
     Ok(())
 }
 
 /// A segment with a `try` at byte 14, in an item.
-fn with_legacy_item(alloc: Global) -> Result<Vec<u8>, AllocError> {
-    with_section(
-        alloc,
-        ELEMENT,
-        &[0x01, 0x05, 0x70, 0x01, 0x06, 0x40, 0x18, 0x00, 0x0b],
-    )
-}
+const LEGACY_ITEM: [u8; 9] = [0x01, 0x05, 0x70, 0x01, 0x06, 0x40, 0x18, 0x00, 0x0b];
 
 #[test]
 fn refuses_legacy_operators_in_items(rt: HostRuntime) -> Result<(), Fail> {
     let alloc = rt.alloc();
-    let wasm = with_legacy_item(alloc)?;
-    assert!(rt; is_refused_at(folded_text(alloc, &wasm), 14));
-    let mut config = Config::new();
-    config.fold_instructions(true).print_skeleton(true);
-    let outline = config.print_to_string(alloc, &wasm)?;
-    expect_text(outline.as_str(), "(module\n  (elem (;0;) ...)\n)\n")?;
-    Ok(())
+    let wasm = with_section(alloc, ELEMENT, &LEGACY_ITEM)?;
+    assert!(rt; is_text_refused(alloc, &folding(), &wasm, Refusal::Legacy(14)));
+    expect_printed(
+        alloc,
+        &folding_outlines(),
+        &wasm,
+        "(module\n  (elem (;0;) ...)\n)\n",
+    )
 }

@@ -16,47 +16,52 @@ enum Number {
     S64(Result<i64, Malformed>),
 }
 
-/// Asserts that the cursor goes on with the number of a row.
-fn assert_number(rt: &impl Abort, row: usize, cursor: &mut Cursor, wanted: Number) {
+/// Whether the cursor goes on with the number.
+fn goes_on_with(cursor: &mut Cursor, wanted: Number) -> bool {
     match wanted {
-        Number::U32(number) => assert!(rt; cursor.u32() == number, "row {row}"),
-        Number::U64(number) => assert!(rt; cursor.u64() == number, "row {row}"),
-        Number::S32(number) => assert!(rt; cursor.s32() == number, "row {row}"),
-        Number::S33(number) => assert!(rt; cursor.s33() == number, "row {row}"),
-        Number::S64(number) => assert!(rt; cursor.s64() == number, "row {row}"),
+        Number::U32(number) => cursor.u32() == number,
+        Number::U64(number) => cursor.u64() == number,
+        Number::S32(number) => cursor.s32() == number,
+        Number::S33(number) => cursor.s33() == number,
+        Number::S64(number) => cursor.s64() == number,
     }
 }
 
+/// Numbers, each with the place of its first byte, and its bytes.
+const NUMBERS: [(u64, &[u8], Number); 12] = [
+    (0, &[0x03], Number::U32(Ok(3))),
+    (0, &[0x83, 0x00], Number::U32(Ok(3))),
+    (0, &[0xe5, 0x8e, 0x26], Number::U32(Ok(624485))),
+    (
+        0,
+        &[0xff, 0xff, 0xff, 0xff, 0x0f],
+        Number::U32(Ok(u32::MAX)),
+    ),
+    (
+        5,
+        &[0xff, 0xff, 0xff, 0xff, 0x1f],
+        Number::U32(Err(Malformed { place: 9 })),
+    ),
+    (
+        0,
+        &[0x80, 0x80, 0x80, 0x80, 0x80, 0x00],
+        Number::U32(Err(Malformed { place: 4 })),
+    ),
+    (0, &[0xe5, 0x8e, 0x26], Number::U64(Ok(624485))),
+    (0, &[0x7e], Number::S32(Ok(-2))),
+    (0, &[0xfe, 0xff, 0x7f], Number::S32(Ok(-2))),
+    (0, &[0xc0, 0xbb, 0x78], Number::S33(Ok(-123456))),
+    (0, &[0xc0, 0xbb, 0x78], Number::S64(Ok(-123456))),
+    (0, &[0xff, 0x00], Number::S64(Ok(127))),
+];
+
 #[test]
 fn numbers_are_read(rt: HostRuntime) {
-    let rows: [(u64, &[u8], Number); 12] = [
-        (0, &[0x03], Number::U32(Ok(3))),
-        (0, &[0x83, 0x00], Number::U32(Ok(3))),
-        (0, &[0xe5, 0x8e, 0x26], Number::U32(Ok(624485))),
-        (
-            0,
-            &[0xff, 0xff, 0xff, 0xff, 0x0f],
-            Number::U32(Ok(u32::MAX)),
-        ),
-        (
-            5,
-            &[0xff, 0xff, 0xff, 0xff, 0x1f],
-            Number::U32(Err(Malformed { place: 9 })),
-        ),
-        (
-            0,
-            &[0x80, 0x80, 0x80, 0x80, 0x80, 0x00],
-            Number::U32(Err(Malformed { place: 4 })),
-        ),
-        (0, &[0xe5, 0x8e, 0x26], Number::U64(Ok(624485))),
-        (0, &[0x7e], Number::S32(Ok(-2))),
-        (0, &[0xfe, 0xff, 0x7f], Number::S32(Ok(-2))),
-        (0, &[0xc0, 0xbb, 0x78], Number::S33(Ok(-123456))),
-        (0, &[0xc0, 0xbb, 0x78], Number::S64(Ok(-123456))),
-        (0, &[0xff, 0x00], Number::S64(Ok(127))),
-    ];
-    for (row, (place, bytes, wanted)) in rows.iter().enumerate() {
-        assert_number(&rt, row, &mut Cursor::new(*place, *bytes), *wanted);
+    for (row, (place, bytes, wanted)) in NUMBERS.iter().enumerate() {
+        assert!(rt;
+            goes_on_with(&mut Cursor::new(*place, *bytes), *wanted),
+            "row {row}"
+        );
     }
 }
 
@@ -68,10 +73,8 @@ fn assert_name(rt: &impl Abort, cursor: &mut Cursor) {
 
 /// Asserts where a part of two bytes stands, and what its first byte is.
 fn assert_part(rt: &impl Abort, part: &Cursor) {
-    assert!(rt; part.place() == 0x14);
-    assert!(rt; part.len() == 2);
-    assert!(rt; part.front(1).len() == 1);
-    assert!(rt; part.peek() == Some(0x01));
+    assert!(rt; part.place() == 0x14 && part.len() == 2);
+    assert!(rt; part.front(1).len() == 1 && part.peek() == Some(0x01));
 }
 
 /// Asserts that the first byte of a part is read, and that two can't be taken behind it.

@@ -3,18 +3,17 @@
 mod immediates;
 mod opcodes;
 
-use std::alloc::Global;
+use std::alloc::{AllocError, Global};
 use std::process::Abort;
 use std::test::Fail;
 use wasmprinter_bytes::bytes::Cursor;
 use wasmprinter_error::{Error, Malformed};
-use wasmprinter_ops::blocks::{BlockType, Catch};
-use wasmprinter_ops::expression::Expression;
+use wasmprinter_ops::blocks::{BlockType, Catch, Catches, Targets};
+use wasmprinter_ops::expression::{Expression, OperatorsReader};
 use wasmprinter_ops::operands::MemArg;
 use wasmprinter_ops::operator::{Immediates, Operator};
 use wasmprinter_ops::types::composite::{CompositeType, FieldType, StorageType, SubType, SubTypes};
 use wasmprinter_ops::types::{HeapType, RefType, ValType, ValTypes, read_type};
-use wasmprinter_samples::expect_text;
 
 /// Immediates that are expected.
 #[derive(Clone, Copy)]
@@ -38,35 +37,52 @@ enum Wanted {
     Bytes([u8; 16]),
 }
 
+/// Whether catch clauses are these.
+fn are_catches(clauses: &Catches, wanted: &[Catch]) -> bool {
+    for (clause, catch) in clauses.iter().zip(wanted) {
+        if clause != *catch {
+            return false;
+        }
+    }
+    clauses.len() as usize == wanted.len()
+}
+
+/// Whether the labels of a branch table are these.
+fn are_labels(targets: &Targets, wanted: &[u32]) -> bool {
+    for (target, label) in targets.iter().zip(wanted) {
+        if target != *label {
+            return false;
+        }
+    }
+    targets.len() as usize == wanted.len()
+}
+
+/// Whether value types are these.
+fn are_types(types: &ValTypes, wanted: &[ValType]) -> bool {
+    for (found, val_type) in types.iter().zip(wanted) {
+        if found != *val_type {
+            return false;
+        }
+    }
+    types.len() as usize == wanted.len()
+}
+
 /// Whether immediates are those that are expected.
 fn are_wanted(immediates: &Immediates, wanted: &Wanted) -> bool {
     match (immediates, wanted) {
         (Immediates::None, Wanted::None) => true,
         (Immediates::Block(found), Wanted::Block(block_type)) => found == block_type,
         (Immediates::TryTable(found, clauses), Wanted::TryTable(block_type, catches)) => {
-            found == block_type
-                && clauses.len() as usize == catches.len()
-                && clauses
-                    .iter()
-                    .zip(catches.iter().copied())
-                    .all(|(a, b)| a == b)
+            found == block_type && are_catches(clauses, catches)
         }
         (Immediates::Index(found), Wanted::Index(index)) => found == index,
         (Immediates::Indices(first, second), Wanted::Indices(one, other)) => {
             first == one && second == other
         }
         (Immediates::BrTable(targets, other), Wanted::BrTable(labels, label)) => {
-            other == label
-                && targets.len() as usize == labels.len()
-                && targets
-                    .iter()
-                    .zip(labels.iter().copied())
-                    .all(|(a, b)| a == b)
+            other == label && are_labels(targets, labels)
         }
-        (Immediates::Types(found), Wanted::Types(types)) => {
-            found.len() as usize == types.len()
-                && found.iter().zip(types.iter().copied()).all(|(a, b)| a == b)
-        }
+        (Immediates::Types(found), Wanted::Types(types)) => are_types(found, types),
         (Immediates::Heap(found), Wanted::Heap(heap)) => found == heap,
         (Immediates::Cast(flags, label, from, to), Wanted::Cast(bits, target, source, other)) => {
             flags == bits && label == target && from == source && to == other
@@ -85,27 +101,51 @@ fn are_wanted(immediates: &Immediates, wanted: &Wanted) -> bool {
     }
 }
 
+/// Whether an operator has this word and these immediates.
+fn is_operator(operator: &Operator, word: &str, wanted: &Wanted) -> bool {
+    operator.opcode.word() == word && are_wanted(&operator.immediates, wanted)
+}
+
+/// An operator that is expected: its place, its word and its immediates.
+type Placed = (u64, &'static str, Wanted);
+
+/// The place of the first operator of these that the reader doesn't come to, if there is one.
+fn first_missing(reader: &mut OperatorsReader, wanted: &[Placed]) -> Option<u64> {
+    for (place, word, immediates) in wanted {
+        match reader.next() {
+            Some((found, operator))
+                if found == *place && is_operator(&operator, word, immediates) => {}
+            _ => return Some(*place),
+        }
+    }
+    None
+}
+
 /// Asserts that the bytes are an expression of these operators, and nothing else; the first byte lies at 0x1a.
 fn assert_walk(
     rt: &impl Abort,
     alloc: Global,
     bytes: &[u8],
-    wanted: &[(u64, &'static str, Wanted)],
+    wanted: &[Placed],
 ) -> Result<(), Fail> {
     let mut cursor = Cursor::new(0x1a, bytes);
     let expression = Expression::read(alloc, &mut cursor)?;
-    assert!(rt; cursor.is_empty());
-    assert!(rt; expression.end() == 0x19 + bytes.len() as u64);
+    assert!(rt; cursor.is_empty() && expression.end() == 0x19 + bytes.len() as u64);
     let mut reader = expression.operators();
-    for (wanted_place, word, immediates) in wanted {
-        let (place, operator) = reader.next().ok_or("an operator is missing")?;
-        assert!(rt; place == *wanted_place);
-        expect_text(operator.opcode.word(), *word)?;
-        assert!(rt; are_wanted(&operator.immediates, immediates), "at {place}");
-    }
+    let missing = first_missing(&mut reader, wanted);
+    assert!(rt; missing == None, "at {missing:?}");
     assert!(rt; reader.next().is_none());
     Ok(())
 }
+
+/// Operators without blocks.
+const FLAT: [Placed; 5] = [
+    (0x1a, "i64.const", Wanted::I64(-1)),
+    (0x1c, "local.set", Wanted::Index(0)),
+    (0x1e, "local.get", Wanted::Index(0)),
+    (0x20, "i32.const", Wanted::I32(42)),
+    (0x22, "drop", Wanted::None),
+];
 
 #[test]
 fn flat_operators_are_walked(rt: HostRuntime) -> Result<(), Fail> {
@@ -113,15 +153,21 @@ fn flat_operators_are_walked(rt: HostRuntime) -> Result<(), Fail> {
         &rt,
         rt.alloc(),
         &[0x42, 0x7f, 0x21, 0x00, 0x20, 0x00, 0x41, 0x2a, 0x1a, 0x0b],
-        &[
-            (0x1a, "i64.const", Wanted::I64(-1)),
-            (0x1c, "local.set", Wanted::Index(0)),
-            (0x1e, "local.get", Wanted::Index(0)),
-            (0x20, "i32.const", Wanted::I32(42)),
-            (0x22, "drop", Wanted::None),
-        ],
+        &FLAT,
     )
 }
+
+/// Blocks and loops, one in the other and one behind the other.
+const BLOCKS: [Placed; 8] = [
+    (0x1a, "block", Wanted::Block(BlockType::Empty)),
+    (0x1c, "loop", Wanted::Block(BlockType::Value(ValType::I64))),
+    (0x1e, "br", Wanted::Index(1)),
+    (0x20, "end", Wanted::None),
+    (0x21, "drop", Wanted::None),
+    (0x22, "end", Wanted::None),
+    (0x23, "block", Wanted::Block(BlockType::Func(129))),
+    (0x26, "end", Wanted::None),
+];
 
 #[test]
 fn blocks_and_loops_are_walked(rt: HostRuntime) -> Result<(), Fail> {
@@ -131,18 +177,24 @@ fn blocks_and_loops_are_walked(rt: HostRuntime) -> Result<(), Fail> {
         &[
             0x02, 0x40, 0x03, 0x7e, 0x0c, 0x01, 0x0b, 0x1a, 0x0b, 0x02, 0x81, 0x01, 0x0b, 0x0b,
         ],
-        &[
-            (0x1a, "block", Wanted::Block(BlockType::Empty)),
-            (0x1c, "loop", Wanted::Block(BlockType::Value(ValType::I64))),
-            (0x1e, "br", Wanted::Index(1)),
-            (0x20, "end", Wanted::None),
-            (0x21, "drop", Wanted::None),
-            (0x22, "end", Wanted::None),
-            (0x23, "block", Wanted::Block(BlockType::Func(129))),
-            (0x26, "end", Wanted::None),
-        ],
+        &BLOCKS,
     )
 }
+
+/// An `if` with `else`, one without, and one with nothing in either branch.
+const IFS: [Placed; 11] = [
+    (0x1a, "if", Wanted::Block(BlockType::Value(ValType::I32))),
+    (0x1c, "i32.const", Wanted::I32(1)),
+    (0x1e, "else", Wanted::None),
+    (0x1f, "i32.const", Wanted::I32(2)),
+    (0x21, "end", Wanted::None),
+    (0x22, "if", Wanted::Block(BlockType::Empty)),
+    (0x24, "nop", Wanted::None),
+    (0x25, "end", Wanted::None),
+    (0x26, "if", Wanted::Block(BlockType::Empty)),
+    (0x28, "else", Wanted::None),
+    (0x29, "end", Wanted::None),
+];
 
 #[test]
 fn ifs_are_walked(rt: HostRuntime) -> Result<(), Fail> {
@@ -153,21 +205,24 @@ fn ifs_are_walked(rt: HostRuntime) -> Result<(), Fail> {
             0x04, 0x7f, 0x41, 0x01, 0x05, 0x41, 0x02, 0x0b, 0x04, 0x40, 0x01, 0x0b, 0x04, 0x40,
             0x05, 0x0b, 0x0b,
         ],
-        &[
-            (0x1a, "if", Wanted::Block(BlockType::Value(ValType::I32))),
-            (0x1c, "i32.const", Wanted::I32(1)),
-            (0x1e, "else", Wanted::None),
-            (0x1f, "i32.const", Wanted::I32(2)),
-            (0x21, "end", Wanted::None),
-            (0x22, "if", Wanted::Block(BlockType::Empty)),
-            (0x24, "nop", Wanted::None),
-            (0x25, "end", Wanted::None),
-            (0x26, "if", Wanted::Block(BlockType::Empty)),
-            (0x28, "else", Wanted::None),
-            (0x29, "end", Wanted::None),
-        ],
+        &IFS,
     )
 }
+
+/// A `try` with clauses, and one that ends in `delegate`.
+const TRIES: [Placed; 11] = [
+    (0x1a, "try", Wanted::Block(BlockType::Empty)),
+    (0x1c, "throw", Wanted::Index(3)),
+    (0x1e, "catch", Wanted::Index(3)),
+    (0x20, "rethrow", Wanted::Index(0)),
+    (0x22, "catch", Wanted::Index(4)),
+    (0x24, "catch_all", Wanted::None),
+    (0x25, "end", Wanted::None),
+    (0x26, "try", Wanted::Block(BlockType::Empty)),
+    (0x28, "try", Wanted::Block(BlockType::Empty)),
+    (0x2a, "delegate", Wanted::Index(0)),
+    (0x2c, "end", Wanted::None),
+];
 
 #[test]
 fn tries_are_walked(rt: HostRuntime) -> Result<(), Fail> {
@@ -178,21 +233,30 @@ fn tries_are_walked(rt: HostRuntime) -> Result<(), Fail> {
             0x06, 0x40, 0x08, 0x03, 0x07, 0x03, 0x09, 0x00, 0x07, 0x04, 0x19, 0x0b, 0x06, 0x40,
             0x06, 0x40, 0x18, 0x00, 0x0b, 0x0b,
         ],
-        &[
-            (0x1a, "try", Wanted::Block(BlockType::Empty)),
-            (0x1c, "throw", Wanted::Index(3)),
-            (0x1e, "catch", Wanted::Index(3)),
-            (0x20, "rethrow", Wanted::Index(0)),
-            (0x22, "catch", Wanted::Index(4)),
-            (0x24, "catch_all", Wanted::None),
-            (0x25, "end", Wanted::None),
-            (0x26, "try", Wanted::Block(BlockType::Empty)),
-            (0x28, "try", Wanted::Block(BlockType::Empty)),
-            (0x2a, "delegate", Wanted::Index(0)),
-            (0x2c, "end", Wanted::None),
-        ],
+        &TRIES,
     )
 }
+
+/// A `try_table` with a clause of each kind, and one without any.
+const TRY_TABLES: [Placed; 5] = [
+    (
+        0x1a,
+        "try_table",
+        Wanted::TryTable(
+            BlockType::Empty,
+            &[
+                Catch::One(5, 1),
+                Catch::OneRef(6, 2),
+                Catch::All(3),
+                Catch::AllRef(4),
+            ],
+        ),
+    ),
+    (0x27, "throw_ref", Wanted::None),
+    (0x28, "end", Wanted::None),
+    (0x29, "try_table", Wanted::TryTable(BlockType::Func(0), &[])),
+    (0x2c, "end", Wanted::None),
+];
 
 #[test]
 fn catch_clauses_are_walked(rt: HostRuntime) -> Result<(), Fail> {
@@ -203,27 +267,15 @@ fn catch_clauses_are_walked(rt: HostRuntime) -> Result<(), Fail> {
             0x1f, 0x40, 0x04, 0x00, 0x05, 0x01, 0x01, 0x06, 0x02, 0x02, 0x03, 0x03, 0x04, 0x0a,
             0x0b, 0x1f, 0x00, 0x00, 0x0b, 0x0b,
         ],
-        &[
-            (
-                0x1a,
-                "try_table",
-                Wanted::TryTable(
-                    BlockType::Empty,
-                    &[
-                        Catch::One(5, 1),
-                        Catch::OneRef(6, 2),
-                        Catch::All(3),
-                        Catch::AllRef(4),
-                    ],
-                ),
-            ),
-            (0x27, "throw_ref", Wanted::None),
-            (0x28, "end", Wanted::None),
-            (0x29, "try_table", Wanted::TryTable(BlockType::Func(0), &[])),
-            (0x2c, "end", Wanted::None),
-        ],
+        &TRY_TABLES,
     )
 }
+
+/// A `br_table` with labels, and one with the default alone.
+const BRANCH_TABLES: [Placed; 2] = [
+    (0x1a, "br_table", Wanted::BrTable(&[0, 129, 2], 4)),
+    (0x21, "br_table", Wanted::BrTable(&[], 5)),
+];
 
 #[test]
 fn branch_tables_are_walked(rt: HostRuntime) -> Result<(), Fail> {
@@ -233,28 +285,27 @@ fn branch_tables_are_walked(rt: HostRuntime) -> Result<(), Fail> {
         &[
             0x0e, 0x03, 0x00, 0x81, 0x01, 0x02, 0x04, 0x0e, 0x00, 0x05, 0x0b,
         ],
-        &[
-            (0x1a, "br_table", Wanted::BrTable(&[0, 129, 2], 4)),
-            (0x21, "br_table", Wanted::BrTable(&[], 5)),
-        ],
+        &BRANCH_TABLES,
     )
 }
 
+/// Bytes that spell no operator.
+const REFUSED: [&[u8]; 7] = [
+    &[0xff],
+    &[0xfc, 0x12],
+    // a block type that is negative, or that wants 34 bits
+    &[0x02, 0x41],
+    &[0x02, 0x80, 0x80, 0x80, 0x80, 0x10],
+    // a fifth kind of catch clause
+    &[0x1f, 0x40, 0x01, 0x04, 0x00],
+    // counts of 2^32 - 1 with nothing behind them, of labels and of clauses
+    &[0x0e, 0xff, 0xff, 0xff, 0xff, 0x0f],
+    &[0x1f, 0x40, 0xff, 0xff, 0xff, 0xff, 0x0f],
+];
+
 #[test]
 fn other_operators_are_refused(rt: HostRuntime) {
-    let refused: [&[u8]; 7] = [
-        &[0xff],
-        &[0xfc, 0x12],
-        // a block type that is negative, or that wants 34 bits
-        &[0x02, 0x41],
-        &[0x02, 0x80, 0x80, 0x80, 0x80, 0x10],
-        // a fifth kind of catch clause
-        &[0x1f, 0x40, 0x01, 0x04, 0x00],
-        // counts of 2^32 - 1 with nothing behind them, of labels and of clauses
-        &[0x0e, 0xff, 0xff, 0xff, 0xff, 0x0f],
-        &[0x1f, 0x40, 0xff, 0xff, 0xff, 0xff, 0x0f],
-    ];
-    for (row, bytes) in refused.iter().enumerate() {
+    for (row, bytes) in REFUSED.iter().enumerate() {
         let found = Operator::read(&mut Cursor::new(0, *bytes));
         assert!(rt; found.is_err(), "row {row}");
     }
@@ -268,29 +319,31 @@ fn place_of_refusal(alloc: Global, bytes: &[u8]) -> Option<u64> {
     }
 }
 
+/// Bytes that spell operators but no expression, each with the place of the fault.
+const NESTINGS: [(&[u8], u64); 13] = [
+    // without an `end`
+    (&[0x41, 0x00], 2),
+    (&[0x02, 0x40, 0x0b], 3),
+    // `else` outside of an `if`, in a block, and a second one
+    (&[0x05, 0x0b], 0),
+    (&[0x02, 0x40, 0x05, 0x0b, 0x0b], 2),
+    (&[0x04, 0x40, 0x05, 0x05, 0x0b, 0x0b], 3),
+    // `catch` in a block, in an `if`, and behind `catch_all`
+    (&[0x02, 0x40, 0x07, 0x00, 0x0b, 0x0b], 2),
+    (&[0x04, 0x40, 0x07, 0x00, 0x0b, 0x0b], 2),
+    (&[0x06, 0x40, 0x19, 0x07, 0x00, 0x0b, 0x0b], 3),
+    // `catch_all` in a block, and a second one
+    (&[0x02, 0x40, 0x19, 0x0b, 0x0b], 2),
+    (&[0x06, 0x40, 0x19, 0x19, 0x0b, 0x0b], 3),
+    // `delegate` outside of a `try`, in a block, and behind `catch`
+    (&[0x18, 0x00, 0x0b], 0),
+    (&[0x02, 0x40, 0x18, 0x00, 0x0b], 2),
+    (&[0x06, 0x40, 0x07, 0x00, 0x18, 0x00, 0x0b], 4),
+];
+
 #[test]
 fn other_nesting_is_refused(rt: HostRuntime) {
-    let rows: [(&[u8], u64); 13] = [
-        // without an `end`
-        (&[0x41, 0x00], 2),
-        (&[0x02, 0x40, 0x0b], 3),
-        // `else` outside of an `if`, in a block, and a second one
-        (&[0x05, 0x0b], 0),
-        (&[0x02, 0x40, 0x05, 0x0b, 0x0b], 2),
-        (&[0x04, 0x40, 0x05, 0x05, 0x0b, 0x0b], 3),
-        // `catch` in a block, in an `if`, and behind `catch_all`
-        (&[0x02, 0x40, 0x07, 0x00, 0x0b, 0x0b], 2),
-        (&[0x04, 0x40, 0x07, 0x00, 0x0b, 0x0b], 2),
-        (&[0x06, 0x40, 0x19, 0x07, 0x00, 0x0b, 0x0b], 3),
-        // `catch_all` in a block, and a second one
-        (&[0x02, 0x40, 0x19, 0x0b, 0x0b], 2),
-        (&[0x06, 0x40, 0x19, 0x19, 0x0b, 0x0b], 3),
-        // `delegate` outside of a `try`, in a block, and behind `catch`
-        (&[0x18, 0x00, 0x0b], 0),
-        (&[0x02, 0x40, 0x18, 0x00, 0x0b], 2),
-        (&[0x06, 0x40, 0x07, 0x00, 0x18, 0x00, 0x0b], 4),
-    ];
-    for (row, (bytes, place)) in rows.iter().enumerate() {
+    for (row, (bytes, place)) in NESTINGS.iter().enumerate() {
         assert!(rt;
             place_of_refusal(rt.alloc(), *bytes) == Some(*place),
             "row {row}"
@@ -298,23 +351,18 @@ fn other_nesting_is_refused(rt: HostRuntime) {
     }
 }
 
+/// An expression of 100,000 blocks, one in the other.
+fn nested_blocks(alloc: Global) -> Result<Vec<u8>, AllocError> {
+    let mut bytes = [0x02, 0x40].repeat(alloc, 100_000)?;
+    bytes.extend_from_slice(&[0x0b].repeat(alloc, 100_001)?)?;
+    Ok(bytes)
+}
+
 #[test]
 fn blocks_nest_deep(rt: HostRuntime) -> Result<(), Fail> {
-    let mut bytes = Vec::new(rt.alloc());
-    for _ in 0..100_000 {
-        bytes.push(0x02)?;
-        bytes.push(0x40)?;
-    }
-    for _ in 0..100_001 {
-        bytes.push(0x0b)?;
-    }
+    let bytes = nested_blocks(rt.alloc())?;
     let expression = Expression::read(rt.alloc(), &mut Cursor::new(0, &bytes))?;
-    assert!(rt; expression.end() == 300_000);
-    let mut reader = expression.operators();
-    for number in 0..200_000 {
-        assert!(rt; reader.next().is_some(), "operator {number}");
-    }
-    assert!(rt; reader.next().is_none());
+    assert!(rt; expression.end() == 300_000 && expression.operators().count() == 200_000);
     Ok(())
 }
 
@@ -405,24 +453,24 @@ fn first_type<'a>(bytes: &'a [u8]) -> Option<SubType<'a>> {
     types.next()
 }
 
-/// Asserts that the type is a struct with these fields, and no other.
-fn assert_fields(rt: &impl Abort, composite: &CompositeType, wanted: &[FieldType]) {
+/// Whether the type is a struct with these fields, and no other.
+fn has_fields(composite: &CompositeType, wanted: &[FieldType]) -> bool {
     let CompositeType::Struct(fields) = composite else {
-        assert!(rt; false, "no struct");
-        return;
+        return false;
     };
     let mut fields = fields.iter();
-    for (number, field) in wanted.iter().enumerate() {
-        assert!(rt; fields.next() == Some(*field), "field {number}");
+    for field in wanted {
+        if fields.next() != Some(*field) {
+            return false;
+        }
     }
-    assert!(rt; fields.next() == None);
+    fields.next() == None
 }
 
 #[test]
 fn fields_are_read(rt: HostRuntime) -> Result<(), Fail> {
     let sub_type = first_type(&[0x5f, 0x02, 0x78, 0x01, 0x7f, 0x00]).ok_or("no type is read")?;
-    assert!(rt; sub_type.is_final());
-    assert!(rt; sub_type.supertypes().len() == 0);
+    assert!(rt; sub_type.is_final() && sub_type.supertypes().len() == 0);
     assert!(rt; sub_type.func_type().is_none());
     let first = FieldType {
         storage: StorageType::I8,
@@ -432,25 +480,27 @@ fn fields_are_read(rt: HostRuntime) -> Result<(), Fail> {
         storage: StorageType::Val(ValType::I32),
         mutable: false,
     };
-    assert_fields(&rt, sub_type.composite(), &[first, second]);
+    assert!(rt; has_fields(sub_type.composite(), &[first, second]));
     Ok(())
 }
 
+/// Types with their count in front, and how many are read or where the fault is.
+const COUNTED: [(&[u8], Result<u32, Malformed>); 7] = [
+    (&[0x01, 0x5e, 0x77, 0x01], Ok(1)),
+    (&[0x01, 0x5e, 0x79, 0x00], Err(Malformed { place: 2 })),
+    (&[0x01, 0x5e, 0x78, 0x02], Err(Malformed { place: 3 })),
+    (&[0x01, 0x79], Err(Malformed { place: 1 })),
+    (&[0x01, 0x4e, 0x00], Err(Malformed { place: 1 })),
+    (
+        &[0x01, 0x50, 0x00, 0x50, 0x00, 0x60, 0x00, 0x00],
+        Err(Malformed { place: 3 }),
+    ),
+    (&[0xff, 0xff, 0xff, 0xff, 0x0f], Err(Malformed { place: 5 })),
+];
+
 #[test]
 fn other_types_are_refused(rt: HostRuntime) {
-    let rows: [(&[u8], Result<u32, Malformed>); 7] = [
-        (&[0x01, 0x5e, 0x77, 0x01], Ok(1)),
-        (&[0x01, 0x5e, 0x79, 0x00], Err(Malformed { place: 2 })),
-        (&[0x01, 0x5e, 0x78, 0x02], Err(Malformed { place: 3 })),
-        (&[0x01, 0x79], Err(Malformed { place: 1 })),
-        (&[0x01, 0x4e, 0x00], Err(Malformed { place: 1 })),
-        (
-            &[0x01, 0x50, 0x00, 0x50, 0x00, 0x60, 0x00, 0x00],
-            Err(Malformed { place: 3 }),
-        ),
-        (&[0xff, 0xff, 0xff, 0xff, 0x0f], Err(Malformed { place: 5 })),
-    ];
-    for (row, (bytes, wanted)) in rows.iter().enumerate() {
+    for (row, (bytes, wanted)) in COUNTED.iter().enumerate() {
         assert!(rt; count_of(*bytes) == *wanted, "row {row}");
     }
 }

@@ -4,7 +4,6 @@ ghost use Rattle.std.specs.Prelude.{None, false};
 use std::alloc::Global;
 use std::io;
 use std::io::ErrorKind;
-use std::process::Abort;
 use std::test::Fail;
 use wasmprinter_annotations::{write_custom, write_customs};
 use wasmprinter_bytes::bytes::Cursor;
@@ -40,6 +39,64 @@ impl<'a> Taker<'a> {
             count: 0,
             failing: 0,
         }
+    }
+
+    /// Holds that a section is printed as the typed text.
+    fn expect(
+        &mut self,
+        options: &PrintOptions,
+        section: &CustomEntry,
+        typed: &str,
+    ) -> Result<(), Fail> {
+        write_custom(self, options, section)?;
+        expect_text(self.text.as_str(), typed)?;
+        Ok(())
+    }
+
+    /// Whether the text of a section says that it failed to parse it.
+    fn fails_at(&mut self, section: &CustomEntry) -> bool {
+        let result = write_custom(self, &PrintOptions::new(), section);
+        matches!(result, Ok(_)) && self.text.as_str().contains(";; failed")
+    }
+
+    /// Whether it was asked for these sections, and wrote this text.
+    fn has(&self, asked: &str, text: &str) -> bool {
+        self.asked.as_str() == asked && self.text.as_str() == text
+    }
+
+    /// Whether it is asked so for a section that is accepted, and writes nothing.
+    fn is_silent_at(&mut self, section: &CustomEntry, asked: &str) -> bool {
+        let result = write_custom(self, &PrintOptions::new(), section);
+        matches!(result, Ok(false)) && self.has(asked, "")
+    }
+
+    /// Whether it is asked so for a section that is refused for its subsection 9, and writes nothing.
+    fn refuses(&mut self, section: &CustomEntry, asked: &str) -> bool {
+        let result = write_custom(self, &PrintOptions::new(), section);
+        matches!(result, Err(Error::DylinkSubsection { id: 9 })) && self.has(asked, "")
+    }
+
+    /// Whether some of the sections stand at the place or none, and it is asked for these of them and prints this text.
+    fn prints(
+        &mut self,
+        customs: &[CustomEntry],
+        behind: Option<SectionKind>,
+        (any, asked, text): (bool, &str, &str),
+    ) -> bool {
+        let result = write_customs(self, &PrintOptions::new(), customs, behind);
+        matches!(result, Ok(found) if found == any) && self.has(asked, text)
+    }
+
+    /// Whether one of the sections at the place is refused for its subsection 9.
+    fn refuses_one_of(&mut self, customs: &[CustomEntry], behind: Option<SectionKind>) -> bool {
+        let result = write_customs(self, &PrintOptions::new(), customs, behind);
+        matches!(result, Err(Error::DylinkSubsection { id: 9 }))
+    }
+
+    /// Whether it breaks at one of the sections in front of all others.
+    fn breaks_at(&mut self, customs: &[CustomEntry]) -> bool {
+        let result = write_customs(self, &PrintOptions::new(), customs, None);
+        matches!(result, Err(Error::Printer(e)) if e.kind() == ErrorKind::BrokenPipe)
     }
 }
 
@@ -115,116 +172,133 @@ fn entry<'a>(behind: Option<SectionKind>, bytes: &'a [u8]) -> Result<CustomEntry
     Ok(CustomEntry { behind, section })
 }
 
-/// What is printed of a section.
-fn text_of_section(
+/// Holds that a section of these bytes is printed as the typed text.
+fn expect_section(
     alloc: Global,
     options: &PrintOptions,
-    section: &CustomEntry,
-) -> Result<String, Fail> {
-    let mut printer = Taker::new(alloc, &[]);
-    write_custom(&mut printer, options, section)?;
-    Ok(printer.text)
+    behind: Option<SectionKind>,
+    bytes: &[u8],
+    typed: &str,
+) -> Result<(), Fail> {
+    let section = entry(behind, bytes)?;
+    Taker::new(alloc, &[]).expect(options, &section, typed)
 }
 
-/// What is printed of a section of these bytes in front of all others.
-fn first(alloc: Global, bytes: &[u8]) -> Result<String, Fail> {
-    text_of_section(alloc, &PrintOptions::new(), &entry(None, bytes)?)
+/// Holds that a section of these bytes in front of all others is printed as the typed text.
+fn expect_first(alloc: Global, bytes: &[u8], typed: &str) -> Result<(), Fail> {
+    expect_section(alloc, &PrintOptions::new(), None, bytes, typed)
+}
+
+/// Whether the text says that it failed to parse the section of these bytes.
+fn is_failed(alloc: Global, bytes: &[u8]) -> Result<bool, Fail> {
+    let section = entry(None, bytes)?;
+    Ok(Taker::new(alloc, &[]).fails_at(&section))
 }
 
 #[test]
 fn raw_sections_stand_as_they_are(rt: HostRuntime) -> Result<(), Fail> {
-    let text = first(rt.alloc(), b"\x03a\"b\x00h\\\xff")?;
-    expect_text(
-        text.as_str(),
+    expect_first(
+        rt.alloc(),
+        b"\x03a\"b\x00h\\\xff",
         "\n  (@custom \"a\\u{22}b\" (before first) \"\\00h\\5c\\ff\")",
     )?;
     let mut options = PrintOptions::new();
     options.skeleton = true;
-    let text = text_of_section(rt.alloc(), &options, &entry(None, b"\x01abytes")?)?;
-    expect_text(text.as_str(), "\n  (@custom \"a\" (before first) ...)")?;
+    let typed = "\n  (@custom \"a\" (before first) ...)";
+    expect_section(rt.alloc(), &options, None, b"\x01abytes", typed)
+}
+
+/// The section `a` behind a section of each kind.
+const PLACES: [(SectionKind, &str); 12] = [
+    (SectionKind::Type, "\n  (@custom \"a\" (after type) \"\")"),
+    (
+        SectionKind::Import,
+        "\n  (@custom \"a\" (after import) \"\")",
+    ),
+    (
+        SectionKind::Function,
+        "\n  (@custom \"a\" (after func) \"\")",
+    ),
+    (SectionKind::Table, "\n  (@custom \"a\" (after table) \"\")"),
+    (
+        SectionKind::Memory,
+        "\n  (@custom \"a\" (after memory) \"\")",
+    ),
+    (SectionKind::Tag, "\n  (@custom \"a\" (after tag) \"\")"),
+    (
+        SectionKind::Global,
+        "\n  (@custom \"a\" (after global) \"\")",
+    ),
+    (
+        SectionKind::Export,
+        "\n  (@custom \"a\" (after export) \"\")",
+    ),
+    (SectionKind::Start, "\n  (@custom \"a\" (after start) \"\")"),
+    (
+        SectionKind::Element,
+        "\n  (@custom \"a\" (after elem) \"\")",
+    ),
+    (SectionKind::Code, "\n  (@custom \"a\" (after code) \"\")"),
+    (SectionKind::Data, "\n  (@custom \"a\" (after data) \"\")"),
+];
+
+/// Holds that the section `a` is printed as typed behind each of these.
+fn expect_places(alloc: Global, places: &[(SectionKind, &str)]) -> Result<(), Fail> {
+    for (kind, typed) in places {
+        expect_section(alloc, &PrintOptions::new(), Some(*kind), b"\x01a", typed)?;
+    }
     Ok(())
 }
 
 #[test]
 fn places_have_words(rt: HostRuntime) -> Result<(), Fail> {
-    for (kind, wanted) in [
-        (SectionKind::Type, "\n  (@custom \"a\" (after type) \"\")"),
-        (
-            SectionKind::Import,
-            "\n  (@custom \"a\" (after import) \"\")",
-        ),
-        (
-            SectionKind::Function,
-            "\n  (@custom \"a\" (after func) \"\")",
-        ),
-        (SectionKind::Table, "\n  (@custom \"a\" (after table) \"\")"),
-        (
-            SectionKind::Memory,
-            "\n  (@custom \"a\" (after memory) \"\")",
-        ),
-        (SectionKind::Tag, "\n  (@custom \"a\" (after tag) \"\")"),
-        (
-            SectionKind::Global,
-            "\n  (@custom \"a\" (after global) \"\")",
-        ),
-        (
-            SectionKind::Export,
-            "\n  (@custom \"a\" (after export) \"\")",
-        ),
-        (SectionKind::Start, "\n  (@custom \"a\" (after start) \"\")"),
-        (
-            SectionKind::Element,
-            "\n  (@custom \"a\" (after elem) \"\")",
-        ),
-        (SectionKind::Code, "\n  (@custom \"a\" (after code) \"\")"),
-        (SectionKind::Data, "\n  (@custom \"a\" (after data) \"\")"),
-    ] {
-        let section = entry(Some(kind), b"\x01a")?;
-        let text = text_of_section(rt.alloc(), &PrintOptions::new(), &section)?;
-        expect_text(text.as_str(), wanted)?;
-    }
-    Ok(())
+    expect_places(rt.alloc(), &PLACES)
 }
 
 #[test]
 fn producers_have_lines(rt: HostRuntime) -> Result<(), Fail> {
-    let section = b"\x09producers\x02\x08language\x02\x04Rust\x00\x01C\x0211\x03sdk\x01\x01e\x011";
     let mut options = PrintOptions::new();
     options.offsets = true;
-    let text = text_of_section(rt.alloc(), &options, &entry(None, section)?)?;
-    expect_text(
-        text.as_str(),
+    expect_section(
+        rt.alloc(),
+        &options,
+        None,
+        b"\x09producers\x02\x08language\x02\x04Rust\x00\x01C\x0211\x03sdk\x01\x01e\x011",
         "\n(;@10    ;)  (@producers\
          \n(;@25    ;)    (language \"Rust\" \"\")\
          \n(;@2b    ;)    (language \"C\" \"11\")\
          \n(;@35    ;)    (sdk \"e\" \"1\")\
          \n             )",
-    )?;
-    for bytes in [b"\x09producers\x00\x01", b"\x09producers\x01\x01"] {
-        let text = first(rt.alloc(), bytes)?;
-        assert!(rt; text.as_str().contains(";; failed"));
-    }
-    let text = first(rt.alloc(), b"\x09producers\x00")?;
-    expect_text(text.as_str(), "\n  (@producers)")?;
-    let text = first(rt.alloc(), b"\x09producers\x01\x03sdk\x00")?;
-    expect_text(text.as_str(), "\n  (@producers)")?;
+    )
+}
+
+#[test]
+fn faulted_producers_have_none(rt: HostRuntime) -> Result<(), Fail> {
+    assert!(rt; is_failed(rt.alloc(), b"\x09producers\x00\x01")?);
+    assert!(rt; is_failed(rt.alloc(), b"\x09producers\x01\x01")?);
     Ok(())
 }
 
 #[test]
+fn producers_without_values_have_none(rt: HostRuntime) -> Result<(), Fail> {
+    let typed = "\n  (@producers)";
+    expect_first(rt.alloc(), b"\x09producers\x00", typed)?;
+    expect_first(rt.alloc(), b"\x09producers\x01\x03sdk\x00", typed)
+}
+
+#[test]
 fn producers_may_stand_raw(rt: HostRuntime) -> Result<(), Fail> {
-    let text = first(rt.alloc(), b"\x09producers\x01\x03a b\x00")?;
-    expect_text(
-        text.as_str(),
+    expect_first(
+        rt.alloc(),
+        b"\x09producers\x01\x03a b\x00",
         "\n  (@custom \"producers\" (before first) \"\\01\\03a b\\00\")",
     )?;
-    let text = first(rt.alloc(), b"\x09producers\x00\x00")?;
-    expect_text(
-        text.as_str(),
+    expect_first(
+        rt.alloc(),
+        b"\x09producers\x00\x00",
         "\n  ;; failed to parse custom section `producers`\
          \n  (@custom \"producers\" (before first) \"\\00\\00\")",
-    )?;
-    Ok(())
+    )
 }
 
 #[test]
@@ -236,9 +310,9 @@ fn subsections_of_dylink_have_lines(rt: HostRuntime) -> Result<(), Fail> {
         \x03\x10\x03\x01f\xf7\x07\x01g\x89\x08\x01h\x88\xf8\xff\xff\x0f\
         \x04\x0b\x02\x01m\x01g\x20\x01m\x01h\x00\
         \x05\x03\x01\x01/";
-    let text = first(rt.alloc(), section)?;
-    expect_text(
-        text.as_str(),
+    expect_first(
+        rt.alloc(),
+        section,
         "\n  (@dylink.0\
          \n    (mem-info (memory 16 2) (table 3 0))\
          \n    (mem-info (table 0 1))\
@@ -252,63 +326,46 @@ fn subsections_of_dylink_have_lines(rt: HostRuntime) -> Result<(), Fail> {
          \n    (runtime-path \"/\")\
          \n  )",
     )?;
-    let text = first(rt.alloc(), b"\x08dylink.0")?;
-    expect_text(text.as_str(), "\n  (@dylink.0)")?;
-    let text = first(rt.alloc(), b"\x08dylink.0\x03\x01\x00\x04\x01\x00")?;
-    expect_text(text.as_str(), "\n  (@dylink.0)")?;
-    Ok(())
+    let empty = "\n  (@dylink.0)";
+    expect_first(rt.alloc(), b"\x08dylink.0", empty)?;
+    expect_first(rt.alloc(), b"\x08dylink.0\x03\x01\x00\x04\x01\x00", empty)
 }
 
 #[test]
 fn unknown_subsections_are_refused(rt: HostRuntime) -> Result<(), Fail> {
     let section = entry(None, b"\x08dylink.0\x05\x01\x00\x09\x00")?;
-    let mut printer = Taker::new(rt.alloc(), &[]);
-    let refused = write_custom(&mut printer, &PrintOptions::new(), &section);
-    assert!(rt; matches!(refused, Err(Error::DylinkSubsection { id: 9 })));
-    expect_text(printer.asked.as_str(), "[dylink.0 0x19 5]")?;
-    expect_text(printer.text.as_str(), "")?;
-    let mut printer = Taker::new(rt.alloc(), &[true]);
-    let taken = write_custom(&mut printer, &PrintOptions::new(), &section);
-    assert!(rt; matches!(taken, Ok(false)));
-    expect_text(printer.text.as_str(), "")?;
+    let asked = "[dylink.0 0x19 5]";
+    assert!(rt; Taker::new(rt.alloc(), &[]).refuses(&section, asked));
+    assert!(rt; Taker::new(rt.alloc(), &[true]).is_silent_at(&section, asked));
     Ok(())
 }
 
 #[test]
 fn names_are_offered_and_not_printed(rt: HostRuntime) -> Result<(), Fail> {
-    let mut printer = Taker::new(rt.alloc(), &[]);
     let section = entry(Some(SectionKind::Data), b"\x04name\x00")?;
-    let silent = write_custom(&mut printer, &PrintOptions::new(), &section);
-    assert!(rt; matches!(silent, Ok(false)));
-    expect_text(printer.asked.as_str(), "[name 0x15 1]")?;
-    expect_text(printer.text.as_str(), "")?;
+    assert!(rt; Taker::new(rt.alloc(), &[]).is_silent_at(&section, "[name 0x15 1]"));
     Ok(())
 }
+
+/// Sections, each with what it stands behind and its bytes.
+type Sections = &'static [(Option<SectionKind>, &'static [u8])];
 
 /// The sections `a` and `b` behind the types, and `c`, one that is refused and `d` behind the code.
-fn five_sections() -> Result<[CustomEntry<'static>; 5], Fail> {
-    Ok([
-        entry(Some(SectionKind::Type), b"\x01a")?,
-        entry(Some(SectionKind::Type), b"\x01b")?,
-        entry(Some(SectionKind::Code), b"\x01c")?,
-        entry(Some(SectionKind::Code), b"\x08dylink.0\x09\x00")?,
-        entry(Some(SectionKind::Code), b"\x01d")?,
-    ])
-}
+const FIVE: Sections = &[
+    (Some(SectionKind::Type), b"\x01a"),
+    (Some(SectionKind::Type), b"\x01b"),
+    (Some(SectionKind::Code), b"\x01c"),
+    (Some(SectionKind::Code), b"\x08dylink.0\x09\x00"),
+    (Some(SectionKind::Code), b"\x01d"),
+];
 
-/// Asserts whether sections stand at the place, and which of them the printer is asked for and prints.
-fn assert_customs(
-    rt: &impl Abort,
-    printer: &mut Taker,
-    behind: Option<SectionKind>,
-    (any, asked, text): (bool, &str, &str),
-) -> Result<(), Fail> {
-    let customs = five_sections()?;
-    let found = write_customs(printer, &PrintOptions::new(), &customs, behind)?;
-    assert!(rt; found == any);
-    expect_text(printer.asked.as_str(), asked)?;
-    expect_text(printer.text.as_str(), text)?;
-    Ok(())
+/// The sections of these bytes.
+fn entries_of(alloc: Global, sections: Sections) -> Result<Vec<CustomEntry<'static>>, Fail> {
+    let mut entries = Vec::new(alloc);
+    for (behind, bytes) in sections {
+        entries.push(entry(*behind, bytes)?)?;
+    }
+    Ok(entries)
 }
 
 #[test]
@@ -317,36 +374,28 @@ fn sections_stand_at_their_places(rt: HostRuntime) -> Result<(), Fail> {
     let second = "\n  (@custom \"b\" (after type) \"\")";
     let behind = Some(SectionKind::Type);
     let asked = "[a 0x12 0][b 0x12 0]";
-    let mut printer = Taker::new(rt.alloc(), &[]);
-    assert_customs(&rt, &mut printer, behind, (true, asked, both))?;
-    let mut printer = Taker::new(rt.alloc(), &[true]);
-    assert_customs(&rt, &mut printer, behind, (true, asked, second))
+    let customs = entries_of(rt.alloc(), FIVE)?;
+    assert!(rt; Taker::new(rt.alloc(), &[]).prints(&customs, behind, (true, asked, both)));
+    assert!(rt; Taker::new(rt.alloc(), &[true]).prints(&customs, behind, (true, asked, second)));
+    assert!(rt; Taker::new(rt.alloc(), &[]).prints(&customs, None, (false, "", "")));
+    Ok(())
 }
 
 #[test]
 fn a_section_among_others_is_refused(rt: HostRuntime) -> Result<(), Fail> {
+    let customs = entries_of(rt.alloc(), FIVE)?;
     let mut printer = Taker::new(rt.alloc(), &[]);
-    assert_customs(&rt, &mut printer, None, (false, "", ""))?;
-    let customs = five_sections()?;
-    let behind = Some(SectionKind::Code);
-    let refused = write_customs(&mut printer, &PrintOptions::new(), &customs, behind);
-    assert!(rt; matches!(refused, Err(Error::DylinkSubsection { id: 9 })));
-    expect_text(printer.asked.as_str(), "[c 0x12 0][dylink.0 0x19 2]")?;
+    assert!(rt; printer.refuses_one_of(&customs, Some(SectionKind::Code)));
+    assert!(rt; printer.asked.as_str() == "[c 0x12 0][dylink.0 0x19 2]");
     Ok(())
 }
 
 #[test]
 fn a_question_may_fail(rt: HostRuntime) -> Result<(), Fail> {
-    let customs = [
-        entry(None, b"\x01a")?,
-        entry(None, b"\x01b")?,
-        entry(None, b"\x01c")?,
-    ];
+    let sections: Sections = &[(None, b"\x01a"), (None, b"\x01b"), (None, b"\x01c")];
+    let customs = entries_of(rt.alloc(), sections)?;
     let mut printer = Taker::new(rt.alloc(), &[true]);
     printer.failing = 2;
-    let failed = write_customs(&mut printer, &PrintOptions::new(), &customs, None);
-    assert!(rt; matches!(failed, Err(Error::Printer(e)) if e.kind() == ErrorKind::BrokenPipe));
-    expect_text(printer.asked.as_str(), "[a 0x12 0][b 0x12 0]")?;
-    expect_text(printer.text.as_str(), "")?;
+    assert!(rt; printer.breaks_at(&customs) && printer.has("[a 0x12 0][b 0x12 0]", ""));
     Ok(())
 }

@@ -1,6 +1,7 @@
 //! Expressions in one line, and over lines with hints. What is expected is typed by hand.
 ghost use Rattle.std.specs.Prelude.{None};
 
+use crate::names::names_of;
 use std::alloc::Global;
 use std::test::Fail;
 use wasmprinter_bytes::bytes::Cursor;
@@ -8,7 +9,7 @@ use wasmprinter_customs::{FunctionHints, Hints};
 use wasmprinter_flat::operators::{Form, Setting, write_operators};
 use wasmprinter_labels::OpenLabels;
 use wasmprinter_lines::options::PrintOptions;
-use wasmprinter_names::{Identifiers, NamesBuilder, read_names};
+use wasmprinter_names::Identifiers;
 use wasmprinter_ops::expression::Expression;
 use wasmprinter_ops::types::composite::FuncType;
 use wasmprinter_print::PrintFmtWrite;
@@ -44,7 +45,28 @@ fn setting(form: Form, nesting: u64) -> Setting<'static, NoTypes> {
     }
 }
 
-/// The operators of an expression of function 0, printed in a module with the names of this section.
+/// The operators of an expression of function 0, printed in a module with these identifiers.
+fn text_of_expression(
+    alloc: Global,
+    identifiers: Identifiers<'_, '_>,
+    setting: &Setting<'_, NoTypes>,
+    hints: FunctionHints<'_>,
+    expression: &Expression<'_>,
+) -> Result<String, Fail> {
+    let mut labels = OpenLabels::new(alloc, identifiers)?;
+    let mut printer = PrintFmtWrite(String::new(alloc));
+    write_operators(
+        &mut printer,
+        &PrintOptions::new(),
+        setting,
+        &mut labels,
+        hints,
+        expression,
+    )?;
+    Ok(printer.0)
+}
+
+/// The same for the operators of these bytes, in a module with the names of this section.
 fn text_of_operators(
     alloc: Global,
     section: &[u8],
@@ -53,37 +75,33 @@ fn text_of_operators(
     hints: FunctionHints<'_>,
     bytes: &[u8],
 ) -> Result<String, Fail> {
-    let mut builder = NamesBuilder::new(alloc);
-    read_names(alloc, &mut builder, Cursor::new(0, section))?;
-    let names = builder.finish(alloc)?;
+    let expression = Expression::read(alloc, &mut Cursor::new(OPERATORS, bytes))?;
+    let names = names_of(alloc, &[section])?;
     let identifiers = Identifiers {
         names: &names,
         invents,
     };
-    let mut labels = OpenLabels::new(alloc, identifiers)?;
-    let expression = Expression::read(alloc, &mut Cursor::new(OPERATORS, bytes))?;
-    let mut printer = PrintFmtWrite(String::new(alloc));
-    write_operators(
-        &mut printer,
-        &PrintOptions::new(),
-        setting,
-        &mut labels,
-        hints,
-        &expression,
-    )?;
-    Ok(printer.0)
+    text_of_expression(alloc, identifiers, setting, hints, &expression)
 }
 
-/// The operators in one line, in a module with the names of this section.
-fn with_names(alloc: Global, section: &[u8], invents: bool, bytes: &[u8]) -> Result<String, Fail> {
-    text_of_operators(
-        alloc,
-        section,
-        invents,
-        &setting(Form::InLine, 0),
-        FunctionHints::none(),
-        bytes,
-    )
+/// Holds that the operators are printed in one line as typed, in a module with the names of this section.
+fn expect_line(
+    alloc: Global,
+    section: &[u8],
+    invents: bool,
+    bytes: &[u8],
+    typed: &str,
+) -> Result<(), Fail> {
+    let setting = setting(Form::InLine, 0);
+    let hints = FunctionHints::none();
+    let text = text_of_operators(alloc, section, invents, &setting, hints, bytes)?;
+    expect_text(text.as_str(), typed)?;
+    Ok(())
+}
+
+/// Holds the same of operators in a module without names.
+fn expect_nameless(alloc: Global, bytes: &[u8], typed: &str) -> Result<(), Fail> {
+    expect_line(alloc, &[], false, bytes, typed)
 }
 
 /// The operators over lines, with the hints of this section.
@@ -99,43 +117,28 @@ fn with_hints(alloc: Global, section: &[u8], bytes: &[u8]) -> Result<String, Fai
     )
 }
 
-/// The same without names.
-fn in_line(alloc: Global, bytes: &[u8]) -> Result<String, Fail> {
-    with_names(alloc, &[], false, bytes)
-}
-
 #[test]
 fn operators_stand_one_blank_apart(rt: HostRuntime) -> Result<(), Fail> {
-    let empty = in_line(rt.alloc(), &[0x0b])?;
-    expect_text(empty.as_str(), "")?;
-    let one = in_line(rt.alloc(), &[0x23, 0x02, 0x0b])?;
-    expect_text(one.as_str(), "global.get 2")?;
-    let sum = in_line(rt.alloc(), &[0x41, 0x01, 0x41, 0x7b, 0x6a, 0x0b])?;
-    expect_text(sum.as_str(), "i32.const 1 i32.const -5 i32.add")?;
-    Ok(())
+    expect_nameless(rt.alloc(), &[0x0b], "")?;
+    expect_nameless(rt.alloc(), &[0x23, 0x02, 0x0b], "global.get 2")?;
+    let sum = &[0x41, 0x01, 0x41, 0x7b, 0x6a, 0x0b];
+    expect_nameless(rt.alloc(), sum, "i32.const 1 i32.const -5 i32.add")
 }
 
 #[test]
 fn blocks_stand_in_the_line(rt: HostRuntime) -> Result<(), Fail> {
-    let one = in_line(
+    expect_nameless(
         rt.alloc(),
         &[0x02, 0x7f, 0x41, 0x07, 0x0c, 0x00, 0x0b, 0x1a, 0x0b],
-    )?;
-    expect_text(
-        one.as_str(),
         "block (result i32)  (; label = @1 ;) i32.const 7 br 0 (;@1;) end drop",
     )?;
-    let two = in_line(
+    expect_nameless(
         rt.alloc(),
         &[
             0x02, 0x40, 0x41, 0x01, 0x04, 0x40, 0x0c, 0x01, 0x05, 0x0c, 0x00, 0x0b, 0x0b, 0x0b,
         ],
-    )?;
-    expect_text(
-        two.as_str(),
         "block  (; label = @1 ;) i32.const 1 if  (; label = @2 ;) br 1 (;@1;) else br 0 (;@2;) end end",
-    )?;
-    Ok(())
+    )
 }
 
 #[test]
@@ -143,20 +146,17 @@ fn names_stand_for_indices(rt: HostRuntime) -> Result<(), Fail> {
     // local 0 of function 0 is `x`, labels 0 and 1 of it are `a`; memory 0 is `m`, global 0 is `g`
     let section =
         b"\x02\x06\x01\x00\x01\x00\x01x\x03\x09\x01\x00\x02\x00\x01a\x01\x01a\x06\x04\x01\x00\x01m\x07\x04\x01\x00\x01g";
-    let plain = with_names(
+    expect_line(
         rt.alloc(),
         section,
         false,
         &[
             0x20, 0x00, 0x20, 0x01, 0x23, 0x00, 0x28, 0x02, 0x00, 0xfc, 0x0a, 0x00, 0x01, 0x0b,
         ],
-    )?;
-    expect_text(
-        plain.as_str(),
         "local.get $x local.get 1 global.get $g i32.load memory.copy $m 1",
     )?;
     // the inner `a` hides the outer one, and the third block has no name
-    let blocks = with_names(
+    expect_line(
         rt.alloc(),
         section,
         false,
@@ -164,39 +164,28 @@ fn names_stand_for_indices(rt: HostRuntime) -> Result<(), Fail> {
             0x02, 0x40, 0x02, 0x40, 0x0c, 0x00, 0x0c, 0x01, 0x0c, 0x02, 0x0b, 0x02, 0x40, 0x0c,
             0x00, 0x0c, 0x01, 0x0b, 0x0b, 0x0b,
         ],
-    )?;
-    expect_text(
-        blocks.as_str(),
         "block $a block $a br $a br 1 br 2 end block  (; label = @2 ;) br 0 (;@2;) br $a end end",
-    )?;
-    Ok(())
+    )
 }
 
 #[test]
 fn identifiers_are_made_up(rt: HostRuntime) -> Result<(), Fail> {
-    let plain = with_names(
+    expect_line(
         rt.alloc(),
         &[],
         true,
         &[0x20, 0x02, 0x10, 0x05, 0xfb, 0x02, 0x03, 0x01, 0x0b],
-    )?;
-    expect_text(
-        plain.as_str(),
         "local.get $#local2 call $#func5 struct.get $#type3 $#field1",
     )?;
-    let blocks = with_names(
+    expect_line(
         rt.alloc(),
         &[],
         true,
         &[
             0x02, 0x40, 0x06, 0x40, 0x18, 0x00, 0x0c, 0x00, 0x0c, 0x01, 0x0b, 0x0b,
         ],
-    )?;
-    expect_text(
-        blocks.as_str(),
         "block $#label0 try $#label1 delegate $#label0 br $#label0 br 1 end",
-    )?;
-    Ok(())
+    )
 }
 
 #[test]

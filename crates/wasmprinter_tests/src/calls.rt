@@ -1,43 +1,32 @@
 //! The calls on a printer, in their order, and which error comes where one of them fails.
 
+use crate::printing::{early_refusal_of, expect_calls, expect_recorded, print_to};
 use std::alloc::Global;
 use std::io::ErrorKind;
 use std::test::Fail;
-use wasmprinter::{Config, Error, Print};
+use wasmprinter::{Config, Error};
 use wasmprinter_recorder::{REFUSED, Recorder};
 use wasmprinter_samples::sections::{TYPE, add_section};
 use wasmprinter_samples::{
     CONTROL, CONTROL_CALLS, EMPTY_CALLS, EVERYTHING, EVERYTHING_CALLS, FIELDS, FIELDS_CALLS,
     IDENTITY, IDENTITY_CALLS, INVENTED_CALLS, KINDS, KINDS_CALLS, NAMED, NAMED_CALLS, PREAMBLE,
-    expect_text,
 };
 
-/// Prints to any printer. It promises nothing, so that no caller works out what the promises mean for its own printer.
-pub fn print_to<P: Print>(
-    config: &Config,
-    alloc: Global,
-    wasm: &[u8],
-    printer: &mut P,
-) -> Result<(), Error> {
-    config.print(alloc, wasm, printer)
-}
+/// Modules, each with the calls that print it.
+const MODULES: [(&[u8], &str); 7] = [
+    (&PREAMBLE, EMPTY_CALLS),
+    (&IDENTITY, IDENTITY_CALLS),
+    (&EVERYTHING, EVERYTHING_CALLS),
+    (&KINDS, KINDS_CALLS),
+    (&CONTROL, CONTROL_CALLS),
+    (&FIELDS, FIELDS_CALLS),
+    (&NAMED, NAMED_CALLS),
+];
 
 #[test]
 fn makes_each_call_in_order(rt: HostRuntime) -> Result<(), Fail> {
-    let modules: [(&[u8], &str); 7] = [
-        (&PREAMBLE, EMPTY_CALLS),
-        (&IDENTITY, IDENTITY_CALLS),
-        (&EVERYTHING, EVERYTHING_CALLS),
-        (&KINDS, KINDS_CALLS),
-        (&CONTROL, CONTROL_CALLS),
-        (&FIELDS, FIELDS_CALLS),
-        (&NAMED, NAMED_CALLS),
-    ];
-    for (wasm, calls) in modules {
-        let mut recorder = Recorder::new(rt.alloc());
-        print_to(&Config::new(), rt.alloc(), wasm, &mut recorder)?;
-        expect_text(recorder.calls(), calls)?;
-        assert!(rt; recorder.is_complete());
+    for (wasm, calls) in MODULES {
+        expect_calls(rt.alloc(), wasm, Recorder::new(rt.alloc()), calls)?;
     }
     Ok(())
 }
@@ -48,20 +37,13 @@ fn makes_the_calls_of_identifiers_that_are_made_up(rt: HostRuntime) -> Result<()
     let mut config = Config::new();
     config.name_unnamed(true);
     print_to(&config, rt.alloc(), &NAMED[..40], &mut recorder)?;
-    expect_text(recorder.calls(), INVENTED_CALLS)?;
-    assert!(rt; recorder.is_complete());
-    Ok(())
+    expect_recorded(&recorder, INVENTED_CALLS)
 }
 
 #[test]
-fn makes_no_call_before_a_refusal(rt: HostRuntime) -> Result<(), Fail> {
-    let mut recorder = Recorder::new(rt.alloc());
-    let refused = print_to(&Config::new(), rt.alloc(), &IDENTITY[..34], &mut recorder);
-    assert!(rt; matches!(refused, Err(Error::Malformed { .. })));
-    expect_text(recorder.calls(), "")?;
-    assert!(rt; recorder.call_count() == 0);
-    assert!(rt; recorder.is_complete());
-    Ok(())
+fn makes_no_call_before_a_refusal(rt: HostRuntime) {
+    let refused = early_refusal_of(rt.alloc(), &IDENTITY[..34]);
+    assert!(rt; matches!(refused, Some(Error::Malformed { .. })));
 }
 
 /// Calls that are refused in turn, each with those before it: the first, a style, a line feed, one in the middle, and the last.
@@ -75,26 +57,46 @@ const BEGINNINGS: [&str; 5] = [
     IDENTITY_CALLS,
 ];
 
+/// Whether these calls are one of `BEGINNINGS`.
+fn is_listed(calls: &str) -> bool {
+    for beginning in BEGINNINGS {
+        if beginning == calls {
+            return true;
+        }
+    }
+    false
+}
+
+/// How many calls that can fail print `IDENTITY`.
+fn call_count(alloc: Global) -> Result<u32, Error> {
+    let mut recorder = Recorder::new(alloc);
+    print_to(&Config::new(), alloc, &IDENTITY, &mut recorder)?;
+    Ok(recorder.call_count())
+}
+
+/// Whether the calls in front of the one with this number, which is refused while `IDENTITY` is printed, are one of `BEGINNINGS`. `None`
+/// where another error is answered, or the calls don't end there or are others than those of `IDENTITY`.
+fn stops_at(alloc: Global, call: u32) -> Option<bool> {
+    let mut recorder = Recorder::with_refusal(alloc, call, ErrorKind::BrokenPipe);
+    let refused = print_to(&Config::new(), alloc, &IDENTITY, &mut recorder);
+    let is_answered =
+        matches!(refused, Err(Error::Printer(e)) if e.kind() == ErrorKind::BrokenPipe);
+    match recorder.calls().strip_suffix(REFUSED) {
+        Some(beginning)
+            if is_answered && recorder.is_complete() && IDENTITY_CALLS.starts_with(beginning) => {
+            Some(is_listed(beginning))
+        }
+        _ => None,
+    }
+}
+
 #[test]
 fn stops_at_the_call_that_fails_and_answers_its_error(rt: HostRuntime) -> Result<(), Fail> {
-    let alloc = rt.alloc();
-    let mut whole = Recorder::new(alloc);
-    print_to(&Config::new(), alloc, &IDENTITY, &mut whole)?;
     let mut seen: usize = 0;
-    for call in 1..=whole.call_count() {
-        let mut recorder = Recorder::with_refusal(alloc, call, ErrorKind::BrokenPipe);
-        let refused = print_to(&Config::new(), alloc, &IDENTITY, &mut recorder);
-        assert!(rt;
-            matches!(refused, Err(Error::Printer(e)) if e.kind() == ErrorKind::BrokenPipe),
-            "at call {call}"
-        );
-        assert!(rt; recorder.is_complete());
-        let beginning = recorder
-            .calls()
-            .strip_suffix(REFUSED)
-            .ok_or("calls behind the one that failed")?;
-        assert!(rt; IDENTITY_CALLS.starts_with(beginning), "at call {call}");
-        if BEGINNINGS.iter().any(|wanted| *wanted == beginning) {
+    for call in 1..=call_count(rt.alloc())? {
+        let is_seen = stops_at(rt.alloc(), call);
+        assert!(rt; is_seen.is_some(), "at call {call}");
+        if is_seen == Some(true) {
             seen = seen.saturating_add(1);
         }
     }
@@ -125,10 +127,10 @@ fn places_the_types_of_a_group_behind_its_first_two_bytes(rt: HostRuntime) -> Re
         TYPE,
         &[0x01, 0x4e, 0x02, 0x5f, 0x01, 0x78, 0x01, 0x60, 0x00, 0x00],
     )?;
-    let mut recorder = Recorder::new(rt.alloc());
-    print_to(&Config::new(), rt.alloc(), &wasm, &mut recorder)?;
-    expect_text(
-        recorder.calls(),
+    expect_calls(
+        rt.alloc(),
+        &wasm,
+        Recorder::new(rt.alloc()),
         r#"[0x0]({K}module{R}
 [0xb]  ({K}rec{R}
 [0xd]    ({K}type {R}{N}(;0;){R} ({K}struct{R} (field (mut i8))))
@@ -136,7 +138,5 @@ fn places_the_types_of_a_group_behind_its_first_two_bytes(rt: HostRuntime) -> Re
 []  )
 [0x14])
 "#,
-    )?;
-    assert!(rt; recorder.is_complete());
-    Ok(())
+    )
 }

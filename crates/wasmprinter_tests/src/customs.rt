@@ -1,20 +1,48 @@
 //! Custom sections: raw ones with their places, `producers`, `dylink.0`, and sections that the printer takes itself (custom sections:
 //! section 5.5.3 of the standard; `producers` and `dylink.0`: tool conventions).
 
-use crate::calls::print_to;
+use crate::printing::{
+    expect_calls, expect_printed, expect_recorded, is_malformed, is_printed_as, print_to,
+    refusal_of,
+};
 use std::alloc::{AllocError, Global};
 use std::test::Fail;
 use wasmprinter::wasm::{CustomEntry, SectionKind, decode};
 use wasmprinter::{Config, Error, print_bytes};
 use wasmprinter_recorder::Recorder;
-use wasmprinter_samples::sections::{CUSTOM, add_custom, add_section};
+use wasmprinter_samples::sections::{CUSTOM, START, add_custom, add_section};
 use wasmprinter_samples::{PREAMBLE, expect_text};
+
+/// A custom section: its name and the bytes behind it.
+type Section = (&'static str, &'static [u8]);
+
+/// Adds these custom sections.
+fn add_customs(alloc: Global, wasm: &mut Vec<u8>, sections: &[Section]) -> Result<(), AllocError> {
+    for (name, data) in sections {
+        add_custom(alloc, wasm, name, data)?;
+    }
+    Ok(())
+}
+
+/// A module that holds these custom sections alone.
+fn with_customs(alloc: Global, sections: &[Section]) -> Result<Vec<u8>, AllocError> {
+    let mut wasm = Vec::from_slice(alloc, &PREAMBLE)?;
+    add_customs(alloc, &mut wasm, sections)?;
+    Ok(wasm)
+}
 
 /// The text of a module that holds one custom section alone.
 fn text_of_custom(alloc: Global, name: &str, data: &[u8]) -> Result<String, Error> {
     let mut wasm = Vec::from_slice(alloc, &PREAMBLE)?;
     add_custom(alloc, &mut wasm, name, data)?;
     print_bytes(alloc, &wasm)
+}
+
+/// Holds that the text of a module that holds one custom section alone is the typed one.
+fn expect_custom(alloc: Global, name: &str, data: &[u8], typed: &str) -> Result<(), Fail> {
+    let text = text_of_custom(alloc, name, data)?;
+    expect_text(text.as_str(), typed)?;
+    Ok(())
 }
 
 // ---- places
@@ -37,10 +65,8 @@ const AROUND_A_MEMORY_TEXT: &str = r#"(module
 
 #[test]
 fn prints_custom_sections_at_their_places(rt: HostRuntime) -> Result<(), Fail> {
-    let text = print_bytes(rt.alloc(), &AROUND_A_MEMORY[..22])?;
-    expect_text(text.as_str(), AROUND_A_MEMORY_TEXT)?;
-    let cut = print_bytes(rt.alloc(), &AROUND_A_MEMORY);
-    assert!(rt; matches!(cut, Err(Error::Malformed { .. })));
+    expect_printed(rt.alloc(), &AROUND_A_MEMORY[..22], AROUND_A_MEMORY_TEXT)?;
+    assert!(rt; is_malformed(rt.alloc(), &AROUND_A_MEMORY));
     Ok(())
 }
 
@@ -92,86 +118,124 @@ const EVERY_PLACE_TEXT: &str = r#"(module
 )
 "#;
 
-#[test]
-fn knows_every_place(rt: HostRuntime) -> Result<(), Fail> {
-    let alloc = rt.alloc();
-    let mut wasm = Vec::from_slice(alloc, &PREAMBLE)?;
-    add_custom(alloc, &mut wasm, "c", &[])?;
-    for (id, content, _) in SECTIONS {
-        add_section(&mut wasm, id, content)?;
-        add_custom(alloc, &mut wasm, "c", &[])?;
-    }
-    let text = print_bytes(alloc, &wasm)?;
-    expect_text(text.as_str(), EVERY_PLACE_TEXT)?;
-    let module = decode(alloc, &wasm)?;
-    let kinds = [
-        None,
-        Some(SectionKind::Type),
-        Some(SectionKind::Import),
-        Some(SectionKind::Function),
-        Some(SectionKind::Table),
-        Some(SectionKind::Memory),
-        Some(SectionKind::Tag),
-        Some(SectionKind::Global),
-        Some(SectionKind::Export),
-        Some(SectionKind::Start),
-        Some(SectionKind::Element),
-        Some(SectionKind::Element),
-        Some(SectionKind::Code),
-        Some(SectionKind::Data),
-    ];
-    let customs: &[CustomEntry<'_>] = module.customs();
-    assert!(rt; customs.len() == kinds.len());
-    for (custom, kind) in customs.iter().zip(kinds) {
-        assert!(rt; custom.behind == kind);
+/// Behind what each of these custom sections stands.
+const EVERY_PLACE: [Option<SectionKind>; 14] = [
+    None,
+    Some(SectionKind::Type),
+    Some(SectionKind::Import),
+    Some(SectionKind::Function),
+    Some(SectionKind::Table),
+    Some(SectionKind::Memory),
+    Some(SectionKind::Tag),
+    Some(SectionKind::Global),
+    Some(SectionKind::Export),
+    Some(SectionKind::Start),
+    Some(SectionKind::Element),
+    Some(SectionKind::Element),
+    Some(SectionKind::Code),
+    Some(SectionKind::Data),
+];
+
+/// Adds a section, and a custom section behind it.
+fn add_with_custom(
+    alloc: Global,
+    wasm: &mut Vec<u8>,
+    id: u8,
+    content: &[u8],
+) -> Result<(), AllocError> {
+    add_section(wasm, id, content)?;
+    add_custom(alloc, wasm, "c", &[])
+}
+
+/// Adds sections, and a custom section behind each.
+fn add_each_with_custom(
+    alloc: Global,
+    wasm: &mut Vec<u8>,
+    sections: &[(u8, &[u8], &str)],
+) -> Result<(), AllocError> {
+    for (id, content, _) in sections {
+        add_with_custom(alloc, wasm, *id, content)?;
     }
     Ok(())
 }
 
+/// A module of a custom section, and then `SECTIONS` with one behind each.
+fn with_every_place(alloc: Global) -> Result<Vec<u8>, AllocError> {
+    let mut wasm = Vec::from_slice(alloc, &PREAMBLE)?;
+    add_custom(alloc, &mut wasm, "c", &[])?;
+    add_each_with_custom(alloc, &mut wasm, &SECTIONS)?;
+    Ok(wasm)
+}
+
+/// Whether custom sections stand behind these kinds of sections.
+fn are_behind(customs: &[CustomEntry<'_>], kinds: &[Option<SectionKind>]) -> bool {
+    for (custom, kind) in customs.iter().zip(kinds) {
+        if custom.behind != *kind {
+            return false;
+        }
+    }
+    customs.len() == kinds.len()
+}
+
+#[test]
+fn knows_every_place(rt: HostRuntime) -> Result<(), Fail> {
+    let wasm = with_every_place(rt.alloc())?;
+    expect_printed(rt.alloc(), &wasm, EVERY_PLACE_TEXT)?;
+    let module = decode(rt.alloc(), &wasm)?;
+    assert!(rt; are_behind(module.customs(), &EVERY_PLACE));
+    Ok(())
+}
+
+/// Whether a module with a section that holds nothing, and a custom section behind it, has this text.
+fn prints_behind_empty(alloc: Global, id: u8, typed: &str) -> Result<bool, AllocError> {
+    let mut wasm = Vec::from_slice(alloc, &PREAMBLE)?;
+    add_with_custom(alloc, &mut wasm, id, &[0x00])?;
+    Ok(is_printed_as(alloc, &wasm, typed))
+}
+
+const FIRST_TEXT: &str = "(module\n  (@custom \"c\" (before first) \"\")\n)\n";
+
+const BEHIND_START_TEXT: &str = "(module\n  (start 0)\n  (@custom \"c\" (after start) \"\")\n)\n";
+
 #[test]
 fn passes_over_empty_sections(rt: HostRuntime) -> Result<(), Fail> {
-    let alloc = rt.alloc();
     // all but the start section, which always counts
     for (id, _, word) in SECTIONS {
-        if id == 8 {
-            continue;
-        }
-        let mut wasm = Vec::from_slice(alloc, &PREAMBLE)?;
-        add_section(&mut wasm, id, &[0x00])?;
-        add_custom(alloc, &mut wasm, "c", &[])?;
-        let text = print_bytes(alloc, &wasm)?;
+        let typed = if id == START {
+            BEHIND_START_TEXT
+        } else {
+            FIRST_TEXT
+        };
         assert!(rt;
-            text.as_str() == "(module\n  (@custom \"c\" (before first) \"\")\n)\n",
+            prints_behind_empty(rt.alloc(), id, typed)?,
             "behind an empty section {word}"
         );
     }
-    let mut wasm = Vec::from_slice(alloc, &PREAMBLE)?;
-    add_section(&mut wasm, 8, &[0x00])?;
-    add_custom(alloc, &mut wasm, "c", &[])?;
-    let text = print_bytes(alloc, &wasm)?;
-    expect_text(
-        text.as_str(),
-        "(module\n  (start 0)\n  (@custom \"c\" (after start) \"\")\n)\n",
-    )?;
     Ok(())
+}
+
+/// Contents of custom sections that don't begin with a name.
+const NAMELESS: [&[u8]; 4] = [
+    // no UTF-8
+    &[0x01, 0xff],
+    &[0x02, 0xc3, 0x28],
+    // cut
+    &[0x02, 0x61],
+    // nothing
+    &[],
+];
+
+/// Whether a module that holds a custom section with this content alone is malformed.
+fn is_malformed_with(alloc: Global, content: &[u8]) -> Result<bool, AllocError> {
+    let mut wasm = Vec::from_slice(alloc, &PREAMBLE)?;
+    add_section(&mut wasm, CUSTOM, content)?;
+    Ok(is_malformed(alloc, &wasm))
 }
 
 #[test]
 fn refuses_a_name_that_is_no_text(rt: HostRuntime) -> Result<(), Fail> {
-    let contents: [&[u8]; 4] = [
-        // no UTF-8
-        &[0x01, 0xff],
-        &[0x02, 0xc3, 0x28],
-        // cut
-        &[0x02, 0x61],
-        // nothing
-        &[],
-    ];
-    for content in contents {
-        let mut wasm = Vec::from_slice(rt.alloc(), &PREAMBLE)?;
-        add_section(&mut wasm, CUSTOM, content)?;
-        let refused = print_bytes(rt.alloc(), &wasm);
-        assert!(rt; matches!(refused, Err(Error::Malformed { .. })));
+    for content in NAMELESS {
+        assert!(rt; is_malformed_with(rt.alloc(), content)?, "{content:?}");
     }
     Ok(())
 }
@@ -238,8 +302,7 @@ const PRODUCERS: [(&[u8], &str); 9] = [
 #[test]
 fn prints_producers(rt: HostRuntime) -> Result<(), Fail> {
     for (data, expected) in PRODUCERS {
-        let text = text_of_custom(rt.alloc(), "producers", data)?;
-        expect_text(text.as_str(), expected)?;
+        expect_custom(rt.alloc(), "producers", data, expected)?;
     }
     Ok(())
 }
@@ -296,110 +359,127 @@ const DYLINK: [(&[u8], &str); 9] = [
 #[test]
 fn prints_dylink(rt: HostRuntime) -> Result<(), Fail> {
     for (data, expected) in DYLINK {
-        let text = text_of_custom(rt.alloc(), "dylink.0", data)?;
-        expect_text(text.as_str(), expected)?;
+        expect_custom(rt.alloc(), "dylink.0", data, expected)?;
     }
     Ok(())
 }
 
+/// A `dylink.0` section with a subsection that is not known, and a section behind it.
+const UNKNOWN_SUBSECTION: [Section; 2] = [("dylink.0", &[0x09, 0x00]), ("c", &[])];
+
+/// A memory between two custom sections, and behind them `UNKNOWN_SUBSECTION`.
+fn with_unknown_subsection(alloc: Global) -> Result<Vec<u8>, AllocError> {
+    let mut wasm = Vec::from_slice(alloc, &AROUND_A_MEMORY[..22])?;
+    add_customs(alloc, &mut wasm, &UNKNOWN_SUBSECTION)?;
+    Ok(wasm)
+}
+
+/// The error of a module that is refused behind these calls on a printer.
+fn late_refusal_of(alloc: Global, wasm: &[u8], typed: &str) -> Result<Option<Error>, Fail> {
+    let mut recorder = Recorder::new(alloc);
+    let printed = print_to(&Config::new(), alloc, wasm, &mut recorder);
+    expect_recorded(&recorder, typed)?;
+    Ok(printed.err())
+}
+
 #[test]
 fn refuses_a_subsection_that_is_not_known(rt: HostRuntime) -> Result<(), Fail> {
-    let alloc = rt.alloc();
-    let mut wasm = Vec::from_slice(alloc, &AROUND_A_MEMORY[..22])?;
-    add_custom(alloc, &mut wasm, "dylink.0", &[0x09, 0x00])?;
-    add_custom(alloc, &mut wasm, "c", &[])?;
-    let refused = print_bytes(alloc, &wasm);
-    assert!(rt; matches!(refused, Err(Error::DylinkSubsection { id: 9 })));
+    let wasm = with_unknown_subsection(rt.alloc())?;
+    let refused = refusal_of(rt.alloc(), &wasm);
+    assert!(rt; matches!(refused, Some(Error::DylinkSubsection { id: 9 })));
     // what stands in front of it was printed
-    let mut recorder = Recorder::new(alloc);
-    let refused = print_to(&Config::new(), alloc, &wasm, &mut recorder);
-    assert!(rt; matches!(refused, Err(Error::DylinkSubsection { id: 9 })));
-    expect_text(
-        recorder.calls(),
+    let refused = late_refusal_of(
+        rt.alloc(),
+        &wasm,
         r#"[0x0]({K}module{R}{? "a" 0xc [1]}
 [0xa]  ({K}@custom {R}{L}"a"{R} (before first) {L}"\\01"{R})
 [0x10]  ({K}memory {R}{N}(;0;){R} {L}1{R}){? "b" 0x16 []}
 [0x14]  ({K}@custom {R}{L}"b"{R} (after memory) {L}""{R}){? "dylink.0" 0x21 [9, 0]}"#,
     )?;
-    assert!(rt; recorder.is_complete());
+    assert!(rt; matches!(refused, Some(Error::DylinkSubsection { id: 9 })));
     Ok(())
+}
+
+/// Data of a `dylink.0` section with a subsection that is not known behind a known one, with bytes that stand whole.
+const UNKNOWN: &[u8] = b"\x01\x04\x00\x00\x00\x00\x07\x01\x00";
+
+/// Data of such sections with a fault in front of it, or with its own size past the end.
+const FAULTY: [&[u8]; 2] = [b"\x01\x01\x00\x07\x01\x00", b"\x07\x02\x00"];
+
+/// Whether a `dylink.0` section is refused for its subsection 7.
+fn is_refused_for_seven(alloc: Global, data: &[u8]) -> bool {
+    let text = text_of_custom(alloc, "dylink.0", data);
+    matches!(text, Err(Error::DylinkSubsection { id: 7 }))
+}
+
+/// Whether the text of a `dylink.0` section begins with a remark that it could not be read.
+fn is_remarked(alloc: Global, data: &[u8]) -> Result<bool, Error> {
+    let text = text_of_custom(alloc, "dylink.0", data)?;
+    Ok(text.starts_with("(module\n  ;; failed to parse custom section `dylink.0`\n"))
 }
 
 #[test]
 fn judges_dylink_in_order(rt: HostRuntime) -> Result<(), Fail> {
-    // an id that isn't known behind a known one, with bytes that stand whole
-    let unknown = text_of_custom(
-        rt.alloc(),
-        "dylink.0",
-        b"\x01\x04\x00\x00\x00\x00\x07\x01\x00",
-    );
-    assert!(rt; matches!(unknown, Err(Error::DylinkSubsection { id: 7 })));
-    // a fault in front of it, or its own size past the end
-    let faults: [&[u8]; 2] = [b"\x01\x01\x00\x07\x01\x00", b"\x07\x02\x00"];
-    for data in faults {
-        let text = text_of_custom(rt.alloc(), "dylink.0", data)?;
-        assert!(rt; text.starts_with("(module\n  ;; failed to parse custom section `dylink.0`\n"));
+    assert!(rt; is_refused_for_seven(rt.alloc(), UNKNOWN));
+    for data in FAULTY {
+        assert!(rt; is_remarked(rt.alloc(), data)?);
     }
     Ok(())
 }
 
 // ---- claims
 
+/// A section with a fault between two others.
+const BETWEEN: [Section; 3] = [("a", &[]), ("dylink.0", &[0x09, 0x00]), ("b", &[])];
+
 #[test]
 fn prints_nothing_of_what_the_printer_takes(rt: HostRuntime) -> Result<(), Fail> {
-    let alloc = rt.alloc();
-    let mut wasm = Vec::from_slice(alloc, &PREAMBLE)?;
-    add_custom(alloc, &mut wasm, "a", &[])?;
-    add_custom(alloc, &mut wasm, "dylink.0", &[0x09, 0x00])?;
-    add_custom(alloc, &mut wasm, "b", &[])?;
-    let mut recorder = Recorder::with_section_taken(alloc, "dylink.0");
-    print_to(&Config::new(), alloc, &wasm, &mut recorder)?;
-    expect_text(
-        recorder.calls(),
+    let wasm = with_customs(rt.alloc(), &BETWEEN)?;
+    expect_calls(
+        rt.alloc(),
+        &wasm,
+        Recorder::with_section_taken(rt.alloc(), "dylink.0"),
         r#"[0x0]({K}module{R}{? "a" 0xc []}
 [0xa]  ({K}@custom {R}{L}"a"{R} (before first) {L}""{R}){? "dylink.0" 0x17 [9, 0]}{? "b" 0x1d []}
 [0x1b]  ({K}@custom {R}{L}"b"{R} (before first) {L}""{R})
 [0x1d])
 "#,
-    )?;
-    assert!(rt; recorder.is_complete());
-    Ok(())
+    )
 }
+
+/// The same section twice.
+const TWICE: [Section; 2] = [("a", &[0x01]), ("a", &[0x01])];
 
 #[test]
 fn asks_for_the_same_section_twice(rt: HostRuntime) -> Result<(), Fail> {
-    let alloc = rt.alloc();
-    let mut wasm = Vec::from_slice(alloc, &PREAMBLE)?;
-    add_custom(alloc, &mut wasm, "a", &[0x01])?;
-    add_custom(alloc, &mut wasm, "a", &[0x01])?;
-    let text = print_bytes(alloc, &wasm)?;
-    expect_text(
-        text.as_str(),
+    let wasm = with_customs(rt.alloc(), &TWICE)?;
+    expect_printed(
+        rt.alloc(),
+        &wasm,
         r#"(module
   (@custom "a" (before first) "\01")
   (@custom "a" (before first) "\01")
 )
 "#,
     )?;
-    let mut recorder = Recorder::with_section_taken(alloc, "a");
-    print_to(&Config::new(), alloc, &wasm, &mut recorder)?;
-    expect_text(
-        recorder.calls(),
+    expect_calls(
+        rt.alloc(),
+        &wasm,
+        Recorder::with_section_taken(rt.alloc(), "a"),
         "[0x0]({K}module{R}{? \"a\" 0xc [1]}{? \"a\" 0x11 [1]})\n",
-    )?;
-    Ok(())
+    )
 }
+
+/// A section that names the module.
+const NAMES: [Section; 1] = [("name", b"\x00\x02\x01m")];
 
 #[test]
 fn keeps_the_names_of_a_section_that_is_taken(rt: HostRuntime) -> Result<(), Fail> {
-    let alloc = rt.alloc();
-    let mut wasm = Vec::from_slice(alloc, &PREAMBLE)?;
-    add_custom(alloc, &mut wasm, "name", b"\x00\x02\x01m")?;
-    let mut recorder = Recorder::with_section_taken(alloc, "name");
-    print_to(&Config::new(), alloc, &wasm, &mut recorder)?;
-    expect_text(
-        recorder.calls(),
+    let wasm = with_customs(rt.alloc(), &NAMES)?;
+    expect_calls(
+        rt.alloc(),
+        &wasm,
+        Recorder::with_section_taken(rt.alloc(), "name"),
         "[0x0]({K}module{R} $m{? \"name\" 0xf [0, 2, 1, 109]})\n",
-    )?;
-    Ok(())
+    )
 }

@@ -1,9 +1,11 @@
 //! What a decoded module gives out, through the crate's own paths.
 
+use std::alloc::{AllocError, Global};
 use std::test::Fail;
+use wasmprinter::Error;
 use wasmprinter::wasm::{
-    BlockType, Body, Catch, ExternKind, Immediates, Module, Opcode, Operator, OperatorsReader,
-    ValType, decode,
+    BlockType, Body, Catch, Export, ExternKind, Immediates, LocalEntry, Module, Opcode, Operator,
+    OperatorsReader, TypeGroup, ValType, decode,
 };
 use wasmprinter_samples::{CONTROL, EVERYTHING, PREAMBLE, expect_text};
 
@@ -125,132 +127,191 @@ fn difference(mut reader: OperatorsReader<'_>, rows: &[Row]) -> Option<u64> {
     }
 }
 
+/// Whether a module defines so many functions: the last of them has a body, and none behind it.
+fn has_functions(module: &Module<'_>, count: u32) -> bool {
+    module.function_count() == count
+        && (count == 0 || module.body(count.saturating_sub(1)).is_some())
+        && module.body(count).is_none()
+        && module.body(u32::MAX).is_none()
+}
+
+/// Whether bytes are decoded as a module that defines so many functions.
+pub fn counts_functions(alloc: Global, wasm: &[u8], count: u32) -> Result<bool, Error> {
+    let module = decode(alloc, wasm)?;
+    Ok(has_functions(&module, count))
+}
+
 #[test]
 fn counts_the_functions_that_are_defined(rt: HostRuntime) -> Result<(), Fail> {
-    let empty: Module<'_> = decode(rt.alloc(), &PREAMBLE)?;
-    assert!(rt; empty.function_count() == 0);
-    assert!(rt; empty.body(0).is_none());
-    let module = decode(rt.alloc(), &EVERYTHING)?;
-    assert!(rt; module.function_count() == 2);
-    assert!(rt; module.body(1).is_some());
-    assert!(rt; module.body(2).is_none());
-    assert!(rt; module.body(u32::MAX).is_none());
+    assert!(rt; counts_functions(rt.alloc(), &PREAMBLE, 0)?);
+    assert!(rt; counts_functions(rt.alloc(), &EVERYTHING, 2)?);
     Ok(())
+}
+
+/// Whether a walk over a body, from its first operator on, meets these operators alone.
+fn has_operators(body: &Body<'_>, rows: &[Row]) -> bool {
+    difference(body.operators(), rows).is_none()
+}
+
+/// Whether the first body of `EVERYTHING` has no operators, and each walk over the second meets `OPERATORS` from the first on.
+fn has_bodies(module: &Module<'_>) -> bool {
+    let Some(first) = module.body(0) else {
+        return false;
+    };
+    let Some(second) = module.body(1) else {
+        return false;
+    };
+    has_operators(&first, &[])
+        && has_operators(&second, &OPERATORS)
+        && has_operators(&second, &OPERATORS)
+        && difference(second.operators(), &OPERATORS[..6]) == Some(0x44)
 }
 
 #[test]
 fn walks_over_operators(rt: HostRuntime) -> Result<(), Fail> {
     let module = decode(rt.alloc(), &EVERYTHING)?;
-    let first: Body<'_> = module.body(0).ok_or("no first body")?;
-    assert!(rt; difference(first.operators(), &[]) == None);
-    let second = module.body(1).ok_or("no second body")?;
-    assert!(rt; difference(second.operators(), &OPERATORS) == None);
-    // a second walk over the same body begins at its first operator
-    assert!(rt; difference(second.operators(), &OPERATORS) == None);
-    assert!(rt; difference(second.operators(), &OPERATORS[..6]) == Some(0x44));
+    assert!(rt; has_bodies(&module));
     Ok(())
 }
 
-#[test]
-fn walks_over_blocks(rt: HostRuntime) -> Result<(), Fail> {
-    let module = decode(rt.alloc(), &CONTROL)?;
-    let body = module.body(0).ok_or("no body")?;
-    assert!(rt; difference(body.operators(), &BLOCKS) == None);
-    assert!(rt; body.end() == 0x54);
-    Ok(())
-}
-
-#[test]
-fn has_no_words_for_opcodes_that_are_not_listed(rt: HostRuntime) -> Result<(), Fail> {
-    for (prefix, number) in [
-        (0, 0x27),
-        (0, 0x100),
-        (0, u32::MAX),
-        (0xfc, 18),
-        (0xfc, 0x100),
-        (0xfb, 31),
-        (0xfd, 154),
-        (0xfd, 0x1_0000),
-        (0xfe, 0x04),
-        (0xff, 0x00),
-    ] {
-        expect_text(Opcode { prefix, number }.word(), "")?;
-    }
-    Ok(())
-}
-
-/// The place of a type.
-fn place_of_type(module: &Module<'_>, number: usize) -> Option<u64> {
-    match module.types().get(number) {
-        Some(func_type) => Some(func_type.place()),
-        None => None,
-    }
-}
-
-/// Whether the module has this export of a function at the place.
-fn has_export(module: &Module<'_>, number: usize, place: u64, name: &str, function: u32) -> bool {
-    match module.exports().get(number) {
-        Some(export) => {
-            export.place() == place
-                && export.name() == name
-                && export.kind() == ExternKind::Func
-                && export.index() == function
-        }
+/// Whether the body of `CONTROL` has its operators, and ends behind the last.
+fn has_blocks(module: &Module<'_>) -> bool {
+    match module.body(0) {
+        Some(body) => has_operators(&body, &BLOCKS) && body.end() == 0x54,
         None => false,
     }
 }
 
 #[test]
+fn walks_over_blocks(rt: HostRuntime) -> Result<(), Fail> {
+    let module = decode(rt.alloc(), &CONTROL)?;
+    assert!(rt; has_blocks(&module));
+    Ok(())
+}
+
+/// Opcodes that the table of operators doesn't list.
+const NOT_LISTED: [(u8, u32); 10] = [
+    (0, 0x27),
+    (0, 0x100),
+    (0, u32::MAX),
+    (0xfc, 18),
+    (0xfc, 0x100),
+    (0xfb, 31),
+    (0xfd, 154),
+    (0xfd, 0x1_0000),
+    (0xfe, 0x04),
+    (0xff, 0x00),
+];
+
+#[test]
+fn has_no_words_for_opcodes_that_are_not_listed(rt: HostRuntime) -> Result<(), Fail> {
+    for (prefix, number) in NOT_LISTED {
+        expect_text(Opcode { prefix, number }.word(), "")?;
+    }
+    Ok(())
+}
+
+/// Whether these are the types of `EVERYTHING`.
+fn are_types(groups: &[TypeGroup<'_>]) -> bool {
+    match groups {
+        [first, second] => first.place() == 0x0b && second.place() == 0x0e,
+        _ => false,
+    }
+}
+
+/// Whether an export is this one of a function.
+fn is_export(export: &Export<'_>, place: u64, name: &str, function: u32) -> bool {
+    export.place() == place
+        && export.name() == name
+        && export.kind() == ExternKind::Func
+        && export.index() == function
+}
+
+/// Whether these are the exports of `EVERYTHING`.
+fn are_exports(exports: &[Export<'_>]) -> bool {
+    match exports {
+        [first, second] => is_export(first, 0x1b, "go", 1) && is_export(second, 0x20, "", 0),
+        _ => false,
+    }
+}
+
+/// Whether the module has the size, the types and the exports of `EVERYTHING`.
+fn has_types_and_exports(module: &Module<'_>) -> bool {
+    module.size() == 70 && are_types(module.types()) && are_exports(module.exports())
+}
+
+#[test]
 fn gives_out_types_and_exports(rt: HostRuntime) -> Result<(), Fail> {
     let module = decode(rt.alloc(), &EVERYTHING)?;
-    assert!(rt; module.size() == 70);
-    assert!(rt; module.types().len() == 2);
-    assert!(rt; place_of_type(&module, 0) == Some(0x0b));
-    assert!(rt; place_of_type(&module, 1) == Some(0x0e));
-    assert!(rt; module.exports().len() == 2);
-    assert!(rt; has_export(&module, 0, 0x1b, "go", 1));
-    assert!(rt; has_export(&module, 1, 0x20, "", 0));
+    assert!(rt; has_types_and_exports(&module));
     Ok(())
+}
+
+/// Whether there is an entry of locals with this place, count and type.
+fn is_entry(entry: Option<LocalEntry>, place: u64, count: u32, val_type: ValType) -> bool {
+    match entry {
+        Some(entry) => {
+            entry.place() == place && entry.count() == count && entry.val_type() == val_type
+        }
+        None => false,
+    }
+}
+
+/// Whether a body has the locals of the second of `EVERYTHING`.
+fn has_locals(body: &Body<'_>) -> bool {
+    let mut locals = body.locals();
+    locals.len() == 2
+        && is_entry(locals.next(), 0x2b, 2, ValType::I32)
+        && is_entry(locals.next(), 0x2d, 1, ValType::I64)
+}
+
+/// Whether the module has the second body of `EVERYTHING`, with its locals.
+fn has_second_body(module: &Module<'_>) -> bool {
+    match module.body(1) {
+        Some(body) => body.place() == 0x2a && body.end() == 0x45 && has_locals(&body),
+        None => false,
+    }
+}
+
+/// Whether the first function of the module is that of `EVERYTHING`.
+fn has_first_function(module: &Module<'_>) -> bool {
+    if module.function_count() != 2 {
+        return false;
+    }
+    let function = module.function(0);
+    function.type_index() == 1 && function.body().place() == 0x27 && function.body().end() == 0x28
 }
 
 #[test]
 fn gives_out_what_a_body_holds(rt: HostRuntime) -> Result<(), Fail> {
     let module = decode(rt.alloc(), &EVERYTHING)?;
-    let body = module.body(1).ok_or("no second body")?;
-    assert!(rt; body.place() == 0x2a);
-    assert!(rt; body.end() == 0x45);
-    let mut locals = body.locals();
-    assert!(rt; locals.len() == 2);
-    for (place, count, val_type) in [(0x2b, 2, ValType::I32), (0x2d, 1, ValType::I64)] {
-        let entry = locals.next().ok_or("an entry is missing")?;
-        assert!(rt; entry.place() == place);
-        assert!(rt; entry.count() == count);
-        assert!(rt; entry.val_type() == val_type);
-    }
-    assert!(rt; module.function_count() == 2);
-    let function = module.function(0);
-    assert!(rt; function.type_index() == 1);
-    assert!(rt; function.body().place() == 0x27);
-    assert!(rt; function.body().end() == 0x28);
+    assert!(rt; has_second_body(&module) && has_first_function(&module));
     Ok(())
+}
+
+/// Numbers of opcodes, and what stands behind them.
+const SHAPES: [(u32, &str); 8] = [
+    (0x0f, "Some(None)"),
+    (0x10, "Some(Index(Func))"),
+    (0x21, "Some(Index(Local))"),
+    (0x41, "Some(I32)"),
+    (0x42, "Some(I64)"),
+    (0x06, "Some(Block)"),
+    (0x0d, "Some(Index(Label))"),
+    (0x27, "None"),
+];
+
+/// Whether the shape of what stands behind an opcode is shown as this.
+fn shows_shape(alloc: Global, number: u32, shape: &str) -> Result<bool, AllocError> {
+    let found = Opcode { prefix: 0, number }.shape();
+    let shown = format!(in alloc; "{found:?}")?;
+    Ok(shown.as_str() == shape)
 }
 
 #[test]
 fn gives_shapes_to_listed_opcodes(rt: HostRuntime) -> Result<(), Fail> {
-    let shapes = [
-        (0x0f, "Some(None)"),
-        (0x10, "Some(Index(Func))"),
-        (0x21, "Some(Index(Local))"),
-        (0x41, "Some(I32)"),
-        (0x42, "Some(I64)"),
-        (0x06, "Some(Block)"),
-        (0x0d, "Some(Index(Label))"),
-        (0x27, "None"),
-    ];
-    for (number, shape) in shapes {
-        let found = Opcode { prefix: 0, number }.shape();
-        let shown = format!(in rt.alloc(); "{found:?}")?;
-        assert!(rt; shown.as_str() == shape, "at {number:#x}");
+    for (number, shape) in SHAPES {
+        assert!(rt; shows_shape(rt.alloc(), number, shape)?, "at {number:#x}");
     }
     Ok(())
 }

@@ -1,38 +1,84 @@
 //! Branch hints (Code Metadata): each stands on a line of its own, directly in front of its operator.
 
-use crate::calls::print_to;
+use crate::printing::{expect_calls, expect_printed};
 use std::alloc::{AllocError, Global};
 use std::test::Fail;
 use wasmprinter::{Config, print_bytes};
 use wasmprinter_recorder::Recorder;
-use wasmprinter_samples::sections::{add_custom, add_section};
+use wasmprinter_samples::sections::{CODE, add_custom, add_section};
 use wasmprinter_samples::{PREAMBLE, expect_text};
 
 /// The name of hint sections.
 const HINTS: &str = "metadata.code.branch_hint";
 
-/// A module with a function of one parameter, which it tests in an `if`, and a hint section with this data.
-fn module_with_hints(alloc: Global, data: &[u8]) -> Result<Vec<u8>, AllocError> {
+/// Sections, each with its number.
+type Sections = &'static [(u8, &'static [u8])];
+
+/// Adds these sections, and behind them one of hints and one of code.
+fn add_hinted(
+    alloc: Global,
+    wasm: &mut Vec<u8>,
+    sections: Sections,
+    data: &[u8],
+    code: &[u8],
+) -> Result<(), AllocError> {
+    for (id, content) in sections {
+        add_section(wasm, *id, content)?;
+    }
+    add_custom(alloc, wasm, HINTS, data)?;
+    add_section(wasm, CODE, code)
+}
+
+/// A module of these sections, and behind them one of hints and one of code.
+fn hinted(
+    alloc: Global,
+    sections: Sections,
+    data: &[u8],
+    code: &[u8],
+) -> Result<Vec<u8>, AllocError> {
     let mut wasm = Vec::from_slice(alloc, &PREAMBLE)?;
-    add_section(&mut wasm, 1, &[0x01, 0x60, 0x01, 0x7f, 0x00])?;
-    add_section(&mut wasm, 3, &[0x01, 0x00])?;
-    add_custom(alloc, &mut wasm, HINTS, data)?;
-    add_section(
-        &mut wasm,
-        10,
-        &[0x01, 0x07, 0x00, 0x20, 0x00, 0x04, 0x40, 0x0b, 0x0b],
-    )?;
+    add_hinted(alloc, &mut wasm, sections, data, code)?;
     Ok(wasm)
 }
 
-/// The text of that module, with a line in front of its `if`.
-fn text_with(alloc: Global, line: &str) -> Result<String, AllocError> {
-    let mut text = String::new(alloc);
-    text.push_str("(module\n  (type (;0;) (func (param i32)))\n")?;
-    text.push_str("  (func (;0;) (type 0) (param i32)\n    local.get 0\n")?;
-    text.push_str(line)?;
-    text.push_str("    if ;; label = @1\n    end\n  )\n)\n")?;
-    Ok(text)
+/// The type of functions of one parameter, and a function of it.
+const ONE_FUNCTION: Sections = &[(1, &[0x01, 0x60, 0x01, 0x7f, 0x00]), (3, &[0x01, 0x00])];
+
+/// A body that tests the parameter in an `if`.
+const ONE_BODY: &[u8] = &[0x01, 0x07, 0x00, 0x20, 0x00, 0x04, 0x40, 0x0b, 0x0b];
+
+/// A module with a function of one parameter, which it tests in an `if`, and a hint section with this data.
+fn module_with_hints(alloc: Global, data: &[u8]) -> Result<Vec<u8>, AllocError> {
+    hinted(alloc, ONE_FUNCTION, data, ONE_BODY)
+}
+
+/// The text of that module in front of its `if`.
+const BEFORE: &str = r#"(module
+  (type (;0;) (func (param i32)))
+  (func (;0;) (type 0) (param i32)
+    local.get 0
+"#;
+
+/// And from there on.
+const BEHIND: &str = r#"    if ;; label = @1
+    end
+  )
+)
+"#;
+
+/// Holds that the text of that module has this line in front of its `if`, or none.
+fn expect_hint(alloc: Global, wasm: &[u8], line: &str) -> Result<(), Fail> {
+    let text = print_bytes(alloc, wasm)?;
+    let behind = text.strip_prefix(BEFORE).ok_or("another beginning")?;
+    let found = behind.strip_suffix(BEHIND).ok_or("another end")?;
+    expect_text(found, line)?;
+    Ok(())
+}
+
+/// Holds the same of the module with this data.
+fn expect_hint_of(alloc: Global, data: &[u8], line: &str) -> Result<(), Fail> {
+    let wasm = module_with_hints(alloc, data)?;
+    expect_hint(alloc, &wasm, line)
 }
 
 /// The line of a branch that is likely to be taken.
@@ -70,10 +116,7 @@ const ROWS: [(&[u8], &str); 9] = [
 #[test]
 fn prints_hints_in_front_of_their_operators(rt: HostRuntime) -> Result<(), Fail> {
     for (data, line) in ROWS {
-        let wasm = module_with_hints(rt.alloc(), data)?;
-        let text = print_bytes(rt.alloc(), &wasm)?;
-        let expected = text_with(rt.alloc(), line)?;
-        expect_text(text.as_str(), expected.as_str())?;
+        expect_hint_of(rt.alloc(), data, line)?;
     }
     Ok(())
 }
@@ -88,23 +131,20 @@ const NESTED: [u8; 18] = [
     0x09, 0x01, 0x00, // of the block's `end`
 ];
 
+/// A function without parameters.
+const NESTED_FUNCTION: Sections = &[(1, &[0x01, 0x60, 0x00, 0x00]), (3, &[0x01, 0x00])];
+
+/// Its body.
+const NESTED_BODY: &[u8] = &[
+    0x01, 0x0b, 0x00, 0x02, 0x40, 0x41, 0x00, 0x04, 0x40, 0x05, 0x0b, 0x0b, 0x0b,
+];
+
 #[test]
 fn stands_as_deep_as_the_operators_of_its_block(rt: HostRuntime) -> Result<(), Fail> {
-    let alloc = rt.alloc();
-    let mut wasm = Vec::from_slice(alloc, &PREAMBLE)?;
-    add_section(&mut wasm, 1, &[0x01, 0x60, 0x00, 0x00])?;
-    add_section(&mut wasm, 3, &[0x01, 0x00])?;
-    add_custom(alloc, &mut wasm, HINTS, &NESTED)?;
-    add_section(
-        &mut wasm,
-        10,
-        &[
-            0x01, 0x0b, 0x00, 0x02, 0x40, 0x41, 0x00, 0x04, 0x40, 0x05, 0x0b, 0x0b, 0x0b,
-        ],
-    )?;
-    let text = print_bytes(alloc, &wasm)?;
-    expect_text(
-        text.as_str(),
+    let wasm = hinted(rt.alloc(), NESTED_FUNCTION, &NESTED, NESTED_BODY)?;
+    expect_printed(
+        rt.alloc(),
+        &wasm,
         r#"(module
   (type (;0;) (func))
   (func (;0;) (type 0)
@@ -122,23 +162,17 @@ fn stands_as_deep_as_the_operators_of_its_block(rt: HostRuntime) -> Result<(), F
   )
 )
 "#,
-    )?;
-    Ok(())
+    )
 }
 
 #[test]
 fn takes_the_last_hint_section_alone(rt: HostRuntime) -> Result<(), Fail> {
     let alloc = rt.alloc();
     let mut wasm = module_with_hints(alloc, &[0x01, 0x00, 0x01, 0x03, 0x01, 0x01])?;
-    let first = print_bytes(alloc, &wasm)?;
-    let hint = text_with(alloc, TAKEN)?;
-    expect_text(first.as_str(), hint.as_str())?;
+    expect_hint(alloc, &wasm, TAKEN)?;
     // a second one, which says nothing
     add_custom(alloc, &mut wasm, HINTS, &[0x00])?;
-    let second = print_bytes(alloc, &wasm)?;
-    let none = text_with(alloc, "")?;
-    expect_text(second.as_str(), none.as_str())?;
-    Ok(())
+    expect_hint(alloc, &wasm, "")
 }
 
 #[test]
@@ -157,42 +191,41 @@ fn makes_the_calls_of_a_hint(rt: HostRuntime) -> Result<(), Fail> {
 [0x40])
 "#;
     for taken in ["", HINTS] {
-        let mut recorder = Recorder::with_section_taken(alloc, taken);
-        print_to(&Config::new(), alloc, &wasm, &mut recorder)?;
-        expect_text(recorder.calls(), calls)?;
-        assert!(rt; recorder.is_complete());
+        let recorder = Recorder::with_section_taken(alloc, taken);
+        expect_calls(alloc, &wasm, recorder, calls)?;
     }
     Ok(())
 }
 
+/// An imported function, and two that are defined, all of one type.
+const THREE_FUNCTIONS: Sections = &[
+    (1, &[0x01, 0x60, 0x01, 0x7f, 0x00]),
+    (2, &[0x01, 0x01, b'a', 0x01, b'f', 0x00, 0x00]),
+    (3, &[0x02, 0x00, 0x00]),
+];
+
+/// Hints of function 1, not taken; of function 2, taken.
+const TWO_HINTS: &[u8] = &[
+    0x02, 0x01, 0x01, 0x03, 0x01, 0x00, 0x02, 0x01, 0x03, 0x01, 0x01,
+];
+
+/// Bodies that test their parameter in an `if`.
+const TWO_BODIES: &[u8] = &[
+    0x02, 0x07, 0x00, 0x20, 0x00, 0x04, 0x40, 0x0b, 0x0b, 0x07, 0x00, 0x20, 0x00, 0x04, 0x40, 0x0b,
+    0x0b,
+];
+
 /// A module that imports a function and defines two, each of which tests its parameter in an `if`, with a hint for each of these.
 fn module_with_two_hint_sections(alloc: Global) -> Result<Vec<u8>, AllocError> {
-    let mut wasm = Vec::from_slice(alloc, &PREAMBLE)?;
-    add_section(&mut wasm, 1, &[0x01, 0x60, 0x01, 0x7f, 0x00])?;
-    add_section(&mut wasm, 2, &[0x01, 0x01, b'a', 0x01, b'f', 0x00, 0x00])?;
-    add_section(&mut wasm, 3, &[0x02, 0x00, 0x00])?;
-    // of function 1, not taken; of function 2, taken
-    let data = [
-        0x02, 0x01, 0x01, 0x03, 0x01, 0x00, 0x02, 0x01, 0x03, 0x01, 0x01,
-    ];
-    add_custom(alloc, &mut wasm, HINTS, &data)?;
-    add_section(
-        &mut wasm,
-        10,
-        &[
-            0x02, 0x07, 0x00, 0x20, 0x00, 0x04, 0x40, 0x0b, 0x0b, 0x07, 0x00, 0x20, 0x00, 0x04,
-            0x40, 0x0b, 0x0b,
-        ],
-    )?;
-    Ok(wasm)
+    hinted(alloc, THREE_FUNCTIONS, TWO_HINTS, TWO_BODIES)
 }
 
 #[test]
 fn numbers_functions_behind_the_imported_ones(rt: HostRuntime) -> Result<(), Fail> {
     let wasm = module_with_two_hint_sections(rt.alloc())?;
-    let text = print_bytes(rt.alloc(), &wasm)?;
-    expect_text(
-        text.as_str(),
+    expect_printed(
+        rt.alloc(),
+        &wasm,
         r#"(module
   (type (;0;) (func (param i32)))
   (import "a" "f" (func (;0;) (type 0) (param i32)))
@@ -210,8 +243,7 @@ fn numbers_functions_behind_the_imported_ones(rt: HostRuntime) -> Result<(), Fai
   )
 )
 "#,
-    )?;
-    Ok(())
+    )
 }
 
 #[test]

@@ -15,4 +15,6 @@ mod limits;
 #[cfg(test)]
 mod names;
 #[cfg(test)]
+mod printing;
+#[cfg(test)]
 mod refusals;

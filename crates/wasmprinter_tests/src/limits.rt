@@ -1,20 +1,31 @@
 //! The greatest numbers that are taken, and what comes past them.
 
-use crate::calls::print_to;
+use crate::decoding::counts_functions;
+use crate::printing::{early_refusal_of, refusal_of};
 use std::alloc::{AllocError, Global};
 use std::test::Fail;
 use wasmprinter::wasm::decode;
-use wasmprinter::{Config, Error, print_bytes};
-use wasmprinter_recorder::Recorder;
-use wasmprinter_samples::{PREAMBLE, expect_text};
+use wasmprinter::{Error, print_bytes};
+use wasmprinter_samples::PREAMBLE;
 
-/// A type, a function of it, and this code section.
-fn with_code(alloc: Global, code: &[u8]) -> Result<Vec<u8>, AllocError> {
-    let mut wasm = Vec::from_slice(alloc, &PREAMBLE)?;
+/// Adds a type, a function of it, and this code section.
+fn add_code(wasm: &mut Vec<u8>, code: &[u8]) -> Result<(), AllocError> {
     wasm.extend_from_slice(&[0x01, 0x04, 0x01, 0x60, 0x00, 0x00])?;
     wasm.extend_from_slice(&[0x03, 0x02, 0x01, 0x00])?;
-    wasm.extend_from_slice(code)?;
+    wasm.extend_from_slice(code)
+}
+
+/// A module of these.
+fn with_code(alloc: Global, code: &[u8]) -> Result<Vec<u8>, AllocError> {
+    let mut wasm = Vec::from_slice(alloc, &PREAMBLE)?;
+    add_code(&mut wasm, code)?;
     Ok(wasm)
+}
+
+/// How often the text of a module has this within.
+fn count_in_text(alloc: Global, wasm: &[u8], word: &str) -> Result<usize, Error> {
+    let text = print_bytes(alloc, wasm)?;
+    Ok(text.as_str().matches(word).count())
 }
 
 #[test]
@@ -24,23 +35,47 @@ fn takes_fifty_thousand_locals_and_no_more(rt: HostRuntime) -> Result<(), Fail> 
         alloc,
         &[0x0a, 0x08, 0x01, 0x06, 0x01, 0xd0, 0x86, 0x03, 0x7f, 0x0b],
     )?;
-    let text = print_bytes(alloc, &most)?;
-    assert!(rt; text.as_str().matches(" i32").count() == 50_000);
+    assert!(rt; count_in_text(alloc, &most, " i32")? == 50_000);
     let more = with_code(
         alloc,
         &[0x0a, 0x08, 0x01, 0x06, 0x01, 0xd1, 0x86, 0x03, 0x7f, 0x0b],
     )?;
-    let refused = print_bytes(alloc, &more);
-    assert!(rt; matches!(refused, Err(Error::TooManyLocals { place: 22 })));
-    let mut recorder = Recorder::new(alloc);
-    let refused = print_to(&Config::new(), alloc, &more, &mut recorder);
-    assert!(rt; matches!(refused, Err(Error::TooManyLocals { place: 22 })));
-    expect_text(recorder.calls(), "")?;
+    let refused = refusal_of(alloc, &more);
+    assert!(rt; matches!(refused, Some(Error::TooManyLocals { place: 22 })));
+    let refused = early_refusal_of(alloc, &more);
+    assert!(rt; matches!(refused, Some(Error::TooManyLocals { place: 22 })));
     Ok(())
 }
 
-/// A module of one type with so many functions of it, without locals and operators. Given are their count, the size of the function
-/// section and that of the code section, as the binary format spells them.
+/// Adds so many equal entries.
+fn add_entries(wasm: &mut Vec<u8>, count: u32, entry: &[u8]) -> Result<(), AllocError> {
+    for _ in 0..count {
+        wasm.extend_from_slice(entry)?;
+    }
+    Ok(())
+}
+
+/// Adds one type and so many functions of it, without locals and operators. Given are their count, the size of the function section and
+/// that of the code section, as the binary format spells them.
+fn add_functions(
+    wasm: &mut Vec<u8>,
+    count: u32,
+    spelled: &[u8],
+    functions_size: &[u8],
+    code_size: &[u8],
+) -> Result<(), AllocError> {
+    wasm.extend_from_slice(&[0x01, 0x04, 0x01, 0x60, 0x00, 0x00])?;
+    wasm.push(0x03)?;
+    wasm.extend_from_slice(functions_size)?;
+    wasm.extend_from_slice(spelled)?;
+    wasm.resize(wasm.len() + count as usize, 0x00)?;
+    wasm.push(0x0a)?;
+    wasm.extend_from_slice(code_size)?;
+    wasm.extend_from_slice(spelled)?;
+    add_entries(wasm, count, &[0x02, 0x00, 0x0b])
+}
+
+/// A module of these.
 fn with_functions(
     alloc: Global,
     count: u32,
@@ -49,19 +84,7 @@ fn with_functions(
     code_size: &[u8],
 ) -> Result<Vec<u8>, AllocError> {
     let mut wasm = Vec::from_slice(alloc, &PREAMBLE)?;
-    wasm.extend_from_slice(&[0x01, 0x04, 0x01, 0x60, 0x00, 0x00])?;
-    wasm.push(0x03)?;
-    wasm.extend_from_slice(functions_size)?;
-    wasm.extend_from_slice(spelled)?;
-    for _ in 0..count {
-        wasm.push(0x00)?;
-    }
-    wasm.push(0x0a)?;
-    wasm.extend_from_slice(code_size)?;
-    wasm.extend_from_slice(spelled)?;
-    for _ in 0..count {
-        wasm.extend_from_slice(&[0x02, 0x00, 0x0b])?;
-    }
+    add_functions(&mut wasm, count, spelled, functions_size, code_size)?;
     Ok(wasm)
 }
 
@@ -90,11 +113,13 @@ fn with_most_functions(alloc: Global) -> Result<Vec<u8>, AllocError> {
 #[test]
 fn takes_a_million_functions(rt: HostRuntime) -> Result<(), Fail> {
     let wasm = with_most_functions(rt.alloc())?;
-    let module = decode(rt.alloc(), &wasm)?;
-    assert!(rt; module.function_count() == MOST);
-    assert!(rt; module.body(999_999).is_some());
-    assert!(rt; module.body(1_000_000).is_none());
+    assert!(rt; counts_functions(rt.alloc(), &wasm, MOST)?);
     Ok(())
+}
+
+/// Whether a text is as long as that of a module with the most functions, and begins and ends as it.
+fn is_most_text(text: &str) -> bool {
+    text.len() == MOST_TEXT && text.starts_with(MOST_BEGINNING) && text.ends_with(MOST_END)
 }
 
 /// It takes a second as `rt test` builds it, and more than the 60 seconds that `rt try --test` gives.
@@ -102,9 +127,7 @@ fn takes_a_million_functions(rt: HostRuntime) -> Result<(), Fail> {
 fn prints_a_million_functions(rt: HostRuntime) -> Result<(), Fail> {
     let wasm = with_most_functions(rt.alloc())?;
     let text = print_bytes(rt.alloc(), &wasm)?;
-    assert!(rt; text.as_str().len() == MOST_TEXT);
-    assert!(rt; text.as_str().starts_with(MOST_BEGINNING));
-    assert!(rt; text.as_str().ends_with(MOST_END));
+    assert!(rt; is_most_text(text.as_str()));
     Ok(())
 }
 
@@ -117,8 +140,8 @@ fn refuses_a_function_more(rt: HostRuntime) -> Result<(), Fail> {
         &[0xc4, 0x84, 0x3d], // 1,000,004
         &[0xc6, 0x8d, 0xb7, 0x01], // 3,000,006
     )?;
-    let refused = print_bytes(rt.alloc(), &wasm);
-    assert!(rt; matches!(refused, Err(Error::TooManyFunctions { count: 1_000_001 })));
+    let refused = refusal_of(rt.alloc(), &wasm);
+    assert!(rt; matches!(refused, Some(Error::TooManyFunctions { count: 1_000_001 })));
     let decoded = decode(rt.alloc(), &wasm);
     assert!(rt; matches!(decoded, Err(Error::TooManyFunctions { count: 1_000_001 })));
     Ok(())
@@ -132,21 +155,33 @@ const THOUSANDS_SPELLED: [u8; 2] = [0xb8, 0x17];
 
 const THOUSANDS_SIZE: [u8; 2] = [0xaa, 0x46];
 
+/// Adds a section of that many entries.
+fn add_thousands(wasm: &mut Vec<u8>, id: u8, entry: [u8; 3]) -> Result<(), AllocError> {
+    wasm.push(id)?;
+    wasm.extend_from_slice(&THOUSANDS_SIZE)?;
+    wasm.extend_from_slice(&THOUSANDS_SPELLED)?;
+    add_entries(wasm, THOUSANDS, &entry)
+}
+
+/// A module of types of functions without parameters and results, and of exports of function 0 under the empty name.
+fn with_thousands(alloc: Global) -> Result<Vec<u8>, AllocError> {
+    let mut wasm = Vec::from_slice(alloc, &PREAMBLE)?;
+    add_thousands(&mut wasm, 0x01, [0x60, 0x00, 0x00])?;
+    add_thousands(&mut wasm, 0x07, [0x00, 0x00, 0x00])?;
+    Ok(wasm)
+}
+
+/// Whether a text has that many types, the last of which has the last number, and that many exports.
+fn has_thousands(text: &str) -> bool {
+    text.matches("\n  (type (;").count() == 3_000
+        && text.matches("\n  (export \"\" (func 0))").count() == 3_000
+        && text.contains("\n  (type (;2999;) (func))\n")
+}
+
 #[test]
 fn prints_thousands_of_types_and_exports(rt: HostRuntime) -> Result<(), Fail> {
-    let mut wasm = Vec::from_slice(rt.alloc(), &PREAMBLE)?;
-    // types of functions without parameters and results; exports of function 0 under the empty name
-    for (id, entry) in [(0x01, [0x60, 0x00, 0x00]), (0x07, [0x00, 0x00, 0x00])] {
-        wasm.push(id)?;
-        wasm.extend_from_slice(&THOUSANDS_SIZE)?;
-        wasm.extend_from_slice(&THOUSANDS_SPELLED)?;
-        for _ in 0..THOUSANDS {
-            wasm.extend_from_slice(&entry)?;
-        }
-    }
+    let wasm = with_thousands(rt.alloc())?;
     let text = print_bytes(rt.alloc(), &wasm)?;
-    assert!(rt; text.as_str().matches("\n  (type (;").count() == 3_000);
-    assert!(rt; text.as_str().matches("\n  (export \"\" (func 0))").count() == 3_000);
-    assert!(rt; text.as_str().contains("\n  (type (;2999;) (func))\n"));
+    assert!(rt; has_thousands(text.as_str()));
     Ok(())
 }

@@ -1,8 +1,9 @@
 //! Modules with name sections: texts with the identifiers that names give, and with identifiers made up for all other items.
 
+use crate::printing::expect_printed;
 use std::alloc::{AllocError, Global};
 use std::test::Fail;
-use wasmprinter::wasm::{Space, decode};
+use wasmprinter::wasm::{Names, Space, decode};
 use wasmprinter::{Config, Error, print_bytes};
 use wasmprinter_samples::sections::{CUSTOM, add_section};
 use wasmprinter_samples::{
@@ -14,6 +15,13 @@ fn text_with_invented(alloc: Global, wasm: &[u8]) -> Result<String, Error> {
     Config::new()
         .name_unnamed(true)
         .print_to_string(alloc, wasm)
+}
+
+/// Holds that this text is the typed one.
+fn expect_invented(alloc: Global, wasm: &[u8], typed: &str) -> Result<(), Fail> {
+    let text = text_with_invented(alloc, wasm)?;
+    expect_text(text.as_str(), typed)?;
+    Ok(())
 }
 
 /// Adds a name section with these subsections.
@@ -30,32 +38,59 @@ fn with_names(alloc: Global, wasm: &[u8], subsections: &[u8]) -> Result<Vec<u8>,
     Ok(named)
 }
 
-/// A module with one function that has no parameters and these operators, of which there are fewer than 90 bytes.
-fn one_function(alloc: Global, operators: &[u8]) -> Result<Vec<u8>, AllocError> {
-    let mut wasm = Vec::from_slice(alloc, &PREAMBLE)?;
-    add_section(&mut wasm, 1, &[0x01, 0x60, 0x00, 0x00])?;
-    add_section(&mut wasm, 3, &[0x01, 0x00])?;
+/// The content of a code section with one body of these operators, of which there are fewer than 90 bytes.
+fn code_of(alloc: Global, operators: &[u8]) -> Result<Vec<u8>, AllocError> {
     let size = operators.len().min(90) as u8 + 2;
     let mut code = Vec::from_slice(alloc, &[0x01, size, 0x00])?;
     code.extend_from_slice(operators)?;
     code.push(0x0b)?;
-    add_section(&mut wasm, 10, &code)?;
+    Ok(code)
+}
+
+/// Adds functions that have no parameters: sections of their type, of the functions and of their code.
+fn add_functions(wasm: &mut Vec<u8>, functions: &[u8], code: &[u8]) -> Result<(), AllocError> {
+    add_section(wasm, 1, &[0x01, 0x60, 0x00, 0x00])?;
+    add_section(wasm, 3, functions)?;
+    add_section(wasm, 10, code)
+}
+
+/// A module with one function that has no parameters and these operators, of which there are fewer than 90 bytes.
+fn one_function(alloc: Global, operators: &[u8]) -> Result<Vec<u8>, AllocError> {
+    let code = code_of(alloc, operators)?;
+    let mut wasm = Vec::from_slice(alloc, &PREAMBLE)?;
+    add_functions(&mut wasm, &[0x01, 0x00], &code)?;
     Ok(wasm)
 }
 
-/// The lines of the operators of one function, behind the function's own line.
-fn body_of(text: &str) -> Option<&str> {
-    text.split_once("(type 0)\n")
-        .or(text.split_once("(type $#type0)\n"))
-        .map(|parts| parts.1)
+/// Holds that these are the lines behind the one of a function of type 0, in a text that has but one.
+fn expect_body(text: &str, typed: &str) -> Result<(), Fail> {
+    let parts = match text.split_once("(type 0)\n") {
+        Some(parts) => Some(parts),
+        None => text.split_once("(type $#type0)\n"),
+    };
+    let (_, body) = parts.ok_or("no function")?;
+    expect_text(body, typed)?;
+    Ok(())
+}
+
+/// Holds that these are the lines of the only function's operators in the text of a module, and of what ends it.
+fn expect_operators(alloc: Global, wasm: &[u8], typed: &str) -> Result<(), Fail> {
+    let text = print_bytes(alloc, wasm)?;
+    expect_body(text.as_str(), typed)
+}
+
+/// The same with identifiers made up.
+fn expect_invented_operators(alloc: Global, wasm: &[u8], typed: &str) -> Result<(), Fail> {
+    let text = text_with_invented(alloc, wasm)?;
+    expect_body(text.as_str(), typed)
 }
 
 #[test]
 fn names_a_parameter(rt: HostRuntime) -> Result<(), Fail> {
     let wasm = with_names(rt.alloc(), &IDENTITY, b"\x02\x06\x01\x00\x01\x00\x01x")?;
-    let text = print_bytes(rt.alloc(), &wasm)?;
-    expect_text(
-        text.as_str(),
+    expect_printed(
+        rt.alloc(),
+        &wasm,
         r#"(module
   (type (;0;) (func (param i32) (result i32)))
   (export "f" (func 0))
@@ -64,8 +99,14 @@ fn names_a_parameter(rt: HostRuntime) -> Result<(), Fail> {
   )
 )
 "#,
-    )?;
-    Ok(())
+    )
+}
+
+/// Whether names call local 0 of function 0 `x`, and neither the function nor the module.
+fn call_a_local_alone(names: &Names) -> bool {
+    names.identifier(Space::Local, 0, 0) == Some("x")
+        && names.identifier(Space::Func, 0, 0) == None
+        && names.module() == None
 }
 
 #[test]
@@ -73,25 +114,21 @@ fn gives_out_names(rt: HostRuntime) -> Result<(), Fail> {
     let wasm = with_names(rt.alloc(), &IDENTITY, b"\x02\x06\x01\x00\x01\x00\x01x")?;
     let module = decode(rt.alloc(), &wasm)?;
     let names = module.names(rt.alloc())?;
-    assert!(rt; names.identifier(Space::Local, 0, 0) == Some("x"));
-    assert!(rt; names.identifier(Space::Func, 0, 0) == None);
-    assert!(rt; names.module() == None);
+    assert!(rt; call_a_local_alone(&names));
     Ok(())
 }
 
 #[test]
 fn passes_over_a_name_that_is_cut(rt: HostRuntime) -> Result<(), Fail> {
     let wasm = with_names(rt.alloc(), &IDENTITY, b"\x01\x04\x01\x00\x05a")?;
-    let text = print_bytes(rt.alloc(), &wasm)?;
-    expect_text(text.as_str(), IDENTITY_TEXT)?;
-    Ok(())
+    expect_printed(rt.alloc(), &wasm, IDENTITY_TEXT)
 }
 
 #[test]
 fn makes_up_identifiers(rt: HostRuntime) -> Result<(), Fail> {
-    let text = text_with_invented(rt.alloc(), &IDENTITY)?;
-    expect_text(
-        text.as_str(),
+    expect_invented(
+        rt.alloc(),
+        &IDENTITY,
         r#"(module
   (type $#type0 (;0;) (func (param i32) (result i32)))
   (export "f" (func $#func0))
@@ -100,24 +137,34 @@ fn makes_up_identifiers(rt: HostRuntime) -> Result<(), Fail> {
   )
 )
 "#,
+    )
+}
+
+/// The bodies of five functions.
+const FIVE_BODIES: &[u8] = b"\x05\x02\x00\x0b\x02\x00\x0b\x02\x00\x0b\x02\x00\x0b\x02\x00\x0b";
+
+/// Function 0 is called `a`, and in a second subsection 1 `a`, 2 nothing, 3 `#x`, 4 `a b`.
+const FIVE_NAMES: &[u8] =
+    b"\x01\x04\x01\x00\x01a\x01\x0f\x04\x01\x01a\x02\x00\x03\x02#x\x04\x03a b";
+
+/// A module with five functions that have these names.
+fn five_functions(alloc: Global) -> Result<Vec<u8>, AllocError> {
+    let mut wasm = Vec::from_slice(alloc, &PREAMBLE)?;
+    add_functions(
+        &mut wasm,
+        &[0x05, 0x00, 0x00, 0x00, 0x00, 0x00],
+        FIVE_BODIES,
     )?;
-    Ok(())
+    add_names(alloc, &mut wasm, FIVE_NAMES)?;
+    Ok(wasm)
 }
 
 #[test]
 fn marks_names_that_are_no_identifiers(rt: HostRuntime) -> Result<(), Fail> {
-    let alloc = rt.alloc();
-    let mut wasm = Vec::from_slice(alloc, &PREAMBLE)?;
-    add_section(&mut wasm, 1, &[0x01, 0x60, 0x00, 0x00])?;
-    add_section(&mut wasm, 3, &[0x05, 0x00, 0x00, 0x00, 0x00, 0x00])?;
-    let bodies = b"\x05\x02\x00\x0b\x02\x00\x0b\x02\x00\x0b\x02\x00\x0b\x02\x00\x0b";
-    add_section(&mut wasm, 10, bodies)?;
-    // function 0 is called `a`, and in a second subsection 1 `a`, 2 nothing, 3 `#x`, 4 `a b`
-    let names = b"\x01\x04\x01\x00\x01a\x01\x0f\x04\x01\x01a\x02\x00\x03\x02#x\x04\x03a b";
-    add_names(alloc, &mut wasm, names)?;
-    let text = print_bytes(alloc, &wasm)?;
-    expect_text(
-        text.as_str(),
+    let wasm = five_functions(rt.alloc())?;
+    expect_printed(
+        rt.alloc(),
+        &wasm,
         r##"(module
   (type (;0;) (func))
   (func $a (;0;) (type 0))
@@ -127,8 +174,7 @@ fn marks_names_that_are_no_identifiers(rt: HostRuntime) -> Result<(), Fail> {
   (func $"a b" (;4;) (type 0))
 )
 "##,
-    )?;
-    Ok(())
+    )
 }
 
 #[test]
@@ -136,11 +182,10 @@ fn prints_a_shadowed_label_by_its_number(rt: HostRuntime) -> Result<(), Fail> {
     let alloc = rt.alloc();
     let wasm = one_function(alloc, b"\x02\x40\x02\x40\x0c\x01\x0c\x00\x0b\x0b")?;
     let named = with_names(alloc, &wasm, b"\x03\x09\x01\x00\x02\x00\x01a\x01\x01a")?;
-    let text = print_bytes(alloc, &named)?;
-    assert!(rt;
-        body_of(&text)
-            == Some(
-                r#"    block $a
+    expect_operators(
+        alloc,
+        &named,
+        r#"    block $a
       block $a
         br 1
         br $a
@@ -148,10 +193,8 @@ fn prints_a_shadowed_label_by_its_number(rt: HostRuntime) -> Result<(), Fail> {
     end
   )
 )
-"#
-            )
-    );
-    Ok(())
+"#,
+    )
 }
 
 #[test]
@@ -159,11 +202,10 @@ fn takes_the_label_off_behind_delegate(rt: HostRuntime) -> Result<(), Fail> {
     let alloc = rt.alloc();
     let wasm = one_function(alloc, b"\x06\x40\x18\x00\x02\x40\x0c\x00\x0c\x01\x0b")?;
     let named = with_names(alloc, &wasm, b"\x03\x09\x01\x00\x02\x00\x01t\x01\x01u")?;
-    let text = print_bytes(alloc, &named)?;
-    assert!(rt;
-        body_of(&text)
-            == Some(
-                r#"    try $t
+    expect_operators(
+        alloc,
+        &named,
+        r#"    try $t
     delegate 0
     block $u
       br $u
@@ -171,14 +213,12 @@ fn takes_the_label_off_behind_delegate(rt: HostRuntime) -> Result<(), Fail> {
     end
   )
 )
-"#
-            )
-    );
-    let made_up = text_with_invented(alloc, &wasm)?;
-    assert!(rt;
-        body_of(&made_up)
-            == Some(
-                r#"    try $#label0
+"#,
+    )?;
+    expect_invented_operators(
+        alloc,
+        &wasm,
+        r#"    try $#label0
     delegate 0
     block $#label0
       br $#label0
@@ -186,30 +226,25 @@ fn takes_the_label_off_behind_delegate(rt: HostRuntime) -> Result<(), Fail> {
     end
   )
 )
-"#
-            )
-    );
-    Ok(())
+"#,
+    )
 }
 
 #[test]
 fn makes_up_labels(rt: HostRuntime) -> Result<(), Fail> {
     let alloc = rt.alloc();
     let wasm = one_function(alloc, b"\x02\x40\x0c\x00\x0c\x01\x0b")?;
-    let text = text_with_invented(alloc, &wasm)?;
-    assert!(rt;
-        body_of(&text)
-            == Some(
-                r#"    block $#label0
+    expect_invented_operators(
+        alloc,
+        &wasm,
+        r#"    block $#label0
       br $#label0
       br 1
     end
   )
 )
-"#
-            )
-    );
-    Ok(())
+"#,
+    )
 }
 
 /// `EVERY_SPACE` with its names: what has none goes by its number.
@@ -352,14 +387,14 @@ const EVERY_SPACE_INVENTED: &str = r#"(module
 
 #[test]
 fn names_an_item_of_each_space(rt: HostRuntime) -> Result<(), Fail> {
-    let text = print_bytes(rt.alloc(), &EVERY_SPACE)?;
-    expect_text(text.as_str(), EVERY_SPACE_TEXT)?;
-    Ok(())
+    expect_printed(rt.alloc(), &EVERY_SPACE, EVERY_SPACE_TEXT)
 }
 
 #[test]
 fn makes_up_identifiers_in_each_space(rt: HostRuntime) -> Result<(), Fail> {
-    let text = text_with_invented(rt.alloc(), &EVERY_SPACE[..EVERY_SPACE_NAMES])?;
-    expect_text(text.as_str(), EVERY_SPACE_INVENTED)?;
-    Ok(())
+    expect_invented(
+        rt.alloc(),
+        &EVERY_SPACE[..EVERY_SPACE_NAMES],
+        EVERY_SPACE_INVENTED,
+    )
 }

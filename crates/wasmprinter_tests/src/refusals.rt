@@ -1,86 +1,103 @@
 //! What is refused, and how.
 
-use crate::calls::print_to;
-use std::alloc::Global;
+use crate::printing::{early_refusal_of, expect_printed, is_malformed, refusal_of};
+use std::alloc::{AllocError, Global};
 use std::test::Fail;
 use wasmprinter::wasm::decode;
-use wasmprinter::{Config, Error, print_bytes};
-use wasmprinter_recorder::Recorder;
-use wasmprinter_samples::{IDENTITY, IDENTITY_TEXT, MINUS_ONE, PREAMBLE, expect_text};
+use wasmprinter::{Error, print_bytes};
+use wasmprinter_samples::{IDENTITY, IDENTITY_TEXT, MINUS_ONE, PREAMBLE};
 
 /// What stands behind the first section of `IDENTITY`, cut off.
 const TYPE_TEXT: &str = "(module\n  (type (;0;) (func (param i32) (result i32)))\n)\n";
 
+/// The text of a beginning of `IDENTITY` with so many bytes. There is none where it ends within a section.
+fn text_of_beginning(len: usize) -> Option<&'static str> {
+    match len {
+        8 => Some("(module)\n"),
+        16 => Some(TYPE_TEXT),
+        _ => None,
+    }
+}
+
+/// Whether a beginning of `IDENTITY` has its text, or is refused at a place within it where it has none.
+fn is_taken_or_refused(alloc: Global, beginning: &[u8]) -> bool {
+    let typed = text_of_beginning(beginning.len());
+    match print_bytes(alloc, beginning) {
+        Ok(text) => typed == Some(text.as_str()),
+        Err(Error::Malformed { place }) => typed.is_none() && place <= beginning.len() as u64,
+        Err(_) => false,
+    }
+}
+
 #[test]
 fn takes_two_beginnings_of_a_module_alone(rt: HostRuntime) -> Result<(), Fail> {
     for len in 0..IDENTITY.len() {
-        match print_bytes(rt.alloc(), &IDENTITY[..len]) {
-            Ok(text) => {
-                assert!(rt; len == 8 || len == 16, "at {len}");
-                expect_text(
-                    text.as_str(),
-                    if len == 8 { "(module)\n" } else { TYPE_TEXT },
-                )?;
-            }
-            Err(Error::Malformed { place }) => {
-                assert!(rt; len != 8 && len != 16, "at {len}");
-                assert!(rt; place <= len as u64, "at {len}");
-            }
-            Err(e) => return Err(Fail::from(e)),
-        }
+        assert!(rt;
+            is_taken_or_refused(rt.alloc(), &IDENTITY[..len]),
+            "at {len}"
+        );
     }
-    let text = print_bytes(rt.alloc(), &IDENTITY)?;
-    expect_text(text.as_str(), IDENTITY_TEXT)?;
-    Ok(())
+    expect_printed(rt.alloc(), &IDENTITY, IDENTITY_TEXT)
 }
 
 #[test]
-fn refuses_a_body_without_end(rt: HostRuntime) -> Result<(), Fail> {
+fn refuses_a_body_without_end(rt: HostRuntime) {
     let mut wasm = MINUS_ONE;
     wasm[32] = 0x0a;
-    let refused = print_bytes(rt.alloc(), &wasm);
-    assert!(rt; matches!(refused, Err(Error::Malformed { .. })));
-    Ok(())
+    assert!(rt; is_malformed(rt.alloc(), &wasm));
 }
+
+/// Whether a module of these bytes behind the preamble is malformed.
+fn are_malformed(alloc: Global, sections: &[&[u8]]) -> Result<bool, AllocError> {
+    let mut wasm = Vec::from_slice(alloc, &PREAMBLE)?;
+    for section in sections {
+        wasm.extend_from_slice(section)?;
+    }
+    Ok(is_malformed(alloc, &wasm))
+}
+
+/// The number of the type section, and its size in too many bytes.
+const LONG_SIZE: [u8; 7] = [0x01, 0x86, 0x80, 0x80, 0x80, 0x80, 0x00];
 
 #[test]
 fn refuses_a_size_in_too_many_bytes(rt: HostRuntime) -> Result<(), Fail> {
-    let mut wasm = Vec::from_slice(rt.alloc(), &PREAMBLE)?;
-    wasm.extend_from_slice(&[0x01, 0x86, 0x80, 0x80, 0x80, 0x80, 0x00])?;
-    wasm.extend_from_slice(&IDENTITY[10..])?;
-    let refused = print_bytes(rt.alloc(), &wasm);
-    assert!(rt; matches!(refused, Err(Error::Malformed { .. })));
+    assert!(rt; are_malformed(rt.alloc(), &[&LONG_SIZE, &IDENTITY[10..]])?);
     Ok(())
 }
+
+/// Two functions of one type, and one body.
+const WITHOUT_A_BODY: [&[u8]; 3] = [
+    &[0x01, 0x04, 0x01, 0x60, 0x00, 0x00],
+    &[0x03, 0x03, 0x02, 0x00, 0x00],
+    &[0x0a, 0x04, 0x01, 0x02, 0x00, 0x0b],
+];
 
 #[test]
 fn refuses_functions_without_bodies(rt: HostRuntime) -> Result<(), Fail> {
-    let mut wasm = Vec::from_slice(rt.alloc(), &PREAMBLE)?;
-    wasm.extend_from_slice(&[0x01, 0x04, 0x01, 0x60, 0x00, 0x00])?;
-    wasm.extend_from_slice(&[0x03, 0x03, 0x02, 0x00, 0x00])?;
-    wasm.extend_from_slice(&[0x0a, 0x04, 0x01, 0x02, 0x00, 0x0b])?;
-    let refused = print_bytes(rt.alloc(), &wasm);
-    assert!(rt; matches!(refused, Err(Error::Malformed { .. })));
+    assert!(rt; are_malformed(rt.alloc(), &WITHOUT_A_BODY)?);
     Ok(())
 }
 
+/// Sections of modules that have a count of 2^32 - 1 with nothing behind it.
+const COUNTS: [&[&[u8]]; 5] = [
+    // of types, functions, exports and bodies
+    &[&[0x01, 0x05, 0xff, 0xff, 0xff, 0xff, 0x0f]],
+    &[&[0x03, 0x05, 0xff, 0xff, 0xff, 0xff, 0x0f]],
+    &[&[0x07, 0x05, 0xff, 0xff, 0xff, 0xff, 0x0f]],
+    &[&[0x0a, 0x05, 0xff, 0xff, 0xff, 0xff, 0x0f]],
+    // of entries of locals, in a body
+    &[
+        &[0x01, 0x04, 0x01, 0x60, 0x00, 0x00],
+        &[0x03, 0x02, 0x01, 0x00],
+        &[0x0a, 0x07, 0x01, 0x05, 0xff, 0xff, 0xff, 0xff, 0x0f],
+    ],
+];
+
 #[test]
 fn refuses_counts_that_no_bytes_follow(rt: HostRuntime) -> Result<(), Fail> {
-    let alloc = rt.alloc();
-    // sections of types, functions, exports and code that hold a count of 2^32 - 1 alone
-    for id in [0x01, 0x03, 0x07, 0x0a] {
-        let mut wasm = Vec::from_slice(alloc, &PREAMBLE)?;
-        wasm.extend_from_slice(&[id, 0x05, 0xff, 0xff, 0xff, 0xff, 0x0f])?;
-        let refused = print_bytes(alloc, &wasm);
-        assert!(rt; matches!(refused, Err(Error::Malformed { .. })), "at {id}");
+    for sections in COUNTS {
+        assert!(rt; are_malformed(rt.alloc(), sections)?, "{sections:?}");
     }
-    // a body with as many entries of locals, and none behind the count
-    let mut wasm = Vec::from_slice(alloc, &PREAMBLE)?;
-    wasm.extend_from_slice(&[0x01, 0x04, 0x01, 0x60, 0x00, 0x00])?;
-    wasm.extend_from_slice(&[0x03, 0x02, 0x01, 0x00])?;
-    wasm.extend_from_slice(&[0x0a, 0x07, 0x01, 0x05, 0xff, 0xff, 0xff, 0xff, 0x0f])?;
-    let refused = print_bytes(alloc, &wasm);
-    assert!(rt; matches!(refused, Err(Error::Malformed { .. })));
     Ok(())
 }
 
@@ -89,25 +106,26 @@ const COMPONENT: [u8; 8] = [0x00, 0x61, 0x73, 0x6d, 0x0d, 0x00, 0x01, 0x00];
 
 /// Whether each public call refuses the bytes as a component, and none calls the printer.
 fn is_component(alloc: Global, wasm: &[u8]) -> bool {
-    let mut recorder = Recorder::new(alloc);
-    let printed = print_to(&Config::new(), alloc, wasm, &mut recorder);
-    matches!(printed, Err(Error::Component))
-        && recorder.calls().is_empty()
-        && recorder.is_complete()
-        && matches!(print_bytes(alloc, wasm), Err(Error::Component))
+    matches!(early_refusal_of(alloc, wasm), Some(Error::Component))
+        && matches!(refusal_of(alloc, wasm), Some(Error::Component))
         && matches!(decode(alloc, wasm), Err(Error::Component))
+}
+
+/// The mark of a component, and 92 bytes behind it.
+fn long_component(alloc: Global) -> Result<Vec<u8>, AllocError> {
+    let mut long = Vec::from_slice(alloc, &COMPONENT)?;
+    for byte in 0..92 {
+        long.push(byte)?;
+    }
+    Ok(long)
 }
 
 #[test]
 fn refuses_components(rt: HostRuntime) -> Result<(), Fail> {
     assert!(rt; is_component(rt.alloc(), &COMPONENT));
-    let mut long = Vec::from_slice(rt.alloc(), &COMPONENT)?;
-    for byte in 0..92 {
-        long.push(byte)?;
-    }
-    assert!(rt; long.len() == 100);
-    assert!(rt; is_component(rt.alloc(), &long));
     assert!(rt; !is_component(rt.alloc(), &COMPONENT[..7]));
     assert!(rt; !is_component(rt.alloc(), &PREAMBLE));
+    let long = long_component(rt.alloc())?;
+    assert!(rt; long.len() == 100 && is_component(rt.alloc(), &long));
     Ok(())
 }

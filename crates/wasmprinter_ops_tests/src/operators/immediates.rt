@@ -1,7 +1,7 @@
 //! Immediates of each shape. What is expected is typed by hand.
 ghost use Rattle.std.specs.Prelude.{◌<◌};
 
-use super::{Wanted, are_wanted, assert_walk};
+use super::{Placed, Wanted, assert_walk, is_operator};
 use std::process::Abort;
 use std::test::Fail;
 use wasmprinter_bytes::bytes::Cursor;
@@ -10,18 +10,22 @@ use wasmprinter_ops::operands::{MemArg, cast_source, cast_target};
 use wasmprinter_ops::operator::Operator;
 use wasmprinter_ops::types::{HeapType, RefType, ValType};
 
+/// An operator: its bytes, its word and its immediates.
+type Spelled = (&'static [u8], &'static str, Wanted);
+
+/// Whether the bytes are an operator with the word and these immediates, and nothing else.
+fn are_operator(bytes: &[u8], word: &str, wanted: &Wanted) -> bool {
+    let mut cursor = Cursor::new(0, bytes);
+    match Operator::read(&mut cursor) {
+        Ok(operator) => is_operator(&operator, word, wanted) && cursor.is_empty(),
+        Err(Malformed { .. }) => false,
+    }
+}
+
 /// Asserts that the bytes of each row are an operator with the word and these immediates, and nothing else.
 fn assert_operators(rt: &impl Abort, rows: &[(&[u8], &'static str, Wanted)]) {
     for (bytes, word, wanted) in rows {
-        let mut cursor = Cursor::new(0, bytes);
-        match Operator::read(&mut cursor) {
-            Ok(operator) => {
-                assert!(rt; operator.opcode.word() == *word);
-                assert!(rt; are_wanted(&operator.immediates, wanted), "{word}");
-            }
-            Err(Malformed { place }) => assert!(rt; false, "{word} is refused at {place}"),
-        }
-        assert!(rt; cursor.is_empty());
+        assert!(rt; are_operator(bytes, word, wanted), "{word}");
     }
 }
 
@@ -44,21 +48,21 @@ fn operand(exponent: u32, memory: u32, offset: u64) -> MemArg
     }
 }
 
+/// Operators with one index, and with two.
+const INDICES: [Spelled; 8] = [
+    (&[0x24, 0x81, 0x01], "global.set", Wanted::Index(129)),
+    (&[0x3f, 0x05], "memory.size", Wanted::Index(5)),
+    (&[0x11, 1, 2], "call_indirect", Wanted::Indices(1, 2)),
+    (&[0xfb, 2, 3, 4], "struct.get", Wanted::Indices(3, 4)),
+    (&[0xfb, 8, 5, 6], "array.new_fixed", Wanted::Indices(5, 6)),
+    (&[0xfb, 17, 7, 8], "array.copy", Wanted::Indices(7, 8)),
+    (&[0xfc, 8, 9, 10], "memory.init", Wanted::Indices(9, 10)),
+    (&[0xfc, 14, 11, 12], "table.copy", Wanted::Indices(11, 12)),
+];
+
 #[test]
 fn indices_are_read_in_order(rt: HostRuntime) {
-    assert_operators(
-        &rt,
-        &[
-            (&[0x24, 0x81, 0x01], "global.set", Wanted::Index(129)),
-            (&[0x3f, 0x05], "memory.size", Wanted::Index(5)),
-            (&[0x11, 1, 2], "call_indirect", Wanted::Indices(1, 2)),
-            (&[0xfb, 2, 3, 4], "struct.get", Wanted::Indices(3, 4)),
-            (&[0xfb, 8, 5, 6], "array.new_fixed", Wanted::Indices(5, 6)),
-            (&[0xfb, 17, 7, 8], "array.copy", Wanted::Indices(7, 8)),
-            (&[0xfc, 8, 9, 10], "memory.init", Wanted::Indices(9, 10)),
-            (&[0xfc, 14, 11, 12], "table.copy", Wanted::Indices(11, 12)),
-        ],
-    );
+    assert_operators(&rt, &INDICES);
     assert!(rt; place_of_refusal(&[0xfc, 14, 11]) == Some(3));
 }
 
@@ -68,36 +72,48 @@ const EXN: ValType = ValType::Ref(RefType {
     heap: HeapType::Exn,
 });
 
+/// Operators with value types, and with a heap type.
+const TYPES: [Spelled; 6] = [
+    (
+        &[0x1c, 2, 0x7b, 0x69],
+        "select",
+        Wanted::Types(&[ValType::V128, EXN]),
+    ),
+    (&[0x1c, 0], "select", Wanted::Types(&[])),
+    (&[0xd0, 0x6a], "ref.null", Wanted::Heap(HeapType::Array)),
+    (
+        &[0xd0, 0x80, 0x01],
+        "ref.null",
+        Wanted::Heap(HeapType::Index(128)),
+    ),
+    (&[0xfb, 20, 0x70], "ref.test", Wanted::Heap(HeapType::Func)),
+    (&[0xfb, 23, 0], "ref.cast", Wanted::Heap(HeapType::Index(0))),
+];
+
 #[test]
 fn types_are_read(rt: HostRuntime) {
-    let types = Wanted::Types(&[ValType::V128, EXN]);
-    let index = Wanted::Heap(HeapType::Index(128));
-    assert_operators(
-        &rt,
-        &[
-            (&[0x1c, 2, 0x7b, 0x69], "select", types),
-            (&[0x1c, 0], "select", Wanted::Types(&[])),
-            (&[0xd0, 0x6a], "ref.null", Wanted::Heap(HeapType::Array)),
-            (&[0xd0, 0x80, 0x01], "ref.null", index),
-            (&[0xfb, 20, 0x70], "ref.test", Wanted::Heap(HeapType::Func)),
-            (&[0xfb, 23, 0], "ref.cast", Wanted::Heap(HeapType::Index(0))),
-        ],
-    );
+    assert_operators(&rt, &TYPES);
     assert!(rt; place_of_refusal(&[0x1c, 1, 0x40]) == Some(2));
     assert!(rt; place_of_refusal(&[0xd0, 0x40]) == Some(1));
 }
 
+/// Casts, of which one may be from null and the other to null.
+const CASTS: [Spelled; 2] = [
+    (
+        &[0xfb, 24, 1, 0x81, 0x01, 0x6e, 2],
+        "br_on_cast",
+        Wanted::Cast(1, 129, HeapType::Any, HeapType::Index(2)),
+    ),
+    (
+        &[0xfb, 25, 2, 0, 3, 0x6c],
+        "br_on_cast_fail",
+        Wanted::Cast(2, 0, HeapType::Index(3), HeapType::I31),
+    ),
+];
+
 #[test]
 fn casts_are_read(rt: HostRuntime) {
-    let first = Wanted::Cast(1, 129, HeapType::Any, HeapType::Index(2));
-    let second = Wanted::Cast(2, 0, HeapType::Index(3), HeapType::I31);
-    assert_operators(
-        &rt,
-        &[
-            (&[0xfb, 24, 1, 0x81, 0x01, 0x6e, 2], "br_on_cast", first),
-            (&[0xfb, 25, 2, 0, 3, 0x6c], "br_on_cast_fail", second),
-        ],
-    );
+    assert_operators(&rt, &CASTS);
     assert!(rt; place_of_refusal(&[0xfb, 24, 3, 0, 0x6e, 0x6e]) == None);
     assert!(rt; place_of_refusal(&[0xfb, 24, 4, 0, 0x6e, 0x6e]) == Some(2));
 }
@@ -173,22 +189,25 @@ fn lanes_are_read(rt: HostRuntime) {
     assert!(rt; place_of_refusal(&lanes[..17]) == Some(2));
 }
 
+/// Constants of each type of numbers.
+const CONSTANTS: [Spelled; 4] = [
+    (&[0x41, 0x7f], "i32.const", Wanted::I32(-1)),
+    (&[0x42, 0x80, 0x01], "i64.const", Wanted::I64(128)),
+    (
+        &[0x43, 0x11, 0x22, 0x33, 0x44],
+        "f32.const",
+        Wanted::F32(0x4433_2211),
+    ),
+    (
+        &[0x44, 0x11, 0x22, 0x33, 0x44, 0x55, 0x66, 0x77, 0x88],
+        "f64.const",
+        Wanted::F64(0x8877_6655_4433_2211),
+    ),
+];
+
 #[test]
 fn constants_are_read(rt: HostRuntime) {
-    let double = [0x44, 0x11, 0x22, 0x33, 0x44, 0x55, 0x66, 0x77, 0x88];
-    assert_operators(
-        &rt,
-        &[
-            (&[0x41, 0x7f], "i32.const", Wanted::I32(-1)),
-            (&[0x42, 0x80, 0x01], "i64.const", Wanted::I64(128)),
-            (
-                &[0x43, 0x11, 0x22, 0x33, 0x44],
-                "f32.const",
-                Wanted::F32(0x4433_2211),
-            ),
-            (&double, "f64.const", Wanted::F64(0x8877_6655_4433_2211)),
-        ],
-    );
+    assert_operators(&rt, &CONSTANTS);
     assert!(rt; place_of_refusal(&[0x43, 0x11, 0x22, 0x33]) == Some(1));
 }
 
@@ -198,17 +217,20 @@ fn behind_a_fence_stands_zero(rt: HostRuntime) {
     assert!(rt; place_of_refusal(&[0xfe, 3, 1]) == Some(2));
 }
 
+/// An operator of each prefix.
+const PREFIXES: [Placed; 4] = [
+    (0x1a, "any.convert_extern", Wanted::None),
+    (0x1c, "i64.trunc_sat_f64_u", Wanted::None),
+    (0x1e, "i32x4.relaxed_dot_i8x16_i7x16_add_s", Wanted::None),
+    (0x21, "atomic.fence", Wanted::None),
+];
+
 #[test]
 fn operators_of_each_prefix_are_walked(rt: HostRuntime) -> Result<(), Fail> {
     assert_walk(
         &rt,
         rt.alloc(),
         &[0xfb, 26, 0xfc, 7, 0xfd, 0x93, 0x02, 0xfe, 0x03, 0x00, 0x0b],
-        &[
-            (0x1a, "any.convert_extern", Wanted::None),
-            (0x1c, "i64.trunc_sat_f64_u", Wanted::None),
-            (0x1e, "i32x4.relaxed_dot_i8x16_i7x16_add_s", Wanted::None),
-            (0x21, "atomic.fence", Wanted::None),
-        ],
+        &PREFIXES,
     )
 }

@@ -1,7 +1,5 @@
 //! Opcodes, their words, shapes, arities and roles. What is expected is typed by hand.
-use std::test::Fail;
 use wasmprinter_ops::opcode::{Arity, Opcode, Role, Shape, Space};
-use wasmprinter_samples::expect_text;
 
 /// Opcodes by prefix and number, each with its word and the shape of its immediates.
 const OPCODES: [(u8, u32, &str, Shape); 38] = [
@@ -60,104 +58,125 @@ const OPCODES: [(u8, u32, &str, Shape); 38] = [
     (0xfe, 0x4e, "i64.atomic.rmw32.cmpxchg_u", Shape::Memory(2)),
 ];
 
-#[test]
-fn opcodes_have_words_and_shapes(rt: HostRuntime) -> Result<(), Fail> {
-    for (prefix, number, word, shape) in OPCODES {
-        let opcode = Opcode { prefix, number };
-        expect_text(opcode.word(), word)?;
-        assert!(rt; opcode.shape() == Some(shape));
-    }
-    Ok(())
+/// Whether an opcode has this word and immediates of this shape.
+fn has_shape(opcode: Opcode, word: &str, shape: Shape) -> bool {
+    opcode.word() == word && opcode.shape() == Some(shape)
 }
 
 #[test]
-fn opcodes_have_arities(rt: HostRuntime) -> Result<(), Fail> {
-    let rows = [
-        (0, 0x01, "nop", Arity::Fixed(0, 0)),
-        (0, 0x02, "block", Arity::OfBlock),
-        (0, 0x08, "throw", Arity::OfThrow),
-        (0, 0x0b, "end", Arity::OfBlock),
-        (0, 0x0c, "br", Arity::OfBranch),
-        (0, 0x0d, "br_if", Arity::OfBranchIf),
-        (0, 0x0e, "br_table", Arity::OfBranchTable),
-        (0, 0x0f, "return", Arity::OfReturn),
-        (0, 0x10, "call", Arity::OfCall),
-        (0, 0x11, "call_indirect", Arity::OfIndirectCall),
-        (0, 0x12, "return_call", Arity::OfReturnCall),
-        (0, 0x15, "return_call_ref", Arity::OfReturnIndirectCall),
-        (0, 0x1a, "drop", Arity::Fixed(1, 0)),
-        (0, 0x1b, "select", Arity::Fixed(3, 1)),
-        (0, 0x36, "i32.store", Arity::Fixed(2, 0)),
-        (0, 0x41, "i32.const", Arity::Fixed(0, 1)),
-        (0, 0x45, "i32.eqz", Arity::Fixed(1, 1)),
-        (0, 0x6a, "i32.add", Arity::Fixed(2, 1)),
-        (0, 0xd5, "br_on_null", Arity::OfBranchOnNull),
-        (0, 0xd6, "br_on_non_null", Arity::OfBranchOnNonNull),
-        (0xfb, 0, "struct.new", Arity::OfStruct),
-        (0xfb, 8, "array.new_fixed", Arity::OfCount),
-        (0xfb, 17, "array.copy", Arity::Fixed(5, 0)),
-        (0xfb, 24, "br_on_cast", Arity::OfBranchOnCast),
-        (0xfc, 10, "memory.copy", Arity::Fixed(3, 0)),
-        (0xfc, 19, "i64.add128", Arity::Fixed(4, 2)),
-        (0xfc, 21, "i64.mul_wide_s", Arity::Fixed(2, 2)),
-        (0xfd, 261, "f32x4.relaxed_madd", Arity::Fixed(3, 1)),
-        (0xfe, 0x1e, "i32.atomic.rmw.add", Arity::Fixed(2, 1)),
-    ];
-    for (prefix, number, word, arity) in rows {
-        let opcode = Opcode { prefix, number };
-        expect_text(opcode.word(), word)?;
-        assert!(rt; opcode.arity() == Some(arity));
+fn opcodes_have_words_and_shapes(rt: HostRuntime) {
+    for (prefix, number, word, shape) in &OPCODES {
+        let opcode = Opcode {
+            prefix: *prefix,
+            number: *number,
+        };
+        assert!(rt; has_shape(opcode, word, *shape), "{word}");
     }
-    Ok(())
+}
+
+/// Opcodes by prefix and number, each with its word and its arity.
+const ARITIES: [(u8, u32, &str, Arity); 29] = [
+    (0, 0x01, "nop", Arity::Fixed(0, 0)),
+    (0, 0x02, "block", Arity::OfBlock),
+    (0, 0x08, "throw", Arity::OfThrow),
+    (0, 0x0b, "end", Arity::OfBlock),
+    (0, 0x0c, "br", Arity::OfBranch),
+    (0, 0x0d, "br_if", Arity::OfBranchIf),
+    (0, 0x0e, "br_table", Arity::OfBranchTable),
+    (0, 0x0f, "return", Arity::OfReturn),
+    (0, 0x10, "call", Arity::OfCall),
+    (0, 0x11, "call_indirect", Arity::OfIndirectCall),
+    (0, 0x12, "return_call", Arity::OfReturnCall),
+    (0, 0x15, "return_call_ref", Arity::OfReturnIndirectCall),
+    (0, 0x1a, "drop", Arity::Fixed(1, 0)),
+    (0, 0x1b, "select", Arity::Fixed(3, 1)),
+    (0, 0x36, "i32.store", Arity::Fixed(2, 0)),
+    (0, 0x41, "i32.const", Arity::Fixed(0, 1)),
+    (0, 0x45, "i32.eqz", Arity::Fixed(1, 1)),
+    (0, 0x6a, "i32.add", Arity::Fixed(2, 1)),
+    (0, 0xd5, "br_on_null", Arity::OfBranchOnNull),
+    (0, 0xd6, "br_on_non_null", Arity::OfBranchOnNonNull),
+    (0xfb, 0, "struct.new", Arity::OfStruct),
+    (0xfb, 8, "array.new_fixed", Arity::OfCount),
+    (0xfb, 17, "array.copy", Arity::Fixed(5, 0)),
+    (0xfb, 24, "br_on_cast", Arity::OfBranchOnCast),
+    (0xfc, 10, "memory.copy", Arity::Fixed(3, 0)),
+    (0xfc, 19, "i64.add128", Arity::Fixed(4, 2)),
+    (0xfc, 21, "i64.mul_wide_s", Arity::Fixed(2, 2)),
+    (0xfd, 261, "f32x4.relaxed_madd", Arity::Fixed(3, 1)),
+    (0xfe, 0x1e, "i32.atomic.rmw.add", Arity::Fixed(2, 1)),
+];
+
+/// Whether an opcode has this word and this arity.
+fn has_arity(opcode: Opcode, word: &str, arity: Arity) -> bool {
+    opcode.word() == word && opcode.arity() == Some(arity)
 }
 
 #[test]
-fn other_opcodes_have_none(rt: HostRuntime) -> Result<(), Fail> {
-    let rows = [
-        (0, 0x16),
-        (0, 0x27),
-        (0, 0xcf),
-        (0, 0xd7),
-        (0, 0xff),
-        (0, 0x100),
-        (0xfa, 0),
-        (0xfb, 31),
-        (0xfc, 18),
-        (0xfc, 23),
-        (0xfd, 154),
-        (0xfd, 276),
-        (0xfe, 0x04),
-        (0xfe, 0x4f),
-        (0xff, 0),
-    ];
-    for (prefix, number) in rows {
-        let opcode = Opcode { prefix, number };
-        expect_text(opcode.word(), "")?;
-        assert!(rt; opcode.shape() == None);
-        assert!(rt; opcode.arity() == None);
-        assert!(rt; opcode.role() == Role::Plain);
+fn opcodes_have_arities(rt: HostRuntime) {
+    for (prefix, number, word, arity) in &ARITIES {
+        let opcode = Opcode {
+            prefix: *prefix,
+            number: *number,
+        };
+        assert!(rt; has_arity(opcode, word, *arity), "{word}");
     }
-    Ok(())
 }
+
+/// Prefixes and numbers of no opcodes.
+const OTHERS: [(u8, u32); 15] = [
+    (0, 0x16),
+    (0, 0x27),
+    (0, 0xcf),
+    (0, 0xd7),
+    (0, 0xff),
+    (0, 0x100),
+    (0xfa, 0),
+    (0xfb, 31),
+    (0xfc, 18),
+    (0xfc, 23),
+    (0xfd, 154),
+    (0xfd, 276),
+    (0xfe, 0x04),
+    (0xfe, 0x4f),
+    (0xff, 0),
+];
+
+/// Whether an opcode is of no operator.
+fn is_of_none(opcode: Opcode) -> bool {
+    opcode.word() == ""
+        && opcode.shape() == None
+        && opcode.arity() == None
+        && opcode.role() == Role::Plain
+}
+
+#[test]
+fn other_opcodes_have_none(rt: HostRuntime) {
+    for (prefix, number) in OTHERS {
+        assert!(rt; is_of_none(Opcode { prefix, number }));
+    }
+}
+
+/// Opcodes without a prefix by their numbers, each with its role.
+const ROLES: [(u32, Role); 13] = [
+    (0x01, Role::Plain),
+    (0x02, Role::Opens),
+    (0x03, Role::Opens),
+    (0x04, Role::OpensIf),
+    (0x05, Role::Turns),
+    (0x06, Role::OpensTry),
+    (0x07, Role::Catches),
+    (0x0b, Role::Ends),
+    (0x18, Role::Delegates),
+    (0x19, Role::CatchesAll),
+    (0x1f, Role::Opens),
+    (0xff, Role::Plain),
+    (0x100, Role::Plain),
+];
 
 #[test]
 fn opcodes_have_roles(rt: HostRuntime) {
-    let rows = [
-        (0x01, Role::Plain),
-        (0x02, Role::Opens),
-        (0x03, Role::Opens),
-        (0x04, Role::OpensIf),
-        (0x05, Role::Turns),
-        (0x06, Role::OpensTry),
-        (0x07, Role::Catches),
-        (0x0b, Role::Ends),
-        (0x18, Role::Delegates),
-        (0x19, Role::CatchesAll),
-        (0x1f, Role::Opens),
-        (0xff, Role::Plain),
-        (0x100, Role::Plain),
-    ];
-    for (number, role) in rows {
+    for (number, role) in ROLES {
         assert!(rt; Opcode { prefix: 0, number }.role() == role);
     }
     let other = Opcode {
