@@ -1,5 +1,5 @@
 //! Prints modules of every shape, one also in lines and in colours, and one with its operators folded, and tells of each how it ended:
-//! `printed`, `out of memory`, or what else came.
+//! `printed`, `out of memory`, or what else came. Standard input may name the only one to print, and the empty module behind it.
 //!
 //! It shows what comes of a refused request for memory (tools/refusals.sh refuses each in turn). So it asks for no memory itself, but for
 //! the text that lines are appended to, and for the requests that standard input wants it to make first: they choose which request of the

@@ -121,7 +121,7 @@ fn assert_labels(
     Ok(())
 }
 
-/// Two blocks `a`, one within the other.
+/// Two blocks `a`, with a block `b` between them, each within the one before.
 const HIDDEN: [Step; 20] = [
     Step::Begin(0),
     Step::Own(Some(A)),
@@ -183,7 +183,7 @@ fn delegate_leaves_its_block_out(rt: HostRuntime) -> Result<(), Fail> {
     assert_labels(&rt, rt.alloc(), section, false, &DELEGATED)
 }
 
-/// A block without a name around the block `a`, and two blocks without names.
+/// A block without a name around the block `a`, and one behind them.
 const NAMELESS: [Step; 9] = [
     Step::Begin(0),
     Step::Own(None),

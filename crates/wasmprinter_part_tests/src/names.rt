@@ -471,19 +471,19 @@ fn subsection_of(alloc: Global, id: u8, content: &[u8]) -> Result<Vec<u8>, Error
     Ok(subsection)
 }
 
-/// Whether the names of a section are read, and none of them is the module's.
+/// Whether a section is taken without an error, and gives the module no name.
 fn names_no_module(alloc: Global, section: &[u8]) -> Result<bool, Error> {
     let names = names_of(alloc, &[section])?;
     Ok(names.module() == None)
 }
 
-/// Whether this holds for a subsection that holds the content.
+/// Whether a subsection of this number and content is taken so.
 fn is_read(alloc: Global, id: u8, content: &[u8]) -> Result<bool, Error> {
     let bytes = subsection_of(alloc, id, content)?;
     names_no_module(alloc, &bytes)
 }
 
-/// Whether this holds for each of these ids.
+/// Whether a subsection of each of these numbers, with this content, is taken so.
 fn is_read_in_all(alloc: Global, ids: &[u8], content: &[u8]) -> Result<bool, Error> {
     for id in ids {
         if !is_read(alloc, *id, content)? {

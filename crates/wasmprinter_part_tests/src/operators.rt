@@ -66,7 +66,7 @@ fn text_of_expression(
     Ok(printer.0)
 }
 
-/// The same for the operators of these bytes, in a module with the names of this section.
+/// The text of the operators of these bytes, in a module with the names of this section.
 fn text_of_operators(
     alloc: Global,
     section: &[u8],
@@ -99,7 +99,7 @@ fn expect_line(
     Ok(())
 }
 
-/// Holds the same of operators in a module without names.
+/// Holds that operators in a module without names have this text.
 fn expect_nameless(alloc: Global, bytes: &[u8], typed: &str) -> Result<(), Fail> {
     expect_line(alloc, &[], false, bytes, typed)
 }

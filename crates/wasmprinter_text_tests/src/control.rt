@@ -30,7 +30,7 @@ pub fn text_of(alloc: Global, operators: &[u8]) -> Result<String, Error> {
     print_bytes(alloc, &with_operators(alloc, &NO_PARAMS, operators)?)
 }
 
-/// Holds that it is the typed one.
+/// Holds that the text of such a module is the typed one.
 ///
 /// # Errors
 ///
@@ -258,8 +258,8 @@ fn repeat(wasm: &mut Vec<u8>, times: u32, bytes: &[u8]) -> Result<(), AllocError
 }
 
 /// A module whose function opens so many blocks in one another by these two bytes each, and closes each by these.
-/// Given are the bytes from the code section on up to the first block: its number and size, the count of bodies, the size of the body, and no
-/// locals.
+/// Given are the bytes from the code section on up to the first block: its number and size, the count of bodies, the size of the body,
+/// and no locals.
 fn with_blocks(
     alloc: Global,
     depth: u32,

@@ -1,4 +1,4 @@
-//! Modules with one section, and how they are printed.
+//! What the tests of texts have in common: modules of one or two sections, and how a module is printed.
 
 use std::alloc::{AllocError, Global};
 use std::test::Fail;

@@ -310,7 +310,7 @@ fn takes_a_float(signature: &FuncType) -> bool {
     params.next() == Some(ValType::F32) && params.next().is_none() && signature.results().len() == 0
 }
 
-/// Whether types 1 and 2 alone of five are function types, and the first of them takes a float.
+/// Whether types 1 and 2 alone of four are function types, the first of them takes a float, and there is no type 4.
 fn has_signatures(decoded: &Module) -> bool {
     decoded.signature(0).is_none()
         && decoded

@@ -21,7 +21,7 @@ const TABLE_TYPES: [(&[u8], bool, Option<u64>); 4] = [
     (&[0x04, 0x05, 0x01, 0x6f, 0x05, 0x03, 0x07], true, Some(7)),
 ];
 
-/// Whether there is one table, of this type and without an initialiser.
+/// Whether there is one table, the first item of its section, of this type and without an initialiser.
 fn is_only_table(tables: &[Table], wanted: &TableType) -> bool {
     match tables {
         [table] => { table.place() == FIRST && table.ty() == *wanted && table.init().is_none() }
@@ -47,7 +47,7 @@ fn tables_have_types(rt: HostRuntime) -> Result<(), Fail> {
     Ok(())
 }
 
-/// Whether there is a table without an initialiser, and one with one operator at 0x0e, whose initialiser ends at 0x15.
+/// Whether there is a table without an initialiser, and one at 0x0e, whose initialiser has one operator and ends at 0x15.
 fn are_plain_and_initialised(tables: &[Table]) -> bool {
     let [plain, initialised] = tables else {
         return false;
@@ -173,6 +173,7 @@ const IMPORTED: [Imported; 5] = [
 /// The limits of the table and of the memory.
 const LIMITS: Limits = Limits { min: 1, max: None };
 
+/// The type of the table.
 const TABLE: TableType = TableType {
     wide: false,
     limits: LIMITS,
@@ -182,6 +183,7 @@ const TABLE: TableType = TableType {
     },
 };
 
+/// The type of the memory.
 const MEMORY: MemoryType = MemoryType {
     wide: false,
     shared: false,
@@ -189,6 +191,7 @@ const MEMORY: MemoryType = MemoryType {
     page: None,
 };
 
+/// The type of the global.
 const GLOBAL: GlobalType = GlobalType {
     mutable: true,
     ty: ValType::I32,
@@ -288,7 +291,7 @@ const ELEMENTS: [(&[u8], Segment); 8] = [
     ),
 ];
 
-/// Whether a segment is this one, and its offset, where it is active, has one operator.
+/// Whether a segment is this one, the first item of its section, and its offset, where it is active, has one operator.
 fn is_segment(element: &Element, wanted: Segment) -> bool {
     let (table, names_table, functions, expressions) = wanted;
     let is_placed = match (active(element.mode()), table) {
