@@ -1,0 +1,346 @@
+//! Small modules with what newer versions of the standard brought: vectors, atomic accesses, structures and arrays, references,
+//! exceptions, tail calls, several memories. They can be read; whether they are valid doesn't matter to a printer.
+
+use crate::compiled::HEADER;
+use crate::draws::Draws;
+use crate::encoder::Encoder;
+use crate::names::inner_name;
+use std::alloc::{AllocError, Global};
+
+/// What stands behind an opcode.
+#[derive(Clone, Copy)]
+enum Behind {
+    /// Nothing.
+    Nothing,
+    /// A small index.
+    Index,
+    /// Two small indices.
+    Indices,
+    /// A memory operand, of this alignment.
+    Memory(u32),
+    /// The same, and a lane.
+    MemoryLane(u32),
+    /// A lane.
+    Lane,
+    /// A vector.
+    Vector,
+    /// Sixteen lanes.
+    Lanes,
+    /// A floating-point number of 32 bits.
+    Single,
+    /// A floating-point number of 64 bits.
+    Double,
+    /// A number of 64 bits.
+    Wide,
+    /// A heap type.
+    Heap,
+    /// A cast's flags, label and heap types.
+    Cast,
+    /// A list of value types.
+    Types,
+    /// A byte 00.
+    Zero,
+}
+
+/// Operators, by the bytes of their opcodes.
+#[rattlefmt::skip]
+static OPERATORS: [(&[u8], Behind); 112] = [
+    (&[0x00], Behind::Nothing), (&[0x01], Behind::Nothing), (&[0x08], Behind::Index), (&[0x0a], Behind::Nothing),
+    (&[0x0c], Behind::Index), (&[0x0d], Behind::Index), (&[0x0f], Behind::Nothing), (&[0x10], Behind::Index),
+    (&[0x11], Behind::Indices), (&[0x12], Behind::Index), (&[0x13], Behind::Indices), (&[0x14], Behind::Index),
+    (&[0x15], Behind::Index), (&[0x1a], Behind::Nothing), (&[0x1b], Behind::Nothing), (&[0x1c], Behind::Types),
+    (&[0x20], Behind::Index), (&[0x20], Behind::Index), (&[0x21], Behind::Index), (&[0x22], Behind::Index),
+    (&[0x23], Behind::Index), (&[0x24], Behind::Index), (&[0x25], Behind::Index), (&[0x26], Behind::Index),
+    (&[0x29], Behind::Memory(3)), (&[0x2a], Behind::Memory(2)), (&[0x2b], Behind::Memory(3)), (&[0x37], Behind::Memory(3)),
+    (&[0x3f], Behind::Zero), (&[0x40], Behind::Zero), (&[0x42], Behind::Wide), (&[0x43], Behind::Single),
+    (&[0x44], Behind::Double), (&[0x7c], Behind::Nothing), (&[0x92], Behind::Nothing), (&[0xa0], Behind::Nothing),
+    (&[0xa2], Behind::Nothing), (&[0xac], Behind::Nothing), (&[0xb7], Behind::Nothing), (&[0xbd], Behind::Nothing),
+    (&[0xc4], Behind::Nothing), (&[0xd0], Behind::Heap), (&[0xd1], Behind::Nothing), (&[0xd2], Behind::Index),
+    (&[0xd3], Behind::Nothing), (&[0xd4], Behind::Nothing), (&[0xd5], Behind::Index), (&[0xd6], Behind::Index),
+    (&[0xfb, 0x00], Behind::Index), (&[0xfb, 0x01], Behind::Index), (&[0xfb, 0x02], Behind::Indices), (&[0xfb, 0x03], Behind::Indices),
+    (&[0xfb, 0x05], Behind::Indices), (&[0xfb, 0x06], Behind::Index), (&[0xfb, 0x08], Behind::Indices), (&[0xfb, 0x09], Behind::Indices),
+    (&[0xfb, 0x0b], Behind::Index), (&[0xfb, 0x0e], Behind::Index), (&[0xfb, 0x0f], Behind::Nothing), (&[0xfb, 0x11], Behind::Indices),
+    (&[0xfb, 0x14], Behind::Heap), (&[0xfb, 0x16], Behind::Heap), (&[0xfb, 0x17], Behind::Heap), (&[0xfb, 0x18], Behind::Cast),
+    (&[0xfb, 0x19], Behind::Cast), (&[0xfb, 0x1a], Behind::Nothing), (&[0xfb, 0x1c], Behind::Nothing), (&[0xfb, 0x1d], Behind::Nothing),
+    (&[0xfc, 0x00], Behind::Nothing), (&[0xfc, 0x06], Behind::Nothing), (&[0xfc, 0x08], Behind::Indices), (&[0xfc, 0x09], Behind::Index),
+    (&[0xfc, 0x0a], Behind::Indices), (&[0xfc, 0x0b], Behind::Index), (&[0xfc, 0x0c], Behind::Indices), (&[0xfc, 0x0d], Behind::Index),
+    (&[0xfc, 0x0e], Behind::Indices), (&[0xfc, 0x0f], Behind::Index), (&[0xfc, 0x10], Behind::Index), (&[0xfc, 0x11], Behind::Index),
+    (&[0xfd, 0x00], Behind::Memory(4)), (&[0xfd, 0x01], Behind::Memory(3)), (&[0xfd, 0x0b], Behind::Memory(4)), (&[0xfd, 0x0c], Behind::Vector),
+    (&[0xfd, 0x0d], Behind::Lanes), (&[0xfd, 0x0f], Behind::Nothing), (&[0xfd, 0x11], Behind::Nothing), (&[0xfd, 0x15], Behind::Lane),
+    (&[0xfd, 0x1b], Behind::Lane), (&[0xfd, 0x21], Behind::Lane), (&[0xfd, 0x23], Behind::Nothing), (&[0xfd, 0x4d], Behind::Nothing),
+    (&[0xfd, 0x52], Behind::Nothing), (&[0xfd, 0x54], Behind::MemoryLane(0)), (&[0xfd, 0x57], Behind::MemoryLane(3)), (&[0xfd, 0x5a], Behind::MemoryLane(2)),
+    (&[0xfd, 0x5c], Behind::Memory(2)), (&[0xfd, 0x6e], Behind::Nothing), (&[0xfd, 0xae, 0x01], Behind::Nothing), (&[0xfd, 0xb5, 0x01], Behind::Nothing),
+    (&[0xfd, 0xe4, 0x01], Behind::Nothing), (&[0xfd, 0xf0, 0x01], Behind::Nothing), (&[0xfd, 0x80, 0x02], Behind::Nothing), (&[0xfd, 0x87, 0x02], Behind::Nothing),
+    (&[0xfe, 0x00], Behind::Memory(2)), (&[0xfe, 0x01], Behind::Memory(2)), (&[0xfe, 0x03], Behind::Zero), (&[0xfe, 0x10], Behind::Memory(2)),
+    (&[0xfe, 0x11], Behind::Memory(3)), (&[0xfe, 0x17], Behind::Memory(2)), (&[0xfe, 0x1e], Behind::Memory(2)), (&[0xfe, 0x48], Behind::Memory(2)),
+];
+
+/// Heap types, some of them indices.
+const HEAPS: [u8; 8] = [0x70, 0x6f, 0x6e, 0x6b, 0x6c, 0x00, 0x01, 0x02];
+
+/// What opens a block: the bytes of the opcode, of the type, and of catch clauses.
+const OPENS: [&[u8]; 8] = [
+    &[0x02, 0x40],
+    &[0x02, 0x7f],
+    &[0x03, 0x40],
+    &[0x02, 0x03],
+    &[0x04, 0x40],
+    &[0x02, 0x63, 0x6e],
+    &[0x1f, 0x40, 0x02, 0x00, 0x00, 0x00, 0x02, 0x00],
+    &[0x03, 0x04],
+];
+
+/// A recursion group of a structure that others extend and an array, a structure that extends the first, and function types.
+const TYPES: [u8; 47] = [
+    0x06, // six
+    0x4e, 0x02, 0x50, 0x00, 0x5f, 0x02, 0x7f, 0x01, 0x63, 0x00, 0x00, 0x5e, 0x78, 0x01, // group
+    0x4f, 0x01, 0x00, 0x5f, 0x03, 0x7f, 0x01, 0x63, 0x00, 0x00, 0x7e, 0x01, // extends
+    0x60, 0x02, 0x7f, 0x7f, 0x01, 0x7f, // function
+    0x60, 0x01, 0x64, 0x01, 0x02, 0x63, 0x6e, 0x7b, // references
+    0x60, 0x00, 0x00, // nothing
+    0x60, 0x01, 0x7f, // tag, without its results
+];
+
+/// What each kind of import has behind its names: a function, a table, a memory, a global, a tag.
+const IMPORTS: [&[u8]; 5] = [
+    &[0x00, 0x05],
+    &[0x01, 0x63, 0x00, 0x00, 0x08],
+    &[0x02, 0x03, 0x01, 0x10],
+    &[0x03, 0x63, 0x01, 0x00],
+    &[0x04, 0x00, 0x06],
+];
+
+/// Globals: a reference that is null, a vector, a structure that is made, and a sum.
+const GLOBALS: [&[u8]; 4] = [
+    &[0x6e, 0x00, 0xd0, 0x71, 0x0b],
+    &[
+        0x7b, 0x01, 0xfd, 0x0c, 1, 2, 3, 4, 5, 6, 7, 8, 9, 10, 11, 12, 13, 14, 15, 16, 0x0b,
+    ],
+    &[0x64, 0x02, 0x00, 0xfb, 0x01, 0x02, 0x0b],
+    &[0x7f, 0x00, 0x41, 0x05, 0x41, 0x7e, 0x6a, 0x0b],
+];
+
+/// Element segments: active, passive and declared, by indices and by expressions.
+const ELEMENTS: [&[u8]; 4] = [
+    &[0x00, 0x41, 0x01, 0x0b, 0x02, 0x00, 0x01],
+    &[0x01, 0x00, 0x01, 0x00],
+    &[0x03, 0x00, 0x02, 0x01, 0x00],
+    &[0x05, 0x70, 0x02, 0xd2, 0x00, 0x0b, 0xd0, 0x70, 0x0b],
+];
+
+/// The most functions of a module.
+const MOST_FUNCTIONS: u32 = 12;
+
+/// An item of a list, drawn from these, for so many.
+fn list(
+    draws: &mut Draws,
+    count: u32,
+    from: &[&'static [u8]],
+    content: &mut Encoder,
+) -> Result<(), AllocError> {
+    content.index(count)?;
+    for _ in 0..count {
+        content.all(draws.pick(from, &[]))?;
+    }
+    Ok(())
+}
+
+/// Sixteen bytes below this one.
+fn sixteen(draws: &mut Draws, limit: u32, code: &mut Encoder) -> Result<(), AllocError> {
+    for _ in 0..16 {
+        code.byte(draws.byte(limit))?;
+    }
+    Ok(())
+}
+
+/// A memory operand of this alignment.
+fn operand(draws: &mut Draws, exponent: u32, code: &mut Encoder) -> Result<(), AllocError> {
+    if draws.one_in(6) {
+        code.index(exponent | 0x40)?;
+        code.byte(1)?;
+    } else {
+        code.index(exponent)?;
+    }
+    code.index(draws.small(100_000))
+}
+
+/// A cast's flags, label and heap types.
+fn cast(draws: &mut Draws, code: &mut Encoder) -> Result<(), AllocError> {
+    code.byte(draws.byte(4))?;
+    code.index(draws.below(3))?;
+    code.byte(draws.pick(&HEAPS, 0x70))?;
+    code.byte(draws.pick(&HEAPS, 0x70))
+}
+
+/// What stands behind an opcode.
+fn immediates(draws: &mut Draws, behind: Behind, code: &mut Encoder) -> Result<(), AllocError> {
+    match behind {
+        Behind::Nothing => Ok(()),
+        Behind::Index => code.index(draws.small(12)),
+        Behind::Indices => {
+            code.index(draws.small(7))?;
+            code.index(draws.small(3))
+        }
+        Behind::Memory(exponent) => operand(draws, exponent, code),
+        Behind::MemoryLane(exponent) => {
+            operand(draws, exponent, code)?;
+            code.byte(draws.byte(2))
+        }
+        Behind::Lane => code.byte(draws.byte(2)),
+        Behind::Vector => sixteen(draws, 256, code),
+        Behind::Lanes => sixteen(draws, 32, code),
+        Behind::Single => code.all(&draws.word().to_le_bytes()),
+        Behind::Double => code.all(&draws.number().to_le_bytes()),
+        Behind::Wide => code.signed(draws.number().cast_signed()),
+        Behind::Heap => code.byte(draws.pick(&HEAPS, 0x70)),
+        Behind::Cast => cast(draws, code),
+        Behind::Types => code.all(&[1, 0x7b]),
+        Behind::Zero => code.byte(0),
+    }
+}
+
+/// The operators of a body, with the `end` of each block that is opened.
+fn operators(draws: &mut Draws, steps: u32, code: &mut Encoder) -> Result<(), AllocError> {
+    let mut depth: u32 = 0;
+    for _ in 0..steps {
+        match draws.below(16) {
+            0 | 1 => {
+                depth = depth.saturating_add(1);
+                code.all(draws.pick(&OPENS, &[0x02, 0x40]))?;
+            }
+            2 if depth > 0 => {
+                depth -= 1;
+                code.byte(0x0b)?;
+            }
+            _ => {
+                let (opcode, behind) = draws.pick(&OPERATORS, (&[0x01], Behind::Nothing));
+                code.all(opcode)?;
+                immediates(draws, behind, code)?;
+            }
+        }
+    }
+    for _ in 0..depth {
+        code.byte(0x0b)?;
+    }
+    code.byte(0x0b)
+}
+
+/// Bodies, so many.
+fn bodies(
+    alloc: Global,
+    draws: &mut Draws,
+    count: u32,
+    content: &mut Encoder,
+) -> Result<(), AllocError> {
+    let mut body = Encoder::new(alloc);
+    content.index(count)?;
+    for _ in 0..count {
+        body.clear();
+        body.all(&[0x02, 0x02, 0x7f, 0x01, 0x63, 0x01])?;
+        let steps = draws.within(5, 120);
+        operators(draws, steps, &mut body)?;
+        content.sized(body.bytes())?;
+    }
+    Ok(())
+}
+
+/// Imports, so many.
+fn imports(draws: &mut Draws, count: u32, content: &mut Encoder) -> Result<(), AllocError> {
+    content.index(count)?;
+    for _ in 0..count {
+        content.sized(b"spectest")?;
+        content.sized(
+            draws
+                .pick(&["print_i32", "memory", "größe", "a \"b\""], "x")
+                .as_bytes(),
+        )?;
+        content.all(draws.pick(&IMPORTS, &[0x00, 0x05]))?;
+    }
+    Ok(())
+}
+
+/// Names of so many items of a kind.
+fn names(
+    alloc: Global,
+    draws: &mut Draws,
+    number: u8,
+    count: u32,
+    content: &mut Encoder,
+) -> Result<(), AllocError> {
+    let mut names = Encoder::new(alloc);
+    let mut name = Encoder::new(alloc);
+    names.index(count)?;
+    for index in 0..count {
+        name.clear();
+        inner_name(draws, index, &mut name)?;
+        names.index(index)?;
+        names.sized(name.bytes())?;
+    }
+    content.section(number, &names)
+}
+
+/// A section whose content the function makes.
+fn custom_names(
+    alloc: Global,
+    draws: &mut Draws,
+    functions: u32,
+    module: &mut Encoder,
+) -> Result<(), AllocError> {
+    let mut content = Encoder::new(alloc);
+    content.sized(b"name")?;
+    names(alloc, draws, 1, functions, &mut content)?;
+    names(alloc, draws, 4, 7, &mut content)?;
+    names(alloc, draws, 7, 3, &mut content)?;
+    module.section(0, &content)
+}
+
+/// The sections in front of the code, so many functions in it.
+fn front(
+    alloc: Global,
+    draws: &mut Draws,
+    functions: u32,
+    module: &mut Encoder,
+) -> Result<(), AllocError> {
+    let mut content = Encoder::new(alloc);
+    content.all(&TYPES)?;
+    content.byte(0)?;
+    module.section(1, &content)?;
+    content.clear();
+    let count = draws.below(8);
+    imports(draws, count, &mut content)?;
+    module.section(2, &content)?;
+    content.clear();
+    content.index(functions)?;
+    for _ in 0..functions {
+        content.byte(draws.pick(&[0x03, 0x04, 0x05], 0x05))?;
+    }
+    module.section(3, &content)?;
+    module.section_of(4, &[0x02, 0x70, 0x00, 0x0a, 0x64, 0x01, 0x01, 0x01, 0x10])?;
+    module.section_of(5, &[0x02, 0x01, 0x01, 0x02, 0x04, 0x03])?;
+    module.section_of(13, &[0x01, 0x00, 0x06])?;
+    content.clear();
+    let count = draws.below(6);
+    list(draws, count, &GLOBALS, &mut content)?;
+    module.section(6, &content)?;
+    content.clear();
+    let count = draws.below(5);
+    list(draws, count, &ELEMENTS, &mut content)?;
+    module.section(9, &content)?;
+    module.section_of(12, &[0x01])
+}
+
+/// A module.
+pub fn module(alloc: Global, draws: &mut Draws) -> Result<Encoder, AllocError> {
+    let mut module = Encoder::new(alloc);
+    let mut content = Encoder::new(alloc);
+    let functions = draws.within(1, MOST_FUNCTIONS);
+    module.all(&HEADER)?;
+    front(alloc, draws, functions, &mut module)?;
+    bodies(alloc, draws, functions, &mut content)?;
+    module.section(10, &content)?;
+    module.section_of(11, b"\x01\x01\x0dHello, wasm!\n")?;
+    if draws.one_in(2) {
+        custom_names(alloc, draws, functions, &mut module)?;
+    }
+    Ok(module)
+}
