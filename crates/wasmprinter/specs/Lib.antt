@@ -3,4 +3,5 @@ pub mod Found
 pub mod Lined
 pub mod OfFile
 pub mod Outcome
+pub mod Painted
 pub mod Printed

@@ -6,12 +6,12 @@ ghost use Rattle.wasmprinter.specs.Outcome.{HasTextCause, IsTrueOfText};
 
 use crate::config::Config;
 use crate::in_memory::without_printer;
+use crate::painted::Painted;
 use std::alloc::Global;
 use wasmprinter_error::Error;
-use wasmprinter_writers::{Ansi, PrintTermcolor};
 
 impl Config {
-    /// The text of a module in the binary format, with the sequences that colour it on a terminal, as [`Ansi`] writes them.
+    /// The text of a module in the binary format, with the sequences that colour it on a terminal, as `Ansi` writes them.
     ///
     /// # Errors
     ///
@@ -22,9 +22,9 @@ impl Config {
         ensures refused { IfErr result (IsTrueOfText self.now wasm.now) }
         ensures component { IsErrOf result Error.Component ↔ IsComponent wasm.now }
     {
-        let mut printer = PrintTermcolor(Ansi::new(Vec::new(alloc)));
+        let mut printer = Painted::new(alloc);
         match self.print(alloc, wasm, &mut printer) {
-            Ok(()) => Ok(printer.0.into_inner()),
+            Ok(()) => Ok(printer.into_bytes()),
             Err(error) => Err(without_printer(error)),
         }
     }

@@ -10,6 +10,7 @@ mod config;
 mod files;
 mod in_memory;
 mod lined;
+mod painted;
 mod places;
 pub mod print;
 pub mod text;

@@ -1,5 +1,5 @@
--- What the printer in colours wrote to bytes that were none.
-use Rattle.std.proofs.Common.{sym, ap, ◌∙◌, subst}
+-- What was printed in colours to bytes that were none.
+use Rattle.std.proofs.Common.{sym, subst}
 use Rattle.wasmprinter.specs.Outcome.{HasTextCause, IsTrueOfText}
 use Rattle.wasmprinter.proofs.Outcomes.{growth_cause, growth_true}
 use Rattle.wasmprinter.proofs.Colours.{printed_in_colours}
@@ -7,9 +7,7 @@ use Rattle.wasmprinter.proofs.config.Config.print_to_ansi.Goals as goal
 
 pub returns-in-Ok-clause-printed : goal.returns-in-Ok-clause-printed
 returns-in-Ok-clause-printed c =
-    rw c.into_inner.ensures
-    (printed_in_colours (λ p. p.0) (λ w. w.inner) (λ v. v.items) c.args.self.now c.args.wasm.now _ c.print.new.printer (ap (λ v. v.items) c.new-2.ensures ∙ c.new.ensures.items)
-    c.in-Ok.ensures.printed)
+    rw c.into_bytes.ensures (printed_in_colours c.args.self.now c.args.wasm.now _ c.print.new.printer c.new-printer.ensures c.in-Ok.ensures.printed)
 
 pub returns-in-Err-clause-caused : goal.returns-in-Err-clause-caused
 returns-in-Err-clause-caused c =

@@ -1,0 +1,148 @@
+//! A printer that keeps its text in memory, with the sequences of a terminal for its styles.
+ghost use Rattle.std.specs.Prelude.{◌≡◌, true};
+ghost use Rattle.wasmprinter.specs.Painted.{painted_meaning};
+
+use std::alloc::{AllocError, Global};
+use std::io;
+use std::marker::Model;
+use wasmprinter_print::Print;
+
+// Sequences of a terminal (Select Graphic Rendition of ECMA-48). Each style begins by taking back what was set before.
+
+/// Numbers and strings: red.
+const LITERAL: &str = "\x1b[0m\x1b[31m";
+
+/// Names and numbers of items: magenta.
+const NAME: &str = "\x1b[0m\x1b[35m";
+
+/// Keywords: bold, and yellow in its intense shade.
+const KEYWORD: &str = "\x1b[0m\x1b[1m\x1b[38;5;11m";
+
+/// Words of types: bold, and green in its intense shade.
+const TYPE: &str = "\x1b[0m\x1b[1m\x1b[38;5;10m";
+
+/// Comments: cyan.
+const COMMENT: &str = "\x1b[0m\x1b[36m";
+
+/// Text without a style: no colours, and not bold.
+const RESET: &str = "\x1b[0m";
+
+/// A printer that keeps its text in memory, with the sequences of a terminal for its styles.
+///
+/// All sequences of a style are appended at once. It leaves no trace of where lines begin, and takes no custom section itself. A call
+/// that wants memory and gets none fails, with an error of the kind `OutOfMemory`, and leaves the text as it was.
+#[derive(Drop)]
+pub(crate) struct Painted {
+    text: Vec<u8>,
+}
+
+impl Model for Painted {
+    ghost use Rattle.std.specs.Prelude.{ℕ, List};
+
+    ghost Value = { List ℕ };
+
+    ghost view = { λ p. p.text.items };
+}
+
+impl Painted {
+    ghost use Rattle.std.specs.Prelude.{◌≡◌, [], ◌++◌, OnOk, OnErr};
+
+    /// A printer to which nothing was printed. Takes no memory.
+    pub(crate) fn new(alloc: Global) -> Painted
+        ensures { result ≡ [] }
+    {
+        Painted {
+            text: Vec::new(alloc),
+        }
+    }
+
+    /// The bytes of the text.
+    pub(crate) fn into_bytes(self) -> Vec<u8>
+        ensures { result.items ≡ self }
+    {
+        self.text
+    }
+
+    /// Appends a text or sequences. Where memory is refused, this fails and changes nothing.
+    #[inline]
+    fn append(&mut self, piece: &str) -> Result<(), AllocError>
+        ensures ok { OnOk result (self.new ≡ self.old ++ piece.now) }
+        ensures err { OnErr result (self.new ≡ self.old) }
+    {
+        self.text.extend_from_slice(piece.as_bytes())
+    }
+}
+
+impl Print for Painted {
+    ghost meaning = { painted_meaning };
+
+    ghost colors = { λ _. true };
+
+    #[inline]
+    fn write_str(&mut self, s: &str) -> io::Result<()> {
+        self.append(s)?;
+        Ok(())
+    }
+
+    #[inline]
+    fn newline(&mut self) -> io::Result<()> {
+        self.append("\n")?;
+        Ok(())
+    }
+
+    #[inline]
+    fn start_line(&mut self, _binary_offset: Option<u64>) {}
+
+    fn print_custom_section(
+        &mut self,
+        _name: &str,
+        _binary_offset: u64,
+        _bytes: &[u8],
+    ) -> io::Result<bool> {
+        Ok(false)
+    }
+
+    #[inline]
+    #[tactic(auto, using(wasmprinter_spec::proofs::Sequences::literal))]
+    fn start_literal(&mut self) -> io::Result<()> {
+        self.append(LITERAL)?;
+        Ok(())
+    }
+
+    #[inline]
+    #[tactic(auto, using(wasmprinter_spec::proofs::Sequences::name))]
+    fn start_name(&mut self) -> io::Result<()> {
+        self.append(NAME)?;
+        Ok(())
+    }
+
+    #[inline]
+    fn start_keyword(&mut self) -> io::Result<()> {
+        self.append(KEYWORD)?;
+        Ok(())
+    }
+
+    #[inline]
+    fn start_type(&mut self) -> io::Result<()> {
+        self.append(TYPE)?;
+        Ok(())
+    }
+
+    #[inline]
+    #[tactic(auto, using(wasmprinter_spec::proofs::Sequences::comment))]
+    fn start_comment(&mut self) -> io::Result<()> {
+        self.append(COMMENT)?;
+        Ok(())
+    }
+
+    #[inline]
+    #[tactic(auto, using(wasmprinter_spec::proofs::Sequences::reset))]
+    fn reset_color(&mut self) -> io::Result<()> {
+        self.append(RESET)?;
+        Ok(())
+    }
+
+    fn supports_async_color(&self) -> bool {
+        true
+    }
+}
