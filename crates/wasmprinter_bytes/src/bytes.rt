@@ -1,6 +1,6 @@
 //! A cursor over a module's bytes: whole numbers in LEB128 and names (section 5.2 of the WebAssembly Core
 //! Specification, "Integers" and "Names").
-ghost use Rattle.std.specs.Prelude.{◌≡◌, ◌<◌, ◌≤◌, ◌^◌, ◌+◌, ◌-◌, ◌*◌, ◌↔◌, [], length, take, slice_get, nat_lt, IfOk, IsTrue};
+ghost use Rattle.std.specs.Prelude.{◌≡◌, ◌<◌, ◌≤◌, ◌^◌, ◌+◌, ◌-◌, ◌*◌, ◌↔◌, [], length, take, slice_get, nat_lt, Some, IfOk, IfSome, IfNone, IsTrue};
 ghost use Rattle.std.specs.Prelude.{pos, neg_ℤ, negsuc, ◌+ℤ◌, ◌*ℤ◌, ◌≤ℤ◌, ◌<ℤ◌};
 ghost use Rattle.wasmprinter_spec.specs.Grammar.{byte};
 ghost use Rattle.wasmprinter_spec.specs.Sized.{take_bytes};
@@ -149,6 +149,16 @@ impl<'a> Cursor<'a> {
         self.rest.first().copied()
     }
 
+    /// Goes on behind the next byte, where these are left.
+    #[inline(always)]
+    fn go_on(&mut self, rest: &'a [u8])
+        requires { length rest.now + 1 ≡ length self.now.bytes }
+        ensures { self.new ≡ record { place = self.old.place + 1; bytes = rest.now } }
+    {
+        self.place += 1;
+        self.rest = rest;
+    }
+
     /// The next byte.
     ///
     /// # Errors
@@ -161,8 +171,7 @@ impl<'a> Cursor<'a> {
     {
         match self.rest.split_first() {
             Some((byte, rest)) => {
-                self.place += 1;
-                self.rest = rest;
+                self.go_on(rest);
                 Ok(*byte)
             }
             None => Err(Malformed { place: self.place }),
@@ -260,6 +269,23 @@ impl<'a> Cursor<'a> {
         }
     }
 
+    /// Passes by the next byte if it is below the limit. A number in LEB128 is often such a byte alone.
+    #[inline(always)]
+    fn single(&mut self, limit: u8) -> Option<u8>
+        ensures reads { IfSome result (λ b. byte.parse self.old ≡ Some (b, self.new)) }
+        ensures low { IfSome result (λ b. b < limit) }
+        ensures stays { IfNone result (self.new ≡ self.old) }
+        ensures end { end_of self.new ≡ end_of self.old }
+    {
+        match self.rest.split_first() {
+            Some((byte, rest)) if *byte < limit => {
+                self.go_on(rest);
+                Some(*byte)
+            }
+            _ => None,
+        }
+    }
+
     /// An unsigned number of 32 bits.
     ///
     /// # Errors
@@ -270,6 +296,9 @@ impl<'a> Cursor<'a> {
         ensures within { IsWithin self.old result }
         ensures end { end_of self.new ≡ end_of self.old }
     {
+        if let Some(byte) = self.single(MORE) {
+            return Ok(u32::from(byte));
+        }
         let number = self.unsigned(u32::BITS)?;
         Ok(number as u32)
     }
@@ -284,6 +313,9 @@ impl<'a> Cursor<'a> {
         ensures within { IsWithin self.old result }
         ensures end { end_of self.new ≡ end_of self.old }
     {
+        if let Some(byte) = self.single(MORE) {
+            return Ok(u64::from(byte));
+        }
         self.unsigned(u64::BITS)
     }
 
@@ -297,6 +329,9 @@ impl<'a> Cursor<'a> {
         ensures within { IsWithin self.old result }
         ensures end { end_of self.new ≡ end_of self.old }
     {
+        if let Some(byte) = self.single(SIGN) {
+            return Ok(i32::from(byte));
+        }
         let number = self.signed(i32::BITS)?;
         Ok(number as i32)
     }

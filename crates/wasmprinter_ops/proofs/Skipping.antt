@@ -3,7 +3,7 @@ use Rattle.std.proofs.Common.{◌≡◌, ℕ, ◌-◌, ◌<◌, ◌≤◌, List,
 use Rattle.std.proofs.lemmas.List.{take_at, length-take-le, map-append}
 use Rattle.wasmprinter_spec.specs.Grammar.{Input, input, Spans, ◌>>=◌, Placed, value_with_place, some_is}
 use Rattle.wasmprinter_spec.specs.Repeated.{Entries}
-use Rattle.wasmprinter_spec.specs.Operator.{Opcode, Operator}
+use Rattle.wasmprinter_spec.specs.Operator.{Operator}
 use Rattle.wasmprinter_spec.specs.Row.{Role}
 use Rattle.wasmprinter_spec.specs.Table.{role_of}
 use Rattle.wasmprinter_spec.specs.Stepped.{Move, On, Stop, Never, by_move, Ended, list_with_last, in_front, items_by_steps_at}
@@ -106,14 +106,11 @@ module _ (start : Input) (s : Open) (at after : Input) (o : Operator) (e : opera
         is = turns (On t) is ∙ front_push k.items x (reading t after);
       }
 
--- the same of a step that the program took: r is the role of an opcode, which is the operator's
-module _ (start : Input) (s : Open) (at after : Input) (o : Operator) (code : Opcode) (r : Role) (new : Open) (e : operator.parse at ≡ Some (o, after)) (k : Skipped start s at)
-    (is_role : r ≡ role_of code) (is_code : code ≡ o.opcode) where
-  same_role : role_of o.opcode ≡ r
-  same_role = sym (is_role ∙ ap role_of is_code)
-
+-- the same of a step that the program took, with the operator's role
+module _ (start : Input) (s : Open) (at after : Input) (o : Operator) (r : Role) (new : Open) (e : operator.parse at ≡ Some (o, after)) (k : Skipped start s at)
+    (is_role : role_of o.opcode ≡ r) where
   pub on_more : Steps (advance s r) steps.On new → Skipped start new after
-  on_more h = skipped_more start s at after o e k new (ap (advance s) same_role ∙ step_on (advance s r) new h)
+  on_more h = skipped_more start s at after o e k new (ap (advance s) is_role ∙ step_on (advance s r) new h)
 
 -- the operators that were passed by, input their bytes alone
 front_of : (start at : Input) (ops : List (Placed Operator)) → Spans (Entries (value_with_place operator)) start (ops, at) → operators.parse (input start.place (take (at.place - start.place) start.bytes)) ≡ Some ops

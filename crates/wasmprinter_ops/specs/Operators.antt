@@ -1,5 +1,5 @@
 -- Operators with their places, as many as bytes hold.
-use Rattle.std.specs.Prelude.{◌≡◌, ℕ, List, [], map, Some, None, MatchOption, Result, Ok, Err}
+use Rattle.std.specs.Prelude.{◌≡◌, ℕ, List, [], map, Option, Some, None, MatchOption, Result, Ok, Err}
 use Rattle.wasmprinter_spec.specs.Grammar.{Input, Spans, Remainder, Placed, value_with_place}
 use Rattle.wasmprinter_spec.specs.Repeated.{some_or, until_end, Entries}
 use Rattle.wasmprinter_spec.specs.Operator.{Operator}
@@ -9,7 +9,10 @@ use Rattle.wasmprinter_spec.specs.Table.{role_of}
 use Rattle.wasmprinter_bytes.specs.Lists.{reader_reasons}
 use Rattle.wasmprinter_error.specs.declared.error.Error.{Error}
 use Rattle.wasmprinter_error.specs.Reasons.{HasReason}
+use Rattle.wasmprinter_error.specs.declared.error.Malformed.{Malformed}
 use Rattle.wasmprinter_ops.specs.Nesting.{OpensBlock, open_behind}
+use Rattle.wasmprinter_ops.specs.Shapes.{role_view}
+use Rattle.wasmprinter_ops.specs.declared.opcode.Role.{Role}
 
 -- a place and an operator, as the definitions see them
 abbrev pub placed_view : ℕ × Operator → Placed Operator
@@ -18,6 +21,16 @@ placed_view x = record { place = x.0; value = x.1 }
 -- places and operators, as the program gives them
 abbrev pub pairs : List (Placed Operator) → List (ℕ × Operator)
 pairs ops = map (λ o. (o.place, o.value)) ops
+
+-- a value stands there and is passed by; or nothing of the kind stands there
+abbrev pub Passes : {A : Type 0} → (Input → Option (A × Input)) → Input → Result (Unit {0}) Malformed → Input → Type 0
+Passes {A} parse old (Ok x) new = (value : A) × (parse old ≡ Some (value, new))
+Passes parse old (Err e) new = parse old ≡ None
+
+-- an operator of the role stands there and is passed by; or no operator stands there
+abbrev pub PassesOperator : Input → Result Role Malformed → Input → Type 0
+PassesOperator old (Ok role) new = (o : Operator) × (operator.parse old ≡ Some (o, new)) × (role_of o.opcode ≡ role_view role)
+PassesOperator old (Err e) new = operator.parse old ≡ None
 
 -- operators up to the end of the bytes, each with its place
 abbrev pub operators : Remainder (List (Placed Operator))

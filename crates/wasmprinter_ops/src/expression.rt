@@ -8,7 +8,7 @@ ghost use Rattle.wasmprinter_bytes.specs.Lists.{Takes};
 ghost use Rattle.wasmprinter_ops.specs.Operators.{SkipsOperators, HasBlock};
 
 use crate::nesting::{Blocks, Step};
-use crate::operator::{Operator, read_placed};
+use crate::operator::{Operator, pass_operator, read_placed};
 use std::alloc::Global;
 use std::marker::Model;
 use wasmprinter_bytes::bytes::Cursor;
@@ -85,8 +85,8 @@ fn skip_operators(alloc: Global, cursor: &mut Cursor) -> Result<u64, Error>
     let mut blocks = Blocks::new(alloc);
     loop {
         let place = cursor.place();
-        let operator = Operator::read(cursor)?;
-        match blocks.advance(operator.opcode.role())? {
+        let role = pass_operator(cursor)?;
+        match blocks.advance(role)? {
             Step::On => {}
             Step::Stop => return Ok(place),
             Step::Refused => return Err(Error::Malformed { place }),

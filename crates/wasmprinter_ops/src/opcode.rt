@@ -1,5 +1,6 @@
 //! Opcodes, and what the table of operators says of them.
 ghost use Rattle.std.specs.Prelude.{◌≡◌, map};
+ghost use Rattle.wasmprinter_spec.specs.Operator.{opcode};
 ghost use Rattle.wasmprinter_spec.specs.Table.{word_of, role_of, shape_of};
 ghost use Rattle.wasmprinter_spec.specs.Folding.Code.{is_try};
 ghost use Rattle.wasmprinter_spec.specs.Instructions.{is_prefix as is_prefix_byte, opcode_grammar};
@@ -267,13 +268,30 @@ fn roles_of(prefix: u8) -> &'static [Role]
 }
 
 /// Whether a number stands behind this byte.
-fn is_prefix(byte: u8) -> bool
+pub(crate) fn is_prefix(byte: u8) -> bool
     ensures { result ≡ is_prefix_byte byte }
 {
     matches!(byte, GC | BULK | VECTORS | ATOMICS)
 }
 
 impl Opcode {
+    /// The opcode of one byte.
+    pub(crate) fn of_byte(byte: u8) -> Opcode
+        ensures { result ≡ opcode 0 byte }
+    {
+        Opcode {
+            prefix: 0,
+            number: u32::from(byte),
+        }
+    }
+
+    /// The opcode of a prefix and a number.
+    pub(crate) fn behind(prefix: u8, number: u32) -> Opcode
+        ensures { result ≡ opcode prefix number }
+    {
+        Opcode { prefix, number }
+    }
+
     /// Reads a byte, and behind a prefix a number.
     ///
     /// # Errors
@@ -287,15 +305,9 @@ impl Opcode {
         let byte = cursor.u8()?;
         if is_prefix(byte) {
             let number = cursor.u32()?;
-            Ok(Opcode {
-                prefix: byte,
-                number,
-            })
+            Ok(Opcode::behind(byte, number))
         } else {
-            Ok(Opcode {
-                prefix: 0,
-                number: u32::from(byte),
-            })
+            Ok(Opcode::of_byte(byte))
         }
     }
 

@@ -1,15 +1,15 @@
 //! Operators: opcodes with their immediates.
-ghost use Rattle.std.specs.Prelude.{◌≡◌, IfOk};
-ghost use Rattle.wasmprinter_spec.specs.Grammar.{value_with_place};
+ghost use Rattle.std.specs.Prelude.{◌≡◌, ◌≤◌, Some, IfOk};
+ghost use Rattle.wasmprinter_spec.specs.Grammar.{Input, value_with_place};
 ghost use Rattle.wasmprinter_spec.specs.Row.{FenceShape, TryTableShape, FieldShape, BranchTableShape, CastShape, MemoryLaneShape};
-ghost use Rattle.wasmprinter_spec.specs.Instructions.{operator, immediates as immediates_grammar, indices, cast};
+ghost use Rattle.wasmprinter_spec.specs.Instructions.{operator, opcode_grammar, immediates as immediates_grammar, indices, cast};
 ghost use Rattle.wasmprinter_bytes.specs.Reads.{Reads, IsWithin, end_of};
 ghost use Rattle.wasmprinter_ops.specs.Immediates.{immediates_view, HasShape};
-ghost use Rattle.wasmprinter_ops.specs.Operators.{placed_view};
+ghost use Rattle.wasmprinter_ops.specs.Operators.{placed_view, Passes, PassesOperator};
 ghost use Rattle.wasmprinter_ops.specs.Shapes.{shape_view};
 
 use crate::blocks::{BlockType, Catches, Targets, read_block_type, read_catches};
-use crate::opcode::{Opcode, Shape};
+use crate::opcode::{Opcode, Role, Shape, is_prefix};
 use crate::operands::{MOST_FLAGS, MemArg, read_bytes, read_f32_bits, read_f64_bits};
 use crate::types::{HeapType, ValTypes, read_types};
 use std::marker::Model;
@@ -108,6 +108,67 @@ impl<'a> Immediates<'a> {
     }
 }
 
+/// Passes by immediates of the shape. The most usual ones are told apart, so that no value is made of them.
+#[inline(always)]
+fn pass_immediates(cursor: &mut Cursor, shape: Shape) -> Result<(), Malformed>
+    ensures reads { Passes (immediates_grammar (shape_view shape)).parse cursor.old result cursor.new }
+    ensures within { IsWithin cursor.old result }
+    ensures end { end_of cursor.new ≡ end_of cursor.old }
+{
+    match shape {
+        Shape::None => Ok(()),
+        Shape::Index(_) | Shape::DefaultIndex(_) => {
+            cursor.u32()?;
+            Ok(())
+        }
+        Shape::Memory(_) => {
+            MemArg::read(cursor)?;
+            Ok(())
+        }
+        Shape::I32 => {
+            cursor.s32()?;
+            Ok(())
+        }
+        _ => {
+            Immediates::read(cursor, shape)?;
+            Ok(())
+        }
+    }
+}
+
+/// Passes by what stands behind an opcode, which lies at the place, and answers the operator's role.
+#[inline(always)]
+fn pass_behind(cursor: &mut Cursor, place: u64, opcode: Opcode) -> Result<Role, Malformed>
+    requires { place ≤ end_of cursor.now }
+    ensures reads { (at : Input) → opcode_grammar.parse at ≡ Some (opcode, cursor.old) → PassesOperator at result cursor.new }
+    ensures within { IsWithin cursor.old result }
+    ensures end { end_of cursor.new ≡ end_of cursor.old }
+{
+    let Some(shape) = opcode.shape() else {
+        return Err(Malformed { place });
+    };
+    pass_immediates(cursor, shape)?;
+    Ok(opcode.role())
+}
+
+/// Passes by an opcode that the table lists and its immediates, and answers its role. As [`Operator::read`] it tells opcodes of one byte
+/// from others first, since most are.
+#[inline]
+pub(crate) fn pass_operator(cursor: &mut Cursor) -> Result<Role, Malformed>
+    ensures reads { PassesOperator cursor.old result cursor.new }
+    ensures within { IsWithin cursor.old result }
+    ensures end { end_of cursor.new ≡ end_of cursor.old }
+{
+    let place = cursor.place();
+    let byte = cursor.u8()?;
+    if is_prefix(byte) {
+        let number = cursor.u32()?;
+        pass_behind(cursor, place, Opcode::behind(byte, number))
+    } else {
+        pass_behind(cursor, place, Opcode::of_byte(byte))
+    }
+}
+
 /// Reads the byte 00 behind a fence.
 fn read_fence<'a>(cursor: &mut Cursor<'a>) -> Result<Immediates<'a>, Malformed>
     ensures reads { Reads immediates_view (immediates_grammar FenceShape).parse cursor.old result cursor.new }
@@ -196,7 +257,23 @@ impl<'a> Operator<'a> {
         ensures end { end_of cursor.new ≡ end_of cursor.old }
     {
         let place = cursor.place();
-        let opcode = Opcode::read(cursor)?;
+        let byte = cursor.u8()?;
+        if is_prefix(byte) {
+            let number = cursor.u32()?;
+            Operator::read_behind(cursor, place, Opcode::behind(byte, number))
+        } else {
+            Operator::read_behind(cursor, place, Opcode::of_byte(byte))
+        }
+    }
+
+    /// Reads what stands behind an opcode, which lies at the place.
+    #[inline(always)]
+    fn read_behind(cursor: &mut Cursor<'a>, place: u64, opcode: Opcode) -> Result<Self, Malformed>
+        requires { place ≤ end_of cursor.now }
+        ensures reads { (at : Input) → opcode_grammar.parse at ≡ Some (opcode, cursor.old) → Reads (λ o. o) operator.parse at result cursor.new }
+        ensures within { IsWithin cursor.old result }
+        ensures end { end_of cursor.new ≡ end_of cursor.old }
+    {
         let Some(shape) = opcode.shape() else {
             return Err(Malformed { place });
         };

@@ -1,5 +1,4 @@
-use Rattle.std.proofs.Common.{subst, ap, sym}
-use Rattle.wasmprinter_spec.specs.Operator.{Operator}
+use Rattle.std.proofs.Common.{subst, sym}
 use Rattle.wasmprinter_spec.specs.Nesting.{Open, advance}
 use Rattle.wasmprinter_ops.specs.Shapes.{role_view}
 use Rattle.wasmprinter_ops.specs.Nesting.{Steps}
@@ -11,10 +10,13 @@ pub loop-blocks-init : goal.loop-blocks-init
 loop-blocks-init c = subst (λ (s : Open). Skipped c.args.cursor.now s c.args.cursor.now) (sym c.new-blocks.ensures) (skipped_none c.args.cursor.now)
 
 pub loop-blocks-smaller : goal.loop-blocks-smaller
-loop-blocks-smaller c = takes_byte c.loop-blocks.cursor c.read.new.cursor c.in_ok-operator.operator c.in_ok-operator.ensures.reads
+loop-blocks-smaller c =
+    let read = c.in_ok-role.ensures.reads in
+    takes_byte c.loop-blocks.cursor c.pass_operator.new.cursor read.0 read.1
 
 pub loop-blocks-preserved : goal.loop-blocks-preserved
 loop-blocks-preserved c =
-    on_more c.args.cursor.now c.loop-blocks.blocks c.loop-blocks.cursor c.read.new.cursor c.in_ok-operator.operator c.operator.inside.opcode (role_view c.role.result) c.advance.new.self
-    c.in_ok-operator.ensures.reads c.loop-blocks.invariant c.role.ensures (ap (λ (x : Operator). x.opcode) c.operator.view_is)
-    (subst (λ (t : Step). Steps (advance c.loop-blocks.blocks (role_view c.role.result)) t c.advance.new.self) c.in-On.is c.in_ok-advance.ensures)
+    let read = c.in_ok-role.ensures.reads in
+    on_more c.args.cursor.now c.loop-blocks.blocks c.loop-blocks.cursor c.pass_operator.new.cursor read.0 (role_view c.in_ok-role.role) c.advance.new.self
+    read.1 c.loop-blocks.invariant read.2
+    (subst (λ (t : Step). Steps (advance c.loop-blocks.blocks (role_view c.in_ok-role.role)) t c.advance.new.self) c.in-On.is c.in_ok-advance.ensures)
