@@ -110,6 +110,7 @@ fn write_behind<P: Print, S: Signatures>(
 }
 
 /// Writes the word of an operator and its immediates, where these labels are open in front of it.
+#[inline(never)]
 pub fn write_word<P: Print, S: Signatures>(
     p: &mut P,
     setting: &Setting<'_, S>,
@@ -131,6 +132,7 @@ pub fn write_word<P: Print, S: Signatures>(
 }
 
 /// Writes an operator, in front of which these labels are open: the first of its list or a later one.
+#[inline(never)]
 fn write_operator<P: Print, S: Signatures>(
     p: &mut P,
     options: &PrintOptions,
