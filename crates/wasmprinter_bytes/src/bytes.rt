@@ -1,6 +1,7 @@
 //! A cursor over a module's bytes: whole numbers in LEB128 and names (section 5.2 of the WebAssembly Core
 //! Specification, "Integers" and "Names").
-ghost use Rattle.std.specs.Prelude.{◌≡◌, ◌<◌, ◌≤◌, ◌^◌, ◌+◌, ◌-◌, ◌*◌, ◌↔◌, [], length, take, slice_get, nat_lt, Some, IfOk, IfSome, IfNone, IsTrue};
+ghost use Rattle.std.specs.Prelude.{◌≡◌, ◌<◌, ◌≤◌, ◌^◌, ◌+◌, ◌-◌, ◌*◌, ◌↔◌, [], length, take};
+ghost use Rattle.std.specs.Prelude.{slice_get, nat_lt, Some, IfOk, IfSome, IfNone, IsTrue};
 ghost use Rattle.std.specs.Prelude.{pos, neg_ℤ, negsuc, ◌+ℤ◌, ◌*ℤ◌, ◌≤ℤ◌, ◌<ℤ◌};
 ghost use Rattle.wasmprinter_spec.specs.Grammar.{byte};
 ghost use Rattle.wasmprinter_spec.specs.Sized.{take_bytes};
@@ -275,6 +276,7 @@ impl<'a> Cursor<'a> {
         ensures reads { IfSome result (λ b. byte.parse self.old ≡ Some (b, self.new)) }
         ensures low { IfSome result (λ b. b < limit) }
         ensures stays { IfNone result (self.new ≡ self.old) }
+        ensures missed { IfNone result (IfSome (slice_get self.old.bytes 0) (λ b. limit ≤ b)) }
         ensures end { end_of self.new ≡ end_of self.old }
     {
         match self.rest.split_first() {

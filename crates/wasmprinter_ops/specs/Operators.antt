@@ -2,8 +2,8 @@
 use Rattle.std.specs.Prelude.{◌≡◌, ℕ, List, [], map, Option, Some, None, MatchOption, Result, Ok, Err}
 use Rattle.wasmprinter_spec.specs.Grammar.{Input, Spans, Remainder, Placed, value_with_place}
 use Rattle.wasmprinter_spec.specs.Repeated.{some_or, until_end, Entries}
-use Rattle.wasmprinter_spec.specs.Operator.{Operator}
-use Rattle.wasmprinter_spec.specs.Instructions.{operator, expression, roles}
+use Rattle.wasmprinter_spec.specs.Operator.{Opcode, Operator}
+use Rattle.wasmprinter_spec.specs.Instructions.{opcode_grammar, operator, expression, roles}
 use Rattle.wasmprinter_spec.specs.Nesting.{Nests, Sequence, Open, at_start}
 use Rattle.wasmprinter_spec.specs.Table.{role_of}
 use Rattle.wasmprinter_bytes.specs.Lists.{reader_reasons}
@@ -31,6 +31,10 @@ Passes parse old (Err e) new = parse old ≡ None
 abbrev pub PassesOperator : Input → Result Role Malformed → Input → Type 0
 PassesOperator old (Ok role) new = (o : Operator) × (operator.parse old ≡ Some (o, new)) × (role_of o.opcode ≡ role_view role)
 PassesOperator old (Err e) new = operator.parse old ≡ None
+
+-- this is so of each place from which the opcode is read up to here
+abbrev pub Behind : Opcode → Input → (Input → Type 0) → Type 0
+Behind o here IsSo = (at : Input) → opcode_grammar.parse at ≡ Some (o, here) → IsSo at
 
 -- operators up to the end of the bytes, each with its place
 abbrev pub operators : Remainder (List (Placed Operator))

@@ -1,11 +1,11 @@
 //! Operators: opcodes with their immediates.
-ghost use Rattle.std.specs.Prelude.{◌≡◌, ◌≤◌, Some, IfOk};
-ghost use Rattle.wasmprinter_spec.specs.Grammar.{Input, value_with_place};
+ghost use Rattle.std.specs.Prelude.{◌≡◌, ◌≤◌, IfOk};
+ghost use Rattle.wasmprinter_spec.specs.Grammar.{value_with_place};
 ghost use Rattle.wasmprinter_spec.specs.Row.{FenceShape, TryTableShape, FieldShape, BranchTableShape, CastShape, MemoryLaneShape};
-ghost use Rattle.wasmprinter_spec.specs.Instructions.{operator, opcode_grammar, immediates as immediates_grammar, indices, cast};
+ghost use Rattle.wasmprinter_spec.specs.Instructions.{operator, immediates as immediates_grammar, indices, cast};
 ghost use Rattle.wasmprinter_bytes.specs.Reads.{Reads, IsWithin, end_of};
 ghost use Rattle.wasmprinter_ops.specs.Immediates.{immediates_view, HasShape};
-ghost use Rattle.wasmprinter_ops.specs.Operators.{placed_view, Passes, PassesOperator};
+ghost use Rattle.wasmprinter_ops.specs.Operators.{placed_view, Behind, Passes, PassesOperator};
 ghost use Rattle.wasmprinter_ops.specs.Shapes.{shape_view};
 
 use crate::blocks::{BlockType, Catches, Targets, read_block_type, read_catches};
@@ -140,7 +140,7 @@ fn pass_immediates(cursor: &mut Cursor, shape: Shape) -> Result<(), Malformed>
 #[inline(always)]
 fn pass_behind(cursor: &mut Cursor, place: u64, opcode: Opcode) -> Result<Role, Malformed>
     requires { place ≤ end_of cursor.now }
-    ensures reads { (at : Input) → opcode_grammar.parse at ≡ Some (opcode, cursor.old) → PassesOperator at result cursor.new }
+    ensures reads { Behind opcode cursor.old (λ at. PassesOperator at result cursor.new) }
     ensures within { IsWithin cursor.old result }
     ensures end { end_of cursor.new ≡ end_of cursor.old }
 {
@@ -270,7 +270,7 @@ impl<'a> Operator<'a> {
     #[inline(always)]
     fn read_behind(cursor: &mut Cursor<'a>, place: u64, opcode: Opcode) -> Result<Self, Malformed>
         requires { place ≤ end_of cursor.now }
-        ensures reads { (at : Input) → opcode_grammar.parse at ≡ Some (opcode, cursor.old) → Reads (λ o. o) operator.parse at result cursor.new }
+        ensures reads { Behind opcode cursor.old (λ at. Reads (λ o. o) operator.parse at result cursor.new) }
         ensures within { IsWithin cursor.old result }
         ensures end { end_of cursor.new ≡ end_of cursor.old }
     {
