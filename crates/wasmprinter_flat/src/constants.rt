@@ -2,29 +2,27 @@
 //! Instructions"), by their bits.
 ghost use Rattle.std.specs.Prelude.{[], ◌∷◌};
 ghost use Rattle.wasmprinter_spec.specs.Float.{single, double};
-ghost use Rattle.wasmprinter_spec.specs.Options.{Options};
 ghost use Rattle.wasmprinter_spec.specs.Piece.{Gap, Float};
-ghost use Rattle.wasmprinter_print.specs.Prints.{Prints};
+ghost use Rattle.wasmprinter_print.specs.Puts.{Marks};
 
-use std::io;
-use wasmprinter_floats::floats::{write_double, write_single};
-use wasmprinter_print::Print;
-use wasmprinter_words::words::gap;
+use wasmprinter_floats::floats::{put_double, put_single};
+use wasmprinter_print::{Fault, Print};
+use wasmprinter_words::words::put_gap;
 
 /// Writes a blank and a float of 32 bits.
-pub(crate) fn write_f32_immediate<P: Print>(p: &mut P, bits: u32) -> io::Result<()>
-    ensures { (o : Options) → Prints P.meaning o p.old p.new result
+pub(crate) fn put_f32_immediate<P: Print>(p: &mut P, fault: &mut Fault, bits: u32)
+    ensures { Marks P.meaning p.old fault.old p.new fault.new
         (Gap ∷ (Float single bits ∷ [])) }
 {
-    gap(p)?;
-    write_single(p, bits)
+    put_gap(p, fault);
+    put_single(p, fault, bits);
 }
 
 /// Writes a blank and a float of 64 bits.
-pub(crate) fn write_f64_immediate<P: Print>(p: &mut P, bits: u64) -> io::Result<()>
-    ensures { (o : Options) → Prints P.meaning o p.old p.new result
+pub(crate) fn put_f64_immediate<P: Print>(p: &mut P, fault: &mut Fault, bits: u64)
+    ensures { Marks P.meaning p.old fault.old p.new fault.new
         (Gap ∷ (Float double bits ∷ [])) }
 {
-    gap(p)?;
-    write_double(p, bits)
+    put_gap(p, fault);
+    put_double(p, fault, bits);
 }

@@ -1,6 +1,5 @@
 //! Indices behind an operator's word (section 6.5 of the WebAssembly Core Specification), each with a blank in front.
 ghost use Rattle.std.specs.Prelude.{◌≡◌, [], ◌∷◌, ◌++◌, codes, cond, ◌&&◌, ◌==◌};
-ghost use Rattle.wasmprinter_spec.specs.Options.{Options};
 ghost use Rattle.wasmprinter_spec.specs.Piece.{Gap};
 ghost use Rattle.wasmprinter_spec.specs.Row as row;
 ghost use Rattle.wasmprinter_spec.specs.Layout.Groups.{line_group_gap};
@@ -8,163 +7,167 @@ ghost use Rattle.wasmprinter_spec.specs.Layout.Identifiers.{index_pieces};
 ghost use Rattle.wasmprinter_spec.specs.Layout.Operators.{named_index, default_index_pieces, two_index_pieces};
 ghost use Rattle.wasmprinter_spec.specs.Layout.Operators.{type_and_field_pieces, lane_pieces};
 ghost use Rattle.wasmprinter_spec.specs.Layout.ValTypes.{type_index_pieces};
-ghost use Rattle.wasmprinter_print.specs.Prints.{Prints};
+ghost use Rattle.wasmprinter_print.specs.Puts.{Marks};
 ghost use Rattle.wasmprinter_ops.specs.Shapes.{space_view};
 ghost use Rattle.wasmprinter_flat.specs.Contexts.{names_in, setting_in};
 
 use crate::context::Context;
-use std::io;
 use wasmprinter_ops::opcode::Space;
-use wasmprinter_print::Print;
-use wasmprinter_text::indices::write_index;
-use wasmprinter_text::signature::{Signatures, write_type_index};
-use wasmprinter_words::numbers::number_word;
-use wasmprinter_words::words::gap;
+use wasmprinter_print::{Fault, Print};
+use wasmprinter_text::indices::put_index;
+use wasmprinter_text::signature::{Signatures, put_type_index};
+use wasmprinter_words::numbers::put_number_word;
+use wasmprinter_words::words::put_gap;
 
 /// Writes an index, by its identifier if it has one.
-pub(crate) fn write_operand<P: Print, S: Signatures>(
+pub(crate) fn put_operand<P: Print, S: Signatures>(
     p: &mut P,
+    fault: &mut Fault,
     context: &Context<'_, '_, '_, '_, S>,
     space: Space,
     index: u32,
-) -> io::Result<()>
-    ensures { (o : Options) → Prints P.meaning o p.old p.new result
+)
+    ensures { Marks P.meaning p.old fault.old p.new fault.new
         (Gap ∷ named_index (setting_in S.signature_at context.now) (space_view space) index) }
 {
-    gap(p)?;
-    write_index(p, context.identifier(space, index), u64::from(index))
+    put_gap(p, fault);
+    put_index(p, fault, context.identifier(space, index), u64::from(index));
 }
 
 /// Writes an index, and nothing for 0.
 #[tactic(auto, unfolding(wasmprinter_spec::specs::Layout::Operators::default_index_pieces))]
-pub(crate) fn write_default_index<P: Print, S: Signatures>(
+pub(crate) fn put_default_index<P: Print, S: Signatures>(
     p: &mut P,
+    fault: &mut Fault,
     context: &Context<'_, '_, '_, '_, S>,
     space: Space,
     index: u32,
-) -> io::Result<()>
-    ensures { (o : Options) → Prints P.meaning o p.old p.new result
+)
+    ensures { Marks P.meaning p.old fault.old p.new fault.new
         (default_index_pieces (setting_in S.signature_at context.now) (space_view space) index) }
 {
-    if index == 0 {
-        Ok(())
-    } else {
-        write_operand(p, context, space, index)
+    if index != 0 {
+        put_operand(p, fault, context, space, index);
     }
 }
 
 /// Writes an index of each of two spaces.
-pub(crate) fn write_two<P: Print, S: Signatures>(
+pub(crate) fn put_two<P: Print, S: Signatures>(
     p: &mut P,
+    fault: &mut Fault,
     context: &Context<'_, '_, '_, '_, S>,
     spaces: (Space, Space),
     first: u32,
     second: u32,
-) -> io::Result<()>
-    ensures { (o : Options) → Prints P.meaning o p.old p.new result
+)
+    ensures { Marks P.meaning p.old fault.old p.new fault.new
         (two_index_pieces (setting_in S.signature_at context.now) (space_view spaces.0) (space_view spaces.1) first second) }
 {
-    write_operand(p, context, spaces.0, first)?;
-    write_operand(p, context, spaces.1, second)
+    put_operand(p, fault, context, spaces.0, first);
+    put_operand(p, fault, context, spaces.1, second);
 }
 
 /// Writes a field of a structure type, by its identifier if it has one.
-fn write_field_index<P: Print, S: Signatures>(
+fn put_field_index<P: Print, S: Signatures>(
     p: &mut P,
+    fault: &mut Fault,
     context: &Context<'_, '_, '_, '_, S>,
     type_index: u32,
     field: u32,
-) -> io::Result<()>
-    ensures { (o : Options) → Prints P.meaning o p.old p.new result
+)
+    ensures { Marks P.meaning p.old fault.old p.new fault.new
         (Gap ∷ index_pieces ((names_in context.now).fields type_index field) field) }
 {
-    gap(p)?;
-    write_index(p, context.field(type_index, field), u64::from(field))
+    put_gap(p, fault);
+    put_index(p, fault, context.field(type_index, field), u64::from(field));
 }
 
 /// Writes a structure type and one of its fields.
-pub(crate) fn write_field<P: Print, S: Signatures>(
+pub(crate) fn put_field<P: Print, S: Signatures>(
     p: &mut P,
+    fault: &mut Fault,
     context: &Context<'_, '_, '_, '_, S>,
     type_index: u32,
     field: u32,
-) -> io::Result<()>
-    ensures { (o : Options) → Prints P.meaning o p.old p.new result
+)
+    ensures { Marks P.meaning p.old fault.old p.new fault.new
         (type_and_field_pieces (setting_in S.signature_at context.now) type_index field) }
 {
-    write_operand(p, context, Space::Types, type_index)?;
-    write_field_index(p, context, type_index, field)
+    put_operand(p, fault, context, Space::Types, type_index);
+    put_field_index(p, fault, context, type_index, field);
 }
 
 /// Writes a number that is no index: in decimal, without a style.
 #[tactic(auto, unfolding(wasmprinter_spec::specs::Layout::Operators::lane_pieces))]
-pub(crate) fn write_count<P: Print>(p: &mut P, count: u32) -> io::Result<()>
-    ensures { (o : Options) → Prints P.meaning o p.old p.new result (lane_pieces count) }
+pub(crate) fn put_count<P: Print>(p: &mut P, fault: &mut Fault, count: u32)
+    ensures { Marks P.meaning p.old fault.old p.new fault.new (lane_pieces count) }
 {
-    gap(p)?;
-    number_word(p, u64::from(count))
+    put_gap(p, fault);
+    put_number_word(p, fault, u64::from(count));
 }
 
 /// Writes an array type and how many elements the array has.
-pub(crate) fn write_index_and_count<P: Print, S: Signatures>(
+pub(crate) fn put_index_and_count<P: Print, S: Signatures>(
     p: &mut P,
+    fault: &mut Fault,
     context: &Context<'_, '_, '_, '_, S>,
     index: u32,
     count: u32,
-) -> io::Result<()>
-    ensures { (o : Options) → Prints P.meaning o p.old p.new result
+)
+    ensures { Marks P.meaning p.old fault.old p.new fault.new
         (Gap ∷ (named_index (setting_in S.signature_at context.now) row.Types index ++ lane_pieces count)) }
 {
-    write_operand(p, context, Space::Types, index)?;
-    write_count(p, count)
+    put_operand(p, fault, context, Space::Types, index);
+    put_count(p, fault, count);
 }
 
 /// Writes what an indirect call names: its table unless that is 0, and its type.
-pub(crate) fn write_call<P: Print, S: Signatures>(
+pub(crate) fn put_call<P: Print, S: Signatures>(
     p: &mut P,
+    fault: &mut Fault,
     context: &Context<'_, '_, '_, '_, S>,
     type_index: u32,
     table: u32,
-) -> io::Result<()>
-    ensures { (o : Options) → Prints P.meaning o p.old p.new result
+)
+    ensures { Marks P.meaning p.old fault.old p.new fault.new
         (default_index_pieces (setting_in S.signature_at context.now) row.Table table
         ++ (Gap ∷ line_group_gap (codes "type") (type_index_pieces (names_in context.now) type_index))) }
 {
-    write_default_index(p, context, Space::Table, table)?;
-    write_type_index(p, &context.identifiers(), type_index)
+    put_default_index(p, fault, context, Space::Table, table);
+    put_type_index(p, fault, &context.identifiers(), type_index);
 }
 
 /// Writes a segment of elements or data, in front of it the table or memory that it is copied to, unless that is 0.
-pub(crate) fn write_segment<P: Print, S: Signatures>(
+pub(crate) fn put_segment<P: Print, S: Signatures>(
     p: &mut P,
+    fault: &mut Fault,
     context: &Context<'_, '_, '_, '_, S>,
     spaces: (Space, Space),
     segment: u32,
     target: u32,
-) -> io::Result<()>
-    ensures { (o : Options) → Prints P.meaning o p.old p.new result
+)
+    ensures { Marks P.meaning p.old fault.old p.new fault.new
         (default_index_pieces (setting_in S.signature_at context.now) (space_view spaces.1) target
         ++ (Gap ∷ named_index (setting_in S.signature_at context.now) (space_view spaces.0) segment)) }
 {
-    write_default_index(p, context, spaces.1, target)?;
-    write_operand(p, context, spaces.0, segment)
+    put_default_index(p, fault, context, spaces.1, target);
+    put_operand(p, fault, context, spaces.0, segment);
 }
 
 /// Writes the tables or memories that are copied to and from, unless both are 0.
-pub(crate) fn write_copy<P: Print, S: Signatures>(
+pub(crate) fn put_copy<P: Print, S: Signatures>(
     p: &mut P,
+    fault: &mut Fault,
     context: &Context<'_, '_, '_, '_, S>,
     space: Space,
     target: u32,
     source: u32,
-) -> io::Result<()>
-    ensures { (o : Options) → Prints P.meaning o p.old p.new result
+)
+    ensures { Marks P.meaning p.old fault.old p.new fault.new
         (cond ((target == 0) && (source == 0)) []
         (two_index_pieces (setting_in S.signature_at context.now) (space_view space) (space_view space) target source)) }
 {
-    if target == 0 && source == 0 {
-        Ok(())
-    } else {
-        write_two(p, context, (space, space), target, source)
+    if target != 0 || source != 0 {
+        put_two(p, fault, context, (space, space), target, source);
     }
 }

@@ -11,25 +11,26 @@ ghost use Rattle.wasmprinter_spec.specs.Layout.Groups.{has_break};
 ghost use Rattle.wasmprinter_spec.specs.Layout.Operators.{pieces_by, level as level_of, before_word};
 ghost use Rattle.wasmprinter_spec.specs.Layout.Operators.{operator_pieces, hint_pieces, operators_pieces};
 ghost use Rattle.wasmprinter_print.specs.Prints.{Prints};
+ghost use Rattle.wasmprinter_print.specs.Puts.{Marks, MarksUnder};
 ghost use Rattle.wasmprinter_ops.specs.Shapes.{role_view};
 ghost use Rattle.wasmprinter_labels.specs.Scan.{names_of, own_label};
 ghost use Rattle.wasmprinter_flat.specs.Contexts.{setting_in, labels_around, labels_within, own_in};
 ghost use Rattle.wasmprinter_flat.specs.Settings.{form_view, setting_view, over_lines, word_pieces};
 
 use crate::context::Context;
-use crate::immediates::write_immediates;
+use crate::immediates::put_immediates;
 use std::io;
 use wasmprinter_customs::{FunctionHints, Hint};
 use wasmprinter_labels::OpenLabels;
-use wasmprinter_lines::lines::break_inside;
+use wasmprinter_lines::lines::{break_inside, put_break_inside};
 use wasmprinter_lines::options::PrintOptions;
 use wasmprinter_ops::expression::Expression;
 use wasmprinter_ops::opcode::Role;
 use wasmprinter_ops::operator::Operator;
-use wasmprinter_print::Print;
+use wasmprinter_print::{Fault, Print};
 use wasmprinter_text::signature::Signatures;
 use wasmprinter_words::hints::hint_note;
-use wasmprinter_words::words::{gap, word};
+use wasmprinter_words::words::{put_gap, put_word};
 
 /// How operators stand.
 #[derive(Clone, Copy, Debug, PartialEq, Eq)]
@@ -70,6 +71,31 @@ fn level(role: Role, depth: u64) -> u64
 
 /// Writes what stands before an operator's word, the first of its list or a later one: a line that is nested so deep, and so many levels
 /// deeper, or a blank.
+pub fn put_before<P: Print>(
+    p: &mut P,
+    fault: &mut Fault,
+    options: &PrintOptions,
+    form: Form,
+    first: bool,
+    place: u64,
+    nesting: u64,
+    depth: u64,
+)
+    ensures { MarksUnder P.meaning options.now p.old fault.old p.new fault.new
+        (before_word (form_view form) first place (nesting + depth)) }
+{
+    match form {
+        Form::OverLines => put_break_inside(p, fault, options, place, nesting, depth),
+        Form::InLine => {
+            if !first {
+                put_gap(p, fault);
+            }
+        }
+    }
+}
+
+/// Writes what stands before an operator's word, the first of its list or a later one: a line that is nested so deep, and so many levels
+/// deeper, or a blank.
 pub fn write_before<P: Print>(
     p: &mut P,
     options: &PrintOptions,
@@ -81,32 +107,48 @@ pub fn write_before<P: Print>(
 ) -> io::Result<()>
     ensures { Prints P.meaning options.now p.old p.new result (before_word (form_view form) first place (nesting + depth)) }
 {
-    match form {
-        Form::OverLines => break_inside(p, options, place, nesting, depth),
-        Form::InLine => {
-            if first {
-                return Ok(());
-            }
-            gap(p)
-        }
-    }
+    let mut fault = Fault::none();
+    put_before(p, &mut fault, options, form, first, place, nesting, depth);
+    fault.into_result()
 }
 
 /// Writes what stands behind an operator's word.
-fn write_behind<P: Print, S: Signatures>(
+fn put_behind<P: Print, S: Signatures>(
     p: &mut P,
+    fault: &mut Fault,
     context: &Context<'_, '_, '_, '_, S>,
     operator: &Operator<'_>,
-) -> io::Result<()>
+)
     requires { length context.now.labels.now.labels + 1 < 2 ^ 64 }
-    ensures { (o : Options) → Prints P.meaning o p.old p.new result
+    ensures { Marks P.meaning p.old fault.old p.new fault.new
         (pieces_by (setting_in S.signature_at context.now) (labels_within context.now) (labels_around context.now) (own_in context.now)
         (shape_of operator.now.opcode) operator.now.immediates) }
 {
-    match operator.opcode.shape() {
-        Some(shape) => write_immediates(p, context, shape, &operator.immediates),
-        None => Ok(()),
+    if let Some(shape) = operator.opcode.shape() {
+        put_immediates(p, fault, context, shape, &operator.immediates);
     }
+}
+
+/// Writes the word of an operator and its immediates, where these labels are open in front of it.
+pub fn put_operator_word<P: Print, S: Signatures>(
+    p: &mut P,
+    fault: &mut Fault,
+    setting: &Setting<'_, S>,
+    labels: &OpenLabels<'_, '_>,
+    operator: &Operator<'_>,
+)
+    requires { length labels.now.labels + 1 < 2 ^ 64 }
+    ensures { Marks P.meaning p.old fault.old p.new fault.new
+        (word_pieces (setting_view S.signature_at setting.now (names_of labels.now)) (own_label labels.now) labels.now.labels operator.now) }
+{
+    let role = operator.opcode.role();
+    let context = Context {
+        setting,
+        labels,
+        role,
+    };
+    put_word(p, fault, operator.opcode.word());
+    put_behind(p, fault, &context, operator);
 }
 
 /// Writes the word of an operator and its immediates, where these labels are open in front of it.
@@ -121,14 +163,39 @@ pub fn write_word<P: Print, S: Signatures>(
     ensures { (o : Options) → Prints P.meaning o p.old p.new result
         (word_pieces (setting_view S.signature_at setting.now (names_of labels.now)) (own_label labels.now) labels.now.labels operator.now) }
 {
-    let role = operator.opcode.role();
-    let context = Context {
-        setting,
-        labels,
-        role,
-    };
-    word(p, operator.opcode.word())?;
-    write_behind(p, &context, operator)
+    let mut fault = Fault::none();
+    put_operator_word(p, &mut fault, setting, labels, operator);
+    fault.into_result()
+}
+
+/// Writes an operator, in front of which these labels are open: the first of its list or a later one.
+fn put_operator<P: Print, S: Signatures>(
+    p: &mut P,
+    fault: &mut Fault,
+    options: &PrintOptions,
+    setting: &Setting<'_, S>,
+    labels: &OpenLabels<'_, '_>,
+    first: bool,
+    place: u64,
+    operator: &Operator<'_>,
+)
+    requires { length labels.now.labels + 1 < 2 ^ 64 }
+    ensures { MarksUnder P.meaning options.now p.old fault.old p.new fault.new
+        (operator_pieces (setting_view S.signature_at setting.now (names_of labels.now)) first (own_label labels.now) labels.now.labels
+        (record { place = place; value = operator.now })) }
+{
+    let level = level(operator.opcode.role(), labels.depth());
+    put_before(
+        p,
+        fault,
+        options,
+        setting.form,
+        first,
+        place,
+        setting.nesting,
+        level,
+    );
+    put_operator_word(p, fault, setting, labels, operator);
 }
 
 /// Writes an operator, in front of which these labels are open: the first of its list or a later one.
@@ -147,17 +214,11 @@ fn write_operator<P: Print, S: Signatures>(
         (operator_pieces (setting_view S.signature_at setting.now (names_of labels.now)) first (own_label labels.now) labels.now.labels
         (record { place = place; value = operator.now })) }
 {
-    let level = level(operator.opcode.role(), labels.depth());
-    write_before(
-        p,
-        options,
-        setting.form,
-        first,
-        place,
-        setting.nesting,
-        level,
-    )?;
-    write_word(p, setting, labels, operator)
+    let mut fault = Fault::none();
+    put_operator(
+        p, &mut fault, options, setting, labels, first, place, operator,
+    );
+    fault.into_result()
 }
 
 /// Writes a hint on a line of its own, nested as deep as the operators of the block.

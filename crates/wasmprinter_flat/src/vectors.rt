@@ -1,81 +1,75 @@
 //! Vectors and lanes (section 6.5 of the WebAssembly Core Specification, "Vector Instructions").
 ghost use Rattle.std.specs.Prelude.{[], ◌∷◌, reverse};
 ghost use Rattle.wasmprinter_spec.specs.Call.{Text};
-ghost use Rattle.wasmprinter_spec.specs.Options.{Options};
 ghost use Rattle.wasmprinter_spec.specs.Piece.{GapLiterals, behind_blanks};
 ghost use Rattle.wasmprinter_spec.specs.Layout.Operators.{lane_pieces, lanes_pieces, hex_digits, hex_word, hex_words, vector_pieces};
-ghost use Rattle.wasmprinter_print.specs.Emits.{Emits};
-ghost use Rattle.wasmprinter_print.specs.Prints.{Prints};
+ghost use Rattle.wasmprinter_print.specs.Puts.{Puts, Marks};
 
-use crate::indices::write_count;
-use std::io;
-use wasmprinter_print::{Print, Style, reset, start, text};
-use wasmprinter_words::numbers::write_byte_digits;
-use wasmprinter_words::words::gap_type_word;
+use crate::indices::put_count;
+use wasmprinter_print::{Fault, Print, Style, put_reset, put_start, put_text};
+use wasmprinter_words::numbers::put_byte_digits;
+use wasmprinter_words::words::put_gap_type_word;
 
 /// How many bytes a number of a vector has.
 const BYTES: usize = 4;
 
 /// Writes the number of a lane.
-pub(crate) fn write_lane<P: Print>(p: &mut P, lane: u8) -> io::Result<()>
-    ensures { (o : Options) → Prints P.meaning o p.old p.new result (lane_pieces lane) }
+pub(crate) fn put_lane<P: Print>(p: &mut P, fault: &mut Fault, lane: u8)
+    ensures { Marks P.meaning p.old fault.old p.new fault.new (lane_pieces lane) }
 {
-    write_count(p, u32::from(lane))
+    put_count(p, fault, u32::from(lane));
 }
 
 /// Writes the numbers of lanes in order.
-pub(crate) fn write_lanes<P: Print>(p: &mut P, lanes: &[u8]) -> io::Result<()>
-    ensures { (o : Options) → Prints P.meaning o p.old p.new result (lanes_pieces lanes.now) }
+pub(crate) fn put_lanes<P: Print>(p: &mut P, fault: &mut Fault, lanes: &[u8])
+    ensures { Marks P.meaning p.old fault.old p.new fault.new (lanes_pieces lanes.now) }
 {
     for &lane in lanes {
-        write_lane(p, lane)?;
+        put_lane(p, fault, lane);
     }
-    Ok(())
 }
 
 /// Writes the hexadecimal digits of a number from its bytes, the lowest of which is the first.
-fn write_hex_digits<P: Print>(p: &mut P, bytes: &[u8]) -> io::Result<()>
-    ensures { Emits P.meaning p.old p.new result (Text (hex_digits (reverse bytes.now)) ∷ []) }
+fn put_hex_digits<P: Print>(p: &mut P, fault: &mut Fault, bytes: &[u8])
+    ensures { Puts P.meaning p.old fault.old p.new fault.new (Text (hex_digits (reverse bytes.now)) ∷ []) }
 {
     for &byte in bytes.iter().rev() {
-        write_byte_digits(p, byte)?;
+        put_byte_digits(p, fault, byte);
     }
-    Ok(())
 }
 
 /// Writes a blank and a number in hexadecimal, from its bytes.
-fn write_hex_word<P: Print>(p: &mut P, bytes: &[u8]) -> io::Result<()>
-    ensures { Emits P.meaning p.old p.new result (Text (32 ∷ hex_word bytes.now) ∷ []) }
+fn put_hex_word<P: Print>(p: &mut P, fault: &mut Fault, bytes: &[u8])
+    ensures { Puts P.meaning p.old fault.old p.new fault.new (Text (32 ∷ hex_word bytes.now) ∷ []) }
 {
-    text(p, " 0x")?;
-    write_hex_digits(p, bytes)
+    put_text(p, fault, " 0x");
+    put_hex_digits(p, fault, bytes);
 }
 
 /// Writes numbers of 32 bits in hexadecimal, from their bytes.
-fn write_hex_words<P: Print>(p: &mut P, bytes: &[u8]) -> io::Result<()>
-    ensures { Emits P.meaning p.old p.new result (Text (behind_blanks (hex_words bytes.now)) ∷ []) }
+fn put_hex_words<P: Print>(p: &mut P, fault: &mut Fault, bytes: &[u8])
+    ensures { Puts P.meaning p.old fault.old p.new fault.new (Text (behind_blanks (hex_words bytes.now)) ∷ []) }
 {
     for word in bytes.chunks_exact(BYTES) {
-        write_hex_word(p, word)?;
+        put_hex_word(p, fault, word);
     }
-    Ok(())
 }
 
 /// Writes numbers of 32 bits in the style of literals.
-fn write_hex_literals<P: Print>(p: &mut P, bytes: &[u8]) -> io::Result<()>
-    ensures { (o : Options) → Prints P.meaning o p.old p.new result
+fn put_hex_literals<P: Print>(p: &mut P, fault: &mut Fault, bytes: &[u8])
+    ensures { Marks P.meaning p.old fault.old p.new fault.new
         (GapLiterals (hex_words bytes.now) ∷ []) }
 {
-    start(p, Style::Literal)?;
-    write_hex_words(p, bytes)?;
-    reset(p)
+    put_start(p, fault, Style::Literal);
+    put_hex_words(p, fault, bytes);
+    put_reset(p, fault);
 }
 
 /// Writes a vector from its bytes, the lowest first: as four numbers of 32 bits.
 #[tactic(auto, unfolding(wasmprinter_spec::specs::Layout::Operators::vector_pieces))]
-pub(crate) fn write_vector<P: Print>(p: &mut P, bytes: &[u8]) -> io::Result<()>
-    ensures { (o : Options) → Prints P.meaning o p.old p.new result (vector_pieces bytes.now) }
+pub(crate) fn put_vector<P: Print>(p: &mut P, fault: &mut Fault, bytes: &[u8])
+    ensures { Marks P.meaning p.old fault.old p.new fault.new (vector_pieces bytes.now) }
 {
-    gap_type_word(p, "i32x4")?;
-    write_hex_literals(p, bytes)
+    put_gap_type_word(p, fault, "i32x4");
+    put_hex_literals(p, fault, bytes);
 }

@@ -1,5 +1,6 @@
 //! Floats, by their bits.
-ghost use Rattle.std.specs.Prelude.{◌≡◌, ◌<◌, ◌≤◌, ◌^◌, [], ◌∷◌};
+ghost use Rattle.std.specs.Prelude.{◌≡◌, ◌<◌, ◌≤◌, ◌^◌, false, [], ◌∷◌};
+ghost use Rattle.std.specs.Fmt.{digits};
 ghost use Rattle.wasmprinter_spec.specs.Call.{Text};
 ghost use Rattle.wasmprinter_spec.specs.Float.{single, double};
 ghost use Rattle.wasmprinter_spec.specs.FloatText.{digits_behind, fraction_digits, behind_point, exponent_text, normal_text};
@@ -8,113 +9,133 @@ ghost use Rattle.wasmprinter_spec.specs.Options.{Options};
 ghost use Rattle.wasmprinter_spec.specs.Piece.{Float};
 ghost use Rattle.wasmprinter_print.specs.Emits.{Emits, EmitsOrFails};
 ghost use Rattle.wasmprinter_print.specs.Prints.{Prints};
+ghost use Rattle.wasmprinter_print.specs.Puts.{Puts, Marks};
 ghost use Rattle.wasmprinter_floats.specs.Formats.{width_of};
 
 use crate::format::Format;
 use std::io;
 use wasmprinter_error::Error;
-use wasmprinter_print::{Print, Style, reset, start, text};
-use wasmprinter_words::numbers::{power, write_decimal, write_digit, write_hexadecimal};
+use wasmprinter_print::{Fault, Print, Style, put_reset, put_start, put_text};
+use wasmprinter_words::numbers::{power, put_decimal, put_digit, write_hexadecimal};
 
 /// Writes the hexadecimal digits of `n / 16 ^ count`, a number below 1, up to the last that is not 0.
-fn write_digits_behind<P: Print>(p: &mut P, count: u32, n: u64) -> io::Result<()>
+fn put_digits_behind<P: Print>(p: &mut P, fault: &mut Fault, count: u32, n: u64)
     requires count { count ≤ 16 }
     requires below { n < 16 ^ count }
-    ensures { Emits P.meaning p.old p.new result (Text (digits_behind count n) ∷ []) }
+    ensures { Puts P.meaning p.old fault.old p.new fault.new (Text (digits_behind count n) ∷ []) }
 {
     if n == 0 {
-        return Ok(());
+        return;
     }
     let unit = power(4 * (count - 1));
-    write_digit(p, (n / unit) as u8)?;
-    write_digits_behind(p, count - 1, n % unit)
+    put_digit(p, fault, (n / unit) as u8);
+    put_digits_behind(p, fault, count - 1, n % unit);
 }
 
 /// Writes the digits of a fraction.
-fn write_fraction<P: Print>(p: &mut P, format: Format, fraction: u64) -> io::Result<()>
+fn put_fraction<P: Print>(p: &mut P, fault: &mut Fault, format: Format, fraction: u64)
     requires { fraction < 2 ^ (width_of format).fraction }
-    ensures { Emits P.meaning p.old p.new result
+    ensures { Puts P.meaning p.old fault.old p.new fault.new
         (Text (fraction_digits (width_of format) fraction) ∷ []) }
 {
-    write_digits_behind(p, format.digit_count(), format.filled_fraction(fraction))
+    put_digits_behind(
+        p,
+        fault,
+        format.digit_count(),
+        format.filled_fraction(fraction),
+    );
 }
 
 /// Writes the digits of a fraction behind a point, and nothing where there are none.
-fn write_behind_point<P: Print>(p: &mut P, format: Format, fraction: u64) -> io::Result<()>
+fn put_behind_point<P: Print>(p: &mut P, fault: &mut Fault, format: Format, fraction: u64)
     requires { fraction < 2 ^ (width_of format).fraction }
-    ensures { Emits P.meaning p.old p.new result
+    ensures { Puts P.meaning p.old fault.old p.new fault.new
         (Text (behind_point (fraction_digits (width_of format) fraction)) ∷ []) }
 {
     if fraction == 0 {
-        return Ok(());
+        return;
     }
-    text(p, ".")?;
-    write_fraction(p, format, fraction)
+    put_text(p, fault, ".");
+    put_fraction(p, fault, format, fraction);
 }
 
 /// Writes the exponent `up - down`.
-fn write_exponent<P: Print>(p: &mut P, up: u64, down: u64) -> io::Result<()>
-    ensures { Emits P.meaning p.old p.new result (Text (112 ∷ exponent_text up down) ∷ []) }
+fn put_exponent<P: Print>(p: &mut P, fault: &mut Fault, up: u64, down: u64)
+    ensures { Puts P.meaning p.old fault.old p.new fault.new (Text (112 ∷ exponent_text up down) ∷ []) }
 {
     if up < down {
-        text(p, "p-")?;
-        write_decimal(p, down - up)
+        put_text(p, fault, "p-");
+        put_decimal(p, fault, down - up);
     } else {
-        text(p, "p+")?;
-        write_decimal(p, up - down)
+        put_text(p, fault, "p+");
+        put_decimal(p, fault, up - down);
     }
 }
 
 /// Writes a number with a leading 1.
-fn write_normal<P: Print>(p: &mut P, format: Format, exponent: u64, fraction: u64) -> io::Result<()>
+fn put_normal<P: Print>(p: &mut P, fault: &mut Fault, format: Format, exponent: u64, fraction: u64)
     requires { fraction < 2 ^ (width_of format).fraction }
-    ensures { Emits P.meaning p.old p.new result
+    ensures { Puts P.meaning p.old fault.old p.new fault.new
         (Text (normal_text (width_of format) exponent fraction) ∷ []) }
 {
-    text(p, "0x1")?;
-    write_behind_point(p, format, fraction)?;
-    write_exponent(p, exponent, format.bias())
+    put_text(p, fault, "0x1");
+    put_behind_point(p, fault, format, fraction);
+    put_exponent(p, fault, exponent, format.bias());
 }
 
 /// Writes a number below the normal ones, shifted to a leading 1.
-fn write_subnormal<P: Print>(p: &mut P, format: Format, fraction: u64) -> io::Result<()>
+fn put_subnormal<P: Print>(p: &mut P, fault: &mut Fault, format: Format, fraction: u64)
     requires some { 0 < fraction }
     requires below { fraction < 2 ^ (width_of format).fraction }
-    ensures { Emits P.meaning p.old p.new result
+    ensures { Puts P.meaning p.old fault.old p.new fault.new
         (Text (subnormal_text (width_of format) fraction) ∷ []) }
 {
-    text(p, "0x1.")?;
-    write_fraction(p, format, format.shifted_fraction(fraction))?;
-    write_exponent(p, 1, format.bias() + u64::from(format.shift(fraction)))
+    put_text(p, fault, "0x1.");
+    put_fraction(p, fault, format, format.shifted_fraction(fraction));
+    put_exponent(
+        p,
+        fault,
+        1,
+        format.bias() + u64::from(format.shift(fraction)),
+    );
 }
 
 /// Writes a finite number.
-fn write_finite<P: Print>(p: &mut P, format: Format, exponent: u64, fraction: u64) -> io::Result<()>
+fn put_finite<P: Print>(p: &mut P, fault: &mut Fault, format: Format, exponent: u64, fraction: u64)
     requires { fraction < 2 ^ (width_of format).fraction }
-    ensures { Emits P.meaning p.old p.new result
+    ensures { Puts P.meaning p.old fault.old p.new fault.new
         (Text (finite_text (width_of format) exponent fraction) ∷ []) }
 {
     if exponent != 0 {
-        write_normal(p, format, exponent, fraction)
+        put_normal(p, fault, format, exponent, fraction);
     } else if fraction != 0 {
-        write_subnormal(p, format, fraction)
+        put_subnormal(p, fault, format, fraction);
     } else {
-        text(p, "0x0p+0")
+        put_text(p, fault, "0x0p+0");
+    }
+}
+
+/// Writes the payload of a NaN in hexadecimal.
+fn put_payload<P: Print>(p: &mut P, fault: &mut Fault, payload: u64)
+    ensures { Puts P.meaning p.old fault.old p.new fault.new (Text (digits 16 false payload) ∷ []) }
+{
+    if !fault.is_some() {
+        fault.keep(write_hexadecimal(p, payload));
     }
 }
 
 /// Writes infinity, or NaN with its payload where that isn't the canonical one.
-fn write_special<P: Print>(p: &mut P, format: Format, fraction: u64) -> io::Result<()>
-    ensures { Emits P.meaning p.old p.new result
+fn put_special<P: Print>(p: &mut P, fault: &mut Fault, format: Format, fraction: u64)
+    ensures { Puts P.meaning p.old fault.old p.new fault.new
         (Text (special_text (width_of format) fraction) ∷ []) }
 {
     if fraction == 0 {
-        text(p, "inf")
+        put_text(p, fault, "inf");
     } else if fraction == format.canonical_payload() {
-        text(p, "nan")
+        put_text(p, fault, "nan");
     } else {
-        text(p, "nan:0x")?;
-        write_hexadecimal(p, fraction)
+        put_text(p, fault, "nan:0x");
+        put_payload(p, fault, fraction);
     }
 }
 
@@ -133,42 +154,52 @@ fn remark_on(negative: bool, fraction: u64) -> &'static str
 
 /// Writes a float without its sign.
 #[tactic(auto, unfolding(wasmprinter_spec::specs::FloatText::unsigned_calls))]
-fn write_unsigned<P: Print>(
+fn put_unsigned<P: Print>(
     p: &mut P,
+    fault: &mut Fault,
     format: Format,
     negative: bool,
     exponent: u64,
     fraction: u64,
-) -> io::Result<()>
+)
     requires { fraction < 2 ^ (width_of format).fraction }
-    ensures { Emits P.meaning p.old p.new result
+    ensures { Puts P.meaning p.old fault.old p.new fault.new
         (unsigned_calls (width_of format) negative exponent fraction) }
 {
-    start(p, Style::Literal)?;
+    put_start(p, fault, Style::Literal);
     if exponent == format.greatest_exponent() {
-        write_special(p, format, fraction)?;
-        text(p, " ")?;
-        start(p, Style::Comment)?;
-        text(p, remark_on(negative, fraction))?;
+        put_special(p, fault, format, fraction);
+        put_text(p, fault, " ");
+        put_start(p, fault, Style::Comment);
+        put_text(p, fault, remark_on(negative, fraction));
     } else {
-        write_finite(p, format, exponent, fraction)?;
+        put_finite(p, fault, format, exponent, fraction);
     }
-    reset(p)
+    put_reset(p, fault);
 }
 
 /// Writes a float.
 #[tactic(auto, unfolding(wasmprinter_spec::specs::FloatText::float_calls))]
-fn write_float<P: Print>(p: &mut P, format: Format, bits: u64) -> io::Result<()>
-    ensures { Emits P.meaning p.old p.new result (float_calls (width_of format) bits) }
+fn put_float<P: Print>(p: &mut P, fault: &mut Fault, format: Format, bits: u64)
+    ensures { Puts P.meaning p.old fault.old p.new fault.new (float_calls (width_of format) bits) }
 {
     let one = power(format.fraction_bits());
     let sign = format.sign_bit();
     if bits < sign {
-        return write_unsigned(p, format, false, bits / one, bits % one);
+        put_unsigned(p, fault, format, false, bits / one, bits % one);
+        return;
     }
     let rest = bits - sign;
-    text(p, "-")?;
-    write_unsigned(p, format, true, rest / one, rest % one)
+    put_text(p, fault, "-");
+    put_unsigned(p, fault, format, true, rest / one, rest % one);
+}
+
+/// Writes a float of 32 bits from its bits, as a part of a layout.
+pub fn put_single<P: Print>(p: &mut P, fault: &mut Fault, bits: u32)
+    ensures calls { Puts P.meaning p.old fault.old p.new fault.new (float_calls single bits) }
+    ensures pieces { Marks P.meaning p.old fault.old p.new fault.new (Float single bits ∷ []) }
+{
+    put_float(p, fault, Format::Single, u64::from(bits));
 }
 
 /// Writes a float of 32 bits from its bits, as a part of a layout.
@@ -176,7 +207,17 @@ pub fn write_single<P: Print>(p: &mut P, bits: u32) -> io::Result<()>
     ensures calls { Emits P.meaning p.old p.new result (float_calls single bits) }
     ensures pieces { (o : Options) → Prints P.meaning o p.old p.new result (Float single bits ∷ []) }
 {
-    write_float(p, Format::Single, u64::from(bits))
+    let mut fault = Fault::none();
+    put_single(p, &mut fault, bits);
+    fault.into_result()
+}
+
+/// Writes a float of 64 bits from its bits, as a part of a layout.
+pub fn put_double<P: Print>(p: &mut P, fault: &mut Fault, bits: u64)
+    ensures calls { Puts P.meaning p.old fault.old p.new fault.new (float_calls double bits) }
+    ensures pieces { Marks P.meaning p.old fault.old p.new fault.new (Float double bits ∷ []) }
+{
+    put_float(p, fault, Format::Double, bits);
 }
 
 /// Writes a float of 64 bits from its bits, as a part of a layout.
@@ -184,7 +225,9 @@ pub fn write_double<P: Print>(p: &mut P, bits: u64) -> io::Result<()>
     ensures calls { Emits P.meaning p.old p.new result (float_calls double bits) }
     ensures pieces { (o : Options) → Prints P.meaning o p.old p.new result (Float double bits ∷ []) }
 {
-    write_float(p, Format::Double, bits)
+    let mut fault = Fault::none();
+    put_double(p, &mut fault, bits);
+    fault.into_result()
 }
 
 /// Writes a float of 32 bits from its bits, as the text of a module writes it: in hexadecimal, so that it has just their value,

@@ -7,12 +7,15 @@ ghost use Rattle.wasmprinter_spec.specs.Piece.{Begin, Feed, Break, most_indents,
 ghost use Rattle.wasmprinter_spec.specs.Layout.Groups.{close};
 ghost use Rattle.wasmprinter_print.specs.Emits.{Emits};
 ghost use Rattle.wasmprinter_print.specs.Prints.{Prints};
+ghost use Rattle.wasmprinter_print.specs.Puts.{Puts, MarksUnder};
 
 use crate::options::PrintOptions;
 use std::io;
-use wasmprinter_print::{Print, Style, feed, reset, start, text};
+use wasmprinter_print::{
+    Fault, Print, Style, feed, put_feed, put_line, put_text, reset, start, text,
+};
 use wasmprinter_words::numbers::{hexadecimal_len, write_hexadecimal};
-use wasmprinter_words::words::shut;
+use wasmprinter_words::words::put_shut;
 
 /// How many digits a place is filled up to, by blanks.
 const PLACE_WIDTH: usize = 6;
@@ -78,28 +81,31 @@ fn write_offset<P: Print>(p: &mut P, place: Option<u64>) -> io::Result<()>
 }
 
 /// Writes what stands in front of a line, if lines begin with their places.
-fn write_wanted_offset<P: Print>(
+fn put_wanted_offset<P: Print>(
     p: &mut P,
+    fault: &mut Fault,
     options: &PrintOptions,
     place: Option<u64>,
-) -> io::Result<()>
-    ensures { Emits P.meaning p.old p.new result (place_calls options.now.offsets place) }
+)
+    ensures { Puts P.meaning p.old fault.old p.new fault.new (place_calls options.now.offsets place) }
 {
-    if options.offsets {
-        write_offset(p, place)
-    } else {
-        Ok(())
+    if options.offsets && !fault.is_some() {
+        fault.keep(write_offset(p, place));
     }
 }
 
 /// Writes the text of so many levels of nesting.
-fn write_indent<P: Print>(p: &mut P, options: &PrintOptions, levels: usize) -> io::Result<()>
+fn put_indent<P: Print>(p: &mut P, fault: &mut Fault, options: &PrintOptions, levels: usize)
     requires { levels ≤ most_indents }
-    ensures { Emits P.meaning p.old p.new result (Text (repetition_of levels options.now.indent) ∷ []) }
+    ensures { Puts P.meaning p.old fault.old p.new fault.new (Text (repetition_of levels options.now.indent) ∷ []) }
 {
     match options.indent_of(levels) {
-        Some(indent) => text(p, indent),
-        None => write_repeated(p, options.indent(), levels),
+        Some(indent) => put_text(p, fault, indent),
+        None => {
+            if !fault.is_some() {
+                fault.keep(write_repeated(p, options.indent(), levels));
+            }
+        }
     }
 }
 
@@ -119,6 +125,22 @@ pub fn end<P: Print>(p: &mut P) -> io::Result<()>
 }
 
 /// Begins a line: what stands on it has this place in the module's bytes, if any, and is nested so deep.
+pub fn put_break_line<P: Print>(
+    p: &mut P,
+    fault: &mut Fault,
+    options: &PrintOptions,
+    place: Option<u64>,
+    nesting: u64,
+)
+    ensures { MarksUnder P.meaning options.now p.old fault.old p.new fault.new (Break place nesting ∷ []) }
+{
+    put_feed(p, fault);
+    put_line(p, fault, place);
+    put_wanted_offset(p, fault, options, place);
+    put_indent(p, fault, options, nesting.min(MOST_INDENTS) as usize);
+}
+
+/// Begins a line: what stands on it has this place in the module's bytes, if any, and is nested so deep.
 pub fn break_line<P: Print>(
     p: &mut P,
     options: &PrintOptions,
@@ -127,10 +149,29 @@ pub fn break_line<P: Print>(
 ) -> io::Result<()>
     ensures { Prints P.meaning options.now p.old p.new result (Break place nesting ∷ []) }
 {
-    feed(p)?;
-    p.start_line(place);
-    write_wanted_offset(p, options, place)?;
-    write_indent(p, options, nesting.min(MOST_INDENTS) as usize)
+    let mut fault = Fault::none();
+    put_break_line(p, &mut fault, options, place, nesting);
+    fault.into_result()
+}
+
+/// Begins a line that is nested so deep, and so many levels deeper.
+pub fn put_break_inside<P: Print>(
+    p: &mut P,
+    fault: &mut Fault,
+    options: &PrintOptions,
+    place: u64,
+    nesting: u64,
+    depth: u64,
+)
+    ensures { MarksUnder P.meaning options.now p.old fault.old p.new fault.new (Break (Some place) (nesting + depth) ∷ []) }
+{
+    put_break_line(
+        p,
+        fault,
+        options,
+        Some(place),
+        nesting.saturating_add(depth),
+    );
 }
 
 /// Begins a line that is nested so deep, and so many levels deeper.
@@ -143,20 +184,23 @@ pub fn break_inside<P: Print>(
 ) -> io::Result<()>
     ensures { Prints P.meaning options.now p.old p.new result (Break (Some place) (nesting + depth) ∷ []) }
 {
-    break_line(p, options, Some(place), nesting.saturating_add(depth))
+    let mut fault = Fault::none();
+    put_break_inside(p, &mut fault, options, place, nesting, depth);
+    fault.into_result()
 }
 
 /// Begins a line, and closes a group on it.
-fn shut_below<P: Print>(
+fn put_shut_below<P: Print>(
     p: &mut P,
+    fault: &mut Fault,
     options: &PrintOptions,
     place: Option<u64>,
     nesting: u64,
-) -> io::Result<()>
-    ensures { Prints P.meaning options.now p.old p.new result (close place nesting true) }
+)
+    ensures { MarksUnder P.meaning options.now p.old fault.old p.new fault.new (close place nesting true) }
 {
-    break_line(p, options, place, nesting)?;
-    shut(p)
+    put_break_line(p, fault, options, place, nesting);
+    put_shut(p, fault);
 }
 
 /// Closes a group, on a line of its own or on this one.
@@ -169,11 +213,13 @@ fn shut_if<P: Print>(
 ) -> io::Result<()>
     ensures { Prints P.meaning options.now p.old p.new result (close place nesting on_new_line) }
 {
+    let mut fault = Fault::none();
     if on_new_line {
-        shut_below(p, options, place, nesting)
+        put_shut_below(p, &mut fault, options, place, nesting);
     } else {
-        shut(p)
+        put_shut(p, &mut fault);
     }
+    fault.into_result()
 }
 
 /// Closes a group: where the line has changed since the group began, on a line of its own, which stands for no place.

@@ -1,22 +1,24 @@
 -- Nodes written up to those that they hold, one task after another.
 use Rattle.std.proofs.Common.{◌≡◌, ℕ, ◌||◌, Bool, List, ◌++◌, sym, ◌∙◌, ap, subst}
+use Rattle.std.specs.Prelude.{Option}
+use Rattle.std.specs.declared.io.Error.{Error as IoError}
 use Rattle.wasmprinter_spec.specs.Meaning.{Meaning}
 use Rattle.wasmprinter_spec.specs.Options.{Options}
 use Rattle.wasmprinter_spec.specs.Piece.{Piece}
 use Rattle.wasmprinter_spec.specs.Layout.Groups.{has_break}
 use Rattle.wasmprinter_spec.specs.Layout.Operators.{Form}
-use Rattle.wasmprinter_print.specs.Emits.{Ending}
-use Rattle.wasmprinter_print.specs.Prints.{Written, Lacks}
+use Rattle.wasmprinter_print.specs.Prints.{Lacks}
+use Rattle.wasmprinter_print.specs.Puts.{MarksUnder}
 use Rattle.wasmprinter_nodes.specs.declared.NodeText.{NodeText}
 use Rattle.wasmprinter_node_text.specs.Shown.{shown_of_head, node_front}
 use Rattle.wasmprinter_lines.proofs.Groups.{has_break-append, or-assoc}
 
 -- a node whose place is that of its head
-pub front_at : {P : Type 0} (m : Meaning P) (o : Options) {a t : P} {r : Ending} (form : Form) (leads leaf : Bool) (nesting : ℕ) (buffer : List ℕ) (l : NodeText) (place : ℕ) → place ≡ l.place →
-    Written m o a t r (node_front form leads leaf nesting (record { place = place; hint = l.hint; text = (shown_of_head buffer l).text; comment = l.comment }))
-    → Written m o a t r (node_front form leads leaf nesting (shown_of_head buffer l))
-front_at m o {a} {t} {r} form leads leaf nesting buffer l place e v =
-    subst (λ (x : ℕ). Written m o a t r (node_front form leads leaf nesting (record { place = x; hint = l.hint; text = (shown_of_head buffer l).text; comment = l.comment }))) e v
+pub front_at : {P : Type 0} (m : Meaning P) (o : Options) {a t : P} {d f : Option IoError} (form : Form) (leads leaf : Bool) (nesting : ℕ) (buffer : List ℕ) (l : NodeText) (place : ℕ) → place ≡ l.place →
+    MarksUnder m o a d t f (node_front form leads leaf nesting (record { place = place; hint = l.hint; text = (shown_of_head buffer l).text; comment = l.comment }))
+    → MarksUnder m o a d t f (node_front form leads leaf nesting (shown_of_head buffer l))
+front_at m o {a} {t} {d} {f} form leads leaf nesting buffer l place e v =
+    subst (λ (x : ℕ). MarksUnder m o a d t f (node_front form leads leaf nesting (record { place = x; hint = l.hint; text = (shown_of_head buffer l).text; comment = l.comment }))) e v
 
 -- what is lacking, in other words
 pub lacks_as : {P : Type 0} (m : Meaning P) (o : Options) (a s : P) (whole xs ys : List Piece) → xs ≡ ys → Lacks m o a s whole xs → Lacks m o a s whole ys

@@ -1,11 +1,12 @@
 //! Nodes written to any printer, without recursion.
 ghost use Rattle.std.specs.Prelude.{◌≡◌, ◌+◌, ◌&&◌, ◌||◌, [], ◌∷◌, ◌++◌, ℕ, true, Some, IfOk};
 ghost use Rattle.std.specs.Option.{is_none};
-ghost use Rattle.wasmprinter_spec.specs.Options.{Options, defaults};
+ghost use Rattle.wasmprinter_spec.specs.Options.{defaults};
 ghost use Rattle.wasmprinter_spec.specs.Piece.{Word, HintNote, OpenPlain, text as text_by};
 ghost use Rattle.wasmprinter_spec.specs.Layout.Groups.{has_break};
 ghost use Rattle.wasmprinter_spec.specs.Layout.Operators.{before_word};
 ghost use Rattle.wasmprinter_print.specs.Prints.{Prints, PrintsOrStops};
+ghost use Rattle.wasmprinter_print.specs.Puts.{Marks, MarksUnder};
 ghost use Rattle.wasmprinter_flat.specs.Settings.{form_view};
 ghost use Rattle.wasmprinter_nodes.specs.Mapping.{map_nodes};
 ghost use Rattle.wasmprinter_nodes.specs.Postorder.{IsPostorder, forest_of};
@@ -16,13 +17,13 @@ use crate::tasks::{Task, put_rest};
 use std::alloc::Global;
 use std::io;
 use wasmprinter_error::Error;
-use wasmprinter_flat::operators::{Form, write_before};
-use wasmprinter_lines::lines::break_inside;
+use wasmprinter_flat::operators::{Form, put_before};
+use wasmprinter_lines::lines::put_break_inside;
 use wasmprinter_lines::options::PrintOptions;
 use wasmprinter_nodes::{Node, NodeText};
-use wasmprinter_print::Print;
+use wasmprinter_print::{Fault, Print};
 use wasmprinter_words::hints::hint_text;
-use wasmprinter_words::words::{open_plain, shut, word};
+use wasmprinter_words::words::{put_open_plain, put_shut, put_word};
 
 /// The text of a head.
 fn text_of_head<'t>(text: &'t str, head: &NodeText) -> &'t str
@@ -46,73 +47,75 @@ struct Spot {
 }
 
 /// Writes what stands before a node or its hint.
-fn write_before_node<P: Print>(
+fn put_before_node<P: Print>(
     p: &mut P,
+    fault: &mut Fault,
     options: &PrintOptions,
     spot: Spot,
     first: bool,
-) -> io::Result<()>
-    ensures { Prints P.meaning options.now p.old p.new result (before_word (form_view spot.form) first spot.place (spot.nesting + spot.depth)) }
+)
+    ensures { MarksUnder P.meaning options.now p.old fault.old p.new fault.new
+        (before_word (form_view spot.form) first spot.place (spot.nesting + spot.depth)) }
 {
-    write_before(
+    put_before(
         p,
+        fault,
         options,
         spot.form,
         first,
         spot.place,
         spot.nesting,
         spot.depth,
-    )
+    );
 }
 
 /// Writes the annotation of a hint, without a style.
-fn write_note<P: Print>(p: &mut P, taken: bool) -> io::Result<()>
-    ensures { (o : Options) → Prints P.meaning o p.old p.new result (Word (text_by defaults (HintNote taken)) ∷ []) }
+fn put_note<P: Print>(p: &mut P, fault: &mut Fault, taken: bool)
+    ensures { Marks P.meaning p.old fault.old p.new fault.new (Word (text_by defaults (HintNote taken)) ∷ []) }
 {
-    word(p, hint_text(taken))
+    put_word(p, fault, hint_text(taken));
 }
 
 /// Writes the hint of a node in front of it, if there is one.
-fn write_hint<P: Print>(
+fn put_hint<P: Print>(
     p: &mut P,
+    fault: &mut Fault,
     options: &PrintOptions,
     spot: Spot,
     leads: bool,
     hint: Option<bool>,
-) -> io::Result<()>
-    ensures { Prints P.meaning options.now p.old p.new result (shown_hint (form_view spot.form) leads spot.place (spot.nesting + spot.depth) hint) }
+)
+    ensures { MarksUnder P.meaning options.now p.old fault.old p.new fault.new
+        (shown_hint (form_view spot.form) leads spot.place (spot.nesting + spot.depth) hint) }
 {
-    match hint {
-        Some(taken) => {
-            write_before_node(p, options, spot, leads)?;
-            write_note(p, taken)
-        }
-        None => Ok(()),
+    if let Some(taken) = hint {
+        put_before_node(p, fault, options, spot, leads);
+        put_note(p, fault, taken);
     }
 }
 
 /// Writes the parenthesis and the text of a node.
-fn write_text<P: Print>(p: &mut P, text: &str, head: &NodeText) -> io::Result<()>
+fn put_node_text<P: Print>(p: &mut P, fault: &mut Fault, text: &str, head: &NodeText)
     requires { IsIn text.now head.now }
-    ensures { (o : Options) → Prints P.meaning o p.old p.new result (OpenPlain (shown_of_head text.now head.now).text ∷ []) }
+    ensures { Marks P.meaning p.old fault.old p.new fault.new (OpenPlain (shown_of_head text.now head.now).text ∷ []) }
 {
-    open_plain(p, text_of_head(text, head))
+    put_open_plain(p, fault, text_of_head(text, head));
 }
 
 /// Ends the line behind a text with a comment up to the end of the line, where a parenthesis would follow.
-fn end_comment<P: Print>(
+fn put_comment_end<P: Print>(
     p: &mut P,
+    fault: &mut Fault,
     options: &PrintOptions,
     spot: Spot,
     leaf: bool,
     comment: bool,
-) -> io::Result<()>
-    ensures { Prints P.meaning options.now p.old p.new result (comment_break leaf comment spot.place (spot.nesting + spot.depth)) }
+)
+    ensures { MarksUnder P.meaning options.now p.old fault.old p.new fault.new
+        (comment_break leaf comment spot.place (spot.nesting + spot.depth)) }
 {
     if leaf && comment {
-        break_inside(p, options, spot.place, spot.nesting, spot.depth)
-    } else {
-        Ok(())
+        put_break_inside(p, fault, options, spot.place, spot.nesting, spot.depth);
     }
 }
 
@@ -124,25 +127,26 @@ fn leads_unhinted(leads: bool, hint: Option<bool>) -> bool
 }
 
 /// Writes a node up to the nodes that it holds.
-fn write_node<P: Print>(
+fn put_node<P: Print>(
     p: &mut P,
+    fault: &mut Fault,
     options: &PrintOptions,
     spot: Spot,
     leads: bool,
     leaf: bool,
     text: &str,
     head: &NodeText,
-) -> io::Result<()>
+)
     requires inside { IsIn text.now head.now }
     requires place { spot.place ≡ head.now.place }
-    ensures { Prints P.meaning options.now p.old p.new result
+    ensures { MarksUnder P.meaning options.now p.old fault.old p.new fault.new
         (node_front (form_view spot.form) leads leaf (spot.nesting + spot.depth) (shown_of_head text.now head.now)) }
 {
-    write_hint(p, options, spot, leads, head.hint)?;
+    put_hint(p, fault, options, spot, leads, head.hint);
     let first = leads_unhinted(leads, head.hint);
-    write_before_node(p, options, spot, first)?;
-    write_text(p, text, head)?;
-    end_comment(p, options, spot, leaf, head.comment)
+    put_before_node(p, fault, options, spot, first);
+    put_node_text(p, fault, text, head);
+    put_comment_end(p, fault, options, spot, leaf, head.comment);
 }
 
 /// Whether a line begins in a node before the nodes that it holds.
@@ -152,6 +156,40 @@ fn begins_line(form: Form, leaf: bool, comment: bool) -> bool
     match form {
         Form::OverLines => true,
         Form::InLine => leaf && comment,
+    }
+}
+
+/// Writes what comes first of a task, and tells whether a line began.
+fn put_front<P: Print>(
+    p: &mut P,
+    fault: &mut Fault,
+    options: &PrintOptions,
+    form: Form,
+    nesting: u64,
+    text: &str,
+    task: &Task<'_>,
+) -> bool
+    requires { (bound : ℕ) × IsSound text.now bound task.now }
+    ensures prints { MarksUnder P.meaning options.now p.old fault.old p.new fault.new (task_front (form_view form) nesting text.now task.now) }
+    ensures lines { result ≡ has_break (task_front (form_view form) nesting text.now task.now) }
+{
+    match task {
+        Task::Row(_, _, _) => false,
+        Task::One(head, held, leads, depth) => {
+            let leaf = held.is_empty();
+            let spot = Spot {
+                form,
+                place: head.place,
+                nesting,
+                depth: *depth,
+            };
+            put_node(p, fault, options, spot, *leads, leaf, text, head);
+            begins_line(form, leaf, head.comment)
+        }
+        Task::Close => {
+            put_shut(p, fault);
+            false
+        }
     }
 }
 
@@ -168,24 +206,10 @@ fn write_front<P: Print>(
     ensures prints { Prints P.meaning options.now p.old p.new result (task_front (form_view form) nesting text.now task.now) }
     ensures lines { IfOk result (λ lines. lines ≡ has_break (task_front (form_view form) nesting text.now task.now)) }
 {
-    match task {
-        Task::Row(_, _, _) => Ok(false),
-        Task::One(head, held, leads, depth) => {
-            let leaf = held.is_empty();
-            let spot = Spot {
-                form,
-                place: head.place,
-                nesting,
-                depth: *depth,
-            };
-            write_node(p, options, spot, *leads, leaf, text, head)?;
-            Ok(begins_line(form, leaf, head.comment))
-        }
-        Task::Close => {
-            shut(p)?;
-            Ok(false)
-        }
-    }
+    let mut fault = Fault::none();
+    let began = put_front(p, &mut fault, options, form, nesting, text, task);
+    fault.into_result()?;
+    Ok(began)
 }
 
 /// Whether a line began before or just now.

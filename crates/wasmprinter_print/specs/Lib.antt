@@ -5,5 +5,8 @@ pub mod EmitsLaws
 pub mod PieceLaws
 pub mod Prints
 pub mod PrintsLaws
+pub mod PutLaws
+pub mod Puts
+pub mod PutsLaws
 pub mod Styles
 pub mod Writers

@@ -11,12 +11,21 @@ ghost use Rattle.wasmprinter_print.specs.CallLaws.{TextThen, TextBreaksOff, Byte
 ghost use Rattle.wasmprinter_print.specs.PieceLaws.{PieceThen, PieceBreaksOff, PieceDone, PiecesThen, PiecesBreakOff};
 ghost use Rattle.wasmprinter_error.specs.declared.error.Error.TheVariants.{Printer};
 ghost use Rattle.wasmprinter_print.specs.PieceLaws.{PiecesFailAtLast, NoPieces};
+ghost use Rattle.wasmprinter_print.specs.PutsLaws.{put_called, put_fails, put_skipped, both_puts, put_texts, no_put};
+ghost use Rattle.wasmprinter_print.specs.PutsLaws.{one_mark, both_marks, no_mark, mark_skipped, one_mark_under, both_marks_under, no_mark_under, mark_skipped_under};
+ghost use Rattle.wasmprinter_print.specs.PutsLaws.{puts_answered, marks_answered, puts_keep, marks_keep, marks_answered_under, marks_keep_under};
+ghost use Rattle.wasmprinter_print.specs.PutLaws.{PutDone, PutFailed, PutBehind, PutsThen, PutThen, PutTextThen, PutByteThen, PutNone};
+ghost use Rattle.wasmprinter_print.specs.PutLaws.{MarkDone, MarkThen, MarksThen, MarkNone, MarkBehind, MarkUnder};
+ghost use Rattle.wasmprinter_print.specs.PutLaws.{MarkDoneUnder, MarkThenUnder, MarksThenUnder, MarkThenMixed, MarksThenMixed, MarkNoneUnder, MarkBehindUnder};
+ghost use Rattle.wasmprinter_print.specs.PutLaws.{PutsAnswer, MarksAnswer, PutsKept, MarksKept, MarksAnswerUnder, MarksKeptUnder};
 ghost use Rattle.wasmprinter_print.specs.PieceLaws.{PieceHandsOn, PiecesHandOn, PiecesHandOnAtLast, PiecesHalt, PiecesHaltAtLast};
 
 mod calls;
+mod faults;
 mod fmt_write;
 
 pub use calls::{Style, feed, reset, start, text, text_in_style};
+pub use faults::{Fault, put_feed, put_line, put_reset, put_start, put_text, put_text_in_style};
 pub use fmt_write::PrintFmtWrite;
 use std::io;
 
@@ -153,4 +162,82 @@ pub trait Print {
 
     // the last pieces, at which it ended
     ghost pieces_halt_at_last: { PiecesHaltAtLast meaning } = { λ o a t keeps r e xs v f. last_pieces_halt meaning keeps r e f v };
+
+    // ---- where the first error is passed along
+
+    // a call on the printer
+    ghost put_done: { PutDone meaning } = { λ a t d c v e. put_called meaning e v };
+
+    // a call on the printer that failed
+    ghost put_failed: { PutFailed meaning } = { λ a t d x c v e. put_fails meaning x e v };
+
+    // no call is made behind an error
+    ghost put_behind: { PutBehind meaning } = { λ a d l e. put_skipped meaning a d l e };
+
+    // calls, and then others
+    ghost puts_then: { PutsThen meaning } = { λ a s t d e f l k v w. both_puts meaning v w };
+
+    // a call, and then others
+    ghost put_then: { PutThen meaning } = { λ a s t d e f c k v w. both_puts meaning v w };
+
+    // the first part of a text, and then the rest
+    ghost put_text_then: { PutTextThen meaning } = { λ a s t d e f x y k v w. put_texts meaning v w };
+
+    // the first byte of a text, and then the rest
+    ghost put_byte_then: { PutByteThen meaning } = { λ a s t d e f x y k v w. put_texts meaning v w };
+
+    // no call
+    ghost put_none: { PutNone meaning } = { λ a d. no_put meaning a d };
+
+    // the calls of a piece
+    ghost mark_done: { MarkDone meaning } = { λ a t d f x v. one_mark meaning x v };
+
+    // a piece, and then others
+    ghost mark_then: { MarkThen meaning } = { λ a s t d e f x xs v w. both_marks meaning v w };
+
+    // pieces, and then others
+    ghost marks_then: { MarksThen meaning } = { λ a s t d e f xs ys v w. both_marks meaning v w };
+
+    // no piece
+    ghost mark_none: { MarkNone meaning } = { λ a d. no_mark meaning a d };
+
+    // no piece is written behind an error
+    ghost mark_behind: { MarkBehind meaning } = { λ a d xs e. mark_skipped meaning a d xs e };
+
+    // under these options: the calls of a piece
+    ghost mark_done_under: { MarkDoneUnder meaning } = { λ o a t d f x v. one_mark_under meaning o x v };
+
+    // a piece, and then others
+    ghost mark_then_under: { MarkThenUnder meaning } = { λ o a s t d e f x xs v w. both_marks_under meaning v w };
+
+    // pieces, and then others
+    ghost marks_then_under: { MarksThenUnder meaning } = { λ o a s t d e f xs ys v w. both_marks_under meaning v w };
+
+    // no piece
+    ghost mark_none_under: { MarkNoneUnder meaning } = { λ o a d. no_mark_under meaning o a d };
+
+    // no piece is written behind an error
+    ghost mark_behind_under: { MarkBehindUnder meaning } = { λ o a d xs e. mark_skipped_under meaning o a d xs e };
+
+    // the same where the first hold under any options
+    ghost mark_then_mixed: { MarkThenMixed meaning } = { λ o a s t d e f x xs v w. both_marks_under meaning (v.under o) w };
+
+    ghost marks_then_mixed: { MarksThenMixed meaning } = { λ o a s t d e f xs ys v w. both_marks_under meaning (v.under o) w };
+
+    // what holds under any options
+    ghost mark_under: { MarkUnder meaning } = { λ o a t d f xs v. v.under o };
+
+    // the answer of a function that kept the first error
+    ghost puts_answer: { PutsAnswer meaning } = { λ a t d f r l v e q. puts_answered meaning r v e q };
+
+    ghost marks_answer: { MarksAnswer meaning } = { λ o a t d f r xs v e q. marks_answered meaning o r v e q };
+
+    ghost marks_answer_under: { MarksAnswerUnder meaning } = { λ o a t d f r xs v e q. marks_answered_under meaning r v e q };
+
+    // the error of an answer that is kept
+    ghost puts_kept: { PutsKept meaning } = { λ a t d f r l v q e. puts_keep meaning r v e q };
+
+    ghost marks_kept: { MarksKept meaning } = { λ a t d f r xs v q e. marks_keep meaning r v e q };
+
+    ghost marks_kept_under: { MarksKeptUnder meaning } = { λ o a t d f r xs v q e. marks_keep_under meaning r v e q };
 }

@@ -2,31 +2,38 @@
 //! declared, and where an index means them.
 ghost use Rattle.std.specs.Prelude.{[], ◌∷◌, Some, chars, option_map};
 ghost use Rattle.wasmprinter_spec.specs.Options.{Options};
-ghost use Rattle.wasmprinter_spec.specs.Piece.{Gap, NameNote, Identifier as IdentifierPiece};
+ghost use Rattle.wasmprinter_spec.specs.Piece.{Gap, NameNote, BeginName, EndStyle, Identifier as IdentifierPiece};
 ghost use Rattle.wasmprinter_spec.specs.Layout.Groups.{line_group_gap};
 ghost use Rattle.wasmprinter_spec.specs.Layout.Identifiers.{given_pieces, mark_pieces, leading_mark_pieces, mark_gap_pieces};
 ghost use Rattle.wasmprinter_spec.specs.Layout.Identifiers.{identifier_gap_pieces, declaration_pieces, index_pieces};
 ghost use Rattle.wasmprinter_print.specs.Prints.{Prints};
+ghost use Rattle.wasmprinter_print.specs.Puts.{Marks};
 ghost use Rattle.wasmprinter_names.specs.Shown.{identifier_view};
 ghost use Rattle.wasmprinter_names.specs.Views.{name_view};
 ghost use Rattle.wasmprinter_text.specs.Items.{item_of};
 
 use std::io;
 use wasmprinter_names::{Identifier, Identifiers, Name, Space};
-use wasmprinter_print::Print;
-use wasmprinter_words::comments::number_remark;
-use wasmprinter_words::identifiers::{identifier as write_content, made_up_identifier, name_note};
-use wasmprinter_words::numbers;
-use wasmprinter_words::words::{begin_name, end_style, gap, open_gap, shut};
+use wasmprinter_print::{Fault, Print};
+use wasmprinter_words::comments::put_number_remark;
+use wasmprinter_words::identifiers::{
+    name_note, put_identifier as put_content, put_made_up_identifier,
+};
+use wasmprinter_words::numbers::put_number;
+use wasmprinter_words::words::{
+    gap, put_begin_name, put_end_style, put_gap, put_open_gap, put_shut,
+};
 
 /// Writes an identifier.
-fn write_identifier<P: Print>(p: &mut P, identifier: Identifier<'_>) -> io::Result<()>
-    ensures { (o : Options) → Prints P.meaning o p.old p.new result
+fn put_identifier<P: Print>(p: &mut P, fault: &mut Fault, identifier: Identifier<'_>)
+    ensures { Marks P.meaning p.old fault.old p.new fault.new
         (IdentifierPiece (chars (identifier_view identifier.entry).content) ∷ []) }
 {
     match identifier {
-        Identifier::Given(name) => write_content(p, name.content),
-        Identifier::Invented { space, number } => made_up_identifier(p, space.word(), number),
+        Identifier::Given(name) => put_content(p, fault, name.content),
+        Identifier::Invented { space, number } => {
+            put_made_up_identifier(p, fault, space.word(), number);
+        }
     }
 }
 
@@ -39,68 +46,100 @@ fn write_note<P: Print>(p: &mut P, name: &str) -> io::Result<()>
 }
 
 /// Writes a blank and the annotation with a name, where the identifier is another.
-fn write_given<P: Print>(p: &mut P, name: Name<'_>) -> io::Result<()>
-    ensures { (o : Options) → Prints P.meaning o p.old p.new result (given_pieces (Some name.entry.given.now) name.entry.content.now) }
+fn put_given<P: Print>(p: &mut P, fault: &mut Fault, name: Name<'_>)
+    ensures { Marks P.meaning p.old fault.old p.new fault.new (given_pieces (Some name.entry.given.now) name.entry.content.now) }
 {
-    if name.given == name.content {
-        Ok(())
-    } else {
-        write_note(p, name.given)
+    if name.given != name.content && !fault.is_some() {
+        fault.keep(write_note(p, name.given));
     }
 }
 
 /// Writes the identifier of a name, and the name where that is another.
 #[tactic(auto, unfolding(wasmprinter_spec::specs::Layout::Identifiers::mark_pieces))]
-fn write_name_mark<P: Print>(p: &mut P, name: Name<'_>) -> io::Result<()>
-    ensures { (o : Options) → Prints P.meaning o p.old p.new result (mark_pieces (name_view name.entry)) }
+fn put_name_mark<P: Print>(p: &mut P, fault: &mut Fault, name: Name<'_>)
+    ensures { Marks P.meaning p.old fault.old p.new fault.new (mark_pieces (name_view name.entry)) }
 {
-    write_content(p, name.content)?;
-    write_given(p, name)
+    put_content(p, fault, name.content);
+    put_given(p, fault, name);
 }
 
 /// Writes an identifier, and the name that was given where that is another.
 #[tactic(auto, unfolding(wasmprinter_spec::specs::Layout::Identifiers::mark_pieces))]
+pub fn put_mark<P: Print>(p: &mut P, fault: &mut Fault, identifier: Identifier<'_>)
+    ensures { Marks P.meaning p.old fault.old p.new fault.new (mark_pieces (identifier_view identifier.entry)) }
+{
+    match identifier {
+        Identifier::Given(name) => put_name_mark(p, fault, name),
+        Identifier::Invented { .. } => put_identifier(p, fault, identifier),
+    }
+}
+
+/// Writes an identifier, and the name that was given where that is another.
 pub fn write_mark<P: Print>(p: &mut P, identifier: Identifier<'_>) -> io::Result<()>
     ensures { (o : Options) → Prints P.meaning o p.old p.new result (mark_pieces (identifier_view identifier.entry)) }
 {
-    match identifier {
-        Identifier::Given(name) => write_name_mark(p, name),
-        Identifier::Invented { .. } => write_identifier(p, identifier),
+    let mut fault = Fault::none();
+    put_mark(p, &mut fault, identifier);
+    fault.into_result()
+}
+
+/// Writes a blank and a mark as [`put_mark`] does, and nothing where there is no identifier.
+#[tactic(auto, unfolding(wasmprinter_spec::specs::Layout::Identifiers::leading_mark_pieces))]
+pub fn put_leading_mark<P: Print>(p: &mut P, fault: &mut Fault, identifier: Option<Identifier<'_>>)
+    ensures { Marks P.meaning p.old fault.old p.new fault.new
+        (leading_mark_pieces (option_map identifier_view identifier.entry)) }
+{
+    if let Some(identifier) = identifier {
+        put_gap(p, fault);
+        put_mark(p, fault, identifier);
     }
 }
 
 /// Writes a blank and a mark as [`write_mark`] does, and nothing where there is no identifier.
-#[tactic(auto, unfolding(wasmprinter_spec::specs::Layout::Identifiers::leading_mark_pieces))]
 pub fn write_leading_mark<P: Print>(p: &mut P, identifier: Option<Identifier<'_>>) -> io::Result<()>
     ensures { (o : Options) → Prints P.meaning o p.old p.new result
         (leading_mark_pieces (option_map identifier_view identifier.entry)) }
 {
-    match identifier {
-        None => Ok(()),
-        Some(identifier) => {
-            gap(p)?;
-            write_mark(p, identifier)
-        }
+    let mut fault = Fault::none();
+    put_leading_mark(p, &mut fault, identifier);
+    fault.into_result()
+}
+
+/// Writes a mark as [`put_mark`] does and a blank, and nothing where there is no identifier.
+#[tactic(auto, unfolding(wasmprinter_spec::specs::Layout::Identifiers::mark_gap_pieces))]
+fn put_mark_gap<P: Print>(p: &mut P, fault: &mut Fault, identifier: Option<Identifier<'_>>)
+    ensures { Marks P.meaning p.old fault.old p.new fault.new
+        (mark_gap_pieces (option_map identifier_view identifier.entry)) }
+{
+    if let Some(identifier) = identifier {
+        put_mark(p, fault, identifier);
+        put_gap(p, fault);
     }
 }
 
 /// Writes a mark as [`write_mark`] does and a blank, and nothing where there is no identifier.
-#[tactic(auto, unfolding(wasmprinter_spec::specs::Layout::Identifiers::mark_gap_pieces))]
 pub fn write_mark_gap<P: Print>(p: &mut P, identifier: Option<Identifier<'_>>) -> io::Result<()>
     ensures { (o : Options) → Prints P.meaning o p.old p.new result
         (mark_gap_pieces (option_map identifier_view identifier.entry)) }
 {
-    match identifier {
-        None => Ok(()),
-        Some(identifier) => {
-            write_mark(p, identifier)?;
-            gap(p)
-        }
-    }
+    let mut fault = Fault::none();
+    put_mark_gap(p, &mut fault, identifier);
+    fault.into_result()
 }
 
 /// Writes an identifier and a blank, and nothing where there is no identifier.
 #[tactic(auto, unfolding(wasmprinter_spec::specs::Layout::Identifiers::identifier_gap_pieces))]
+fn put_identifier_gap<P: Print>(p: &mut P, fault: &mut Fault, identifier: Option<Identifier<'_>>)
+    ensures { Marks P.meaning p.old fault.old p.new fault.new
+        (identifier_gap_pieces (option_map identifier_view identifier.entry)) }
+{
+    if let Some(identifier) = identifier {
+        put_identifier(p, fault, identifier);
+        put_gap(p, fault);
+    }
+}
+
+/// Writes an identifier and a blank, and nothing where there is no identifier.
 pub fn write_identifier_gap<P: Print>(
     p: &mut P,
     identifier: Option<Identifier<'_>>,
@@ -108,17 +147,29 @@ pub fn write_identifier_gap<P: Print>(
     ensures { (o : Options) → Prints P.meaning o p.old p.new result
         (identifier_gap_pieces (option_map identifier_view identifier.entry)) }
 {
-    match identifier {
-        None => Ok(()),
-        Some(identifier) => {
-            write_identifier(p, identifier)?;
-            gap(p)
-        }
-    }
+    let mut fault = Fault::none();
+    put_identifier_gap(p, &mut fault, identifier);
+    fault.into_result()
 }
 
 /// Writes an item where it is declared: its mark, if it has an identifier, and its number.
 #[tactic(auto, unfolding(wasmprinter_spec::specs::Layout::Identifiers::declaration_pieces))]
+fn put_declaration<P: Print>(
+    p: &mut P,
+    fault: &mut Fault,
+    identifier: Option<Identifier<'_>>,
+    number: u64,
+)
+    ensures { Marks P.meaning p.old fault.old p.new fault.new
+        (declaration_pieces (option_map identifier_view identifier.entry) number) }
+{
+    put_begin_name(p, fault);
+    put_mark_gap(p, fault, identifier);
+    put_number_remark(p, fault, number);
+    put_end_style(p, fault);
+}
+
+/// Writes an item where it is declared: its mark, if it has an identifier, and its number.
 pub fn write_declaration<P: Print>(
     p: &mut P,
     identifier: Option<Identifier<'_>>,
@@ -127,14 +178,39 @@ pub fn write_declaration<P: Print>(
     ensures { (o : Options) → Prints P.meaning o p.old p.new result
         (declaration_pieces (option_map identifier_view identifier.entry) number) }
 {
-    begin_name(p)?;
-    write_mark_gap(p, identifier)?;
-    number_remark(p, number)?;
-    end_style(p)
+    let mut fault = Fault::none();
+    put_declaration(p, &mut fault, identifier, number);
+    fault.into_result()
+}
+
+/// Writes an identifier in the style of names.
+fn put_named<P: Print>(p: &mut P, fault: &mut Fault, identifier: Identifier<'_>)
+    ensures { Marks P.meaning p.old fault.old p.new fault.new
+        (BeginName ∷ (IdentifierPiece (chars (identifier_view identifier.entry).content) ∷ (EndStyle ∷ []))) }
+{
+    put_begin_name(p, fault);
+    put_identifier(p, fault, identifier);
+    put_end_style(p, fault);
 }
 
 /// Writes an index: the identifier of what is meant, or else its number.
 #[tactic(auto, unfolding(wasmprinter_spec::specs::Layout::Identifiers::index_pieces))]
+pub fn put_index<P: Print>(
+    p: &mut P,
+    fault: &mut Fault,
+    identifier: Option<Identifier<'_>>,
+    number: u64,
+)
+    ensures { Marks P.meaning p.old fault.old p.new fault.new
+        (index_pieces (option_map identifier_view identifier.entry) number) }
+{
+    match identifier {
+        None => put_number(p, fault, number),
+        Some(identifier) => put_named(p, fault, identifier),
+    }
+}
+
+/// Writes an index: the identifier of what is meant, or else its number.
 pub fn write_index<P: Print>(
     p: &mut P,
     identifier: Option<Identifier<'_>>,
@@ -143,14 +219,9 @@ pub fn write_index<P: Print>(
     ensures { (o : Options) → Prints P.meaning o p.old p.new result
         (index_pieces (option_map identifier_view identifier.entry) number) }
 {
-    match identifier {
-        None => numbers::number(p, number),
-        Some(identifier) => {
-            begin_name(p)?;
-            write_identifier(p, identifier)?;
-            end_style(p)
-        }
-    }
+    let mut fault = Fault::none();
+    put_index(p, &mut fault, identifier, number);
+    fault.into_result()
 }
 
 /// Writes an item of a space where it is declared. `outer` is the function of a local and the type of a field, and else ignored.
@@ -168,6 +239,21 @@ pub fn write_declaration_of<P: Print>(
 }
 
 /// Writes an index of a space. `outer` is the function of a local and the type of a field, and else ignored.
+pub fn put_index_of<P: Print>(
+    p: &mut P,
+    fault: &mut Fault,
+    identifiers: &Identifiers<'_, '_>,
+    space: Space,
+    outer: u64,
+    number: u64,
+)
+    ensures { Marks P.meaning p.old fault.old p.new fault.new
+        (index_pieces (item_of identifiers.now space outer number) number) }
+{
+    put_index(p, fault, identifiers.item(space, outer, number), number);
+}
+
+/// Writes an index of a space. `outer` is the function of a local and the type of a field, and else ignored.
 pub fn write_index_of<P: Print>(
     p: &mut P,
     identifiers: &Identifiers<'_, '_>,
@@ -178,11 +264,30 @@ pub fn write_index_of<P: Print>(
     ensures { (o : Options) → Prints P.meaning o p.old p.new result
         (index_pieces (item_of identifiers.now space outer number) number) }
 {
-    write_index(p, identifiers.item(space, outer, number), number)
+    let mut fault = Fault::none();
+    put_index_of(p, &mut fault, identifiers, space, outer, number);
+    fault.into_result()
 }
 
 /// Writes an index of a space of the module as a group behind a keyword.
 #[tactic(auto, unfolding(wasmprinter_spec::specs::Layout::Groups::line_group_gap))]
+pub fn put_index_group<P: Print>(
+    p: &mut P,
+    fault: &mut Fault,
+    identifiers: &Identifiers<'_, '_>,
+    keyword: &str,
+    space: Space,
+    index: u32,
+)
+    ensures { Marks P.meaning p.old fault.old p.new fault.new
+        (line_group_gap keyword.now (index_pieces (item_of identifiers.now space 0 index) index)) }
+{
+    put_open_gap(p, fault, keyword);
+    put_index_of(p, fault, identifiers, space, 0, u64::from(index));
+    put_shut(p, fault);
+}
+
+/// Writes an index of a space of the module as a group behind a keyword.
 pub fn write_index_group<P: Print>(
     p: &mut P,
     identifiers: &Identifiers<'_, '_>,
@@ -193,7 +298,7 @@ pub fn write_index_group<P: Print>(
     ensures { (o : Options) → Prints P.meaning o p.old p.new result
         (line_group_gap keyword.now (index_pieces (item_of identifiers.now space 0 index) index)) }
 {
-    open_gap(p, keyword)?;
-    write_index_of(p, identifiers, space, 0, u64::from(index))?;
-    shut(p)
+    let mut fault = Fault::none();
+    put_index_group(p, &mut fault, identifiers, keyword, space, index);
+    fault.into_result()
 }

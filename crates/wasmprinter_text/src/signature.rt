@@ -6,15 +6,16 @@ ghost use Rattle.wasmprinter_spec.specs.Layout.Groups.{line_group_gap};
 ghost use Rattle.wasmprinter_spec.specs.Layout.ValTypes.{type_index_pieces};
 ghost use Rattle.wasmprinter_spec.specs.Layout.Types.{signature_if_any, type_use_pieces};
 ghost use Rattle.wasmprinter_print.specs.Prints.{Prints};
+ghost use Rattle.wasmprinter_print.specs.Puts.{Marks};
 ghost use Rattle.wasmprinter_names.specs.Shown.{names_of_identifiers};
 
-use crate::indices::write_index_group;
+use crate::indices::put_index_group;
 use crate::types::signature;
 use std::io;
 use wasmprinter_names::{Identifiers, Space};
 use wasmprinter_ops::types::composite::FuncType;
-use wasmprinter_print::Print;
-use wasmprinter_words::words::gap;
+use wasmprinter_print::{Fault, Print};
+use wasmprinter_words::words::put_gap;
 
 /// The types of a module, of which some are function types.
 pub trait Signatures {
@@ -49,6 +50,20 @@ fn write_signature<P: Print, S: Signatures>(
 
 /// Writes a blank and the index of a type, as a group.
 #[tactic(auto, unfolding(wasmprinter_spec::specs::Layout::ValTypes::type_index_pieces))]
+pub fn put_type_index<P: Print>(
+    p: &mut P,
+    fault: &mut Fault,
+    identifiers: &Identifiers<'_, '_>,
+    index: u32,
+)
+    ensures { Marks P.meaning p.old fault.old p.new fault.new
+        (Gap ∷ line_group_gap (codes "type") (type_index_pieces (names_of_identifiers identifiers.now) index)) }
+{
+    put_gap(p, fault);
+    put_index_group(p, fault, identifiers, "type", Space::Types, index);
+}
+
+/// Writes a blank and the index of a type, as a group.
 pub fn write_type_index<P: Print>(
     p: &mut P,
     identifiers: &Identifiers<'_, '_>,
@@ -57,8 +72,9 @@ pub fn write_type_index<P: Print>(
     ensures { (o : Options) → Prints P.meaning o p.old p.new result
         (Gap ∷ line_group_gap (codes "type") (type_index_pieces (names_of_identifiers identifiers.now) index)) }
 {
-    gap(p)?;
-    write_index_group(p, identifiers, "type", Space::Types, index)
+    let mut fault = Fault::none();
+    put_type_index(p, &mut fault, identifiers, index);
+    fault.into_result()
 }
 
 /// Writes a blank, the index of a type as a group, and its signature, which is nothing where the index is no function type's. The

@@ -9,6 +9,7 @@ ghost use Rattle.wasmprinter_spec.specs.Layout.ValTypes.{ref_pieces_by, ref_piec
 ghost use Rattle.wasmprinter_spec.specs.Layout.Types.{list_group as group_of_types, signature_pieces};
 ghost use Rattle.wasmprinter_spec.specs.Layout.Groups.{line_group, line_group_gap};
 ghost use Rattle.wasmprinter_print.specs.Prints.{Prints};
+ghost use Rattle.wasmprinter_print.specs.Puts.{Marks};
 ghost use Rattle.wasmprinter_names.specs.Shown.{names_of_identifiers};
 ghost use Rattle.wasmprinter_ops.specs.ValTypes.{heap_view, ref_view, type_view, types_view};
 
@@ -21,8 +22,8 @@ use std::io;
 use wasmprinter_names::{Identifiers, Space};
 use wasmprinter_ops::types::composite::FuncType;
 use wasmprinter_ops::types::{HeapType, RefType, ValType, ValTypes};
-use wasmprinter_print::Print;
-use wasmprinter_words::words::{gap, open, open_gap, shut, type_word, word};
+use wasmprinter_print::{Fault, Print};
+use wasmprinter_words::words::{gap, open, open_gap, put_type_word, shut, type_word, word};
 
 /// The word of an abstract heap type, empty of an index.
 fn heap_word(heap: HeapType) -> &'static str
@@ -158,6 +159,29 @@ pub fn write_ref_type<P: Print>(
 
 /// Writes a value type.
 #[tactic(auto, unfolding(wasmprinter_spec::specs::Layout::ValTypes::val_pieces))]
+pub fn put_val_type<P: Print>(
+    p: &mut P,
+    fault: &mut Fault,
+    identifiers: &Identifiers<'_, '_>,
+    value_type: ValType,
+)
+    ensures { Marks P.meaning p.old fault.old p.new fault.new (val_pieces (names_of_identifiers identifiers.now) (type_view value_type)) }
+{
+    match value_type {
+        ValType::I32 => put_type_word(p, fault, "i32"),
+        ValType::I64 => put_type_word(p, fault, "i64"),
+        ValType::F32 => put_type_word(p, fault, "f32"),
+        ValType::F64 => put_type_word(p, fault, "f64"),
+        ValType::V128 => put_type_word(p, fault, "v128"),
+        ValType::Ref(ref_type) => {
+            if !fault.is_some() {
+                fault.keep(write_ref_type(p, identifiers, ref_type));
+            }
+        }
+    }
+}
+
+/// Writes a value type.
 pub fn write_val_type<P: Print>(
     p: &mut P,
     identifiers: &Identifiers<'_, '_>,
@@ -165,14 +189,9 @@ pub fn write_val_type<P: Print>(
 ) -> io::Result<()>
     ensures { (o : Options) → Prints P.meaning o p.old p.new result (val_pieces (names_of_identifiers identifiers.now) (type_view value_type)) }
 {
-    match value_type {
-        ValType::I32 => type_word(p, "i32"),
-        ValType::I64 => type_word(p, "i64"),
-        ValType::F32 => type_word(p, "f32"),
-        ValType::F64 => type_word(p, "f64"),
-        ValType::V128 => type_word(p, "v128"),
-        ValType::Ref(ref_type) => write_ref_type(p, identifiers, ref_type),
-    }
+    let mut fault = Fault::none();
+    put_val_type(p, &mut fault, identifiers, value_type);
+    fault.into_result()
 }
 
 /// Writes a blank and a value type.

@@ -5,10 +5,20 @@ ghost use Rattle.wasmprinter_spec.specs.Options.{Options};
 ghost use Rattle.wasmprinter_spec.specs.Piece.{NumberRemark, Remark, Ending, calls_in_style};
 ghost use Rattle.wasmprinter_print.specs.Emits.{Emits};
 ghost use Rattle.wasmprinter_print.specs.Prints.{Prints};
+ghost use Rattle.wasmprinter_print.specs.Puts.{Puts, Marks};
 
-use crate::numbers::write_decimal_between;
+use crate::numbers::put_decimal_between;
 use std::io;
-use wasmprinter_print::{Print, Style, reset, start, text};
+use wasmprinter_print::{Fault, Print, Style, put_reset, put_start, put_text};
+
+/// Writes a text between two others.
+fn put_between<P: Print>(p: &mut P, fault: &mut Fault, before: &str, s: &str, after: &str)
+    ensures { Puts P.meaning p.old fault.old p.new fault.new (Text (before.now ++ (s.now ++ after.now)) ∷ []) }
+{
+    put_text(p, fault, before);
+    put_text(p, fault, s);
+    put_text(p, fault, after);
+}
 
 /// Writes a text between two others.
 pub(crate) fn write_between<P: Print>(
@@ -19,39 +29,74 @@ pub(crate) fn write_between<P: Print>(
 ) -> io::Result<()>
     ensures { Emits P.meaning p.old p.new result (Text (before.now ++ (s.now ++ after.now)) ∷ []) }
 {
-    text(p, before)?;
-    text(p, s)?;
-    text(p, after)
+    let mut fault = Fault::none();
+    put_between(p, &mut fault, before, s, after);
+    fault.into_result()
+}
+
+/// Writes a blank and a comment without a style.
+pub fn put_unstyled_remark<P: Print>(p: &mut P, fault: &mut Fault, content: &str)
+    ensures { Marks P.meaning p.old fault.old p.new fault.new (Remark false content.now ∷ []) }
+{
+    put_between(p, fault, " (;", content, ";)");
 }
 
 /// Writes a blank and a comment without a style.
 pub fn unstyled_remark<P: Print>(p: &mut P, content: &str) -> io::Result<()>
     ensures { (o : Options) → Prints P.meaning o p.old p.new result (Remark false content.now ∷ []) }
 {
-    write_between(p, " (;", content, ";)")
+    let mut fault = Fault::none();
+    put_unstyled_remark(p, &mut fault, content);
+    fault.into_result()
+}
+
+/// Writes the number of a declaration, as a comment without a style.
+pub fn put_number_remark<P: Print>(p: &mut P, fault: &mut Fault, n: u64)
+    ensures { Marks P.meaning p.old fault.old p.new fault.new (NumberRemark n ∷ []) }
+{
+    put_decimal_between(p, fault, "(;", n, ";)");
 }
 
 /// Writes the number of a declaration, as a comment without a style.
 pub fn number_remark<P: Print>(p: &mut P, n: u64) -> io::Result<()>
     ensures { (o : Options) → Prints P.meaning o p.old p.new result (NumberRemark n ∷ []) }
 {
-    write_decimal_between(p, "(;", n, ";)")
+    let mut fault = Fault::none();
+    put_number_remark(p, &mut fault, n);
+    fault.into_result()
 }
 
 /// Writes a number between two texts, in the style of comments.
-fn write_number_comment<P: Print>(p: &mut P, before: &str, n: u64, after: &str) -> io::Result<()>
-    ensures { Emits P.meaning p.old p.new result (calls_in_style Comment (before.now ++ (decimal n ++ after.now))) }
+fn put_number_comment<P: Print>(p: &mut P, fault: &mut Fault, before: &str, n: u64, after: &str)
+    ensures { Puts P.meaning p.old fault.old p.new fault.new (calls_in_style Comment (before.now ++ (decimal n ++ after.now))) }
 {
-    start(p, Style::Comment)?;
-    write_decimal_between(p, before, n, after)?;
-    reset(p)
+    put_start(p, fault, Style::Comment);
+    put_decimal_between(p, fault, before, n, after);
+    put_reset(p, fault);
+}
+
+/// Writes a blank and a comment that names a block by its number.
+pub fn put_block_remark<P: Print>(p: &mut P, fault: &mut Fault, block: u64)
+    ensures { Marks P.meaning p.old fault.old p.new fault.new (Remark true (64 ∷ decimal block) ∷ []) }
+{
+    put_number_comment(p, fault, " (;@", block, ";)");
 }
 
 /// Writes a blank and a comment that names a block by its number.
 pub fn block_remark<P: Print>(p: &mut P, block: u64) -> io::Result<()>
     ensures { (o : Options) → Prints P.meaning o p.old p.new result (Remark true (64 ∷ decimal block) ∷ []) }
 {
-    write_number_comment(p, " (;@", block, ";)")
+    let mut fault = Fault::none();
+    put_block_remark(p, &mut fault, block);
+    fault.into_result()
+}
+
+/// Writes a blank and a comment that names the label of a block.
+pub fn put_label_remark<P: Print>(p: &mut P, fault: &mut Fault, block: u64)
+    ensures { Marks P.meaning p.old fault.old p.new fault.new
+        (Remark true (codes " label = @" ++ (decimal block ++ codes " ")) ∷ []) }
+{
+    put_number_comment(p, fault, " (; label = @", block, " ;)");
 }
 
 /// Writes a blank and a comment that names the label of a block.
@@ -59,12 +104,23 @@ pub fn label_remark<P: Print>(p: &mut P, block: u64) -> io::Result<()>
     ensures { (o : Options) → Prints P.meaning o p.old p.new result
         (Remark true (codes " label = @" ++ (decimal block ++ codes " ")) ∷ []) }
 {
-    write_number_comment(p, " (; label = @", block, " ;)")
+    let mut fault = Fault::none();
+    put_label_remark(p, &mut fault, block);
+    fault.into_result()
+}
+
+/// Writes a comment up to the end of the line that names the label of a block.
+pub fn put_label_ending<P: Print>(p: &mut P, fault: &mut Fault, block: u64)
+    ensures { Marks P.meaning p.old fault.old p.new fault.new (Ending (codes "label = @" ++ decimal block) ∷ []) }
+{
+    put_number_comment(p, fault, ";; label = @", block, "");
 }
 
 /// Writes a comment up to the end of the line that names the label of a block.
 pub fn label_ending<P: Print>(p: &mut P, block: u64) -> io::Result<()>
     ensures { (o : Options) → Prints P.meaning o p.old p.new result (Ending (codes "label = @" ++ decimal block) ∷ []) }
 {
-    write_number_comment(p, ";; label = @", block, "")
+    let mut fault = Fault::none();
+    put_label_ending(p, &mut fault, block);
+    fault.into_result()
 }

@@ -9,11 +9,12 @@ ghost use Rattle.wasmprinter_spec.specs.Piece.{Identifier, NameNote};
 ghost use Rattle.wasmprinter_spec.specs.Quoted.{runs, all_run, is_run, quoted_text};
 ghost use Rattle.wasmprinter_print.specs.Emits.{Emits};
 ghost use Rattle.wasmprinter_print.specs.Prints.{Prints};
+ghost use Rattle.wasmprinter_print.specs.Puts.{Puts, Marks};
 
-use crate::numbers::write_decimal;
-use crate::strings::write_chars;
+use crate::numbers::put_decimal;
+use crate::strings::{put_chars, write_chars};
 use std::io;
-use wasmprinter_print::{Print, Style, text, text_in_style};
+use wasmprinter_print::{Fault, Print, Style, put_text, text, text_in_style};
 
 /// Whether a character stands in an identifier.
 #[tactic(auto, unfolding(wasmprinter_spec::specs::Character::class))]
@@ -39,42 +40,61 @@ fn is_run(s: &str) -> bool
 
 /// Writes a text in quotes without a style.
 #[tactic(auto, unfolding(wasmprinter_spec::specs::Quoted::quoted_text))]
-fn write_in_quotes<P: Print>(p: &mut P, s: &str) -> io::Result<()>
-    ensures { Emits P.meaning p.old p.new result (Text (quoted_text (chars s.now)) ∷ []) }
+fn put_in_quotes<P: Print>(p: &mut P, fault: &mut Fault, s: &str)
+    ensures { Puts P.meaning p.old fault.old p.new fault.new (Text (quoted_text (chars s.now)) ∷ []) }
 {
-    text(p, "\"")?;
-    write_chars(p, s)?;
-    text(p, "\"")
+    put_text(p, fault, "\"");
+    put_chars(p, fault, s);
+    put_text(p, fault, "\"");
 }
 
 /// Writes what stands behind the dollar sign of an identifier.
-fn write_content<P: Print>(p: &mut P, content: &str) -> io::Result<()>
-    ensures { Emits P.meaning p.old p.new result
+fn put_content<P: Print>(p: &mut P, fault: &mut Fault, content: &str)
+    ensures { Puts P.meaning p.old fault.old p.new fault.new
         (Text (if is_run (chars content.now) then chars content.now else quoted_text (chars content.now)) ∷ []) }
 {
     if is_run(content) {
-        text(p, content)
+        put_text(p, fault, content);
     } else {
-        write_in_quotes(p, content)
+        put_in_quotes(p, fault, content);
     }
 }
 
 /// Writes an identifier, by what stands behind its dollar sign: in quotes where a character doesn't stand in an identifier.
 #[tactic(auto, unfolding(wasmprinter_spec::specs::Quoted::identifier_text))]
+pub fn put_identifier<P: Print>(p: &mut P, fault: &mut Fault, content: &str)
+    ensures { Marks P.meaning p.old fault.old p.new fault.new (Identifier (chars content.now) ∷ []) }
+{
+    put_text(p, fault, "$");
+    put_content(p, fault, content);
+}
+
+/// Writes an identifier, by what stands behind its dollar sign: in quotes where a character doesn't stand in an identifier.
 pub fn identifier<P: Print>(p: &mut P, content: &str) -> io::Result<()>
     ensures { (o : Options) → Prints P.meaning o p.old p.new result (Identifier (chars content.now) ∷ []) }
 {
-    text(p, "$")?;
-    write_content(p, content)
+    let mut fault = Fault::none();
+    put_identifier(p, &mut fault, content);
+    fault.into_result()
 }
 
 /// Writes a word and a number behind a text.
-fn write_numbered<P: Print>(p: &mut P, before: &str, word: &str, number: u64) -> io::Result<()>
-    ensures { Emits P.meaning p.old p.new result (Text (before.now ++ (word.now ++ decimal number)) ∷ []) }
+fn put_numbered<P: Print>(p: &mut P, fault: &mut Fault, before: &str, word: &str, number: u64)
+    ensures { Puts P.meaning p.old fault.old p.new fault.new (Text (before.now ++ (word.now ++ decimal number)) ∷ []) }
 {
-    text(p, before)?;
-    text(p, word)?;
-    write_decimal(p, number)
+    put_text(p, fault, before);
+    put_text(p, fault, word);
+    put_decimal(p, fault, number);
+}
+
+/// Writes the identifier that is made up of the sign `#`, the word for a kind of items, and a number. It stands without quotes, so that the
+/// characters of the word must be those of identifiers.
+pub fn put_made_up_identifier<P: Print>(p: &mut P, fault: &mut Fault, group: &str, number: u64)
+    ensures calls { Puts P.meaning p.old fault.old p.new fault.new (Text (36 ∷ index_content group.now number) ∷ []) }
+    ensures pieces { all_run group.now ≡ true
+        → Marks P.meaning p.old fault.old p.new fault.new (Identifier (chars (index_content group.now number)) ∷ []) }
+{
+    put_numbered(p, fault, "$#", group, number);
 }
 
 /// Writes the identifier that is made up of the sign `#`, the word for a kind of items, and a number. It stands without quotes, so that the
@@ -84,7 +104,9 @@ pub fn made_up_identifier<P: Print>(p: &mut P, group: &str, number: u64) -> io::
     ensures pieces { all_run group.now ≡ true
         → (o : Options) → Prints P.meaning o p.old p.new result (Identifier (chars (index_content group.now number)) ∷ []) }
 {
-    write_numbered(p, "$#", group, number)
+    let mut fault = Fault::none();
+    put_made_up_identifier(p, &mut fault, group, number);
+    fault.into_result()
 }
 
 /// Writes the annotation with the name that was given to an item.

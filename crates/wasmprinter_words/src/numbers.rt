@@ -6,11 +6,12 @@ ghost use Rattle.wasmprinter_spec.specs.Options.{Options};
 ghost use Rattle.wasmprinter_spec.specs.Piece.{Gap, Word, Number, Constant};
 ghost use Rattle.wasmprinter_print.specs.Emits.{Emits};
 ghost use Rattle.wasmprinter_print.specs.Prints.{Prints};
+ghost use Rattle.wasmprinter_print.specs.Puts.{Puts, Marks};
 
-use crate::words::gap;
+use crate::words::put_gap;
 use itoa::Buffer;
 use std::io;
-use wasmprinter_print::{Print, Style, reset, start, text};
+use wasmprinter_print::{Fault, Print, Style, put_reset, put_start, put_text, text};
 
 /// The base of hexadecimal numbers.
 pub const HEXADECIMAL: u64 = 16;
@@ -36,11 +37,25 @@ fn glyph_of(digit: u8) -> u8
 }
 
 /// Writes a digit, with the letters from a to f for those from ten on.
+pub fn put_digit<P: Print>(p: &mut P, fault: &mut Fault, digit: u8)
+    requires { digit < 16 }
+    ensures { Puts P.meaning p.old fault.old p.new fault.new (Text (digit_glyph false digit ∷ []) ∷ []) }
+{
+    put_text(
+        p,
+        fault,
+        char::from(glyph_of(digit)).encode_utf8(&mut [0; 4]),
+    );
+}
+
+/// Writes a digit, with the letters from a to f for those from ten on.
 pub fn write_digit<P: Print>(p: &mut P, digit: u8) -> io::Result<()>
     requires { digit < 16 }
     ensures { Emits P.meaning p.old p.new result (Text (digit_glyph false digit ∷ []) ∷ []) }
 {
-    text(p, char::from(glyph_of(digit)).encode_utf8(&mut [0; 4]))
+    let mut fault = Fault::none();
+    put_digit(p, &mut fault, digit);
+    fault.into_result()
 }
 
 /// Writes a number in hexadecimal.
@@ -55,11 +70,29 @@ pub fn write_hexadecimal<P: Print>(p: &mut P, n: u64) -> io::Result<()>
 }
 
 /// Writes a number in decimal.
+pub fn put_decimal<P: Print>(p: &mut P, fault: &mut Fault, n: u64)
+    ensures { Puts P.meaning p.old fault.old p.new fault.new (Text (decimal n) ∷ []) }
+{
+    let mut digits = Buffer::new();
+    put_text(p, fault, digits.format(n));
+}
+
+/// Writes a number in decimal.
 pub fn write_decimal<P: Print>(p: &mut P, n: u64) -> io::Result<()>
     ensures { Emits P.meaning p.old p.new result (Text (decimal n) ∷ []) }
 {
-    let mut digits = Buffer::new();
-    text(p, digits.format(n))
+    let mut fault = Fault::none();
+    put_decimal(p, &mut fault, n);
+    fault.into_result()
+}
+
+/// Writes the two hexadecimal digits of a byte.
+pub fn put_byte_digits<P: Print>(p: &mut P, fault: &mut Fault, byte: u8)
+    ensures { Puts P.meaning p.old fault.old p.new fault.new
+        (Text (digit_glyph false (byte / 16) ∷ (digit_glyph false (byte % 16) ∷ [])) ∷ []) }
+{
+    put_digit(p, fault, byte / 16);
+    put_digit(p, fault, byte % 16);
 }
 
 /// Writes the two hexadecimal digits of a byte.
@@ -67,8 +100,9 @@ pub fn write_byte_digits<P: Print>(p: &mut P, byte: u8) -> io::Result<()>
     ensures { Emits P.meaning p.old p.new result
         (Text (digit_glyph false (byte / 16) ∷ (digit_glyph false (byte % 16) ∷ [])) ∷ []) }
 {
-    write_digit(p, byte / 16)?;
-    write_digit(p, byte % 16)
+    let mut fault = Fault::none();
+    put_byte_digits(p, &mut fault, byte);
+    fault.into_result()
 }
 
 /// How many digits a number has in hexadecimal.
@@ -104,49 +138,109 @@ pub fn write_decimal_between<P: Print>(
 ) -> io::Result<()>
     ensures { Emits P.meaning p.old p.new result (Text (before.now ++ (decimal n ++ after.now)) ∷ []) }
 {
-    text(p, before)?;
-    write_decimal(p, n)?;
-    text(p, after)
+    let mut fault = Fault::none();
+    put_decimal_between(p, &mut fault, before, n, after);
+    fault.into_result()
+}
+
+/// Writes an index.
+pub fn put_number<P: Print>(p: &mut P, fault: &mut Fault, n: u64)
+    ensures { Marks P.meaning p.old fault.old p.new fault.new (Number n ∷ []) }
+{
+    put_start(p, fault, Style::Name);
+    put_decimal(p, fault, n);
+    put_reset(p, fault);
 }
 
 /// Writes an index.
 pub fn number<P: Print>(p: &mut P, n: u64) -> io::Result<()>
     ensures { (o : Options) → Prints P.meaning o p.old p.new result (Number n ∷ []) }
 {
-    start(p, Style::Name)?;
-    write_decimal(p, n)?;
-    reset(p)
+    let mut fault = Fault::none();
+    put_number(p, &mut fault, n);
+    fault.into_result()
+}
+
+/// Writes a blank and an index.
+pub fn put_gap_index<P: Print>(p: &mut P, fault: &mut Fault, index: u32)
+    ensures { Marks P.meaning p.old fault.old p.new fault.new (Gap ∷ (Number index ∷ [])) }
+{
+    put_gap(p, fault);
+    put_number(p, fault, u64::from(index));
 }
 
 /// Writes a blank and an index.
 pub fn gap_index<P: Print>(p: &mut P, index: u32) -> io::Result<()>
     ensures { (o : Options) → Prints P.meaning o p.old p.new result (Gap ∷ (Number index ∷ [])) }
 {
-    gap(p)?;
-    number(p, u64::from(index))
+    let mut fault = Fault::none();
+    put_gap_index(p, &mut fault, index);
+    fault.into_result()
+}
+
+/// Writes a number in decimal between two texts.
+pub fn put_decimal_between<P: Print>(
+    p: &mut P,
+    fault: &mut Fault,
+    before: &str,
+    n: u64,
+    after: &str,
+)
+    ensures { Puts P.meaning p.old fault.old p.new fault.new (Text (before.now ++ (decimal n ++ after.now)) ∷ []) }
+{
+    put_text(p, fault, before);
+    put_decimal(p, fault, n);
+    put_text(p, fault, after);
+}
+
+/// Writes a number as a word without a style.
+pub fn put_number_word<P: Print>(p: &mut P, fault: &mut Fault, n: u64)
+    ensures { Marks P.meaning p.old fault.old p.new fault.new (Word (decimal n) ∷ []) }
+{
+    put_decimal(p, fault, n);
 }
 
 /// Writes a number as a word without a style.
 pub fn number_word<P: Print>(p: &mut P, n: u64) -> io::Result<()>
     ensures { (o : Options) → Prints P.meaning o p.old p.new result (Word (decimal n) ∷ []) }
 {
-    write_decimal(p, n)
+    let mut fault = Fault::none();
+    put_number_word(p, &mut fault, n);
+    fault.into_result()
+}
+
+/// Writes a word that ends in a number, without a style.
+pub fn put_numbered_word<P: Print>(p: &mut P, fault: &mut Fault, word: &str, n: u64)
+    ensures { Marks P.meaning p.old fault.old p.new fault.new (Word (word.now ++ decimal n) ∷ []) }
+{
+    put_text(p, fault, word);
+    put_decimal(p, fault, n);
 }
 
 /// Writes a word that ends in a number, without a style.
 pub fn numbered_word<P: Print>(p: &mut P, word: &str, n: u64) -> io::Result<()>
     ensures { (o : Options) → Prints P.meaning o p.old p.new result (Word (word.now ++ decimal n) ∷ []) }
 {
-    text(p, word)?;
-    write_decimal(p, n)
+    let mut fault = Fault::none();
+    put_numbered_word(p, &mut fault, word, n);
+    fault.into_result()
+}
+
+/// Writes a blank and a number with its sign.
+pub fn put_constant<P: Print>(p: &mut P, fault: &mut Fault, n: i64)
+    ensures { Marks P.meaning p.old fault.old p.new fault.new (Constant n ∷ []) }
+{
+    put_start(p, fault, Style::Literal);
+    put_text(p, fault, " ");
+    put_text(p, fault, Buffer::new().format(n));
+    put_reset(p, fault);
 }
 
 /// Writes a blank and a number with its sign.
 pub fn constant<P: Print>(p: &mut P, n: i64) -> io::Result<()>
     ensures { (o : Options) → Prints P.meaning o p.old p.new result (Constant n ∷ []) }
 {
-    start(p, Style::Literal)?;
-    text(p, " ")?;
-    text(p, Buffer::new().format(n))?;
-    reset(p)
+    let mut fault = Fault::none();
+    put_constant(p, &mut fault, n);
+    fault.into_result()
 }

@@ -1,16 +1,18 @@
 //! Texts in quotes (section 6.3 of the WebAssembly Core Specification, "Strings").
-ghost use Rattle.std.specs.Prelude.{◌≡◌, [], ◌∷◌, flat_map, chars};
+ghost use Rattle.std.specs.Prelude.{◌≡◌, false, [], ◌∷◌, ◌++◌, codes, flat_map, chars};
+ghost use Rattle.std.specs.Fmt.{digits};
 ghost use Rattle.wasmprinter_spec.specs.Call.{Text, Literal};
 ghost use Rattle.wasmprinter_spec.specs.Options.{Options};
 ghost use Rattle.wasmprinter_spec.specs.Piece.{Quoted, QuotedBytes, calls_in_style};
 ghost use Rattle.wasmprinter_spec.specs.Quoted.{is_plain, char_text, byte_text, quoted_text, quoted_bytes};
 ghost use Rattle.wasmprinter_print.specs.Emits.{Emits, EmitsOrFails};
 ghost use Rattle.wasmprinter_print.specs.Prints.{Prints};
+ghost use Rattle.wasmprinter_print.specs.Puts.{Puts, Marks};
 
-use crate::numbers::{write_byte_digits, write_hexadecimal_between};
+use crate::numbers::{put_byte_digits, write_hexadecimal_between};
 use std::io;
 use wasmprinter_error::Error;
-use wasmprinter_print::{Print, Style, reset, start, text};
+use wasmprinter_print::{Fault, Print, Style, put_reset, put_start, put_text};
 
 /// Whether a character stands for itself in quotes.
 fn is_plain(c: char) -> bool
@@ -19,38 +21,63 @@ fn is_plain(c: char) -> bool
     matches!(c, ' '..='~') && c != '"' && c != '\\'
 }
 
+/// Writes a character by its number in hexadecimal.
+fn write_escape<P: Print>(p: &mut P, c: char) -> io::Result<()>
+    ensures { Emits P.meaning p.old p.new result (Text (codes "\\u{" ++ (digits 16 false c ++ codes "}")) ∷ []) }
+{
+    write_hexadecimal_between(p, "\\u{", u64::from(u32::from(c)), "}")
+}
+
 /// Writes a character as it stands in quotes: itself, or `\u{..}` with its number in hexadecimal.
 #[tactic(auto, unfolding(wasmprinter_spec::specs::Quoted::char_text))]
-fn write_char<P: Print>(p: &mut P, c: char) -> io::Result<()>
-    ensures { Emits P.meaning p.old p.new result (Text (char_text c) ∷ []) }
+fn put_char<P: Print>(p: &mut P, fault: &mut Fault, c: char)
+    ensures { Puts P.meaning p.old fault.old p.new fault.new (Text (char_text c) ∷ []) }
 {
     if is_plain(c) {
-        return text(p, c.encode_utf8(&mut [0; 4]));
+        put_text(p, fault, c.encode_utf8(&mut [0; 4]));
+    } else if !fault.is_some() {
+        fault.keep(write_escape(p, c));
     }
-    write_hexadecimal_between(p, "\\u{", u64::from(u32::from(c)), "}")
+}
+
+/// Writes the characters of a text as they stand in quotes.
+pub(crate) fn put_chars<P: Print>(p: &mut P, fault: &mut Fault, s: &str)
+    ensures { Puts P.meaning p.old fault.old p.new fault.new (Text (flat_map char_text (chars s.now)) ∷ []) }
+{
+    for c in s.chars() {
+        put_char(p, fault, c);
+    }
 }
 
 /// Writes the characters of a text as they stand in quotes.
 pub(crate) fn write_chars<P: Print>(p: &mut P, s: &str) -> io::Result<()>
     ensures { Emits P.meaning p.old p.new result (Text (flat_map char_text (chars s.now)) ∷ []) }
 {
-    for c in s.chars() {
-        write_char(p, c)?;
-    }
-    Ok(())
+    let mut fault = Fault::none();
+    put_chars(p, &mut fault, s);
+    fault.into_result()
 }
 
 /// Writes a text in quotes, with what isn't printable by its number.
 #[tactic(auto, unfolding(wasmprinter_spec::specs::Quoted::quoted_text))]
+fn put_string<P: Print>(p: &mut P, fault: &mut Fault, s: &str)
+    ensures { Puts P.meaning p.old fault.old p.new fault.new (calls_in_style Literal (quoted_text (chars s.now))) }
+{
+    put_start(p, fault, Style::Literal);
+    put_text(p, fault, "\"");
+    put_chars(p, fault, s);
+    put_text(p, fault, "\"");
+    put_reset(p, fault);
+}
+
+/// Writes a text in quotes, with what isn't printable by its number.
 pub fn write_string<P: Print>(p: &mut P, s: &str) -> io::Result<()>
     ensures calls { Emits P.meaning p.old p.new result (calls_in_style Literal (quoted_text (chars s.now))) }
     ensures pieces { (o : Options) → Prints P.meaning o p.old p.new result (Quoted (chars s.now) ∷ []) }
 {
-    start(p, Style::Literal)?;
-    text(p, "\"")?;
-    write_chars(p, s)?;
-    text(p, "\"")?;
-    reset(p)
+    let mut fault = Fault::none();
+    put_string(p, &mut fault, s);
+    fault.into_result()
 }
 
 /// Writes a text in quotes, as the text of a module writes it: printable ASCII as it is but for `"` and `\`, any other character as
@@ -68,38 +95,47 @@ pub fn write_quoted<P: Print>(p: &mut P, s: &str) -> Result<(), Error>
 
 /// Writes a byte as it stands in quotes: the ASCII character, or `\hh` with its two hexadecimal digits.
 #[tactic(auto, unfolding(wasmprinter_spec::specs::Quoted::byte_text))]
-fn write_byte<P: Print>(p: &mut P, byte: u8) -> io::Result<()>
-    ensures { Emits P.meaning p.old p.new result (Text (byte_text byte) ∷ []) }
+fn put_byte<P: Print>(p: &mut P, fault: &mut Fault, byte: u8)
+    ensures { Puts P.meaning p.old fault.old p.new fault.new (Text (byte_text byte) ∷ []) }
 {
     let c = char::from(byte);
     if is_plain(c) {
-        return text(p, c.encode_utf8(&mut [0; 4]));
+        put_text(p, fault, c.encode_utf8(&mut [0; 4]));
+        return;
     }
-    text(p, "\\")?;
-    write_byte_digits(p, byte)
+    put_text(p, fault, "\\");
+    put_byte_digits(p, fault, byte);
 }
 
 /// Writes bytes as they stand in quotes.
-fn write_each_byte<P: Print>(p: &mut P, bytes: &[u8]) -> io::Result<()>
-    ensures { Emits P.meaning p.old p.new result (Text (flat_map byte_text bytes.now) ∷ []) }
+fn put_each_byte<P: Print>(p: &mut P, fault: &mut Fault, bytes: &[u8])
+    ensures { Puts P.meaning p.old fault.old p.new fault.new (Text (flat_map byte_text bytes.now) ∷ []) }
 {
     for &byte in bytes {
-        write_byte(p, byte)?;
+        put_byte(p, fault, byte);
     }
-    Ok(())
 }
 
 /// Writes bytes in quotes, with what isn't printable by its hexadecimal digits.
 #[tactic(auto, unfolding(wasmprinter_spec::specs::Quoted::quoted_bytes))]
+fn put_byte_string<P: Print>(p: &mut P, fault: &mut Fault, bytes: &[u8])
+    ensures { Puts P.meaning p.old fault.old p.new fault.new (calls_in_style Literal (quoted_bytes bytes.now)) }
+{
+    put_start(p, fault, Style::Literal);
+    put_text(p, fault, "\"");
+    put_each_byte(p, fault, bytes);
+    put_text(p, fault, "\"");
+    put_reset(p, fault);
+}
+
+/// Writes bytes in quotes, with what isn't printable by its hexadecimal digits.
 pub fn write_byte_string<P: Print>(p: &mut P, bytes: &[u8]) -> io::Result<()>
     ensures calls { Emits P.meaning p.old p.new result (calls_in_style Literal (quoted_bytes bytes.now)) }
     ensures pieces { (o : Options) → Prints P.meaning o p.old p.new result (QuotedBytes bytes.now ∷ []) }
 {
-    start(p, Style::Literal)?;
-    text(p, "\"")?;
-    write_each_byte(p, bytes)?;
-    text(p, "\"")?;
-    reset(p)
+    let mut fault = Fault::none();
+    put_byte_string(p, &mut fault, bytes);
+    fault.into_result()
 }
 
 /// Writes bytes in quotes, as the text of a module writes them: those of printable ASCII as they are but for `"` and `\`, any

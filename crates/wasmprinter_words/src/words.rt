@@ -5,10 +5,29 @@ ghost use Rattle.wasmprinter_spec.specs.Piece.{Gap, Open, OpenBare, OpenGap, Ope
 ghost use Rattle.wasmprinter_spec.specs.Piece.{Word, TypeWord, TypeWordGap, GapTypeWord, calls_in_style as in_style};
 ghost use Rattle.wasmprinter_print.specs.Emits.{Emits};
 ghost use Rattle.wasmprinter_print.specs.Prints.{Prints};
+ghost use Rattle.wasmprinter_print.specs.Puts.{Puts, Marks};
 ghost use Rattle.wasmprinter_print.specs.Styles.{style_of};
 
 use std::io;
-use wasmprinter_print::{Print, Style, reset, start, text, text_in_style};
+use wasmprinter_print::{
+    Fault, Print, Style, put_reset, put_start, put_text, put_text_in_style, text, text_in_style,
+};
+
+/// Writes two texts as one in a style.
+pub(crate) fn put_two_texts_in_style<P: Print>(
+    p: &mut P,
+    fault: &mut Fault,
+    style: Style,
+    first: &str,
+    second: &str,
+)
+    ensures { Puts P.meaning p.old fault.old p.new fault.new (in_style (style_of style) (first.now ++ second.now)) }
+{
+    put_start(p, fault, style);
+    put_text(p, fault, first);
+    put_text(p, fault, second);
+    put_reset(p, fault);
+}
 
 /// Writes two texts as one in a style.
 pub(crate) fn two_texts_in_style<P: Print>(
@@ -19,34 +38,60 @@ pub(crate) fn two_texts_in_style<P: Print>(
 ) -> io::Result<()>
     ensures { Emits P.meaning p.old p.new result (in_style (style_of style) (first.now ++ second.now)) }
 {
-    start(p, style)?;
-    text(p, first)?;
-    text(p, second)?;
-    reset(p)
+    let mut fault = Fault::none();
+    put_two_texts_in_style(p, &mut fault, style, first, second);
+    fault.into_result()
+}
+
+/// Opens a group: a parenthesis and a keyword.
+pub fn put_open<P: Print>(p: &mut P, fault: &mut Fault, keyword: &str)
+    ensures { Marks P.meaning p.old fault.old p.new fault.new (Open keyword.now ∷ []) }
+{
+    put_text(p, fault, "(");
+    put_text_in_style(p, fault, Style::Keyword, keyword);
 }
 
 /// Opens a group: a parenthesis and a keyword.
 pub fn open<P: Print>(p: &mut P, keyword: &str) -> io::Result<()>
     ensures { (o : Options) → Prints P.meaning o p.old p.new result (Open keyword.now ∷ []) }
 {
-    text(p, "(")?;
-    text_in_style(p, Style::Keyword, keyword)
+    let mut fault = Fault::none();
+    put_open(p, &mut fault, keyword);
+    fault.into_result()
+}
+
+/// Opens a group with a blank behind its keyword.
+pub fn put_open_gap<P: Print>(p: &mut P, fault: &mut Fault, keyword: &str)
+    ensures { Marks P.meaning p.old fault.old p.new fault.new (OpenGap keyword.now ∷ []) }
+{
+    put_text(p, fault, "(");
+    put_two_texts_in_style(p, fault, Style::Keyword, keyword, " ");
 }
 
 /// Opens a group with a blank behind its keyword.
 pub fn open_gap<P: Print>(p: &mut P, keyword: &str) -> io::Result<()>
     ensures { (o : Options) → Prints P.meaning o p.old p.new result (OpenGap keyword.now ∷ []) }
 {
-    text(p, "(")?;
-    two_texts_in_style(p, Style::Keyword, keyword, " ")
+    let mut fault = Fault::none();
+    put_open_gap(p, &mut fault, keyword);
+    fault.into_result()
+}
+
+/// Opens a group whose keyword has no style.
+pub fn put_open_plain<P: Print>(p: &mut P, fault: &mut Fault, unstyled: &str)
+    ensures { Marks P.meaning p.old fault.old p.new fault.new (OpenPlain unstyled.now ∷ []) }
+{
+    put_text(p, fault, "(");
+    put_text(p, fault, unstyled);
 }
 
 /// Opens a group whose keyword has no style.
 pub fn open_plain<P: Print>(p: &mut P, unstyled: &str) -> io::Result<()>
     ensures { (o : Options) → Prints P.meaning o p.old p.new result (OpenPlain unstyled.now ∷ []) }
 {
-    text(p, "(")?;
-    text(p, unstyled)
+    let mut fault = Fault::none();
+    put_open_plain(p, &mut fault, unstyled);
+    fault.into_result()
 }
 
 /// Opens a group whose keyword is the word of a type, with a blank behind it.
@@ -66,31 +111,67 @@ pub fn open_bare<P: Print>(p: &mut P) -> io::Result<()>
 }
 
 /// Closes a group on the line where it ends.
+pub fn put_shut<P: Print>(p: &mut P, fault: &mut Fault)
+    ensures { Marks P.meaning p.old fault.old p.new fault.new (Shut ∷ []) }
+{
+    put_text(p, fault, ")");
+}
+
+/// Closes a group on the line where it ends.
 pub fn shut<P: Print>(p: &mut P) -> io::Result<()>
     ensures { (o : Options) → Prints P.meaning o p.old p.new result (Shut ∷ []) }
 {
-    text(p, ")")
+    let mut fault = Fault::none();
+    put_shut(p, &mut fault);
+    fault.into_result()
+}
+
+/// Writes a blank.
+pub fn put_gap<P: Print>(p: &mut P, fault: &mut Fault)
+    ensures { Marks P.meaning p.old fault.old p.new fault.new (Gap ∷ []) }
+{
+    put_text(p, fault, " ");
 }
 
 /// Writes a blank.
 pub fn gap<P: Print>(p: &mut P) -> io::Result<()>
     ensures { (o : Options) → Prints P.meaning o p.old p.new result (Gap ∷ []) }
 {
-    text(p, " ")
+    let mut fault = Fault::none();
+    put_gap(p, &mut fault);
+    fault.into_result()
+}
+
+/// Writes a word without a style.
+pub fn put_word<P: Print>(p: &mut P, fault: &mut Fault, word: &str)
+    ensures { Marks P.meaning p.old fault.old p.new fault.new (Word word.now ∷ []) }
+{
+    put_text(p, fault, word);
 }
 
 /// Writes a word without a style.
 pub fn word<P: Print>(p: &mut P, word: &str) -> io::Result<()>
     ensures { (o : Options) → Prints P.meaning o p.old p.new result (Word word.now ∷ []) }
 {
-    text(p, word)
+    let mut fault = Fault::none();
+    put_word(p, &mut fault, word);
+    fault.into_result()
+}
+
+/// Writes the word of a type.
+pub fn put_type_word<P: Print>(p: &mut P, fault: &mut Fault, word: &str)
+    ensures { Marks P.meaning p.old fault.old p.new fault.new (TypeWord word.now ∷ []) }
+{
+    put_text_in_style(p, fault, Style::TypeName, word);
 }
 
 /// Writes the word of a type.
 pub fn type_word<P: Print>(p: &mut P, word: &str) -> io::Result<()>
     ensures { (o : Options) → Prints P.meaning o p.old p.new result (TypeWord word.now ∷ []) }
 {
-    text_in_style(p, Style::TypeName, word)
+    let mut fault = Fault::none();
+    put_type_word(p, &mut fault, word);
+    fault.into_result()
 }
 
 /// Writes the word of a type and a blank.
@@ -101,22 +182,49 @@ pub fn type_word_gap<P: Print>(p: &mut P, word: &str) -> io::Result<()>
 }
 
 /// Writes a blank and the word of a type.
+pub fn put_gap_type_word<P: Print>(p: &mut P, fault: &mut Fault, word: &str)
+    ensures { Marks P.meaning p.old fault.old p.new fault.new (GapTypeWord word.now ∷ []) }
+{
+    put_two_texts_in_style(p, fault, Style::TypeName, " ", word);
+}
+
+/// Writes a blank and the word of a type.
 pub fn gap_type_word<P: Print>(p: &mut P, word: &str) -> io::Result<()>
     ensures { (o : Options) → Prints P.meaning o p.old p.new result (GapTypeWord word.now ∷ []) }
 {
-    two_texts_in_style(p, Style::TypeName, " ", word)
+    let mut fault = Fault::none();
+    put_gap_type_word(p, &mut fault, word);
+    fault.into_result()
+}
+
+/// Text in the style of names follows.
+pub fn put_begin_name<P: Print>(p: &mut P, fault: &mut Fault)
+    ensures { Marks P.meaning p.old fault.old p.new fault.new (BeginName ∷ []) }
+{
+    put_start(p, fault, Style::Name);
 }
 
 /// Text in the style of names follows.
 pub fn begin_name<P: Print>(p: &mut P) -> io::Result<()>
     ensures { (o : Options) → Prints P.meaning o p.old p.new result (BeginName ∷ []) }
 {
-    start(p, Style::Name)
+    let mut fault = Fault::none();
+    put_begin_name(p, &mut fault);
+    fault.into_result()
+}
+
+/// Text without a style follows.
+pub fn put_end_style<P: Print>(p: &mut P, fault: &mut Fault)
+    ensures { Marks P.meaning p.old fault.old p.new fault.new (EndStyle ∷ []) }
+{
+    put_reset(p, fault);
 }
 
 /// Text without a style follows.
 pub fn end_style<P: Print>(p: &mut P) -> io::Result<()>
     ensures { (o : Options) → Prints P.meaning o p.old p.new result (EndStyle ∷ []) }
 {
-    reset(p)
+    let mut fault = Fault::none();
+    put_end_style(p, &mut fault);
+    fault.into_result()
 }

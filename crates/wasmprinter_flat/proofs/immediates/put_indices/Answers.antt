@@ -1,0 +1,26 @@
+use Rattle.wasmprinter_spec.specs.Layout.Operators.{immediate_pieces}
+use Rattle.wasmprinter_flat.proofs.immediates.put_indices.Goals as goal
+
+pub returns-in-Pair : goal.returns-in-Pair
+unfolding immediate_pieces
+returns-in-Pair g c = rw c.in-Pair.is c.put_two.ensures
+
+pub returns-in-Field : goal.returns-in-Field
+unfolding immediate_pieces
+returns-in-Field g c = rw c.in-Field.is c.put_field.ensures
+
+pub returns-in-Count : goal.returns-in-Count
+unfolding immediate_pieces
+returns-in-Count g c = rw c.in-Count.is c.put_index_and_count.ensures
+
+pub returns-in-Call : goal.returns-in-Call
+unfolding immediate_pieces
+returns-in-Call g c = rw c.in-Call.is c.put_call.ensures
+
+pub returns-in-Segment : goal.returns-in-Segment
+unfolding immediate_pieces
+returns-in-Segment g c = rw c.in-Segment.is c.put_segment.ensures
+
+pub returns-in-Copy : goal.returns-in-Copy
+unfolding immediate_pieces
+returns-in-Copy g c = rw c.in-Copy.is c.put_copy.ensures

@@ -1,0 +1,142 @@
+//! Calls on a printer where the first error is kept and passed along, and no call is made behind it.
+ghost use Rattle.std.specs.Prelude.{◌≡◌, [], ◌∷◌, None, is_some};
+ghost use Rattle.wasmprinter_spec.specs.Call.{Text, Newline, Line, Start, Reset};
+ghost use Rattle.wasmprinter_spec.specs.Piece.{calls_in_style};
+ghost use Rattle.wasmprinter_print.specs.Puts.{Puts, answer_of, kept};
+ghost use Rattle.wasmprinter_print.specs.Styles.{style_of};
+
+use crate::Print;
+use crate::calls::Style;
+use std::io;
+use std::marker::Model;
+
+/// The error of the first call on the printer that failed, if one did. Behind it no call is made.
+#[derive(Drop)]
+pub struct Fault {
+    error: Option<io::Error>,
+}
+
+impl Model for Fault {
+    ghost use Rattle.std.specs.Prelude.{Option};
+    ghost use Rattle.std.specs.declared.io.Error.{Error as IoError};
+
+    ghost Value = { Option IoError };
+
+    ghost view = { λ f. f.error };
+}
+
+impl Fault {
+    /// No call has failed.
+    #[inline(always)]
+    pub fn none() -> Fault
+        ensures { result ≡ None }
+    {
+        Fault { error: None }
+    }
+
+    /// Whether a call has failed.
+    #[inline(always)]
+    pub fn is_some(&self) -> bool
+        ensures { result ≡ is_some self.now }
+    {
+        self.error.is_some()
+    }
+
+    /// The answer of a function whose calls these were.
+    #[inline(always)]
+    pub fn into_result(self) -> io::Result<()>
+        ensures { result ≡ answer_of self }
+    {
+        match self.error {
+            None => Ok(()),
+            Some(e) => Err(e),
+        }
+    }
+
+    /// Keeps the error of an answer, if it is the first.
+    #[inline(always)]
+    pub fn keep(&mut self, answer: io::Result<()>)
+        ensures { self.new ≡ kept self.old answer }
+    {
+        if self.error.is_none() {
+            if let Err(e) = answer {
+                self.error = Some(e);
+            }
+        }
+    }
+}
+
+/// Writes a piece of text.
+#[inline(always)]
+pub fn put_text<P: Print>(p: &mut P, fault: &mut Fault, s: &str)
+    ensures { Puts P.meaning p.old fault.old p.new fault.new (Text s.now ∷ []) }
+{
+    if fault.error.is_none() {
+        if let Err(e) = p.write_str(s) {
+            fault.error = Some(e);
+        }
+    }
+}
+
+/// Ends a line.
+#[inline(always)]
+pub fn put_feed<P: Print>(p: &mut P, fault: &mut Fault)
+    ensures { Puts P.meaning p.old fault.old p.new fault.new (Newline ∷ []) }
+{
+    if fault.error.is_none() {
+        if let Err(e) = p.newline() {
+            fault.error = Some(e);
+        }
+    }
+}
+
+/// Begins a line.
+#[inline(always)]
+pub fn put_line<P: Print>(p: &mut P, fault: &mut Fault, place: Option<u64>)
+    ensures { Puts P.meaning p.old fault.old p.new fault.new (Line place ∷ []) }
+{
+    if fault.error.is_none() {
+        p.start_line(place);
+    }
+}
+
+/// Chooses a style.
+#[inline(always)]
+pub fn put_start<P: Print>(p: &mut P, fault: &mut Fault, style: Style)
+    ensures { Puts P.meaning p.old fault.old p.new fault.new (Start (style_of style) ∷ []) }
+{
+    if fault.error.is_some() {
+        return;
+    }
+    let answer = match style {
+        Style::Literal => p.start_literal(),
+        Style::Name => p.start_name(),
+        Style::Keyword => p.start_keyword(),
+        Style::TypeName => p.start_type(),
+        Style::Comment => p.start_comment(),
+    };
+    if let Err(e) = answer {
+        fault.error = Some(e);
+    }
+}
+
+/// Goes back to text without a style.
+#[inline(always)]
+pub fn put_reset<P: Print>(p: &mut P, fault: &mut Fault)
+    ensures { Puts P.meaning p.old fault.old p.new fault.new (Start Reset ∷ []) }
+{
+    if fault.error.is_none() {
+        if let Err(e) = p.reset_color() {
+            fault.error = Some(e);
+        }
+    }
+}
+
+/// Writes a piece of text in a style.
+pub fn put_text_in_style<P: Print>(p: &mut P, fault: &mut Fault, style: Style, s: &str)
+    ensures { Puts P.meaning p.old fault.old p.new fault.new (calls_in_style (style_of style) s.now) }
+{
+    put_start(p, fault, style);
+    put_text(p, fault, s);
+    put_reset(p, fault);
+}
