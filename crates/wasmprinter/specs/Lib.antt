@@ -4,4 +4,5 @@ pub mod Lined
 pub mod OfFile
 pub mod Outcome
 pub mod Painted
+pub mod Plain
 pub mod Printed

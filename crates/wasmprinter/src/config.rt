@@ -7,6 +7,7 @@ ghost use Rattle.wasmprinter.specs.Printed.{Printed, HasTextBy};
 ghost use Rattle.wasmprinter.specs.Outcome.{HasCause, HasTextCause, IsTrueOf, IsTrueOfText, Leaves};
 
 use crate::in_memory::without_printer;
+use crate::plain::Plain;
 use std::alloc::Global;
 use std::marker::Model;
 use wasmprinter_error::Error;
@@ -14,7 +15,7 @@ use wasmprinter_foldable::check_folding;
 use wasmprinter_labels::OpenLabels;
 use wasmprinter_lines::options::PrintOptions;
 use wasmprinter_names::Identifiers;
-use wasmprinter_print::{Print, PrintFmtWrite};
+use wasmprinter_print::Print;
 use wasmprinter_sections::modules::write_module;
 use wasmprinter_wasm::{Module, decode};
 
@@ -145,9 +146,9 @@ impl Config {
         ensures refused { IfErr result (IsTrueOfText self.now wasm.now) }
         ensures component { IsErrOf result Error.Component ↔ IsComponent wasm.now }
     {
-        let mut printer = PrintFmtWrite(String::new(alloc));
+        let mut printer = Plain::new(alloc);
         match self.print(alloc, wasm, &mut printer) {
-            Ok(()) => Ok(printer.0),
+            Ok(()) => Ok(printer.into_string()),
             Err(error) => Err(without_printer(error)),
         }
     }

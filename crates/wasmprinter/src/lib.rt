@@ -12,6 +12,7 @@ mod in_memory;
 mod lined;
 mod painted;
 mod places;
+mod plain;
 pub mod print;
 pub mod text;
 pub mod wasm;

@@ -85,6 +85,11 @@ impl Print for Painted {
     }
 
     #[inline]
+    fn write_each_char(&mut self, s: &str) -> io::Result<()> {
+        self.write_str(s)
+    }
+
+    #[inline]
     fn newline(&mut self) -> io::Result<()> {
         self.append("\n")?;
         Ok(())

@@ -5,7 +5,7 @@ use Rattle.std.proofs.lemmas.List.{map-append}
 use Rattle.std.specs.declared.io.Error.{Error as IoError}
 use Rattle.wasmprinter_spec.specs.Call.{Call, Text, calls_of_bytes, atoms}
 use Rattle.wasmprinter_spec.specs.Meaning.{Meaning, Run, Succeeded, Failed}
-use Rattle.wasmprinter_print.specs.Emits.{Emits, EmitsOrFails, Made, Owes, Calls, Ending, Through, AtCall, Stopped, Never, halt_of, Whole, Broken, Begun}
+use Rattle.wasmprinter_print.specs.Emits.{Does, Emits, EmitsOrFails, Made, Owes, Calls, Ending, Through, AtCall, Stopped, Never, halt_of, Whole, Broken, Begun}
 use Rattle.wasmprinter_error.specs.declared.error.Error.{Error}
 use Rattle.wasmprinter_error.specs.declared.error.Error.TheVariants.{Malformed, Component, TooManyLocals, TooManyFunctions, EmptyTableInit, FoldLegacy, FoldHint, DylinkSubsection, Unreadable, Printer, Memory}
 
@@ -139,6 +139,11 @@ call_fails m {a} {t} (Err y) e {c} f v = record {
     alike = append-nil (atoms (c ∷ []));
   };
 }
+
+-- one call, with what it answered
+pub does : {P : Type 0} (m : Meaning P) {a t : P} (r : Result (Unit {0}) IoError) (c : Call) → Does m a c t r → Emits m a t r (c ∷ [])
+does m (Ok x) c v = called m v
+does m (Err e) c v = call_fails {U = Unit {0}} m (Err e) e refl v
 
 -- no call
 pub nothing : {P : Type 0} (m : Meaning P) (a : P) → Made m a a Through []

@@ -78,6 +78,16 @@ pub fn put_text<P: Print>(p: &mut P, fault: &mut Fault, s: &str)
     }
 }
 
+/// Writes a piece of text, by a call for each of its characters if the printer knows no better.
+#[inline(always)]
+pub fn put_each_char<P: Print>(p: &mut P, fault: &mut Fault, s: &str)
+    ensures { Puts P.meaning p.old fault.old p.new fault.new (Text s.now ∷ []) }
+{
+    if !fault.is_some() {
+        fault.keep(p.write_each_char(s));
+    }
+}
+
 /// Ends a line.
 #[inline(always)]
 pub fn put_feed<P: Print>(p: &mut P, fault: &mut Fault)

@@ -1,8 +1,8 @@
 //! Printers: what a layout hands its text, lines and styles to.
-ghost use Rattle.std.specs.Prelude.{◌≡◌, Bool};
+ghost use Rattle.std.specs.Prelude.{◌≡◌, Bool, [], ◌∷◌};
 ghost use Rattle.wasmprinter_spec.specs.Call.{Text, Newline, Line, Start, Literal, Name, Keyword, TypeName, Comment, Reset};
 ghost use Rattle.wasmprinter_spec.specs.Meaning.{Meaning, Succeeded};
-ghost use Rattle.wasmprinter_print.specs.Emits.{Does, Claims};
+ghost use Rattle.wasmprinter_print.specs.Emits.{Does, Claims, Emits};
 ghost use Rattle.wasmprinter_print.specs.EmitsLaws.{then, ends, fails, called, call_fails, nothing, then_text, ends_text};
 ghost use Rattle.wasmprinter_print.specs.PrintsLaws.{no_piece, one_piece, both_pieces, pieces_end, last_pieces_end};
 ghost use Rattle.wasmprinter_print.specs.PrintsLaws.{pieces_halt, last_pieces_halt};
@@ -25,7 +25,9 @@ mod faults;
 mod fmt_write;
 
 pub use calls::{Style, feed, reset, start, text, text_in_style};
-pub use faults::{Fault, put_feed, put_line, put_reset, put_start, put_text, put_text_in_style};
+pub use faults::{
+    Fault, put_each_char, put_feed, put_line, put_reset, put_start, put_text, put_text_in_style,
+};
 pub use fmt_write::PrintFmtWrite;
 use std::io;
 
@@ -43,6 +45,16 @@ pub trait Print {
     /// Writes a piece of text.
     fn write_str(&mut self, s: &str) -> io::Result<()>
         ensures { Does meaning self.old (Text s.now) self.new result };
+
+    /// Writes a piece of text, by a call for each of its characters if a printer knows no better.
+    fn write_each_char(&mut self, s: &str) -> io::Result<()>
+        ensures { Emits meaning self.old self.new result (Text s.now ∷ []) }
+    {
+        for c in s.chars() {
+            self.write_str(c.encode_utf8(&mut [0; 4]))?;
+        }
+        Ok(())
+    }
 
     /// Ends a line.
     fn newline(&mut self) -> io::Result<()>

@@ -121,6 +121,10 @@ impl Print for Tracker {
         Ok(())
     }
 
+    fn write_each_char(&mut self, s: &str) -> io::Result<()> {
+        self.write_str(s)
+    }
+
     fn newline(&mut self) -> io::Result<()> {
         self.push_str("\n")?;
         Ok(())

@@ -1,3 +1,3 @@
 pub mod Digits
 pub mod Runs
-pub mod Texts
+pub mod Gathering

@@ -25,7 +25,7 @@ pub fn power(exponent: u32) -> u64
 }
 
 /// The character of a digit.
-fn glyph_of(digit: u8) -> u8
+pub(crate) fn glyph_of(digit: u8) -> u8
     requires { digit < 16 }
     ensures { result ≡ digit_glyph false digit }
 {

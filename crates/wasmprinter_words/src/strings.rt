@@ -1,5 +1,7 @@
 //! Texts in quotes (section 6.3 of the WebAssembly Core Specification, "Strings").
-ghost use Rattle.std.specs.Prelude.{◌≡◌, false, [], ◌∷◌, ◌++◌, codes, flat_map, chars};
+ghost use Rattle.std.specs.Prelude.{◌≡◌, ◌+◌, ◌≤◌, false, [], ◌∷◌, ◌++◌, codes, flat_map, chars};
+ghost use Rattle.arrayvec.specs.ArrayString.{array_string_len};
+ghost use Rattle.wasmprinter_words.specs.Gathered.{IsPut};
 ghost use Rattle.std.specs.Fmt.{digits};
 ghost use Rattle.wasmprinter_spec.specs.Call.{Text, Literal};
 ghost use Rattle.wasmprinter_spec.specs.Options.{Options};
@@ -9,10 +11,17 @@ ghost use Rattle.wasmprinter_print.specs.Emits.{Emits, EmitsOrFails};
 ghost use Rattle.wasmprinter_print.specs.Prints.{Prints};
 ghost use Rattle.wasmprinter_print.specs.Puts.{Puts, Marks};
 
-use crate::numbers::{put_byte_digits, write_hexadecimal_between};
+use crate::numbers::{glyph_of, write_hexadecimal_between};
+use arrayvec::ArrayString;
 use std::io;
 use wasmprinter_error::Error;
-use wasmprinter_print::{Fault, Print, Style, put_reset, put_start, put_text};
+use wasmprinter_print::{Fault, Print, Style, put_each_char, put_reset, put_start, put_text};
+
+/// How many bytes of a text in quotes are gathered before they are written.
+const GATHERED: usize = 256;
+
+/// The most bytes that a byte takes in quotes.
+const WIDEST: usize = 3;
 
 /// Whether a character stands for itself in quotes.
 fn is_plain(c: char) -> bool
@@ -40,13 +49,70 @@ fn put_char<P: Print>(p: &mut P, fault: &mut Fault, c: char)
     }
 }
 
+/// Writes what was gathered of a text, and clears it.
+fn put_gathered<P: Print>(p: &mut P, fault: &mut Fault, gathered: &mut ArrayString<GATHERED>)
+    ensures put { Puts P.meaning p.old fault.old p.new fault.new (Text gathered.old.bytes ∷ []) }
+    ensures cleared { gathered.new.bytes ≡ [] }
+{
+    put_each_char(p, fault, gathered.as_str());
+    gathered.clear();
+}
+
+/// Makes room for a byte in quotes: writes what was gathered, if there is too little.
+fn put_if_full<P: Print>(p: &mut P, fault: &mut Fault, gathered: &mut ArrayString<GATHERED>)
+    ensures put { IsPut P.meaning p.old fault.old p.new fault.new gathered.old.bytes gathered.new.bytes }
+    ensures room { array_string_len gathered.new + 3 ≤ 256 }
+{
+    if gathered.remaining_capacity() < WIDEST {
+        put_gathered(p, fault, gathered);
+    }
+}
+
+/// Gathers a byte as it stands in quotes: the ASCII character, or `\hh` with its two hexadecimal digits.
+#[tactic(auto, unfolding(wasmprinter_spec::specs::Quoted::byte_text))]
+fn gather_byte(gathered: &mut ArrayString<GATHERED>, byte: u8)
+    requires { array_string_len gathered.old + 3 ≤ 256 }
+    ensures { gathered.new.bytes ≡ gathered.old.bytes ++ byte_text byte }
+{
+    let c = char::from(byte);
+    if is_plain(c) {
+        gathered.push(c);
+        return;
+    }
+    gathered.push('\\');
+    gathered.push(char::from(glyph_of(byte / 16)));
+    gathered.push(char::from(glyph_of(byte % 16)));
+}
+
+/// Gathers a character that stands for itself in quotes, and writes any other, behind what was gathered.
+#[tactic(auto, unfolding(wasmprinter_spec::specs::Quoted::char_text))]
+fn put_or_gather<P: Print>(
+    p: &mut P,
+    fault: &mut Fault,
+    gathered: &mut ArrayString<GATHERED>,
+    c: char,
+)
+    requires { array_string_len gathered.old + 3 ≤ 256 }
+    ensures { IsPut P.meaning p.old fault.old p.new fault.new (gathered.old.bytes ++ char_text c) gathered.new.bytes }
+{
+    if is_plain(c) {
+        gathered.push(c);
+    } else {
+        put_gathered(p, fault, gathered);
+        put_char(p, fault, c);
+    }
+}
+
 /// Writes the characters of a text as they stand in quotes.
 pub(crate) fn put_chars<P: Print>(p: &mut P, fault: &mut Fault, s: &str)
     ensures { Puts P.meaning p.old fault.old p.new fault.new (Text (flat_map char_text (chars s.now)) ∷ []) }
 {
+    let mut gathered = ArrayString::<GATHERED>::new();
     for c in s.chars() {
-        put_char(p, fault, c);
+        put_if_full(p, fault, &mut gathered);
+        put_or_gather(p, fault, &mut gathered, c);
     }
+    put_gathered(p, fault, &mut gathered);
 }
 
 /// Writes the characters of a text as they stand in quotes.
@@ -93,27 +159,16 @@ pub fn write_quoted<P: Print>(p: &mut P, s: &str) -> Result<(), Error>
     Ok(())
 }
 
-/// Writes a byte as it stands in quotes: the ASCII character, or `\hh` with its two hexadecimal digits.
-#[tactic(auto, unfolding(wasmprinter_spec::specs::Quoted::byte_text))]
-fn put_byte<P: Print>(p: &mut P, fault: &mut Fault, byte: u8)
-    ensures { Puts P.meaning p.old fault.old p.new fault.new (Text (byte_text byte) ∷ []) }
-{
-    let c = char::from(byte);
-    if is_plain(c) {
-        put_text(p, fault, c.encode_utf8(&mut [0; 4]));
-        return;
-    }
-    put_text(p, fault, "\\");
-    put_byte_digits(p, fault, byte);
-}
-
 /// Writes bytes as they stand in quotes.
 fn put_each_byte<P: Print>(p: &mut P, fault: &mut Fault, bytes: &[u8])
     ensures { Puts P.meaning p.old fault.old p.new fault.new (Text (flat_map byte_text bytes.now) ∷ []) }
 {
+    let mut gathered = ArrayString::<GATHERED>::new();
     for &byte in bytes {
-        put_byte(p, fault, byte);
+        put_if_full(p, fault, &mut gathered);
+        gather_byte(&mut gathered, byte);
     }
+    put_gathered(p, fault, &mut gathered);
 }
 
 /// Writes bytes in quotes, with what isn't printable by its hexadecimal digits.

@@ -1,5 +1,5 @@
 use Rattle.wasmprinter_lines.proofs.Repeats.{repetition_of-next, repetition_of-none}
-use Rattle.wasmprinter_words.proofs.Texts.{text_done, text_fails, text_whole}
+use Rattle.wasmprinter_print.proofs.Texts.{text_done, text_fails, text_whole}
 use Rattle.wasmprinter_lines.proofs.lines.write_repeated.Goals as goal
 
 pub returns-in_err-text : goal.returns-in_err-text

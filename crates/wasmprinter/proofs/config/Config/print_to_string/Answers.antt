@@ -1,14 +1,14 @@
-use Rattle.std.proofs.Common.{◌≡◌, ◌++◌, string_bytes, sym, subst}
+use Rattle.std.proofs.Common.{sym, subst}
 use Rattle.wasmprinter.specs.Outcome.{HasTextCause, IsTrueOfText}
+use Rattle.wasmprinter.specs.Plain.{plain_meaning}
 use Rattle.wasmprinter.proofs.Outcomes.{growth_cause, growth_true}
-use Rattle.wasmprinter.proofs.Texts.{grows_by, claims_never, printed_text}
+use Rattle.wasmprinter.proofs.Texts.{printed_text}
 use Rattle.wasmprinter.proofs.config.Config.print_to_string.Goals as goal
 
 pub returns-in-Ok-clause-printed : goal.returns-in-Ok-clause-printed
 returns-in-Ok-clause-printed c =
-    printed_text _ c.args.self.now (λ p. string_bytes p.0) (λ s call t h. grows_by _ string_bytes (λ _ _ _ e. e) s.0 call t.0 h)
-    (λ s call t h. claims_never (λ x bytes y. string_bytes y ≡ string_bytes x ++ bytes) s.0 call t.0 h) c.args.wasm.now _ c.print.new.printer c.new.ensures.bytes
-    c.in-Ok.ensures.printed
+    rw c.into_string.ensures
+    (printed_text plain_meaning c.args.self.now (λ p. p) (λ s call t h. h.0) (λ s call t h. h.1) c.args.wasm.now _ c.print.new.printer c.new-printer.ensures c.in-Ok.ensures.printed)
 
 pub returns-in-Err-clause-caused : goal.returns-in-Err-clause-caused
 returns-in-Err-clause-caused c =

@@ -1,0 +1,123 @@
+//! A printer that keeps its text in memory, without colours.
+ghost use Rattle.std.specs.Prelude.{◌≡◌, false};
+ghost use Rattle.wasmprinter.specs.Plain.{plain_meaning};
+
+use std::alloc::{AllocError, Global};
+use std::io;
+use std::marker::Model;
+use wasmprinter_print::Print;
+
+/// A printer that keeps its text in memory, without colours.
+///
+/// It leaves no trace of where lines begin, and takes no custom section itself. A call that wants memory and gets none fails, with an
+/// error of the kind `OutOfMemory`, and leaves the text as it was.
+#[derive(Drop)]
+pub(crate) struct Plain {
+    text: String,
+}
+
+impl Model for Plain {
+    ghost use Rattle.std.specs.Prelude.{ℕ, List, string_bytes};
+
+    ghost Value = { List ℕ };
+
+    ghost view = { λ p. string_bytes p.text };
+}
+
+impl Plain {
+    ghost use Rattle.std.specs.Prelude.{◌≡◌, [], ◌++◌, OnOk, OnErr, string_bytes};
+
+    /// A printer to which nothing was printed. Takes no memory.
+    pub(crate) fn new(alloc: Global) -> Plain
+        ensures { result ≡ [] }
+    {
+        Plain {
+            text: String::new(alloc),
+        }
+    }
+
+    /// The text.
+    pub(crate) fn into_string(self) -> String
+        ensures { string_bytes result ≡ self }
+    {
+        self.text
+    }
+
+    /// Appends a text. Where memory is refused, this fails and changes nothing.
+    #[inline]
+    fn append(&mut self, piece: &str) -> Result<(), AllocError>
+        ensures ok { OnOk result (self.new ≡ self.old ++ piece.now) }
+        ensures err { OnErr result (self.new ≡ self.old) }
+    {
+        self.text.push_str(piece)
+    }
+}
+
+impl Print for Plain {
+    ghost meaning = { plain_meaning };
+
+    ghost colors = { λ _. false };
+
+    #[inline]
+    fn write_str(&mut self, s: &str) -> io::Result<()> {
+        self.append(s)?;
+        Ok(())
+    }
+
+    #[inline]
+    fn write_each_char(&mut self, s: &str) -> io::Result<()> {
+        self.write_str(s)
+    }
+
+    #[inline]
+    fn newline(&mut self) -> io::Result<()> {
+        self.append("\n")?;
+        Ok(())
+    }
+
+    #[inline]
+    fn start_line(&mut self, _binary_offset: Option<u64>) {}
+
+    fn print_custom_section(
+        &mut self,
+        _name: &str,
+        _binary_offset: u64,
+        _bytes: &[u8],
+    ) -> io::Result<bool> {
+        Ok(false)
+    }
+
+    #[inline]
+    fn start_literal(&mut self) -> io::Result<()> {
+        Ok(())
+    }
+
+    #[inline]
+    fn start_name(&mut self) -> io::Result<()> {
+        Ok(())
+    }
+
+    #[inline]
+    fn start_keyword(&mut self) -> io::Result<()> {
+        Ok(())
+    }
+
+    #[inline]
+    fn start_type(&mut self) -> io::Result<()> {
+        Ok(())
+    }
+
+    #[inline]
+    fn start_comment(&mut self) -> io::Result<()> {
+        Ok(())
+    }
+
+    #[inline]
+    fn reset_color(&mut self) -> io::Result<()> {
+        Ok(())
+    }
+
+    fn supports_async_color(&self) -> bool {
+        false
+    }
+}

@@ -1,0 +1,2 @@
+-- What the contracts of texts in quotes cite.
+pub mod Gathered
