@@ -6,3 +6,4 @@ pub mod Lanes
 pub mod OneType
 pub mod Fitting
 pub mod Walking
+pub mod Steps

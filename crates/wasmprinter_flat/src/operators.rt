@@ -169,6 +169,7 @@ pub fn write_word<P: Print, S: Signatures>(
 }
 
 /// Writes an operator, in front of which these labels are open: the first of its list or a later one.
+#[inline(never)]
 fn put_operator<P: Print, S: Signatures>(
     p: &mut P,
     fault: &mut Fault,
@@ -198,29 +199,6 @@ fn put_operator<P: Print, S: Signatures>(
     put_operator_word(p, fault, setting, labels, operator);
 }
 
-/// Writes an operator, in front of which these labels are open: the first of its list or a later one.
-#[inline(never)]
-fn write_operator<P: Print, S: Signatures>(
-    p: &mut P,
-    options: &PrintOptions,
-    setting: &Setting<'_, S>,
-    labels: &OpenLabels<'_, '_>,
-    first: bool,
-    place: u64,
-    operator: &Operator<'_>,
-) -> io::Result<()>
-    requires { length labels.now.labels + 1 < 2 ^ 64 }
-    ensures { Prints P.meaning options.now p.old p.new result
-        (operator_pieces (setting_view S.signature_at setting.now (names_of labels.now)) first (own_label labels.now) labels.now.labels
-        (record { place = place; value = operator.now })) }
-{
-    let mut fault = Fault::none();
-    put_operator(
-        p, &mut fault, options, setting, labels, first, place, operator,
-    );
-    fault.into_result()
-}
-
 /// Writes a hint on a line of its own, nested as deep as the operators of the block.
 fn write_hint<P: Print, S: Signatures>(
     p: &mut P,
@@ -237,21 +215,23 @@ fn write_hint<P: Print, S: Signatures>(
 }
 
 /// Writes the hint of the operator at the place, where the next hint is that operator's, and takes it.
-fn write_next_hint<P: Print, S: Signatures>(
+fn put_next_hint<P: Print, S: Signatures>(
     p: &mut P,
+    fault: &mut Fault,
     options: &PrintOptions,
     setting: &Setting<'_, S>,
     blocks: u64,
     hints: &mut FunctionHints<'_>,
     place: u64,
-) -> io::Result<()>
-    ensures prints { Prints P.meaning options.now p.old p.new result
+)
+    ensures prints { MarksUnder P.meaning options.now p.old fault.old p.new fault.new
         (hint_pieces (setting.now.nesting + blocks) (next_hint (place - setting.now.body) hints.old)) }
     ensures behind { hints.new ≡ hint_behind (place - setting.now.body) hints.old }
 {
-    match hints.next_at(place.saturating_sub(setting.body)) {
-        Some(hint) => write_hint(p, options, setting, blocks, &hint),
-        None => Ok(()),
+    if let Some(hint) = hints.next_at(place.saturating_sub(setting.body)) {
+        if !fault.is_some() {
+            fault.keep(write_hint(p, options, setting, blocks, &hint));
+        }
     }
 }
 
@@ -281,9 +261,16 @@ pub fn write_operators<P: Print, S: Signatures>(
     labels.begin(setting.function);
     let mut hints = hints;
     let mut first = true;
+    let mut fault = Fault::none();
     for (place, operator) in expression.operators() {
-        write_next_hint(p, options, setting, labels.depth(), &mut hints, place)?;
-        write_operator(p, options, setting, labels, first, place, &operator)?;
+        let depth = labels.depth();
+        put_next_hint(p, &mut fault, options, setting, depth, &mut hints, place);
+        put_operator(
+            p, &mut fault, options, setting, labels, first, place, &operator,
+        );
+        if fault.is_some() {
+            return fault.into_result();
+        }
         labels.advance(operator.opcode.role());
         first = false;
     }

@@ -5,7 +5,7 @@ use Rattle.std.proofs.lemmas.Str.{IsUtf8-append, IsUtf8-nil, IsUtf8-from_ascii}
 use Rattle.std.proofs.lemmas.Str.Ascii.{IsAscii-nil, IsAscii-cons}
 use Rattle.std.proofs.lemmas.Bool.{ltb-true}
 use Rattle.std.specs.Str.{IsAscii}
-use Rattle.std.specs.Prelude.{IsUtf8, Result, Ok, Err, Option}
+use Rattle.std.specs.Prelude.{IsUtf8, Result, Ok, Err, Option, Some, None, is_some}
 use Rattle.std.specs.Fmt.{digits}
 use Rattle.std.specs.declared.io.Error.{Error as IoError}
 use Rattle.wasmprinter_spec.specs.Call.{Call, Text, Newline, Line, Start, Claim, Style, Literal, Name, Keyword, TypeName, Comment, Reset, call_text, text_of, atoms}
@@ -13,7 +13,11 @@ use Rattle.wasmprinter_spec.specs.Coloured.{coloured_bytes}
 use Rattle.wasmprinter_spec.specs.Meaning.{Run}
 use Rattle.wasmprinter_spec.specs.Layout.Folded.{painted_text}
 use Rattle.wasmprinter_spec.proofs.Texts.{alike_texts, alike_coloured}
-use Rattle.wasmprinter_print.specs.Emits.{Made, Through, ending}
+use Rattle.wasmprinter_print.specs.Emits.{Made, Ending, Through, ending}
+use Rattle.wasmprinter_print.specs.PrintsLaws.{written as written_calls}
+use Rattle.wasmprinter_print.specs.Puts.{Marks, answer_of, end_behind}
+use Rattle.wasmprinter_spec.specs.Options.{defaults}
+use Rattle.wasmprinter_spec.specs.Piece.{Piece, all_calls}
 use Rattle.wasmprinter_node_text.specs.declared.semicolons.Semicolons.{Semicolons}
 use Rattle.wasmprinter_node_text.specs.Buffers.{View, see, see_all, with_text, with_sequences, view_after, IsTextual, texts_meaning, Grows}
 
@@ -195,3 +199,23 @@ pub made_keeps : {T : Type 0} (s t : View) (layout : List Call) (r : Result T Io
 made_keeps s t layout (Ok x) m = adds_keeps s t m.made.calls (run_adds s m.made.calls t m.made.run)
 made_keeps s t layout (Err e) m =
     subst (λ (u : View). Keeps s u) (sym m.made.failed.left.1) (adds_keeps s m.made.before m.made.calls (run_adds s m.made.calls m.made.before m.made.run))
+
+-- ---- pieces, where the first error is passed along
+
+-- what was put at a text that had no error, whether or not it has one then
+put_so : (a t : View) (d f : Option IoError) (ps : List Piece) → Marks texts_meaning a d t f ps → d ≡ None → Made texts_meaning a t (end_behind f) (all_calls defaults ps)
+put_so a t None f ps v n = written_calls texts_meaning (v.under defaults).marked
+put_so a t (Some x) f ps v n = cc
+
+ending_of : (f : Option IoError) → end_behind f ≡ ending (answer_of f)
+ending_of None = refl
+ending_of (Some x) = refl
+
+pub put_keeps : (a t : View) (d f : Option IoError) (ps : List Piece) → Marks texts_meaning a d t f ps → d ≡ None → Keeps a t
+put_keeps a t d f ps v n =
+    made_keeps a t (all_calls defaults ps) (answer_of f) (subst (λ (e : Ending). Made texts_meaning a t e (all_calls defaults ps)) (ending_of f) (put_so a t d f ps v n))
+
+-- all of it
+pub put_whole : (a t : View) (d f : Option IoError) (ps : List Piece) → Marks texts_meaning a d t f ps → d ≡ None → is_some f ≡ false → Made texts_meaning a t Through (all_calls defaults ps)
+put_whole a t d None ps v n h = put_so a t d None ps v n
+put_whole a t d (Some x) ps v n h = absurd (true≢false h)

@@ -15,7 +15,6 @@ ghost use Rattle.wasmprinter_node_text.specs.Tasks.{task_front, IsSound};
 
 use crate::tasks::{Task, put_rest};
 use std::alloc::Global;
-use std::io;
 use wasmprinter_error::Error;
 use wasmprinter_flat::operators::{Form, put_before};
 use wasmprinter_lines::lines::put_break_inside;
@@ -193,25 +192,6 @@ fn put_front<P: Print>(
     }
 }
 
-/// Writes what comes first of a task, and tells whether a line began.
-fn write_front<P: Print>(
-    p: &mut P,
-    options: &PrintOptions,
-    form: Form,
-    nesting: u64,
-    text: &str,
-    task: &Task<'_>,
-) -> io::Result<bool>
-    requires { (bound : ℕ) × IsSound text.now bound task.now }
-    ensures prints { Prints P.meaning options.now p.old p.new result (task_front (form_view form) nesting text.now task.now) }
-    ensures lines { IfOk result (λ lines. lines ≡ has_break (task_front (form_view form) nesting text.now task.now)) }
-{
-    let mut fault = Fault::none();
-    let began = put_front(p, &mut fault, options, form, nesting, text, task);
-    fault.into_result()?;
-    Ok(began)
-}
-
 /// Whether a line began before or just now.
 fn either(before: bool, now: bool) -> bool
     ensures { result ≡ (before || now) }
@@ -245,7 +225,9 @@ pub fn write_nodes<P: Print>(
     tasks.push(Task::Row(nodes, true, 0))?;
     while let Some(task) = tasks.pop() {
         put_rest(&mut tasks, &task)?;
-        let began = write_front(p, options, form, nesting, text, &task)?;
+        let mut fault = Fault::none();
+        let began = put_front(p, &mut fault, options, form, nesting, text, &task);
+        fault.into_result()?;
         lines = either(lines, began);
     }
     Ok(lines)

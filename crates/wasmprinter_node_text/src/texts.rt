@@ -10,11 +10,11 @@ use crate::sequences::{
 use std::alloc::{AllocError, Global};
 use std::io;
 use std::marker::Model;
-use wasmprinter_flat::operators::{Setting, write_word};
+use wasmprinter_flat::operators::{Setting, put_operator_word};
 use wasmprinter_labels::OpenLabels;
 use wasmprinter_nodes::NodeText;
 use wasmprinter_ops::operator::Operator;
-use wasmprinter_print::Print;
+use wasmprinter_print::{Fault, Print};
 use wasmprinter_text::signature::Signatures;
 
 /// The texts of nodes, one behind the other in one buffer, with the sequences of their styles or without styles.
@@ -119,10 +119,12 @@ impl Texts {
         ensures made { OnOk result (Made texts_meaning self.old self.new Through
             (all_calls defaults (word_pieces (setting_view S.signature_at setting.now (names_of labels.now)) (own_label labels.now) labels.now.labels operator.now))) }
     {
-        match write_word(self, setting, labels, operator) {
-            Ok(()) => Ok(()),
-            Err(_) => Err(AllocError),
+        let mut fault = Fault::none();
+        put_operator_word(self, &mut fault, setting, labels, operator);
+        if fault.is_some() {
+            return Err(AllocError);
         }
+        Ok(())
     }
 
     /// Writes the text of an operator's node, its word and immediates, where these labels are open in front of it, and gives its head.

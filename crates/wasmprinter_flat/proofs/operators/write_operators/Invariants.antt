@@ -1,3 +1,4 @@
+use Rattle.std.specs.Prelude.{◌≡◌, None}
 use Rattle.wasmprinter_labels.specs.Scan.{names_of}
 use Rattle.wasmprinter_flat.specs.Settings.{setting_view}
 use Rattle.wasmprinter_flat.proofs.Walking.{Progress}
@@ -5,4 +6,5 @@ use Rattle.wasmprinter_flat.proofs.operators.write_operators.Given as goal
 
 abbrev pub invariant-loop-place : goal.invariant-loop-place
 invariant-loop-place g l =
-    Progress g.P.Print.meaning l.options l.fn.p l.p (setting_view g.S.Signatures.signature_at l.setting (names_of l.fn.labels)) l.fn.labels l.fn.hints l.expression.items l.place-iterator l.hints l.first l.labels
+    (l.fault ≡ None)
+    × Progress g.P.Print.meaning l.options l.fn.p l.p (setting_view g.S.Signatures.signature_at l.setting (names_of l.fn.labels)) l.fn.labels l.fn.hints l.expression.items l.place-iterator l.hints l.first l.labels

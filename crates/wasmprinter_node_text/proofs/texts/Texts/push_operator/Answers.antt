@@ -1,20 +1,18 @@
-use Rattle.wasmprinter_spec.specs.Options.{defaults}
-use Rattle.wasmprinter_print.specs.PrintsLaws.{written}
-use Rattle.wasmprinter_node_text.specs.Buffers.{texts_meaning}
-use Rattle.wasmprinter_node_text.proofs.TextLaws.{made_keeps}
+use Rattle.std.proofs.Common.{sym, ◌∙◌}
+use Rattle.wasmprinter_node_text.proofs.TextLaws.{put_keeps, put_whole}
 use Rattle.wasmprinter_node_text.proofs.texts.Texts.push_operator.Goals as goal
 
-pub returns-in-Ok-clause-paints : goal.returns-in-Ok-clause-paints
-returns-in-Ok-clause-paints g c = (made_keeps _ _ _ c.write_word.result (written texts_meaning (c.write_word.ensures defaults))).paints
+pub returns-then-is_some-clause-paints : goal.returns-then-is_some-clause-paints
+returns-then-is_some-clause-paints g c = (put_keeps _ _ _ _ _ c.put_operator_word.ensures c.none-fault.ensures).paints
 
-pub returns-in-Ok-clause-grows : goal.returns-in-Ok-clause-grows
-returns-in-Ok-clause-grows g c = (made_keeps _ _ _ c.write_word.result (written texts_meaning (c.write_word.ensures defaults))).grows
+pub returns-then-is_some-clause-grows : goal.returns-then-is_some-clause-grows
+returns-then-is_some-clause-grows g c = (put_keeps _ _ _ _ _ c.put_operator_word.ensures c.none-fault.ensures).grows
 
-pub returns-in-Ok-clause-made : goal.returns-in-Ok-clause-made
-returns-in-Ok-clause-made g c = written texts_meaning (c.in-Ok.ensures defaults)
+pub returns-clause-paints : goal.returns-clause-paints
+returns-clause-paints g c = (put_keeps _ _ _ _ _ c.put_operator_word.ensures c.none-fault.ensures).paints
 
-pub returns-in-Err-clause-paints : goal.returns-in-Err-clause-paints
-returns-in-Err-clause-paints g c = (made_keeps _ _ _ c.write_word.result (written texts_meaning (c.write_word.ensures defaults))).paints
+pub returns-clause-grows : goal.returns-clause-grows
+returns-clause-grows g c = (put_keeps _ _ _ _ _ c.put_operator_word.ensures c.none-fault.ensures).grows
 
-pub returns-in-Err-clause-grows : goal.returns-in-Err-clause-grows
-returns-in-Err-clause-grows g c = (made_keeps _ _ _ c.write_word.result (written texts_meaning (c.write_word.ensures defaults))).grows
+pub returns-clause-made : goal.returns-clause-made
+returns-clause-made g c = put_whole _ _ _ _ _ c.put_operator_word.ensures c.none-fault.ensures (sym c.is_some.ensures ∙ c.if-is_some.false)
