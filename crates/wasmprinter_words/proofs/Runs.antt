@@ -1,6 +1,5 @@
 -- Characters that stand in identifiers.
-use Rattle.std.specs.Prelude.{◌≡◌, ℕ, ◌<◌, ◌^◌, Bool, true, false, ◌&&◌, List, [], ◌∷◌, ◌++◌, length, IsUtf8, chars, decimal, if◌then◌else◌, encode_utf8_all}
-use Rattle.std.specs.List.{list_all}
+use Rattle.std.specs.Prelude.{◌≡◌, ℕ, ◌<◌, ◌^◌, Bool, true, false, List, [], ◌∷◌, ◌++◌, length, IsUtf8, chars, decimal, if◌then◌else◌, encode_utf8_all}
 use Rattle.std.specs.Str.{IsAscii}
 use Rattle.std.specs.Str.Parse.{AllDigits}
 use Rattle.std.specs.Char.{digit_value}
@@ -12,11 +11,6 @@ use Rattle.wasmprinter_spec.specs.Character.{class}
 use Rattle.wasmprinter_spec.specs.Names.Content.{index_content}
 use Rattle.wasmprinter_spec.specs.Quoted.{runs, all_run, is_run, quoted_text, identifier_text}
 use Rattle.wasmprinter_spec.proofs.Classes.{foreign, digit_class}
-
--- the test of each character
-pub all_run-list : (cs : List ℕ) → list_all (λ c. runs (class c)) cs ≡ all_run cs
-all_run-list [] = refl
-all_run-list (c ∷ cs) = ap (λ b. runs (class c) && b) (all_run-list cs)
 
 low : (c : ℕ) → runs (class c) ≡ true → c < 128
 low c h = by (ltb c 128) refl
@@ -34,6 +28,15 @@ ascii_at (c ∷ cs) h (suc i) = ascii_at cs (and_parts (runs (class c)) (all_run
 -- a text of characters of identifiers
 pub run-chars : (bs : List ℕ) → IsUtf8 bs → all_run (chars bs) ≡ true → chars bs ≡ bs
 run-chars bs u h = sym (encodes-IsAscii (chars bs) (ascii_at (chars bs) h)) ∙ encodes-chars bs u
+
+-- a text's characters stand in an identifier where its bytes do
+pub bytes-run : (bs : List ℕ) → IsUtf8 bs → all_run bs ≡ all_run (chars bs)
+bytes-run bs u = by (all_run bs) (all_run (chars bs)) refl refl
+  where
+    by : (s t : Bool) → all_run bs ≡ s → all_run (chars bs) ≡ t → all_run bs ≡ all_run (chars bs)
+    by true t e f = ap all_run (sym (chars-IsAscii bs (ascii_at bs e)))
+    by false true e f = ap all_run (sym (run-chars bs u f))
+    by false false e f = e ∙ sym f
 
 is_run-all : (cs : List ℕ) → is_run cs ≡ true → all_run cs ≡ true
 is_run-all [] h = absurd (true≢false (sym h))

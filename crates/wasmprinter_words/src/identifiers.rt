@@ -16,19 +16,35 @@ use crate::strings::{put_chars, write_chars};
 use std::io;
 use wasmprinter_print::{Fault, Print, Style, put_text, text, text_in_style};
 
-/// Whether a character stands in an identifier.
-#[tactic(auto, unfolding(wasmprinter_spec::specs::Character::class))]
-fn is_identifier_char(c: char) -> bool
-    ensures { result ≡ runs (class c) }
+/// Each byte that stands in an identifier, at the place of its number, and a full stop at the place of any other byte.
+static IDENTIFIER_BYTES: [u8; 256] = *b"\
+    ................................\
+    .!.#$%&'..*+.-./0123456789:.<=>?\
+    @ABCDEFGHIJKLMNOPQRSTUVWXYZ.\\.^_\
+    `abcdefghijklmnopqrstuvwxyz.|.~.\
+    ................................\
+    ................................\
+    ................................\
+    ................................";
+
+/// Whether a byte stands in an identifier: an ASCII character that does. A byte of any other character doesn't.
+#[inline(always)]
+fn is_identifier_byte(byte: u8) -> bool
+    ensures { result ≡ runs (class byte) }
 {
-    matches!(c, '!'..='~') && !matches!(c, '"' | '(' | ')' | ',' | ';' | '[' | ']' | '{' | '}')
+    IDENTIFIER_BYTES[usize::from(byte)] == byte
 }
 
-/// Whether all characters of a text stand in an identifier.
+/// Whether all characters of a text stand in an identifier: whether all of its bytes do, since a character beyond ASCII has none that does.
 fn all_run(s: &str) -> bool
     ensures { result ≡ all_run (chars s.now) }
 {
-    s.chars().all(is_identifier_char)
+    for &byte in s.as_bytes() {
+        if !is_identifier_byte(byte) {
+            return false;
+        }
+    }
+    true
 }
 
 /// Whether a text is the rest of an identifier without quotes.

@@ -1,11 +1,16 @@
-use Rattle.std.proofs.Common.{rules, tests, ◌∙◌}
-use Rattle.std.proofs.lemmas.Iterator.{YieldsList-from_chars}
-use Rattle.std.proofs.lemmas.Iterator.Search.{all_from_yields_List}
-use Rattle.wasmprinter_spec.specs.Character.{class}
-use Rattle.wasmprinter_spec.specs.Quoted.{runs}
-use Rattle.wasmprinter_words.proofs.Runs.{all_run-list}
+use Rattle.std.proofs.Common.{◌&&◌, ◌+◌, sym, ap, ◌∙◌, drop, rules}
+use Rattle.std.proofs.lemmas.List.{at_drop_more, at_drop_all}
+use Rattle.wasmprinter_spec.specs.Quoted.{all_run}
+use Rattle.wasmprinter_words.proofs.Runs.{bytes-run}
 use Rattle.wasmprinter_words.proofs.identifiers.all_run.Goals as goal
+
+pub returns-then-not-is_identifier_byte : goal.returns-then-not-is_identifier_byte
+returns-then-not-is_identifier_byte c =
+    let stops = sym c.if-not-is_identifier_byte.true ∙ rw c.as_bytes-byte-items.ensures.value at c.is_identifier_byte.ensures in
+    let step = at_drop_more all_run c.args.s.now c.loop-byte.byte-index 0 (search rules) in
+    ap (λ b. b && all_run (drop (c.loop-byte.byte-index + 1) c.args.s.now)) stops ∙ sym step ∙ sym c.loop-byte.invariant ∙ bytes-run c.args.s.now c.utf8.s
 
 pub returns : goal.returns
 returns c =
-    all_from_yields_List (λ x. runs (class x)) _ _ c.all.result c.all.ensures.ran (YieldsList-from_chars c.args.s.now c.utf8.s c.chars.ensures.rest) (λ x b q k. search (rules, tests)) ∙ all_run-list _
+    let all = at_drop_all all_run c.args.s.now c.loop-byte.byte-index (search rules) in
+    sym all ∙ sym c.loop-byte.invariant ∙ bytes-run c.args.s.now c.utf8.s
