@@ -1,5 +1,5 @@
 -- Tasks that are put on top of others, and taken from there.
-use Rattle.std.proofs.Common.{◌≡◌, ℕ, ◌+◌, ◌*◌, ◌≤◌, ◌<◌, ◌&&◌, Bool, true, false, true≢false, List, [], ◌∷◌, ◌++◌, length, refl, sym, ◌∙◌, ap, subst, arith, append_assoc, eqb, Result, Ok, Err, OnOk}
+use Rattle.std.proofs.Common.{◌≡◌, ℕ, ◌+◌, ◌*◌, ◌≤◌, ◌<◌, ◌&&◌, Bool, false, List, [], ◌∷◌, ◌++◌, length, refl, sym, ◌∙◌, ap, subst, arith, append_assoc, eqb, Result, Ok, Err, OnOk}
 use Rattle.std.proofs.lemmas.List.{append-nil}
 use Rattle.std.proofs.lemmas.Bool.{ne_eqb}
 use Rattle.std.specs.Borrow.{Bor}
@@ -53,11 +53,6 @@ none_by_count (Snoc before h r held) = ne_eqb _ _ (λ e. omega (arith, e))
 pub none_in_row : (row : List Node) → IsPostorder row → eqb (length row) 0 ≡ is_nil (forest_of row)
 none_in_row row h = ap (λ n. eqb n 0) (length-row row h) ∙ none_by_count (forest_of row)
 
--- a row of no length has no node
-pub nothing_there : (row : List Node) → eqb (length row) 0 ≡ true → row ≡ []
-nothing_there [] e = refl
-nothing_there (n ∷ row) e = absurd (true≢false (sym e ∙ ne_eqb _ _ (λ h. omega (arith, h))))
-
 pub pieces_none : (form : Form) (nesting : ℕ) (buffer : List ℕ) (nodes : List Node) (first : Bool) (depth : ℕ) → nodes ≡ [] → pieces_of_row form nesting buffer nodes first depth ≡ []
 pieces_none form nesting buffer nodes first depth e =
     ap (λ l. pieces_of_row form nesting buffer l first depth) e ∙ row_none form first (nesting + depth)
@@ -82,52 +77,62 @@ pub on_ok : {T E P Q : Type 0} (r : Result T E) → (P → Q) → OnOk r P → O
 on_ok (Ok x) f h = f h
 on_ok (Err e) f h = tt
 
--- the task of a row
-module _ (new old : List Task) (nodes : Bor (List Node)) (first : Bool) (depth : ℕ) (e : new ≡ old ++ task.Row nodes first depth ∷ []) where
-  pub pieces_pushed : (form : Form) (nesting : ℕ) (buffer : List ℕ) →
-      pieces_left form nesting buffer new ≡ pieces_of_row form nesting buffer nodes.now first depth ++ pieces_left form nesting buffer old
-  pieces_pushed form nesting buffer = ap (pieces_left form nesting buffer) e ∙ pieces_left-append form nesting buffer old (task.Row nodes first depth ∷ [])
+-- so far the tasks of a row were put on top of old ones: those of the nodes before are still to come
+pub record IsPut (tasks old : List Task) (nodes rest : List Node) (first : Bool) (depth : ℕ) : Type 0 where
+  pub row : IsPostorder rest
+  pub pieces : (form : Form) (nesting : ℕ) (buffer : List ℕ) →
+      pieces_of_row form nesting buffer rest first depth ++ pieces_left form nesting buffer tasks
+      ≡ pieces_of_row form nesting buffer nodes first depth ++ pieces_left form nesting buffer old
+  pub steps : 4 * length rest + steps_left tasks ≤ 4 * length nodes + steps_left old
+  pub sound : (buffer : List ℕ) (bound : ℕ) → IsSoundRow buffer bound nodes depth → AllSound buffer bound old →
+      IsSoundRow buffer bound rest depth × AllSound buffer bound tasks
 
-  pub steps_pushed : steps_left new ≤ 4 * length nodes.now + 1 + steps_left old
-  steps_pushed = omega (arith, ap steps_left e, steps_left-append old (task.Row nodes first depth ∷ []))
-
-  pub sound_pushed : (buffer : List ℕ) (bound : ℕ) → IsSoundRow buffer bound nodes.now depth → AllSound buffer bound old → AllSound buffer bound new
-  sound_pushed buffer bound row h =
-      subst (AllSound buffer bound) (sym e) (AllSound-append buffer bound old (task.Row nodes first depth ∷ []) h (row, tt))
-
--- the tasks of a row, by its last node: that of the row before it is put on top of the node's own
-module _ (new mid old : List Task) (nodes : List Node) (before : Bor (List Node)) (node : Node) (parts : Bor (List Node)) (first : Bool) (depth : ℕ) (leads : Bool)
-    (is : IsLast nodes before.now node parts.now) (e : mid ≡ old ++ task.One node.head parts leads depth ∷ []) where
-  pub pieces_put : leads ≡ (first && eqb (length before.now) 0) →
-      ((form : Form) (nesting : ℕ) (buffer : List ℕ) →
-      pieces_left form nesting buffer new ≡ pieces_of_row form nesting buffer before.now first depth ++ pieces_left form nesting buffer mid) →
-      (form : Form) (nesting : ℕ) (buffer : List ℕ) →
-      pieces_left form nesting buffer new ≡ pieces_of_row form nesting buffer nodes first depth ++ pieces_left form nesting buffer old
-  pieces_put le row form nesting buffer =
+-- the task of one node more
+module _ (new mid old : List Task) (nodes rest : List Node) (before : Bor (List Node)) (node : Node) (parts : Bor (List Node)) (first : Bool) (depth : ℕ) (leads : Bool)
+    (is : IsLast rest before.now node parts.now) (e : new ≡ mid ++ task.One node.head parts leads depth ∷ []) where
+  pieces_put : leads ≡ (first && eqb (length before.now) 0) → (form : Form) (nesting : ℕ) (buffer : List ℕ) →
+      pieces_of_row form nesting buffer before.now first depth ++ pieces_left form nesting buffer new
+      ≡ pieces_of_row form nesting buffer rest first depth ++ pieces_left form nesting buffer mid
+  pieces_put le form nesting buffer =
       let front = pieces_of_row form nesting buffer before.now first depth in
       let own = task_pieces form nesting buffer (task.One node.head parts leads depth) in
-      row form nesting buffer
-      ∙ (ap (λ (l : List Piece). front ++ l) (ap (pieces_left form nesting buffer) e ∙ pieces_left-append form nesting buffer old (task.One node.head parts leads depth ∷ []))
-      ∙ (sym (append_assoc front own (pieces_left form nesting buffer old))
-      ∙ ap (λ (l : List Piece). l ++ pieces_left form nesting buffer old) (sym (pieces_last nodes before.now node parts.now is form nesting buffer first depth ∙ rw (← le2) refl))))
+      ap (λ (l : List Piece). front ++ l) (ap (pieces_left form nesting buffer) e ∙ pieces_left-append form nesting buffer mid (task.One node.head parts leads depth ∷ []))
+      ∙ (sym (append_assoc front own (pieces_left form nesting buffer mid))
+      ∙ ap (λ (l : List Piece). l ++ pieces_left form nesting buffer mid) (sym (pieces_last rest before.now node parts.now is form nesting buffer first depth ∙ rw (← le2) refl)))
     where
       le2 : leads ≡ (first && is_nil (forest_of before.now))
       le2 = le ∙ ap (λ b. first && b) (none_in_row before.now is.before_row)
 
-  pub steps_put : steps_left new ≤ 4 * length before.now + 1 + steps_left mid → steps_left new ≤ 4 * length nodes + steps_left old
-  steps_put row = omega (arith, is.lengths, row, ap steps_left e, steps_left-append old (task.One node.head parts leads depth ∷ []))
-
-  pub sound_put : ((buffer : List ℕ) (bound : ℕ) → IsSoundRow buffer bound before.now depth → AllSound buffer bound mid → AllSound buffer bound new) →
-      (buffer : List ℕ) (bound : ℕ) → IsSoundRow buffer bound nodes depth → AllSound buffer bound old → AllSound buffer bound new
-  sound_put put buffer bound row h =
-      let texts = texts_last nodes before.now node parts.now is buffer row.texts in
+  sound_put : (buffer : List ℕ) (bound : ℕ) → IsSoundRow buffer bound rest depth → AllSound buffer bound mid →
+      IsSoundRow buffer bound before.now depth × AllSound buffer bound new
+  sound_put buffer bound row h =
+      let texts = texts_last rest before.now node parts.now is buffer row.texts in
       let room = row.room in
       let lower : IsSoundRow buffer bound before.now depth = record { row = is.before_row; texts = texts.0; room = omega (arith, is.lengths, room) } in
       let inner : IsSoundRow buffer bound parts.now (depth + 1) = record { row = is.parts_row; texts = texts.2; room = omega (arith, is.lengths, room) } in
-      put buffer bound lower
-      (subst (AllSound buffer bound) (sym e) (AllSound-append buffer bound old (task.One node.head parts leads depth ∷ []) h ((texts.1, inner), tt)))
+      (lower, subst (AllSound buffer bound) (sym e) (AllSound-append buffer bound mid (task.One node.head parts leads depth ∷ []) h ((texts.1, inner), tt)))
 
--- the tasks of what a node holds: that of the row is put on top of the closing one
+  pub one_put : leads ≡ (first && eqb (length before.now) 0) → IsPut mid old nodes rest first depth → IsPut new old nodes before.now first depth
+  one_put le so =
+      record {
+        row = is.before_row;
+        pieces = λ form nesting buffer. pieces_put le form nesting buffer ∙ so.pieces form nesting buffer;
+        steps = omega (arith, is.lengths, so.steps, ap steps_left e, steps_left-append mid (task.One node.head parts leads depth ∷ []));
+        sound = λ buffer bound row h. let s = so.sound buffer bound row h in sound_put buffer bound s.0 s.1;
+      }
+
+-- once no node is left
+module _ (tasks old : List Task) (nodes rest : List Node) (first : Bool) (depth : ℕ) (none : rest ≡ []) (so : IsPut tasks old nodes rest first depth) where
+  pub pieces_all_put : (form : Form) (nesting : ℕ) (buffer : List ℕ) →
+      pieces_left form nesting buffer tasks ≡ pieces_of_row form nesting buffer nodes first depth ++ pieces_left form nesting buffer old
+  pieces_all_put form nesting buffer =
+      sym (ap (λ (l : List Piece). l ++ pieces_left form nesting buffer tasks) (pieces_none form nesting buffer rest first depth none))
+      ∙ so.pieces form nesting buffer
+
+  pub sound_all_put : (buffer : List ℕ) (bound : ℕ) → IsSoundRow buffer bound nodes depth → AllSound buffer bound old → AllSound buffer bound tasks
+  sound_all_put buffer bound row h = (so.sound buffer bound row h).1
+
+-- the tasks of what a node holds: those of the row are put on top of the closing one
 module _ (new mid old : List Task) (head : NodeText) (held : Bor (List Node)) (leads : Bool) (depth : ℕ) (e : mid ≡ old ++ task.Close ∷ []) where
   pub pieces_one : ((form : Form) (nesting : ℕ) (buffer : List ℕ) →
       pieces_left form nesting buffer new ≡ pieces_of_row form nesting buffer held.now false (depth + 1) ++ pieces_left form nesting buffer mid) →
@@ -139,7 +144,7 @@ module _ (new mid old : List Task) (head : NodeText) (held : Bor (List Node)) (l
       ∙ (ap (λ (l : List Piece). inner ++ l) (ap (pieces_left form nesting buffer) e ∙ pieces_left-append form nesting buffer old (task.Close ∷ []))
       ∙ sym (append_assoc inner (Shut ∷ []) (pieces_left form nesting buffer old)))
 
-  pub steps_one : steps_left new ≤ 4 * length held.now + 1 + steps_left mid → steps_left new < steps_of (task.One head held leads depth) + steps_left old
+  pub steps_one : steps_left new ≤ 4 * length held.now + steps_left mid → steps_left new < steps_of (task.One head held leads depth) + steps_left old
   steps_one row = omega (arith, row, ap steps_left e, steps_left-append old (task.Close ∷ []))
 
   pub sound_one : ((buffer : List ℕ) (bound : ℕ) → IsSoundRow buffer bound held.now (depth + 1) → AllSound buffer bound mid → AllSound buffer bound new) →

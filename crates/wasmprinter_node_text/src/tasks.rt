@@ -25,25 +25,7 @@ fn leads(first: bool, before: &[Node]) -> bool
     first && before.is_empty()
 }
 
-/// Puts the task of a row of nodes on top of the others, if the row has a node.
-fn push_row<'a>(
-    tasks: &mut Vec<Task<'a>>,
-    nodes: &'a [Node],
-    first: bool,
-    depth: u64,
-) -> Result<(), AllocError>
-    ensures pieces { OnOk result ((form : Form) (nesting : ℕ) (buffer : List ℕ) →
-        pieces_left form nesting buffer tasks.new.items ≡ pieces_of_row form nesting buffer nodes.now first depth ++ pieces_left form nesting buffer tasks.old.items) }
-    ensures steps { OnOk result (steps_left tasks.new.items ≤ 4 * length nodes.now + 1 + steps_left tasks.old.items) }
-    ensures sound { OnOk result ((buffer : List ℕ) (bound : ℕ) → IsSoundRow buffer bound nodes.now depth → AllSound buffer bound tasks.old.items → AllSound buffer bound tasks.new.items) }
-{
-    if !nodes.is_empty() {
-        tasks.push(Task::Row(nodes, first, depth))?;
-    }
-    Ok(())
-}
-
-/// Puts the tasks of a row of nodes on top of the others.
+/// Puts the tasks of a row of nodes on top of the others: one for each node that stands in no other of the row.
 fn put_row<'a>(
     tasks: &mut Vec<Task<'a>>,
     nodes: &'a [Node],
@@ -56,14 +38,13 @@ fn put_row<'a>(
     ensures steps { OnOk result (steps_left tasks.new.items ≤ 4 * length nodes.now + steps_left tasks.old.items) }
     ensures sound { OnOk result ((buffer : List ℕ) (bound : ℕ) → IsSoundRow buffer bound nodes.now depth → AllSound buffer bound tasks.old.items → AllSound buffer bound tasks.new.items) }
 {
-    match last_group(nodes) {
-        Some(last) => {
-            let leads = leads(first, last.before);
-            tasks.push(Task::One(last.node.head, last.parts, leads, depth))?;
-            push_row(tasks, last.before, first, depth)
-        }
-        None => Ok(()),
+    let mut rest = nodes;
+    while let Some(last) = last_group(rest) {
+        let leads = leads(first, last.before);
+        tasks.push(Task::One(last.node.head, last.parts, leads, depth))?;
+        rest = last.before;
     }
+    Ok(())
 }
 
 /// Puts what is left of a task, once its front is written, on top of the others.
@@ -82,7 +63,7 @@ pub fn put_rest<'a>(tasks: &mut Vec<Task<'a>>, task: &Task<'a>) -> Result<(), Al
         Task::Row(nodes, first, depth) => put_row(tasks, nodes, first, depth),
         Task::One(_, held, _, depth) => {
             tasks.push(Task::Close)?;
-            push_row(tasks, held, false, depth + 1)
+            put_row(tasks, held, false, depth + 1)
         }
         Task::Close => Ok(()),
     }

@@ -1,0 +1,9 @@
+use Rattle.std.proofs.Common.{length}
+use Rattle.wasmprinter_node_text.proofs.TaskLaws.{IsPut}
+use Rattle.wasmprinter_node_text.proofs.tasks.put_row.Given as goal
+
+abbrev pub invariant-loop-last : goal.invariant-loop-last
+invariant-loop-last l = IsPut l.tasks.items l.fn.tasks.items l.nodes l.rest l.first l.depth
+
+abbrev pub decreases-loop-last : goal.decreases-loop-last
+decreases-loop-last l = length l.rest
