@@ -12,11 +12,14 @@ ghost use Rattle.wasmprinter_print.specs.PieceLaws.{PieceThen, PieceBreaksOff, P
 ghost use Rattle.wasmprinter_error.specs.declared.error.Error.TheVariants.{Printer};
 ghost use Rattle.wasmprinter_print.specs.PieceLaws.{PiecesFailAtLast, NoPieces};
 ghost use Rattle.wasmprinter_print.specs.PutsLaws.{put_called, put_fails, put_skipped, both_puts, put_texts, no_put};
-ghost use Rattle.wasmprinter_print.specs.PutsLaws.{one_mark, both_marks, no_mark, mark_skipped, one_mark_under, both_marks_under, no_mark_under, mark_skipped_under};
-ghost use Rattle.wasmprinter_print.specs.PutsLaws.{puts_answered, marks_answered, puts_keep, marks_keep, marks_answered_under, marks_keep_under};
+ghost use Rattle.wasmprinter_print.specs.PutsLaws.{one_mark, both_marks, no_mark, mark_skipped};
+ghost use Rattle.wasmprinter_print.specs.PutsLaws.{one_mark_under, both_marks_under, no_mark_under, mark_skipped_under};
+ghost use Rattle.wasmprinter_print.specs.PutsLaws.{puts_answered, marks_answered, puts_keep, marks_keep};
+ghost use Rattle.wasmprinter_print.specs.PutsLaws.{marks_answered_under, marks_keep_under};
 ghost use Rattle.wasmprinter_print.specs.PutLaws.{PutDone, PutFailed, PutBehind, PutsThen, PutThen, PutTextThen, PutByteThen, PutNone};
 ghost use Rattle.wasmprinter_print.specs.PutLaws.{MarkDone, MarkThen, MarksThen, MarkNone, MarkBehind, MarkUnder};
-ghost use Rattle.wasmprinter_print.specs.PutLaws.{MarkDoneUnder, MarkThenUnder, MarksThenUnder, MarkThenMixed, MarksThenMixed, MarkNoneUnder, MarkBehindUnder};
+ghost use Rattle.wasmprinter_print.specs.PutLaws.{MarkDoneUnder, MarkThenUnder, MarksThenUnder, MarkThenMixed, MarksThenMixed};
+ghost use Rattle.wasmprinter_print.specs.PutLaws.{MarkNoneUnder, MarkBehindUnder};
 ghost use Rattle.wasmprinter_print.specs.PutLaws.{PutsAnswer, MarksAnswer, PutsKept, MarksKept, MarksAnswerUnder, MarksKeptUnder};
 ghost use Rattle.wasmprinter_print.specs.PieceLaws.{PieceHandsOn, PiecesHandOn, PiecesHandOnAtLast, PiecesHalt, PiecesHaltAtLast};
 
