@@ -1,9 +1,9 @@
--- The text that a printer over a writer of text hands over.
+-- The text that is handed to a printer which keeps it.
 use Rattle.std.specs.Prelude.{◌≡◌, ℕ, List, [], ◌∷◌, ◌++◌, Bool, false, None, Result, Ok, Err, IfOk, refl}
 use Rattle.std.specs.List.{AllByRecursion}
 use Rattle.wasmprinter_error.specs.declared.error.Error.{Error}
 use Rattle.std.proofs.Common.{sym, ap, subst, ◌∙◌, append_assoc, append-nil, inl}
-use Rattle.wasmprinter_spec.specs.Call.{Call, Text, Newline, Line, Start, Claim, IsUnclaimed, atoms, call_text, text_of}
+use Rattle.wasmprinter_spec.specs.Call.{Call, IsUnclaimed, atoms, call_text, text_of}
 use Rattle.wasmprinter_spec.specs.Meaning.{Meaning, Run}
 use Rattle.wasmprinter_spec.specs.Options.{Options, defaults, IsBlank, in_colours}
 use Rattle.wasmprinter_spec.specs.Plain.{IsPlainText}
@@ -12,7 +12,6 @@ use Rattle.wasmprinter_spec.specs.Placed.{PlacedModule}
 use Rattle.wasmprinter_spec.specs.Limits.{IsWithinLimits}
 use Rattle.wasmprinter_spec.specs.Layout.{layout, refusal}
 use Rattle.wasmprinter_spec.specs.Folding.Refusals.{IsFoldable}
-use Rattle.wasmprinter_print.specs.Writers.{FmtAfter}
 use Rattle.wasmprinter_spec.proofs.Texts.{alike_texts}
 use Rattle.wasmprinter_reading.proofs.Main.{reads_back, prints_plain_text}
 use Rattle.wasmprinter_spec.specs.Read.{read}
@@ -29,27 +28,11 @@ run_text m view grows old new [] r = sym (ap view r) ∙ sym (append-nil (view o
 run_text m view grows old new (c ∷ calls) r =
     run_text m view grows r.0 new calls r.2 ∙ ap (λ t. t ++ text_of calls) (grows old c r.0 r.1.step) ∙ append_assoc (view old) (call_text c) (text_of calls)
 
--- a writer whose bytes grow by what is written
-pub grows_by : {T : Type 0} (gives : T → List ℕ → T → Type 0) (view : T → List ℕ) → ((s : T) (bytes : List ℕ) (t : T) → gives s bytes t → view t ≡ view s ++ bytes) →
-    (s : T) (c : Call) (t : T) → FmtAfter gives s c t → view t ≡ view s ++ call_text c
-grows_by gives view grows s (Text bytes) t h = grows s bytes t h
-grows_by gives view grows s Newline t h = grows s (10 ∷ []) t h
-grows_by gives view grows s (Line place) t h = ap view h ∙ sym (append-nil (view s))
-grows_by gives view grows s (Start style) t h = ap view h ∙ sym (append-nil (view s))
-grows_by gives view grows s (Claim name place bytes answer) t h = ap view h.1 ∙ sym (append-nil (view s))
-
 -- a printer that claims nothing has claimed nothing
 pub none_claimed : {P : Type 0} (m : Meaning P) → ((s : P) (c : Call) (t : P) → m.after s c t → IsUnclaimed c) → (old new : P) (calls : List Call) → Run m old calls new →
     AllByRecursion IsUnclaimed calls
 none_claimed m never old new [] r = tt
 none_claimed m never old new (c ∷ calls) r = (never old c r.0 r.1.step, none_claimed m never r.0 new calls r.2)
-
-pub claims_never : {T : Type 0} (gives : T → List ℕ → T → Type 0) (s : T) (c : Call) (t : T) → FmtAfter gives s c t → IsUnclaimed c
-claims_never gives s (Text bytes) t h = tt
-claims_never gives s Newline t h = tt
-claims_never gives s (Line place) t h = tt
-claims_never gives s (Start style) t h = tt
-claims_never gives s (Claim name place bytes answer) t h = h.0
 
 -- what was printed to a printer that claims nothing is the layout of which nothing is claimed
 pub unclaimed_printed : {P : Type 0} (m : Meaning P) (colours : Bool) (o : Options) → ((s : P) (c : Call) (t : P) → m.after s c t → IsUnclaimed c) →
