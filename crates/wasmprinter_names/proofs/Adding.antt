@@ -1,17 +1,18 @@
 -- What a store knows after an entry more.
-use Rattle.std.proofs.Common.{◌≡◌, ℕ, List, [], ◌∷◌, ◌++◌, refl, sym, ap, ◌∙◌, subst, rules, arith, true≢false}
+use Rattle.std.proofs.Common.{◌≡◌, ℕ, List, [], ◌∷◌, ◌++◌, inl, inr, ◌⊎◌, refl, sym, ap, ◌∙◌, subst, rules, arith, true≢false}
 use Rattle.std.proofs.lemmas.Grind.{common_steps}
 use Rattle.std.proofs.lemmas.Bool.{eqb-true}
 use Rattle.std.proofs.lemmas.Bool.Decides.{nat_tests}
 use Rattle.std.proofs.lemmas.List.{append-nil}
 use Rattle.std.proofs.lemmas.List.Elements.{filter-append}
 use Rattle.std.proofs.lemmas.Map.Text.{is_eq-slice_cmp}
+use Rattle.std.proofs.lemmas.Option.{none-some}
 use Rattle.std.specs.Prelude.{Bool, true, false, ◌||◌, ◌&&◌, nat_eq, bytes_eq, Option, Some, None, option_map, Result, Ok, Err, OnOk, OnErr, map, filter, if◌then◌else◌}
 use Rattle.std.specs.declared.cmp.Ordering.{Ordering}
 use Rattle.std.specs.declared.cmp.Ordering.TheVariants.{Less, Equal, Greater}
 use Rattle.std.specs.Ordering.{nat_cmp, ordering_then, is_eq}
 use Rattle.std.specs.Cmp.Lexicographic.{slice_cmp}
-use Rattle.std.specs.BTreeMap.{BTreeMap, get, is_at, IsUnchanged, Updates}
+use Rattle.std.specs.BTreeMap.{is_at}
 use Rattle.std.specs.Map.{lookup}
 use Rattle.std.specs.BTreeSet.{contains}
 use Rattle.std.specs.BTreeSet as set
@@ -21,6 +22,7 @@ use Rattle.wasmprinter_spec.specs.LabelNames.{label_content, label_named}
 use Rattle.wasmprinter_spec.specs.Names.Section.{Entry, label_subsection}
 use Rattle.wasmprinter_spec.specs.Names.Content.{is_among, entry_name, last_name, is_in, entries_in}
 use Rattle.wasmprinter_names.specs.Views.{given_cmp, place_cmp, content_or, stored_view, item_view, items_view, name_at}
+use Rattle.wasmprinter_names.specs.Lookups.{Gains, stored_at}
 use Rattle.wasmprinter_names.specs.Labels.{AreOfLabels}
 use Rattle.wasmprinter_names.specs.Holds.{names_given, Holds}
 use Rattle.wasmprinter_names.specs.declared.store.Given.{Given}
@@ -28,7 +30,7 @@ use Rattle.wasmprinter_names.specs.declared.store.Place.{Place}
 use Rattle.wasmprinter_names.specs.declared.store.StoredName.{StoredName}
 use Rattle.wasmprinter_names.specs.declared.store.NamesBuilder.{NamesBuilder}
 
--- ---- the tests of the set and of the map
+-- ---- the tests of the set and of the names
 
 eq_then : (a b : Ordering) → is_eq (ordering_then a b) ≡ (is_eq a && is_eq b)
 eq_then Less b = refl
@@ -68,7 +70,7 @@ and_right : (a b : Bool) → (a && b) ≡ true → b ≡ true
 and_right true b e = e
 and_right false b e = absurd (true≢false (sym e))
 
--- what the map has is what its items have
+-- what a list has is what its items have
 at_by : (b : Bool) (x : Named) (o r : Option Named) → o ≡ r → (if b then Some x else o) ≡ (if b then Some x else r)
 at_by true x o r e = refl
 at_by false x o r e = e
@@ -87,18 +89,15 @@ name_at-lookup (e ∷ es) p =
         ≡ ((nat_eq e.0.subsection p.subsection && nat_eq e.0.outer p.outer) && nat_eq e.0.index p.index)
     flip = rw (eq_flip p.subsection e.0.subsection, eq_flip p.outer e.0.outer, eq_flip p.index e.0.index) refl
 
-pub name_at-get : (names : BTreeMap Place StoredName) (p : Place) → option_map stored_view (get place_cmp names p) ≡ name_at (items_view names) p.subsection p.outer p.index
-name_at-get names p = name_at-lookup names.entries p
-
--- what the map has after an insert
-name_after : (a b : BTreeMap Place StoredName) (p q : Place) (x : StoredName) → Updates place_cmp a b p (Some x)
+-- what they have after an insert
+name_after : (a b : List (Place × StoredName)) (p q : Place) (x : StoredName) → Gains a b p x
     → name_at (items_view b) q.subsection q.outer q.index ≡ (if is_at (place_cmp p) q then Some (stored_view x) else name_at (items_view a) q.subsection q.outer q.index)
 name_after a b p q x names =
-    sym (name_at-get b q) ∙ ap (λ (r : Option StoredName). option_map stored_view r) (names.0 q) ∙ map_if stored_view (is_at (place_cmp p) q) x (get place_cmp a q)
-    ∙ ap (λ (r : Option Named). if is_at (place_cmp p) q then Some (stored_view x) else r) (name_at-get a q)
+    sym (name_at-lookup b q) ∙ ap (λ (r : Option StoredName). option_map stored_view r) (names q) ∙ map_if stored_view (is_at (place_cmp p) q) x (stored_at a q)
+    ∙ ap (λ (r : Option Named). if is_at (place_cmp p) q then Some (stored_view x) else r) (name_at-lookup a q)
 
 -- names of labels stay what they are
-stays_of_labels : (a b : BTreeMap Place StoredName) (p : Place) (x : StoredName) → Updates place_cmp a b p (Some x)
+stays_of_labels : (a b : List (Place × StoredName)) (p : Place) (x : StoredName) → Gains a b p x
     → (p.subsection ≡ label_subsection → content_or x.marked x.given.now ≡ label_content p.index x.given.now)
     → AreOfLabels (items_view a) → AreOfLabels (items_view b)
 stays_of_labels a b p x names content old f n y e invents d = by (is_at (place_cmp p) q) refl (sym (name_after a b p q x names) ∙ e)
@@ -116,11 +115,12 @@ stays_of_labels a b p x names content old f n y e invents d = by (is_at (place_c
     by false t h = old f n y h invents d
 
 -- also where the insert is refused
-pub keeps_of_labels : {X E : Type 0} (r : Result X E) (a b : BTreeMap Place StoredName) (p : Place) (x : StoredName) → OnOk r (Updates place_cmp a b p (Some x)) → OnErr r (IsUnchanged a b)
+pub keeps_of_labels : {X E : Type 0} (r : Result X E) (a b : List (Place × StoredName)) (p : Place) (x : StoredName) → OnOk r (Gains a b p x) → OnErr r ((b ≡ a) ⊎ (b ≡ []))
     → (p.subsection ≡ label_subsection → content_or x.marked x.given.now ≡ label_content p.index x.given.now)
     → AreOfLabels (items_view a) → AreOfLabels (items_view b)
 keeps_of_labels (Ok r) a b p x names same content old = stays_of_labels a b p x names content old
-keeps_of_labels (Err e) a b p x names same content old = subst (λ (es : List (Place × StoredName)). AreOfLabels (map item_view es)) (sym same) old
+keeps_of_labels (Err e) a b p x names (inl same) content old = subst (λ (es : List (Place × StoredName)). AreOfLabels (items_view es)) (sym same) old
+keeps_of_labels (Err e) a b p x names (inr gone) content old = subst (λ (es : List (Place × StoredName)). AreOfLabels (items_view es)) (sym gone) (λ f n y none. absurd (none-some y none))
 
 or_if : (b c : Bool) → (if b then true else c) ≡ (b || c)
 or_if true c = refl
@@ -174,7 +174,7 @@ same_space entries e s outer h =
 
 pub added : (entries : List Entry) (a b : NamesBuilder) (e : Entry) (g : Given) (p : Place) (x : StoredName)
     → (g.subsection ≡ e.subsection) × (g.outer ≡ e.outer) × (g.name.now ≡ e.name) → (p.subsection ≡ e.subsection) × (p.outer ≡ e.outer) × (p.index ≡ e.index)
-    → set.Updates given_cmp a.given b.given g true → Updates place_cmp a.names b.names p (Some x)
+    → set.Updates given_cmp a.given b.given g true → Gains a.names b.names p x
     → stored_view x ≡ entry_name e.subsection (names_given [] (entries_in e.subsection e.outer entries)) e
     → Holds entries a → Holds (entries ++ e ∷ []) b
 added entries a b e g p x gs ps given names is h = record {
@@ -188,11 +188,11 @@ added entries a b e g p x gs ps given names is h = record {
       ∙ ap (λ (l : List Entry). is_among q.name.now (names_given [] l)) (sym (in_more q.subsection q.outer entries e));
   names = λ s o i.
       let q : Place = record { subsection = s; outer = o; index = i } in
-      sym (name_at-get b.names q) ∙ ap (λ (r : Option StoredName). option_map stored_view r) (names.0 q) ∙ map_if stored_view (is_at (place_cmp p) q) x (get place_cmp a.names q)
-      ∙ ap (λ (t : Bool). if t then Some (stored_view x) else option_map stored_view (get place_cmp a.names q))
+      sym (name_at-lookup b.names q) ∙ ap (λ (r : Option StoredName). option_map stored_view r) (names q) ∙ map_if stored_view (is_at (place_cmp p) q) x (stored_at a.names q)
+      ∙ ap (λ (t : Bool). if t then Some (stored_view x) else option_map stored_view (stored_at a.names q))
       (same_place p q ∙ ap (λ (k : ℕ). (nat_eq k s && nat_eq p.outer o) && nat_eq p.index i) ps.0
       ∙ ap (λ (k : ℕ). (nat_eq e.subsection s && nat_eq k o) && nat_eq p.index i) ps.1 ∙ ap (λ (k : ℕ). (nat_eq e.subsection s && nat_eq e.outer o) && nat_eq k i) ps.2)
-      ∙ ap (λ (r : Option Named). if is_in s o e && nat_eq e.index i then Some (stored_view x) else r) (name_at-get a.names q ∙ h.names s o i)
+      ∙ ap (λ (r : Option Named). if is_in s o e && nat_eq e.index i then Some (stored_view x) else r) (name_at-lookup a.names q ∙ h.names s o i)
       ∙ name_by s (entries_in s o entries) e i (stored_view x) (is_in s o e) (λ t. is ∙ same_space entries e s o t)
       ∙ ap (λ (l : List Entry). last_name s [] None l i) (sym (in_more s o entries e));
 }

@@ -2,4 +2,5 @@ pub mod Adding
 pub mod LabelOrder
 pub mod Lookups
 pub mod Loops
+pub mod Placing
 pub mod Subsections

@@ -24,7 +24,7 @@ use Rattle.wasmprinter_names.proofs.Adding.{same_place, name_at-lookup}
 
 -- ---- the order of places
 
-place_total : IsTotalOrder place_cmp
+pub place_total : IsTotalOrder place_cmp
 place_total =
     then_total (on_total (λ (p : Place). p.subsection) nat_cmp_total)
     (then_total (on_total (λ (p : Place). p.outer) nat_cmp_total) (on_total (λ (p : Place). p.index) nat_cmp_total))
@@ -52,7 +52,7 @@ same_by_eq p q b e t = same_place p q ∙ assoc (nat_eq p.subsection q.subsectio
     assoc true v w = refl
     assoc false v w = refl
 
-turned : (p q : Place) → place_cmp p q ≡ Less → place_cmp q p ≡ Greater
+pub turned : (p q : Place) → place_cmp p q ≡ Less → place_cmp q p ≡ Greater
 turned p q less = place_total.antisymm q p ∙ ap ordering_reverse less
 
 -- ---- entries that ascend
@@ -100,7 +100,7 @@ module _ (es : List (Place × StoredName)) (s : Ascends es) where
 
 -- ---- no entry of the place
 
-none_by : (es : List (Place × StoredName)) (q : Place) → ((k : ℕ) (d : Place × StoredName) → k < length es → is_at (place_cmp q) (get_or es k d).0 ≡ false) → NonePasses (is_at (place_cmp q)) es
+pub none_by : (es : List (Place × StoredName)) (q : Place) → ((k : ℕ) (d : Place × StoredName) → k < length es → is_at (place_cmp q) (get_or es k d).0 ≡ false) → NonePasses (is_at (place_cmp q)) es
 none_by [] q h = tt
 none_by (e ∷ es) q h = (h 0 e (omega arith), none_by es q (λ k d low. h (suc k) d (omega arith)))
 

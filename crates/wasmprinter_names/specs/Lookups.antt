@@ -1,5 +1,5 @@
 -- Names by their places, in a list.
-use Rattle.std.specs.Prelude.{◌≡◌, ℕ, List, length, Option}
+use Rattle.std.specs.Prelude.{◌≡◌, ℕ, List, length, Option, Some, if◌then◌else◌}
 use Rattle.std.specs.declared.cmp.Ordering.TheVariants.{Less, Greater}
 use Rattle.std.specs.List.{AllWithin}
 use Rattle.std.specs.List.Sorted.{IsStrictlySortedBy}
@@ -16,6 +16,10 @@ Ascends entries = IsStrictlySortedBy place_cmp (keys_of entries)
 -- the name at a place
 abbrev pub stored_at : List (Place × StoredName) → Place → Option StoredName
 stored_at entries place = lookup (is_at (place_cmp place)) entries
+
+-- the name comes to its place, and those at other places stay
+abbrev pub Gains : List (Place × StoredName) → List (Place × StoredName) → Place → StoredName → Type 0
+Gains old new place stored = (q : Place) → stored_at new q ≡ (if is_at (place_cmp place) q then Some stored else stored_at old q)
 
 -- the entries in front of a position have lower places than this one
 abbrev pub AllAreBefore : List (Place × StoredName) → ℕ → Place → Type 0

@@ -5,7 +5,6 @@ use Rattle.std.specs.declared.cmp.Ordering.{Ordering}
 use Rattle.std.specs.Ordering.{nat_cmp, ordering_then}
 use Rattle.std.specs.Cmp.Lexicographic.{slice_cmp}
 use Rattle.std.specs.String.{string_bytes}
-use Rattle.std.specs.BTreeMap.{BTreeMap}
 use Rattle.wasmprinter_spec.specs.Labels.{Named}
 use Rattle.wasmprinter_names.specs.declared.store.Given.{Given}
 use Rattle.wasmprinter_names.specs.declared.store.Place.{Place}
@@ -39,8 +38,8 @@ pub record NamedItem : Type 0 where
 abbrev pub item_view : Place × StoredName → NamedItem
 item_view e = record { subsection = e.0.subsection; outer = e.0.outer; index = e.0.index; name = stored_view e.1 }
 
-abbrev pub items_view : BTreeMap Place StoredName → List NamedItem
-items_view names = map item_view names.entries
+abbrev pub items_view : List (Place × StoredName) → List NamedItem
+items_view names = map item_view names
 
 -- the name of an item
 abbrev pub name_at : List NamedItem → ℕ → ℕ → ℕ → Option Named

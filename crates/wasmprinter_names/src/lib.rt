@@ -4,6 +4,7 @@
 
 mod guesses;
 mod identifiers;
+mod ordered;
 mod read;
 mod search;
 mod space;

@@ -5,7 +5,7 @@ ghost use Rattle.wasmprinter_names.specs.Lookups.{Ascends, AllAreBefore, AllAreB
 use crate::store::{Place, StoredName};
 
 /// Whether the last entry in front of a position shows that all of them have lower places than this one.
-fn all_before(entries: &[(Place, StoredName<'_>)], position: usize, place: Place) -> bool
+pub(crate) fn all_before(entries: &[(Place, StoredName<'_>)], position: usize, place: Place) -> bool
     requires { Ascends entries.now }
     ensures { IsTrue result → AllAreBefore entries.now position place }
 {

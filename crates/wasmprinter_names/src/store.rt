@@ -10,11 +10,12 @@ ghost use Rattle.wasmprinter_names.specs.Labels.{labels_in, Ascend, AreOfLabels}
 ghost use Rattle.wasmprinter_names.specs.LabelViews.{label_view};
 
 use crate::guesses::Guesses;
+use crate::ordered::NamesInOrder;
 use crate::search::find;
 use crate::space::Space;
 use crate::subsection;
 use std::alloc::{AllocError, Global};
-use std::collections::{BTreeMap, BTreeSet};
+use std::collections::BTreeSet;
 use std::marker::Model;
 
 /// A name, and the identifier that the text has for what it names.
@@ -117,7 +118,7 @@ fn marked_content(
 pub struct NamesBuilder<'a> {
     /// The names that were given so far, replaced ones too.
     given: BTreeSet<Given<'a>>,
-    names: BTreeMap<Place, StoredName<'a>>,
+    names: NamesInOrder<'a>,
     ghost of_labels: { AreOfLabels (items_view names) },
 }
 
@@ -130,7 +131,7 @@ impl<'a> NamesBuilder<'a> {
     {
         NamesBuilder {
             given: BTreeSet::new(alloc),
-            names: BTreeMap::new(alloc),
+            names: NamesInOrder::new(alloc),
         }
     }
 
@@ -161,7 +162,7 @@ impl<'a> NamesBuilder<'a> {
             given: name,
             marked,
         };
-        self.names.insert(place, stored)?;
+        self.names.insert(alloc, place, stored)?;
         Ok(())
     }
 
@@ -177,10 +178,7 @@ impl<'a> NamesBuilder<'a> {
         // Memory is wanted for names alone.
         ensures needed { Holds [] self.entry → IsOk result }
     {
-        let mut entries = Vec::with_capacity(alloc, self.names.len())?;
-        for entry in self.names {
-            entries.push(entry)?;
-        }
+        let entries = self.names.into_list(alloc)?;
         let guesses = Guesses::new(alloc, &entries)?;
         Ok(Names { entries, guesses })
     }

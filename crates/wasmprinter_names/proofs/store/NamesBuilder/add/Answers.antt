@@ -14,7 +14,7 @@ returns c = λ entries h.
     added entries c.args.self.now _
     e given (record { subsection = c.args.subsection; outer = c.args.outer; index = c.args.index })
     (record { given = c.args.name; marked = c.in_ok-marked.marked })
-    (refl, refl, refl) (refl, refl, refl) c.in_ok-is_new.ensures.updates c.in_ok-insert.ensures.updates
+    (refl, refl, refl) (refl, refl, refl) c.in_ok-is_new.ensures.updates c.in_ok-insert.ensures.gains
     (ap (λ (t : List ℕ). record { given = Some e.name; content = t })
     (c.in_ok-marked.ensures.content e.outer (names_given [] (entries_in e.subsection e.outer entries)) (c.in_ok-is_new.ensures.added ∙ ap not (h.given given)))) h
 
@@ -22,5 +22,5 @@ pub invariant_of-self-2 : goal.invariant_of-self-2
 invariant_of-self-2 c = record {
   of_labels =
       keeps_of_labels c.insert-2.result c.args.self.now.names c.insert-2.new.self (record { subsection = c.args.subsection; outer = c.args.outer; index = c.args.index })
-      (record { given = c.args.name; marked = c.in_ok-marked.marked }) c.insert-2.ensures.updates c.insert-2.ensures.err c.in_ok-marked.ensures.label c.args.self.now.of_labels;
+      (record { given = c.args.name; marked = c.in_ok-marked.marked }) c.insert-2.ensures.gains c.insert-2.ensures.err c.in_ok-marked.ensures.label c.args.self.now.of_labels;
 }
