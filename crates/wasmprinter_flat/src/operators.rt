@@ -139,7 +139,8 @@ pub fn put_operator_word<P: Print, S: Signatures>(
 )
     requires { length labels.now.labels + 1 < 2 ^ 64 }
     ensures { Marks P.meaning p.old fault.old p.new fault.new
-        (word_pieces (setting_view S.signature_at setting.now (names_of labels.now)) (own_label labels.now) labels.now.labels operator.now) }
+        (word_pieces (setting_view S.signature_at setting.now (names_of labels.now)) (own_label labels.now)
+        labels.now.labels operator.now) }
 {
     let role = operator.opcode.role();
     let context = Context {

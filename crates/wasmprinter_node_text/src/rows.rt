@@ -169,7 +169,8 @@ fn put_front<P: Print>(
     task: &Task<'_>,
 ) -> bool
     requires { (bound : ℕ) × IsSound text.now bound task.now }
-    ensures prints { MarksUnder P.meaning options.now p.old fault.old p.new fault.new (task_front (form_view form) nesting text.now task.now) }
+    ensures prints { MarksUnder P.meaning options.now p.old fault.old p.new fault.new
+        (task_front (form_view form) nesting text.now task.now) }
     ensures lines { result ≡ has_break (task_front (form_view form) nesting text.now task.now) }
 {
     match task {
