@@ -181,6 +181,9 @@ pub(crate) fn put_catches<P: Print, S: Signatures>(
         (catches_pieces (setting_in S.signature_at context.now) (labels_within context.now) (labels_around context.now) (catches_view clauses.now)) }
 {
     for clause in clauses.iter() {
+        if fault.is_some() {
+            return;
+        }
         put_clause(p, fault, context, clause);
     }
 }

@@ -80,6 +80,9 @@ pub(crate) fn put_labels<P: Print, S: Signatures>(
         (labels_pieces (labels_within context.now) (labels_around context.now) targets.now default) }
 {
     for target in targets.iter() {
+        if fault.is_some() {
+            return;
+        }
         put_label(p, fault, context, target);
     }
     put_label(p, fault, context, default);

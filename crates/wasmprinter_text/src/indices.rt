@@ -49,7 +49,7 @@ fn write_note<P: Print>(p: &mut P, name: &str) -> io::Result<()>
 fn put_given<P: Print>(p: &mut P, fault: &mut Fault, name: Name<'_>)
     ensures { Marks P.meaning p.old fault.old p.new fault.new (given_pieces (Some name.entry.given.now) name.entry.content.now) }
 {
-    if name.given != name.content && !fault.is_some() {
+    if !fault.is_some() && name.given != name.content {
         fault.keep(write_note(p, name.given));
     }
 }

@@ -69,6 +69,9 @@ fn put_content<P: Print>(p: &mut P, fault: &mut Fault, content: &str)
     ensures { Puts P.meaning p.old fault.old p.new fault.new
         (Text (if is_run (chars content.now) then chars content.now else quoted_text (chars content.now)) ∷ []) }
 {
+    if fault.is_some() {
+        return;
+    }
     if is_run(content) {
         put_text(p, fault, content);
     } else {

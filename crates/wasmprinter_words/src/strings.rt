@@ -109,6 +109,9 @@ pub(crate) fn put_chars<P: Print>(p: &mut P, fault: &mut Fault, s: &str)
 {
     let mut gathered = ArrayString::<GATHERED>::new();
     for c in s.chars() {
+        if fault.is_some() {
+            return;
+        }
         put_if_full(p, fault, &mut gathered);
         put_or_gather(p, fault, &mut gathered, c);
     }
@@ -165,6 +168,9 @@ fn put_each_byte<P: Print>(p: &mut P, fault: &mut Fault, bytes: &[u8])
 {
     let mut gathered = ArrayString::<GATHERED>::new();
     for &byte in bytes {
+        if fault.is_some() {
+            return;
+        }
         put_if_full(p, fault, &mut gathered);
         gather_byte(&mut gathered, byte);
     }
