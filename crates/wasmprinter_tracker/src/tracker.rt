@@ -39,8 +39,10 @@ impl Model for Tracker {
 }
 
 impl Tracker {
-    ghost use Rattle.std.specs.Prelude.{◌≡◌, false, OnOk, OnErr, IfOk};
+    ghost use Rattle.std.specs.Prelude.{◌≡◌, false, [], ◌∷◌, OnOk, OnErr, IfOk};
     ghost use Rattle.std.specs.String.{string_bytes};
+    ghost use Rattle.wasmprinter_spec.specs.Call.{Text};
+    ghost use Rattle.wasmprinter_print.specs.Emits.{Emits};
     ghost use Rattle.wasmprinter_tracker.specs.Tracked.{without_lines, with_text};
     ghost use Rattle.wasmprinter_tracker.specs.Cuts.{lines_at_starts, IsCuttable};
 
@@ -86,6 +88,21 @@ impl Tracker {
         Ok(())
     }
 
+    /// Whether the text can take a piece without more memory.
+    fn has_room(&self, piece: &str) -> bool {
+        piece.len() <= self.text.capacity() - self.text.len()
+    }
+
+    /// Appends a piece of text character by character: where memory is refused, those in front have been appended.
+    fn write_by_chars(&mut self, piece: &str) -> io::Result<()>
+        ensures { Emits tracked_meaning self.old self.new result (Text piece.now ∷ []) }
+    {
+        for c in piece.chars() {
+            self.write_str(c.encode_utf8(&mut [0; 4]))?;
+        }
+        Ok(())
+    }
+
     /// The text, and where its lines begin.
     ///
     /// # Errors
@@ -122,7 +139,11 @@ impl Print for Tracker {
     }
 
     fn write_each_char(&mut self, s: &str) -> io::Result<()> {
-        self.write_str(s)
+        if self.has_room(s) {
+            self.write_str(s)
+        } else {
+            self.write_by_chars(s)
+        }
     }
 
     fn newline(&mut self) -> io::Result<()> {
