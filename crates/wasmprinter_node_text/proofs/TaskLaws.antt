@@ -77,6 +77,19 @@ pub on_ok : {T E P Q : Type 0} (r : Result T E) → (P → Q) → OnOk r P → O
 on_ok (Ok x) f h = f h
 on_ok (Err e) f h = tt
 
+-- the task of a row
+module _ (new old : List Task) (nodes : Bor (List Node)) (first : Bool) (depth : ℕ) (e : new ≡ old ++ task.Row nodes first depth ∷ []) where
+  pub pieces_pushed : (form : Form) (nesting : ℕ) (buffer : List ℕ) →
+      pieces_left form nesting buffer new ≡ pieces_of_row form nesting buffer nodes.now first depth ++ pieces_left form nesting buffer old
+  pieces_pushed form nesting buffer = ap (pieces_left form nesting buffer) e ∙ pieces_left-append form nesting buffer old (task.Row nodes first depth ∷ [])
+
+  pub steps_pushed : steps_left new ≤ 4 * length nodes.now + 1 + steps_left old
+  steps_pushed = omega (arith, ap steps_left e, steps_left-append old (task.Row nodes first depth ∷ []))
+
+  pub sound_pushed : (buffer : List ℕ) (bound : ℕ) → IsSoundRow buffer bound nodes.now depth → AllSound buffer bound old → AllSound buffer bound new
+  sound_pushed buffer bound row h =
+      subst (AllSound buffer bound) (sym e) (AllSound-append buffer bound old (task.Row nodes first depth ∷ []) h (row, tt))
+
 -- so far the tasks of a row were put on top of old ones: those of the nodes before are still to come
 pub record IsPut (tasks old : List Task) (nodes rest : List Node) (first : Bool) (depth : ℕ) : Type 0 where
   pub row : IsPostorder rest
@@ -144,7 +157,7 @@ module _ (new mid old : List Task) (head : NodeText) (held : Bor (List Node)) (l
       ∙ (ap (λ (l : List Piece). inner ++ l) (ap (pieces_left form nesting buffer) e ∙ pieces_left-append form nesting buffer old (task.Close ∷ []))
       ∙ sym (append_assoc inner (Shut ∷ []) (pieces_left form nesting buffer old)))
 
-  pub steps_one : steps_left new ≤ 4 * length held.now + steps_left mid → steps_left new < steps_of (task.One head held leads depth) + steps_left old
+  pub steps_one : steps_left new ≤ 4 * length held.now + 1 + steps_left mid → steps_left new < steps_of (task.One head held leads depth) + steps_left old
   steps_one row = omega (arith, row, ap steps_left e, steps_left-append old (task.Close ∷ []))
 
   pub sound_one : ((buffer : List ℕ) (bound : ℕ) → IsSoundRow buffer bound held.now (depth + 1) → AllSound buffer bound mid → AllSound buffer bound new) →

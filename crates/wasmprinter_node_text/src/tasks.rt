@@ -1,5 +1,5 @@
 //! What is still to be written of nodes.
-ghost use Rattle.std.specs.Prelude.{◌≡◌, ℕ, ◌+◌, ◌*◌, ◌≤◌, ◌<◌, ◌^◌, ◌++◌, ◌&&◌, ◌==◌, List, length, OnOk};
+ghost use Rattle.std.specs.Prelude.{◌≡◌, ℕ, ◌+◌, ◌*◌, ◌≤◌, ◌<◌, ◌^◌, ◌++◌, ◌&&◌, ◌==◌, List, length, OnOk, false};
 ghost use Rattle.wasmprinter_spec.specs.Layout.Operators.{Form};
 ghost use Rattle.wasmprinter_nodes.specs.Postorder.{IsPostorder};
 ghost use Rattle.wasmprinter_node_text.specs.Tasks.{pieces_of_row, pieces_left, task_rest, IsSound, IsSoundRow, AllSound, steps_left, steps_of};
@@ -47,6 +47,23 @@ fn put_row<'a>(
     Ok(())
 }
 
+/// Puts the tasks of the nodes that a node holds on top of the others: one for each where there is room for all that it holds, and else
+/// one for their row, so that more memory is asked for only when the row's turn comes.
+fn put_held<'a>(tasks: &mut Vec<Task<'a>>, held: &'a [Node], depth: u64) -> Result<(), AllocError>
+    requires row { IsPostorder held.now }
+    ensures pieces { OnOk result ((form : Form) (nesting : ℕ) (buffer : List ℕ) →
+        pieces_left form nesting buffer tasks.new.items ≡ pieces_of_row form nesting buffer held.now false depth ++ pieces_left form nesting buffer tasks.old.items) }
+    ensures steps { OnOk result (steps_left tasks.new.items ≤ 4 * length held.now + 1 + steps_left tasks.old.items) }
+    ensures sound { OnOk result ((buffer : List ℕ) (bound : ℕ) → IsSoundRow buffer bound held.now depth → AllSound buffer bound tasks.old.items → AllSound buffer bound tasks.new.items) }
+{
+    if tasks.capacity() - tasks.len() < held.len() {
+        tasks.push(Task::Row(held, false, depth))?;
+        Ok(())
+    } else {
+        put_row(tasks, held, false, depth)
+    }
+}
+
 /// Puts what is left of a task, once its front is written, on top of the others.
 ///
 /// # Errors
@@ -63,7 +80,7 @@ pub fn put_rest<'a>(tasks: &mut Vec<Task<'a>>, task: &Task<'a>) -> Result<(), Al
         Task::Row(nodes, first, depth) => put_row(tasks, nodes, first, depth),
         Task::One(_, held, _, depth) => {
             tasks.push(Task::Close)?;
-            put_row(tasks, held, false, depth + 1)
+            put_held(tasks, held, depth + 1)
         }
         Task::Close => Ok(()),
     }
