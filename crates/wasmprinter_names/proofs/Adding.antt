@@ -1,12 +1,11 @@
 -- What a store knows after an entry more.
-use Rattle.std.proofs.Common.{◌≡◌, ℕ, List, [], ◌∷◌, ◌++◌, inl, inr, ◌⊎◌, refl, sym, ap, ◌∙◌, subst, rules, arith, true≢false}
+use Rattle.std.proofs.Common.{◌≡◌, ℕ, List, [], ◌∷◌, ◌++◌, refl, sym, ap, ◌∙◌, subst, rules, arith, true≢false}
 use Rattle.std.proofs.lemmas.Grind.{common_steps}
 use Rattle.std.proofs.lemmas.Bool.{eqb-true}
 use Rattle.std.proofs.lemmas.Bool.Decides.{nat_tests}
 use Rattle.std.proofs.lemmas.List.{append-nil}
 use Rattle.std.proofs.lemmas.List.Elements.{filter-append}
 use Rattle.std.proofs.lemmas.Map.Text.{is_eq-slice_cmp}
-use Rattle.std.proofs.lemmas.Option.{none-some}
 use Rattle.std.specs.Prelude.{Bool, true, false, ◌||◌, ◌&&◌, nat_eq, bytes_eq, Option, Some, None, option_map, Result, Ok, Err, OnOk, OnErr, map, filter, if◌then◌else◌}
 use Rattle.std.specs.declared.cmp.Ordering.{Ordering}
 use Rattle.std.specs.declared.cmp.Ordering.TheVariants.{Less, Equal, Greater}
@@ -115,12 +114,22 @@ stays_of_labels a b p x names content old f n y e invents d = by (is_at (place_c
     by false t h = old f n y h invents d
 
 -- also where the insert is refused
-pub keeps_of_labels : {X E : Type 0} (r : Result X E) (a b : List (Place × StoredName)) (p : Place) (x : StoredName) → OnOk r (Gains a b p x) → OnErr r ((b ≡ a) ⊎ (b ≡ []))
+pub keeps_of_labels : {X E : Type 0} (r : Result X E) (a b : List (Place × StoredName)) (p : Place) (x : StoredName) → OnOk r (Gains a b p x) → OnErr r (b ≡ a)
     → (p.subsection ≡ label_subsection → content_or x.marked x.given.now ≡ label_content p.index x.given.now)
     → AreOfLabels (items_view a) → AreOfLabels (items_view b)
 keeps_of_labels (Ok r) a b p x names same content old = stays_of_labels a b p x names content old
-keeps_of_labels (Err e) a b p x names (inl same) content old = subst (λ (es : List (Place × StoredName)). AreOfLabels (items_view es)) (sym same) old
-keeps_of_labels (Err e) a b p x names (inr gone) content old = subst (λ (es : List (Place × StoredName)). AreOfLabels (items_view es)) (sym gone) (λ f n y none. absurd (none-some y none))
+keeps_of_labels (Err e) a b p x names same content old = subst (λ (es : List (Place × StoredName)). AreOfLabels (items_view es)) (sym same) old
+
+-- names that are found alike
+pub same_name_at : (a b : List (Place × StoredName)) → ((q : Place) → stored_at b q ≡ stored_at a q) → (s outer index : ℕ)
+    → name_at (items_view b) s outer index ≡ name_at (items_view a) s outer index
+same_name_at a b same s outer index = sym (name_at-lookup b q) ∙ ap (λ (r : Option StoredName). option_map stored_view r) (same q) ∙ name_at-lookup a q
+  where
+    q : Place
+    q = record { subsection = s; outer = outer; index = index }
+
+pub same_of_labels : (a b : List (Place × StoredName)) → ((q : Place) → stored_at b q ≡ stored_at a q) → AreOfLabels (items_view a) → AreOfLabels (items_view b)
+same_of_labels a b same old f n x e = old f n x (sym (same_name_at a b same label_subsection f n) ∙ e)
 
 or_if : (b c : Bool) → (if b then true else c) ≡ (b || c)
 or_if true c = refl

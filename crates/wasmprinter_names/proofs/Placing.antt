@@ -1,23 +1,16 @@
--- Names that come in the order of their places, and what is left of that order when one doesn't.
-use Rattle.std.proofs.Common.{◌≡◌, ℕ, suc, List, [], ◌∷◌, ◌++◌, length, get_or, refl, sym, ap, ◌∙◌, subst, arith, Global}
-use Rattle.std.proofs.lemmas.Iterator.{items_from_drains}
-use Rattle.std.proofs.lemmas.Iterator.Adapters.{YieldsList-from_vec}
-use Rattle.std.specs.Iterator.{DrainsIf}
-use Rattle.std.specs.declared.vec.IntoIter.{IntoIter}
-use Rattle.std.specs.Vec.Iter.{into_iter_items, into_iter_len, into_iter_steps}
+-- Names that come in the order of their places, and those that don't.
+use Rattle.std.proofs.Common.{◌≡◌, ℕ, suc, List, [], ◌∷◌, ◌++◌, length, get_or, IsTrue, refl, sym, ap, ◌∙◌, subst, arith, true≢false}
 use Rattle.std.proofs.lemmas.Cmp.{eq_by_cmp_equiv}
+use Rattle.std.proofs.lemmas.List.{append-nil}
 use Rattle.std.proofs.lemmas.List.Edits.{insert_end}
-use Rattle.std.proofs.lemmas.List.{map-id}
 use Rattle.std.proofs.lemmas.Map.{lookup-insert}
-use Rattle.std.proofs.lemmas.Map.Keys.{IsDistinct-from_sorted}
-use Rattle.std.proofs.lemmas.Map.Made.{update_all_none}
 use Rattle.std.specs.List.{AllByRecursion}
 use Rattle.std.specs.List.Sorted.{IsStrictlySortedBy}
 use Rattle.std.specs.declared.cmp.Ordering.TheVariants.{Less}
-use Rattle.std.specs.Ordering.{is_eq, eq_by_cmp}
-use Rattle.std.specs.BTreeMap.{BTreeMap, IsFromIterResult, Updates}
-use Rattle.std.specs.Map.{keys_of}
-use Rattle.std.specs.Prelude.{Bool, true, false, Some, if◌then◌else◌, Option}
+use Rattle.std.specs.Ordering.{is_eq}
+use Rattle.std.specs.Option.{option_or, is_some}
+use Rattle.std.specs.Map.{keys_of, lookup}
+use Rattle.std.specs.Prelude.{Bool, true, false, Some, None, if◌then◌else◌, Option}
 use Rattle.std.specs.BTreeMap.{is_at}
 use Rattle.wasmprinter_names.specs.Views.{place_cmp}
 use Rattle.wasmprinter_names.specs.Lookups.{Ascends, AllAreBefore, Gains, stored_at}
@@ -25,16 +18,11 @@ use Rattle.wasmprinter_names.specs.declared.store.Place.{Place}
 use Rattle.wasmprinter_names.specs.declared.store.StoredName.{StoredName}
 use Rattle.wasmprinter_names.proofs.Lookups.{place_total, turned, none_by}
 
-pub empty_ascends : Ascends []
-unfolding IsStrictlySortedBy
-empty_ascends = tt
-
 -- ---- a name behind all others
 
 -- the names in front of it, as the program sees them
-pub before_all : (es ds : List (Place × StoredName)) (n : ℕ) (p : Place) → ds ≡ es → n ≡ length es → AllAreBefore ds n p → AllAreBefore es (length es) p
-before_all es ds n p same len before =
-    subst (λ (m : ℕ). AllAreBefore es m p) len (subst (λ (xs : List (Place × StoredName)). AllAreBefore xs n p) same before)
+pub before_all : (es ds : List (Place × StoredName)) (p : Place) → ds ≡ es → AllAreBefore ds (length ds) p → AllAreBefore es (length es) p
+before_all es ds p same before = subst (λ (xs : List (Place × StoredName)). AllAreBefore xs (length xs) p) same before
 
 all_pushed : (P : Place → Type 0) (es : List (Place × StoredName)) (e : Place × StoredName) → AllByRecursion P (keys_of es) → P e.0 → AllByRecursion P (keys_of (es ++ e ∷ []))
 all_pushed P [] e all h = (h, tt)
@@ -59,18 +47,76 @@ pushed_gains es e before q =
     ∙ lookup-insert (eq_by_cmp_equiv place_total) e.0 e.1 q es (length es)
     (none_by es e.0 (λ k d low. ap is_eq (turned (get_or es k d).0 e.0 (before k d (omega arith) low))))
 
--- ---- a name that goes elsewhere
+-- ---- names in front of others
 
--- a tree that was made of a list has what the list has
-pub moved_gains : (es : List (Place × StoredName)) (a b : BTreeMap Place StoredName) (p : Place) (x : StoredName) → Ascends es → IsFromIterResult place_cmp es a
-    → Updates place_cmp a b p (Some x) → Gains es b.entries p x
-moved_gains es a b p x s made names q =
-    names.0 q ∙ ap (λ (r : Option StoredName). if is_at (place_cmp p) q then Some x else r)
-    (made.0 q ∙ update_all_none (eq_by_cmp_equiv place_total) (eq_by_cmp place_cmp) (λ x y. refl) es q (IsDistinct-from_sorted place_cmp (keys_of es) s))
+-- those in front count
+stored_either : (es fs : List (Place × StoredName)) (q : Place) → stored_at (es ++ fs) q ≡ option_or (stored_at es q) (stored_at fs q)
+stored_either [] fs q = refl
+stored_either (e ∷ es) fs q = by (is_at (place_cmp q) e.0) (stored_either es fs q)
+  where
+    by : (b : Bool) → stored_at (es ++ fs) q ≡ option_or (stored_at es q) (stored_at fs q)
+        → (if b then Some e.1 else stored_at (es ++ fs) q) ≡ option_or (if b then Some e.1 else stored_at es q) (stored_at fs q)
+    by true h = refl
+    by false h = h
 
--- a vector gives its elements
-pub drained : (es xs : List (Place × StoredName)) (it : IntoIter (Place × StoredName) Global) → DrainsIf into_iter_steps (Unit {0}) it xs → into_iter_items it ≡ es → into_iter_len it ≡ length es → xs ≡ es
-drained es xs it d items len = sym (map-id xs) ∙ items_from_drains xs d (YieldsList-from_vec es items len)
+-- a name that comes to them comes to all
+pub gains_front : (es ds fs : List (Place × StoredName)) (p : Place) (x : StoredName) → Gains es ds p x → Gains (es ++ fs) (ds ++ fs) p x
+gains_front es ds fs p x names q =
+    stored_either ds fs q ∙ ap (λ (o : Option StoredName). option_or o (stored_at fs q)) (names q) ∙ by (is_at (place_cmp p) q)
+    ∙ ap (λ (o : Option StoredName). if is_at (place_cmp p) q then Some x else o) (sym (stored_either es fs q))
+  where
+    by : (b : Bool) → option_or (if b then Some x else stored_at es q) (stored_at fs q) ≡ (if b then Some x else option_or (stored_at es q) (stored_at fs q))
+    by true = refl
+    by false = refl
+
+-- equal places have the same name
+same_stored : (es : List (Place × StoredName)) (p q : Place) → is_at (place_cmp q) p ≡ true → stored_at es q ≡ stored_at es p
+same_stored es p q hit = ap (λ (test : Place → Bool). lookup test es) tests
+  where
+    tests : is_at (place_cmp q) ≡ is_at (place_cmp p)
+    tests = λ j k. (eq_by_cmp_equiv place_total).congr q p k hit j
+
+-- the first of the others goes to the front, if its place has no name there
+pub stored_moved : (es ds fs gs : List (Place × StoredName)) (p : Place) (x : StoredName) → gs ≡ (p, x) ∷ fs → is_some (stored_at es p) ≡ false → Gains es ds p x
+    → (q : Place) → stored_at (ds ++ fs) q ≡ stored_at (es ++ gs) q
+stored_moved es ds fs gs p x first none names q =
+    stored_either ds fs q ∙ ap (λ (o : Option StoredName). option_or o (stored_at fs q)) (names q)
+    ∙ ap (λ (b : Bool). option_or (if b then Some x else stored_at es q) (stored_at fs q)) ((eq_by_cmp_equiv place_total).symm p q)
+    ∙ by (is_at (place_cmp q) p) refl ∙ sym (stored_either es ((p, x) ∷ fs) q) ∙ ap (λ (l : List (Place × StoredName)). stored_at (es ++ l) q) (sym first)
+  where
+    second : (o : Option StoredName) → is_some o ≡ false → Some x ≡ option_or o (Some x)
+    second None h = refl
+    second (Some y) h = absurd (true≢false h)
+
+    by : (b : Bool) → is_at (place_cmp q) p ≡ b
+        → option_or (if b then Some x else stored_at es q) (stored_at fs q) ≡ option_or (stored_at es q) (if b then Some x else stored_at fs q)
+    by true hit = second (stored_at es q) (ap is_some (same_stored es p q hit) ∙ none)
+    by false hit = refl
+
+-- and else it is of no account
+pub stored_without : (es fs gs : List (Place × StoredName)) (p : Place) (x : StoredName) → gs ≡ (p, x) ∷ fs → is_some (stored_at es p) ≡ true
+    → (q : Place) → stored_at (es ++ fs) q ≡ stored_at (es ++ gs) q
+stored_without es fs gs p x first some q =
+    stored_either es fs q ∙ by (is_at (place_cmp q) p) refl ∙ sym (stored_either es ((p, x) ∷ fs) q)
+    ∙ ap (λ (l : List (Place × StoredName)). stored_at (es ++ l) q) (sym first)
+  where
+    whichever : (o a b : Option StoredName) → is_some o ≡ true → option_or o a ≡ option_or o b
+    whichever None a b h = absurd (true≢false (sym h))
+    whichever (Some y) a b h = refl
+
+    by : (b : Bool) → is_at (place_cmp q) p ≡ b → option_or (stored_at es q) (stored_at fs q) ≡ option_or (stored_at es q) (if b then Some x else stored_at fs q)
+    by true hit = whichever (stored_at es q) (stored_at fs q) (Some x) (ap is_some (same_stored es p q hit) ∙ some)
+    by false hit = refl
+
+-- none of the others is left
+pub stored_all : (es fs : List (Place × StoredName)) (n : ℕ) → n ≡ length fs → n ≡ 0 → (q : Place) → stored_at es q ≡ stored_at (es ++ fs) q
+stored_all es [] n len none q = ap (λ (l : List (Place × StoredName)). stored_at l q) (sym (append-nil es))
+stored_all es (f ∷ fs) n len none q = absurd (omega (arith, len, none))
+
+-- where there is no name, none stands in front
+pub none_in_front : {P : Type 0} (es fs : List (Place × StoredName)) (b : Bool) → es ++ fs ≡ [] → (IsTrue b → length es ≡ 0) × (length es ≡ 0 → IsTrue b) → b ≡ false → P
+none_in_front [] fs b none says some = absurd (true≢false (sym (says.1 refl) ∙ some))
+none_in_front (e ∷ es) fs b none says some = absurd cc
 
 -- the lists by other terms
 pub gains_by : (a b c d : List (Place × StoredName)) (p : Place) (x : StoredName) → a ≡ b → d ≡ c → Gains a c p x → Gains b d p x

@@ -2,7 +2,6 @@
 pub mod Spaces
 pub mod Views
 pub mod Lookups
-pub mod Entries
 pub mod Labels
 pub mod LabelViews
 pub mod Holds

@@ -162,7 +162,7 @@ impl<'a> NamesBuilder<'a> {
             given: name,
             marked,
         };
-        self.names.insert(alloc, place, stored)?;
+        self.names.insert(place, stored)?;
         Ok(())
     }
 
