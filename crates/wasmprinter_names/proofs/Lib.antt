@@ -2,5 +2,6 @@ pub mod Adding
 pub mod LabelOrder
 pub mod Lookups
 pub mod Loops
+pub mod Marked
 pub mod Placing
 pub mod Subsections

@@ -1,7 +1,7 @@
 -- Names by their places, in a list.
-use Rattle.std.specs.Prelude.{◌≡◌, ℕ, List, length, Option, Some, if◌then◌else◌}
+use Rattle.std.specs.Prelude.{◌≡◌, ℕ, List, length, Bool, true, false, slice_index_or, Option, Some, if◌then◌else◌}
 use Rattle.std.specs.declared.cmp.Ordering.TheVariants.{Less, Greater}
-use Rattle.std.specs.List.{AllWithin}
+use Rattle.std.specs.List.{All, AllWithin}
 use Rattle.std.specs.List.Sorted.{IsStrictlySortedBy}
 use Rattle.std.specs.Map.{keys_of, lookup}
 use Rattle.std.specs.BTreeMap.{is_at}
@@ -28,3 +28,7 @@ AllAreBefore entries i place = AllWithin (λ e. place_cmp e.0 place ≡ Less) en
 -- those from a position on have higher places
 abbrev pub AllAreBehind : List (Place × StoredName) → ℕ → Place → Type 0
 AllAreBehind entries i place = AllWithin (λ e. place_cmp e.0 place ≡ Greater) entries i (length entries)
+
+-- the subsection of each entry is marked
+abbrev pub AreMarked : List (Place × StoredName) → List Bool → Type 0
+AreMarked entries marks = All (λ e. slice_index_or marks e.0.subsection false ≡ true) entries

@@ -4,6 +4,7 @@
 
 mod guesses;
 mod identifiers;
+mod marks;
 mod ordered;
 mod read;
 mod search;

@@ -5,11 +5,12 @@ ghost use Rattle.wasmprinter_spec.specs.Names.Section.{Entry, entry_of, module_s
 ghost use Rattle.wasmprinter_spec.specs.Names.Content.{is_among, content, name_of};
 ghost use Rattle.wasmprinter_names.specs.Spaces.{id_of, outer_of};
 ghost use Rattle.wasmprinter_names.specs.Views.{content_or, stored_view, item_view, name_view, NamedItem, items_view, name_at};
-ghost use Rattle.wasmprinter_names.specs.Lookups.{Ascends};
+ghost use Rattle.wasmprinter_names.specs.Lookups.{Ascends, AreMarked};
 ghost use Rattle.wasmprinter_names.specs.Labels.{labels_in, Ascend, AreOfLabels};
 ghost use Rattle.wasmprinter_names.specs.LabelViews.{label_view};
 
 use crate::guesses::Guesses;
+use crate::marks::{SUBSECTIONS, marks_of};
 use crate::ordered::NamesInOrder;
 use crate::search::find;
 use crate::space::Space;
@@ -180,7 +181,12 @@ impl<'a> NamesBuilder<'a> {
     {
         let entries = self.names.into_list(alloc)?;
         let guesses = Guesses::new(alloc, &entries)?;
-        Ok(Names { entries, guesses })
+        let named = marks_of(&entries);
+        Ok(Names {
+            entries,
+            guesses,
+            named,
+        })
     }
 }
 
@@ -191,6 +197,8 @@ pub struct Names<'a> {
     entries: Vec<(Place, StoredName<'a>)>,
     /// Where an item probably stands among them.
     guesses: Guesses,
+    /// Whether any of them is of the subsection, by its id.
+    named: [bool; SUBSECTIONS],
 }
 
 impl<'a> Model for Names<'a> {
@@ -198,12 +206,24 @@ impl<'a> Model for Names<'a> {
 
     ghost view = { λ n. map item_view n.entries.items };
 
-    ghost invariant = { λ n. Ascends n.entries.items × AreOfLabels (map item_view n.entries.items) };
+    ghost invariant = { λ n. Ascends n.entries.items × AreOfLabels (map item_view n.entries.items) × AreMarked n.entries.items n.named };
 }
 
 impl Names<'_> {
-    /// The name at a place.
+    /// The name at a place, at once where its subsection gave none: each use of a local asks, and many modules name functions alone.
+    #[inline]
     fn get(&self, place: Place) -> Option<Name<'_>>
+        ensures { option_map name_view result ≡ name_at self.now place.subsection place.outer place.index }
+    {
+        if !self.named[usize::from(place.subsection)] {
+            return None;
+        }
+        self.look_up(place)
+    }
+
+    /// The name at a place, by a search.
+    #[inline(never)]
+    fn look_up(&self, place: Place) -> Option<Name<'_>>
         ensures { option_map name_view result ≡ name_at self.now place.subsection place.outer place.index }
     {
         let likely = self.guesses.likely(&self.entries, place);

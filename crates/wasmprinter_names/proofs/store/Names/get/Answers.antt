@@ -1,6 +1,10 @@
-use Rattle.std.proofs.Common.{rules}
-use Rattle.wasmprinter_names.proofs.Adding.{name_at-lookup}
+use Rattle.std.proofs.Common.{sym, ap, ◌∙◌}
+use Rattle.std.specs.Prelude.{false, slice_index_or}
+use Rattle.wasmprinter_names.proofs.Marked.{none_unmarked}
 use Rattle.wasmprinter_names.proofs.store.Names.get.Goals as goal
 
-pub returns : goal.returns
-returns c = search (rules, name_at-lookup c.self.inside.entries.items c.args.place)
+pub returns-then-not-self-from : goal.returns-then-not-self-from
+returns-then-not-self-from c =
+    let inside = c.self.inside in
+    rw (← c.self.view_is) (none_unmarked inside.entries.items inside.named c.args.place c.self.invariant.2
+    (ap (λ s. slice_index_or inside.named s false) (sym c.from.ensures) ∙ c.if-not-self-from.true))

@@ -1,11 +1,16 @@
-use Rattle.std.proofs.Common.{sym, ◌∙◌, true≢false}
+use Rattle.std.proofs.Common.{sym, ◌∙◌, subst, true≢false}
+use Rattle.wasmprinter_names.specs.Lookups.{AreMarked}
 use Rattle.wasmprinter_names.proofs.Adding.{same_name_at, same_of_labels}
 use Rattle.wasmprinter_names.proofs.Lookups.{empty_where_none}
 use Rattle.wasmprinter_names.proofs.store.NamesBuilder.finish.Goals as goal
 
 pub invariant_of-result : goal.invariant_of-result
 invariant_of-result c =
-    (c.in_ok-entries.ensures.ascend, same_of_labels c.args.self.names c.in_ok-entries.entries.items c.in_ok-entries.ensures.all c.args.self.of_labels)
+    let items = c.in_ok-entries.entries.items in (
+      c.in_ok-entries.ensures.ascend,
+      same_of_labels c.args.self.names items c.in_ok-entries.ensures.all c.args.self.of_labels,
+      subst (λ es. AreMarked es c.marks_of-named.result) c.deref-2.ensures.value c.marks_of-named.ensures,
+    )
 
 pub returns-clause-names : goal.returns-clause-names
 returns-clause-names c = λ entries h s o i. same_name_at c.args.self.names c.in_ok-entries.entries.items c.in_ok-entries.ensures.all s o i ∙ h.names s o i
