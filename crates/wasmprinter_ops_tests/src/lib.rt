@@ -6,4 +6,6 @@ mod cursor;
 #[cfg(test)]
 mod errors;
 #[cfg(test)]
+mod faults;
+#[cfg(test)]
 mod operators;
