@@ -25,7 +25,7 @@ pub struct Shape {
 }
 
 /// What is printed; the last is the empty module.
-pub const SHAPES: [Shape; 13] = [
+pub const SHAPES: [Shape; 14] = [
     Shape {
         name: "types",
         way: Way::Plain,
@@ -74,6 +74,13 @@ pub const SHAPES: [Shape; 13] = [
         wasm: &NAMES,
         text: NAMES_TEXT,
         functions: 1,
+    },
+    Shape {
+        name: "unordered names",
+        way: Way::Plain,
+        wasm: &UNORDERED_NAMES,
+        text: UNORDERED_NAMES_TEXT,
+        functions: 0,
     },
     Shape {
         name: "customs",
@@ -298,6 +305,26 @@ const NAMES_TEXT: &str = r##"(module
   )
 )
 "##;
+
+const UNORDERED_NAMES: [u8; 65] = [
+    0x00, 0x61, 0x73, 0x6d, 0x01, 0x00, 0x00, 0x00, // preamble
+    0x07, 0x11, 0x04, // exports of functions
+    0x01, 0x61, 0x00, 0x02, 0x01, 0x62, 0x00, 0x03, // of 2 and 3
+    0x01, 0x63, 0x00, 0x05, 0x01, 0x64, 0x00, 0x09, // of 5 and 9
+    0x00, 0x14, 0x04, 0x6e, 0x61, 0x6d, 0x65, // names
+    0x01, 0x0d, 0x04, 0x05, 0x01, 0x66, 0x02, 0x01, 0x74, // of functions 5 and 2
+    0x09, 0x01, 0x6e, 0x02, 0x01, 0x75, // of 9, and of 2 once more
+    0x00, 0x0e, 0x04, 0x6e, 0x61, 0x6d, 0x65, // more names
+    0x01, 0x07, 0x02, 0x09, 0x01, 0x6f, 0x03, 0x01, 0x68, // of 9 once more, and of 3
+];
+
+const UNORDERED_NAMES_TEXT: &str = r#"(module
+  (export "a" (func $u))
+  (export "b" (func $h))
+  (export "c" (func $f))
+  (export "d" (func $o))
+)
+"#;
 
 const CUSTOMS: [u8; 98] = [
     0x00, 0x61, 0x73, 0x6d, 0x01, 0x00, 0x00, 0x00, // preamble

@@ -5,6 +5,8 @@
 #[cfg(test)]
 mod control;
 #[cfg(test)]
+mod cuts;
+#[cfg(test)]
 mod floats;
 #[cfg(test)]
 mod imports;

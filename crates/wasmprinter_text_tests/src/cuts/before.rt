@@ -1,0 +1,154 @@
+//! Texts in quotes by the form that the library had before texts were gathered, kept to compare with: each character is handed over by a
+//! call of its own, a byte that is escaped by three, and the first call that fails ends it. The functions stand as they stood, without what
+//! they promised.
+ghost use Rattle.std.specs.Prelude.{◌<◌};
+
+use std::io;
+use wasmprinter::{Error, Print};
+
+/// The base of hexadecimal numbers.
+const HEXADECIMAL: u64 = 16;
+
+fn text<P: Print>(p: &mut P, s: &str) -> io::Result<()> {
+    p.write_str(s)?;
+    Ok(())
+}
+
+/// The character of a digit.
+fn glyph_of(digit: u8) -> u8
+    requires { digit < 16 }
+{
+    if digit < 10 {
+        b'0' + digit
+    } else {
+        b'a' + (digit - 10)
+    }
+}
+
+fn write_digit<P: Print>(p: &mut P, digit: u8) -> io::Result<()>
+    requires { digit < 16 }
+{
+    text(p, char::from(glyph_of(digit)).encode_utf8(&mut [0; 4]))
+}
+
+fn write_hexadecimal<P: Print>(p: &mut P, n: u64) -> io::Result<()> {
+    if n < HEXADECIMAL {
+        return write_digit(p, n as u8);
+    }
+    write_hexadecimal(p, n / HEXADECIMAL)?;
+    write_digit(p, (n % HEXADECIMAL) as u8)
+}
+
+fn write_byte_digits<P: Print>(p: &mut P, byte: u8) -> io::Result<()> {
+    write_digit(p, byte / 16)?;
+    write_digit(p, byte % 16)
+}
+
+fn write_hexadecimal_between<P: Print>(
+    p: &mut P,
+    before: &str,
+    n: u64,
+    after: &str,
+) -> io::Result<()> {
+    text(p, before)?;
+    write_hexadecimal(p, n)?;
+    text(p, after)
+}
+
+/// Whether a character stands for itself in quotes.
+fn is_plain(c: char) -> bool {
+    matches!(c, ' '..='~') && c != '"' && c != '\\'
+}
+
+fn write_char<P: Print>(p: &mut P, c: char) -> io::Result<()> {
+    if is_plain(c) {
+        return text(p, c.encode_utf8(&mut [0; 4]));
+    }
+    write_hexadecimal_between(p, "\\u{", u64::from(u32::from(c)), "}")
+}
+
+fn write_chars<P: Print>(p: &mut P, s: &str) -> io::Result<()> {
+    for c in s.chars() {
+        write_char(p, c)?;
+    }
+    Ok(())
+}
+
+fn write_string<P: Print>(p: &mut P, s: &str) -> io::Result<()> {
+    p.start_literal()?;
+    text(p, "\"")?;
+    write_chars(p, s)?;
+    text(p, "\"")?;
+    p.reset_color()
+}
+
+/// The form of the library's `write_quoted`.
+pub fn write_quoted<P: Print>(p: &mut P, s: &str) -> Result<(), Error> {
+    write_string(p, s)?;
+    Ok(())
+}
+
+fn write_byte<P: Print>(p: &mut P, byte: u8) -> io::Result<()> {
+    let c = char::from(byte);
+    if is_plain(c) {
+        return text(p, c.encode_utf8(&mut [0; 4]));
+    }
+    text(p, "\\")?;
+    write_byte_digits(p, byte)
+}
+
+fn write_each_byte<P: Print>(p: &mut P, bytes: &[u8]) -> io::Result<()> {
+    for &byte in bytes {
+        write_byte(p, byte)?;
+    }
+    Ok(())
+}
+
+fn write_byte_string<P: Print>(p: &mut P, bytes: &[u8]) -> io::Result<()> {
+    p.start_literal()?;
+    text(p, "\"")?;
+    write_each_byte(p, bytes)?;
+    text(p, "\"")?;
+    p.reset_color()
+}
+
+/// The form of the library's `write_bytes`.
+pub fn write_bytes<P: Print>(p: &mut P, bytes: &[u8]) -> Result<(), Error> {
+    write_byte_string(p, bytes)?;
+    Ok(())
+}
+
+/// Whether a character stands in an identifier.
+fn is_identifier_char(c: char) -> bool {
+    matches!(c, '!'..='~') && !matches!(c, '"' | '(' | ')' | ',' | ';' | '[' | ']' | '{' | '}')
+}
+
+/// Whether all characters of a text stand in an identifier.
+fn all_run(s: &str) -> bool {
+    s.chars().all(is_identifier_char)
+}
+
+/// Whether a text is the rest of an identifier without quotes.
+fn is_run(s: &str) -> bool {
+    !s.is_empty() && all_run(s)
+}
+
+fn write_in_quotes<P: Print>(p: &mut P, s: &str) -> io::Result<()> {
+    text(p, "\"")?;
+    write_chars(p, s)?;
+    text(p, "\"")
+}
+
+fn write_content<P: Print>(p: &mut P, content: &str) -> io::Result<()> {
+    if is_run(content) {
+        text(p, content)
+    } else {
+        write_in_quotes(p, content)
+    }
+}
+
+/// The form in which an identifier was written, by what stands behind its dollar sign.
+pub fn write_identifier<P: Print>(p: &mut P, content: &str) -> io::Result<()> {
+    text(p, "$")?;
+    write_content(p, content)
+}

@@ -1,0 +1,183 @@
+//! A printer for tests of how a text is cut into calls: it keeps each call apart, and refuses one if it is told to.
+ghost use Rattle.std.specs.Prelude.{None, false};
+
+use std::alloc::{AllocError, Global};
+use std::io;
+use std::io::ErrorKind;
+use wasmprinter::{Error, Print};
+
+/// How what hands calls over ended.
+#[derive(Clone, Copy, Debug, PartialEq, Eq)]
+pub enum Ending {
+    /// No call failed.
+    Whole,
+    /// With the error of the call that was refused.
+    Refused,
+    /// With the error of a call behind that one.
+    Late,
+    /// In another way.
+    Other,
+}
+
+impl Ending {
+    pub fn of(answer: Result<(), Error>) -> Ending {
+        match answer {
+            Ok(()) => Ending::Whole,
+            Err(Error::Printer(e)) if e.kind() == ErrorKind::BrokenPipe => Ending::Refused,
+            Err(Error::Printer(e)) if e.kind() == ErrorKind::TimedOut => Ending::Late,
+            Err(_) => Ending::Other,
+        }
+    }
+}
+
+/// The calls so far, in their order. Each stands by bytes of which no text has one:
+///
+/// - a text as it is, with `0xff` behind it, so that two texts differ from one that is their sum;
+/// - `0xfe` for `start_literal`, `0xfd` for `reset_color`;
+/// - `0xfc`, `0xfb`, `0xfa` and `0xf9` for the other styles, in the order of the trait's methods;
+/// - `0xf8` for `newline`, `0xf7` for the beginning of a line, `0xf6` for the question whether a custom section is taken.
+#[derive(Drop)]
+pub struct Calls {
+    list: Vec<u8>,
+    /// How many calls that can fail were made.
+    made: usize,
+    /// The number of the call that is refused, the first of which is 1; none is where it is 0. All behind it are refused too, with another
+    /// error.
+    refused: usize,
+    /// A call could not be kept.
+    lost: bool,
+}
+
+impl Calls {
+    /// A printer that refuses the call of this number, none where it is 0.
+    pub fn new(alloc: Global, refused: usize) -> Calls {
+        Calls {
+            list: Vec::new(alloc),
+            made: 0,
+            refused,
+            lost: false,
+        }
+    }
+
+    /// The calls, as they are kept.
+    pub fn list(&self) -> &[u8] {
+        self.list.as_slice()
+    }
+
+    /// How many calls that can fail were made.
+    pub fn count(&self) -> usize {
+        self.made
+    }
+
+    /// Whether each call was kept.
+    pub fn is_complete(&self) -> bool {
+        !self.lost
+    }
+
+    /// Whether no call was made behind the one that was refused.
+    pub fn has_stopped(&self) -> bool {
+        self.refused == 0 || self.made <= self.refused
+    }
+
+    /// Whether these calls were made, and no other, and each was kept.
+    pub fn are(&self, list: &[u8]) -> bool {
+        self.is_complete() && self.list() == list
+    }
+
+    /// Whether the same calls were made of both, and no other.
+    pub fn is_same(&self, other: &Calls) -> bool {
+        other.is_complete() && self.made == other.made && self.are(other.list())
+    }
+
+    /// The answer to a call that was kept so.
+    fn answer(&mut self, kept: Result<(), AllocError>) -> io::Result<()> {
+        self.made = self.made.saturating_add(1);
+        self.lost = self.lost || kept.is_err();
+        if self.refused == 0 || self.made < self.refused {
+            Ok(())
+        } else if self.made == self.refused {
+            Err(io::Error::from(ErrorKind::BrokenPipe))
+        } else {
+            Err(io::Error::from(ErrorKind::TimedOut))
+        }
+    }
+
+    fn keep(&mut self, byte: u8) -> io::Result<()> {
+        let kept = self.keep_byte(byte);
+        self.answer(kept)
+    }
+
+    fn keep_byte(&mut self, byte: u8) -> Result<(), AllocError> {
+        self.list.push(byte)?;
+        Ok(())
+    }
+
+    fn keep_text(&mut self, s: &str) -> Result<(), AllocError> {
+        self.list.extend_from_slice(s.as_bytes())?;
+        self.keep_byte(0xff)
+    }
+}
+
+impl Print for Calls {
+    ghost meaning = { record {
+      after = λ _ _ _. Unit {0};
+      may_fail = λ _ _. Unit {0};
+      partly = λ _ _ _ _. Unit {0};
+      faults = λ _. None;
+    } };
+
+    ghost colors = { λ _. false };
+
+    fn write_str(&mut self, s: &str) -> io::Result<()> {
+        let kept = self.keep_text(s);
+        self.answer(kept)
+    }
+
+    fn newline(&mut self) -> io::Result<()> {
+        self.keep(0xf8)
+    }
+
+    fn start_line(&mut self, _binary_offset: Option<u64>) {
+        if self.keep_byte(0xf7).is_err() {
+            self.lost = true;
+        }
+    }
+
+    fn print_custom_section(
+        &mut self,
+        _name: &str,
+        _binary_offset: u64,
+        _bytes: &[u8],
+    ) -> io::Result<bool> {
+        self.keep(0xf6)?;
+        Ok(false)
+    }
+
+    fn start_literal(&mut self) -> io::Result<()> {
+        self.keep(0xfe)
+    }
+
+    fn start_name(&mut self) -> io::Result<()> {
+        self.keep(0xfc)
+    }
+
+    fn start_keyword(&mut self) -> io::Result<()> {
+        self.keep(0xfb)
+    }
+
+    fn start_type(&mut self) -> io::Result<()> {
+        self.keep(0xfa)
+    }
+
+    fn start_comment(&mut self) -> io::Result<()> {
+        self.keep(0xf9)
+    }
+
+    fn reset_color(&mut self) -> io::Result<()> {
+        self.keep(0xfd)
+    }
+
+    fn supports_async_color(&self) -> bool {
+        false
+    }
+}
