@@ -59,12 +59,19 @@ fn agree_at_each_call(alloc: Global, input: Input) -> bool {
     ending == Ending::Whole
 }
 
-/// Lengths of texts, each from one up to another. 256 bytes are gathered at most, and what was gathered is handed over where there is no
-/// room for three more; a byte that is escaped takes three.
-const LENGTHS: [(usize, usize); 5] = [(0, 6), (80, 90), (250, 262), (505, 520), (764, 772)];
+/// Lengths of texts, each from one up to another. Of a text 256 bytes are gathered at most, and handed over where one more comes, or a
+/// character that doesn't stand for itself. Of bytes 85 are gathered and handed over at once, each of which may take three.
+const LENGTHS: [(usize, usize); 6] = [
+    (0, 6),
+    (80, 90),
+    (168, 172),
+    (250, 262),
+    (505, 520),
+    (764, 772),
+];
 
-/// The places of which the bytes are the last ones of the first that are gathered.
-const THRESHOLD: (usize, usize) = (252, 258);
+/// The places that are the last ones of the first that are gathered, of bytes and of a text.
+const THRESHOLDS: [(usize, usize); 2] = [(83, 87), (252, 258)];
 
 /// Characters that don't stand for themselves in quotes, of one, two and four bytes.
 const ESCAPED: [char; 3] = ['"', '\u{e9}', '\u{10ffff}'];
@@ -110,10 +117,14 @@ fn agree_at_places(alloc: Global, len: usize, (from, to): (usize, usize), c: cha
     true
 }
 
-/// Whether they agree on so many letters, but for one of the last five or of those at the threshold.
+/// Whether they agree on so many letters, but for one of the last five or of those at a threshold.
 fn agree_on_one_escape(alloc: Global, len: usize, c: char) -> bool {
+    for threshold in THRESHOLDS {
+        if !agree_at_places(alloc, len, threshold, c) {
+            return false;
+        }
+    }
     agree_at_places(alloc, len, (len.saturating_sub(5), len), c)
-        && agree_at_places(alloc, len, THRESHOLD, c)
 }
 
 /// Whether they do for each of the characters.

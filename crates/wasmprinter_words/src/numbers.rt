@@ -24,16 +24,15 @@ pub fn power(exponent: u32) -> u64
     1 << exponent
 }
 
+/// The characters of the digits.
+static GLYPHS: [u8; 16] = *b"0123456789abcdef";
+
 /// The character of a digit.
 pub(crate) fn glyph_of(digit: u8) -> u8
     requires { digit < 16 }
     ensures { result ≡ digit_glyph false digit }
 {
-    if digit < 10 {
-        b'0' + digit
-    } else {
-        b'a' + (digit - 10)
-    }
+    GLYPHS[usize::from(digit)]
 }
 
 /// Writes a digit, with the letters from a to f for those from ten on.

@@ -1,7 +1,6 @@
 //! Texts in quotes (section 6.3 of the WebAssembly Core Specification, "Strings").
-ghost use Rattle.std.specs.Prelude.{◌≡◌, ◌+◌, ◌≤◌, false, [], ◌∷◌, ◌++◌, codes, flat_map, chars};
-ghost use Rattle.arrayvec.specs.ArrayString.{array_string_len};
-ghost use Rattle.wasmprinter_words.specs.Gathered.{IsPut};
+ghost use Rattle.std.specs.Prelude.{◌≡◌, ◌+◌, ◌≤◌, false, [], ◌∷◌, ◌++◌, codes, flat_map, chars, length, take, if◌then◌else◌};
+ghost use Rattle.std.specs.Str.{IsAscii};
 ghost use Rattle.std.specs.Fmt.{digits};
 ghost use Rattle.wasmprinter_spec.specs.Call.{Text, Literal};
 ghost use Rattle.wasmprinter_spec.specs.Options.{Options};
@@ -22,6 +21,19 @@ const GATHERED: usize = 256;
 
 /// The most bytes that a byte takes in quotes.
 const WIDEST: usize = 3;
+
+/// So many bytes in quotes are never more than are gathered.
+const AT_ONCE: usize = GATHERED / WIDEST;
+
+/// What each byte begins with in quotes: with itself where it stands for itself, and else with the backslash in front of its digits.
+static BEGINNINGS: [u8; 256] = *b"\
+    \\\\\\\\\\\\\\\\\\\\\\\\\\\\\\\\\\\\\\\\\\\\\\\\\\\\\\\\\\\\\\\\ !\\#$%&'()*+,-./0123456789:;<=>?\
+    @ABCDEFGHIJKLMNOPQRSTUVWXYZ[\\]^_\
+    `abcdefghijklmnopqrstuvwxyz{|}~\\\
+    \\\\\\\\\\\\\\\\\\\\\\\\\\\\\\\\\\\\\\\\\\\\\\\\\\\\\\\\\\\\\\\\\
+    \\\\\\\\\\\\\\\\\\\\\\\\\\\\\\\\\\\\\\\\\\\\\\\\\\\\\\\\\\\\\\\\\
+    \\\\\\\\\\\\\\\\\\\\\\\\\\\\\\\\\\\\\\\\\\\\\\\\\\\\\\\\\\\\\\\\\
+    \\\\\\\\\\\\\\\\\\\\\\\\\\\\\\\\\\\\\\\\\\\\\\\\\\\\\\\\\\\\\\\\";
 
 /// Whether a character stands for itself in quotes.
 fn is_plain(c: char) -> bool
@@ -58,62 +70,21 @@ fn put_gathered<P: Print>(p: &mut P, fault: &mut Fault, gathered: &mut ArrayStri
     gathered.clear();
 }
 
-/// Makes room for a byte in quotes: writes what was gathered, if there is too little.
-fn put_if_full<P: Print>(p: &mut P, fault: &mut Fault, gathered: &mut ArrayString<GATHERED>)
-    ensures put { IsPut P.meaning p.old fault.old p.new fault.new gathered.old.bytes gathered.new.bytes }
-    ensures room { array_string_len gathered.new + 3 ≤ 256 }
-{
-    if gathered.remaining_capacity() < WIDEST {
-        put_gathered(p, fault, gathered);
-    }
-}
-
-/// Gathers a byte as it stands in quotes: the ASCII character, or `\hh` with its two hexadecimal digits.
-#[tactic(auto, unfolding(wasmprinter_spec::specs::Quoted::byte_text))]
-fn gather_byte(gathered: &mut ArrayString<GATHERED>, byte: u8)
-    requires { array_string_len gathered.old + 3 ≤ 256 }
-    ensures { gathered.new.bytes ≡ gathered.old.bytes ++ byte_text byte }
-{
-    let c = char::from(byte);
-    if is_plain(c) {
-        gathered.push(c);
-        return;
-    }
-    gathered.push('\\');
-    gathered.push(char::from(glyph_of(byte / 16)));
-    gathered.push(char::from(glyph_of(byte % 16)));
-}
-
-/// Gathers a character that stands for itself in quotes, and writes any other, behind what was gathered.
-#[tactic(auto, unfolding(wasmprinter_spec::specs::Quoted::char_text))]
-fn put_or_gather<P: Print>(
-    p: &mut P,
-    fault: &mut Fault,
-    gathered: &mut ArrayString<GATHERED>,
-    c: char,
-)
-    requires { array_string_len gathered.old + 3 ≤ 256 }
-    ensures { IsPut P.meaning p.old fault.old p.new fault.new (gathered.old.bytes ++ char_text c) gathered.new.bytes }
-{
-    if is_plain(c) {
-        gathered.push(c);
-    } else {
-        put_gathered(p, fault, gathered);
-        put_char(p, fault, c);
-    }
-}
-
 /// Writes the characters of a text as they stand in quotes.
 pub(crate) fn put_chars<P: Print>(p: &mut P, fault: &mut Fault, s: &str)
     ensures { Puts P.meaning p.old fault.old p.new fault.new (Text (flat_map char_text (chars s.now)) ∷ []) }
 {
     let mut gathered = ArrayString::<GATHERED>::new();
     for c in s.chars() {
+        if is_plain(c) && !gathered.is_full() {
+            gathered.push(c);
+            continue;
+        }
         if fault.is_some() {
             return;
         }
-        put_if_full(p, fault, &mut gathered);
-        put_or_gather(p, fault, &mut gathered, c);
+        put_gathered(p, fault, &mut gathered);
+        put_char(p, fault, c);
     }
     put_gathered(p, fault, &mut gathered);
 }
@@ -162,19 +133,68 @@ pub fn write_quoted<P: Print>(p: &mut P, s: &str) -> Result<(), Error>
     Ok(())
 }
 
+/// What a byte begins with in quotes.
+fn beginning_of(byte: u8) -> u8
+    ensures { result ≡ (if is_plain byte then byte else 92) }
+{
+    BEGINNINGS[usize::from(byte)]
+}
+
+/// Shows a byte as it stands in quotes, behind so many bytes of a text, and answers how many there are then: the ASCII character, or `\hh`
+/// with its two hexadecimal digits. All three places are written, since a branch would cost more.
+fn show_byte(shown: &mut [u8; GATHERED], len: usize, byte: u8) -> usize
+    requires { len + 3 ≤ 256 }
+    ensures text { take result shown.new ≡ take len shown.old ++ byte_text byte }
+    ensures len { result ≤ len + 3 }
+{
+    let beginning = beginning_of(byte);
+    shown[len] = beginning;
+    shown[len + 1] = glyph_of(byte / 16);
+    shown[len + 2] = glyph_of(byte % 16);
+    if beginning == b'\\' {
+        len + WIDEST
+    } else {
+        len + 1
+    }
+}
+
+/// Shows bytes as they stand in quotes, and answers how many bytes that takes.
+fn show_bytes(shown: &mut [u8; GATHERED], bytes: &[u8]) -> usize
+    requires { length bytes.now ≤ 85 }
+    ensures text { take result shown.new ≡ flat_map byte_text bytes.now }
+    ensures ascii { IsAscii (take result shown.new) }
+    ensures len { result ≤ 255 }
+{
+    let mut len = 0;
+    for &byte in bytes {
+        len = show_byte(shown, len, byte);
+    }
+    len
+}
+
+/// Writes an ASCII text.
+fn put_ascii<P: Print>(p: &mut P, fault: &mut Fault, bytes: &[u8])
+    requires { IsAscii bytes.now }
+    ensures { Puts P.meaning p.old fault.old p.new fault.new (Text bytes.now ∷ []) }
+{
+    let Ok(s) = str::from_utf8(bytes) else {
+        unreachable!();
+    };
+    put_each_char(p, fault, s);
+}
+
 /// Writes bytes as they stand in quotes.
 fn put_each_byte<P: Print>(p: &mut P, fault: &mut Fault, bytes: &[u8])
     ensures { Puts P.meaning p.old fault.old p.new fault.new (Text (flat_map byte_text bytes.now) ∷ []) }
 {
-    let mut gathered = ArrayString::<GATHERED>::new();
-    for &byte in bytes {
+    let mut shown = [0; GATHERED];
+    for chunk in bytes.chunks(AT_ONCE) {
         if fault.is_some() {
             return;
         }
-        put_if_full(p, fault, &mut gathered);
-        gather_byte(&mut gathered, byte);
+        let len = show_bytes(&mut shown, chunk);
+        put_ascii(p, fault, &shown[..len]);
     }
-    put_gathered(p, fault, &mut gathered);
 }
 
 /// Writes bytes in quotes, with what isn't printable by its hexadecimal digits.

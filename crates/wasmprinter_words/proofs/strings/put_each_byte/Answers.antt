@@ -1,18 +1,20 @@
-use Rattle.std.proofs.Common.{flat_map, rules}
-use Rattle.std.proofs.lemmas.List.{at_drop_more, at_drop_all}
+use Rattle.std.proofs.Common.{◌++◌, ap, sym, ◌∙◌, flat_map, rules}
+use Rattle.std.proofs.lemmas.Grind.{flat_map-append}
+use Rattle.std.specs.Slice.Iter.{chunks_rest}
 use Rattle.wasmprinter_spec.specs.Quoted.{byte_text}
-use Rattle.wasmprinter_print.specs.PutsLaws.{but_all}
-use Rattle.wasmprinter_words.proofs.Gathering.{gathers, gathered_all}
+use Rattle.wasmprinter_print.specs.PutsLaws.{but_more}
 use Rattle.wasmprinter_words.proofs.strings.put_each_byte.Goals as goal
 
-pub loop-byte-init : goal.loop-byte-init
-loop-byte-init g c = but_all g.P.Print.meaning _ _ _ _ (search (rules, c.new-gathered.ensures))
+pub put_ascii-requires : goal.put_ascii-requires
+put_ascii-requires g c = c.show_bytes-len.ensures.ascii
 
-pub loop-byte-preserved : goal.loop-byte-preserved
-loop-byte-preserved g c =
-    let step = at_drop_more (flat_map byte_text) c.args.bytes.now c.loop-byte.byte-index 0 c.loop-byte-test.true in
-    gathers g.P.Print.meaning _ _ _ _ _ _ c.loop-byte.invariant c.put_if_full.ensures.put c.gather_byte.ensures step
-
-pub returns : goal.returns
-returns g c =
-    gathered_all g.P.Print.meaning _ _ _ (at_drop_all (flat_map byte_text) c.args.bytes.now c.loop-byte.byte-index c.loop-byte-test.false) c.loop-byte.invariant c.put_gathered.ensures.put
+pub loop-chunk-preserved : goal.loop-chunk-preserved
+loop-chunk-preserved g c =
+    let steps = c.in-Some.ensures.steps in (
+      search rules,
+      tt,
+      steps.0 ∙ c.loop-chunk.invariant.2,
+      but_more g.P.Print.meaning _ _ _
+          (ap (flat_map byte_text) steps.1.0 ∙ flat_map-append byte_text _ _ ∙ ap (λ t. t ++ flat_map byte_text (chunks_rest c.next.new.self)) (sym c.show_bytes-len.ensures.text))
+          c.loop-chunk.invariant.3 c.put_ascii.ensures,
+    )

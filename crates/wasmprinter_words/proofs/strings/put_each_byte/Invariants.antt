@@ -1,9 +1,13 @@
-use Rattle.std.proofs.Common.{drop, ◌++◌}
+use Rattle.std.proofs.Common.{◌≡◌}
 use Rattle.std.specs.Prelude.{flat_map}
+use Rattle.std.specs.Slice.Iter.{chunks_rest, chunks_size}
 use Rattle.wasmprinter_spec.specs.Quoted.{byte_text}
 use Rattle.wasmprinter_print.specs.Puts.{PutsBut}
 use Rattle.wasmprinter_words.proofs.strings.put_each_byte.Given as goal
 
-abbrev pub invariant-loop-byte : goal.invariant-loop-byte
-invariant-loop-byte g l =
-    PutsBut g.P.Print.meaning l.fn.p l.fn.fault l.p l.fault (flat_map byte_text l.fn.bytes) (l.gathered.bytes ++ flat_map byte_text (drop l.byte-index l.fn.bytes))
+abbrev pub invariant-loop-chunk : goal.invariant-loop-chunk
+invariant-loop-chunk g l =
+    (goal.iterator-loop-chunk g).can_next l.chunk-iterator
+    × (goal.iterator-loop-chunk g).is_finite l.chunk-iterator
+    × (chunks_size l.chunk-iterator ≡ 85)
+    × PutsBut g.P.Print.meaning l.fn.p l.fn.fault l.p l.fault (flat_map byte_text l.fn.bytes) (flat_map byte_text (chunks_rest l.chunk-iterator))

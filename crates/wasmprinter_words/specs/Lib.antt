@@ -1,2 +1,0 @@
--- What the contracts of texts in quotes cite.
-pub mod Gathered
