@@ -9,6 +9,9 @@ use wasmprinter::{Config, Error, OffsetsAndLines, Print, print_bytes};
 /// What stands in the storage that lines are appended to.
 const OLD: &str = "old";
 
+/// Nothing outside quotes is appended in pieces of so many bytes.
+const PIECE: usize = 8;
+
 #[derive(Clone, Copy)]
 pub enum Ending {
     /// Each call gave what is wanted.
@@ -115,8 +118,22 @@ fn are_text(lines: OffsetsAndLines<'_>, text: &str) -> bool {
     comparing.is_whole()
 }
 
-/// By the call that appends lines to a text, which keeps what stood there.
-fn by_lines(alloc: Global, shape: &Shape) -> Ending {
+/// Whether what stands in the storage is what stood there, with a beginning of the text behind it.
+fn is_begun(storage: &str, text: &str) -> bool {
+    match storage.strip_prefix(OLD) {
+        Some(rest) => text.starts_with(rest),
+        None => false,
+    }
+}
+
+/// Whether nothing more of the text fits into the storage, not even a letter in quotes.
+fn is_filled(storage: &String, text: &str) -> bool {
+    storage.capacity().saturating_sub(storage.len()) < PIECE || storage.ends_with(text)
+}
+
+/// By the call that appends lines to a text, which keeps what stood there, and where memory is refused what was printed. Where nothing else
+/// asks for memory, no room for more of the text may be left then.
+fn by_lines(alloc: Global, shape: &Shape, fills: bool) -> Ending {
     let mut storage = String::new(alloc);
     if storage.push_str(OLD).is_err() {
         return Ending::OutOfMemory;
@@ -125,7 +142,9 @@ fn by_lines(alloc: Global, shape: &Shape) -> Ending {
         Ok(lines) => return Ending::of(are_text(lines, shape.text), "wrong lines"),
         Err(error) => Ending::of_error(error),
     };
-    Ending::of(storage.starts_with(OLD), "lost text").or(refused)
+    Ending::of(is_begun(storage.as_str(), shape.text), "lost text")
+        .or(Ending::of(!fills || is_filled(&storage, shape.text), "left room"))
+        .or(refused)
 }
 
 /// By the call that gives a text in colours, of which only the length is judged.
@@ -151,7 +170,8 @@ fn by_folding(alloc: Global, shape: &Shape) -> Ending {
 pub fn ending_of(alloc: Global, shape: &Shape) -> Ending {
     match shape.way {
         Way::Plain => by_each_call(alloc, shape),
-        Way::Lines => by_lines(alloc, shape),
+        Way::Lines => by_lines(alloc, shape, false),
+        Way::Filled => by_lines(alloc, shape, true),
         Way::Colors => by_colors(alloc, shape),
         Way::Folded => by_folding(alloc, shape),
     }

@@ -7,6 +7,8 @@ pub enum Way {
     Plain,
     /// Appended to a text, with its lines.
     Lines,
+    /// The same, where the text alone asks for memory once it is begun: it is appended as far as it fits.
+    Filled,
     /// In colours.
     Colors,
     /// With its operators folded.
@@ -25,7 +27,7 @@ pub struct Shape {
 }
 
 /// What is printed; the last is the empty module.
-pub const SHAPES: [Shape; 14] = [
+pub const SHAPES: [Shape; 15] = [
     Shape {
         name: "types",
         way: Way::Plain,
@@ -104,6 +106,13 @@ pub const SHAPES: [Shape; 14] = [
         functions: 1,
     },
     Shape {
+        name: "lines in quotes",
+        way: Way::Filled,
+        wasm: LONG_NAME,
+        text: LONG_NAME_TEXT,
+        functions: 0,
+    },
+    Shape {
         name: "colours",
         way: Way::Colors,
         wasm: &BLOCKS,
@@ -153,6 +162,26 @@ const EXPORTS_TEXT: &str = r#"(module
   (export "b\u{22}" (func 7))
 )
 "#;
+
+const LONG_NAME: &[u8] = b"\0asm\x01\0\0\0\
+    \x07\xc5\x02\x01\xc0\x02\
+    abcdefghijklmnopqrstuvwxyzabcdefghijklmnopqrstuvwxyzabcdefghijkl\
+    mnopqrstuvwxyzabcdefghijklmnopqrstuvwxyzabcdefghijklmnopqrstuvwx\
+    yzabcdefghijklmnopqrstuvwxyzabcdefghijklmnopqrstuvwxyzabcdefghij\
+    klmnopqrstuvwxyzabcdefghijklmnopqrstuvwxyzabcdefghijklmnopqrstuv\
+    wxyzabcdefghijklmnopqrstuvwxyzabcdefghijklmnopqrstuvwxyzabcdefgh\
+    \0\0";
+
+const LONG_NAME_TEXT: &str = "(module
+  (export \"\
+    abcdefghijklmnopqrstuvwxyzabcdefghijklmnopqrstuvwxyzabcdefghijkl\
+    mnopqrstuvwxyzabcdefghijklmnopqrstuvwxyzabcdefghijklmnopqrstuvwx\
+    yzabcdefghijklmnopqrstuvwxyzabcdefghijklmnopqrstuvwxyzabcdefghij\
+    klmnopqrstuvwxyzabcdefghijklmnopqrstuvwxyzabcdefghijklmnopqrstuv\
+    wxyzabcdefghijklmnopqrstuvwxyzabcdefghijklmnopqrstuvwxyzabcdefgh\
+    \" (func 0))
+)
+";
 
 const LOCALS: [u8; 28] = [
     0x00, 0x61, 0x73, 0x6d, 0x01, 0x00, 0x00, 0x00, // preamble
