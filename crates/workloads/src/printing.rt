@@ -17,7 +17,7 @@ pub enum Job {
     Flat,
     /// Such a module, each operator in parentheses with its operands.
     Folded,
-    /// A module with debug information, as a debugger shows it: line by line, each with its place.
+    /// Modules with debug information, as a debugger shows them: line by line, each with its place.
     Lines,
     /// An awkward module: names with signs that have to be quoted, many of them the same, names of all locals and labels, deep blocks,
     /// long tables of branches.
@@ -69,6 +69,9 @@ impl Total {
         }
     }
 }
+
+/// How many modules are printed in lines, each of other draws.
+const LISTINGS: u32 = 2;
 
 /// How usual code nests.
 const USUAL: Nesting = Nesting {
@@ -155,7 +158,7 @@ impl Job {
         match self {
             Job::Flat | Job::Named => print_flat(alloc, &compiled::module(alloc, draws, plan)?),
             Job::Folded => print_folded(alloc, &compiled::module(alloc, draws, plan)?),
-            Job::Lines => print_lines(alloc, &compiled::module(alloc, draws, plan)?),
+            Job::Lines => print_listings(alloc, seed, plan),
             Job::Suite => print_suite(alloc, draws, scale.of(6_000)),
         }
     }
@@ -175,8 +178,8 @@ fn print_folded(alloc: Global, module: &Encoder) -> Result<Total, Error> {
     Ok(Total::new().with(module, text.as_bytes()))
 }
 
-/// Prints a module in lines, and takes each.
-fn print_lines(alloc: Global, module: &Encoder) -> Result<Total, Error> {
+/// Prints a module in lines, takes each, and adds it to a total.
+fn print_lines(alloc: Global, total: Total, module: &Encoder) -> Result<Total, Error> {
     let mut text = String::new(alloc);
     let mut places: u64 = 0;
     for (place, line) in Config::new().offsets_and_lines(alloc, module.bytes(), &mut text)? {
@@ -185,11 +188,21 @@ fn print_lines(alloc: Global, module: &Encoder) -> Result<Total, Error> {
             .wrapping_add(place.unwrap_or(0))
             .wrapping_add(line.len() as u64);
     }
-    let total = Total::new().with(module, text.as_bytes());
+    let total = total.with(module, text.as_bytes());
     Ok(Total {
         digest: total.digest ^ places,
         ..total
     })
+}
+
+/// Prints some modules in lines, the first of which is drawn by the seed alone.
+fn print_listings(alloc: Global, seed: u32, plan: Plan) -> Result<Total, Error> {
+    let mut total = Total::new();
+    for number in 0..LISTINGS {
+        let draws = Draws::new(u64::from(seed) | (u64::from(number) << 32));
+        total = print_lines(alloc, total, &compiled::module(alloc, draws, plan)?)?;
+    }
+    Ok(total)
 }
 
 /// Prints so many small modules in colours.
