@@ -126,9 +126,15 @@ fn is_begun(storage: &str, text: &str) -> bool {
     }
 }
 
-/// Whether nothing more of the text fits into the storage, not even a letter in quotes.
+/// Whether what was printed of a text that has no escapes ends between quotes.
+fn ends_in_quotes(printed: &str) -> bool {
+    printed.split('"').count() % 2 == 0
+}
+
+/// Whether nothing more of the text fits into the storage: in quotes not even a letter, and else no piece.
 fn is_filled(storage: &String, text: &str) -> bool {
-    storage.capacity().saturating_sub(storage.len()) < PIECE || storage.ends_with(text)
+    let room = storage.capacity().saturating_sub(storage.len());
+    room == 0 || (room < PIECE && !ends_in_quotes(storage.as_str())) || storage.ends_with(text)
 }
 
 /// By the call that appends lines to a text, which keeps what stood there, and where memory is refused what was printed. Where nothing else

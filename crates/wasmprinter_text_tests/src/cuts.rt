@@ -70,7 +70,7 @@ const LENGTHS: [(usize, usize); 6] = [
     (764, 772),
 ];
 
-/// The places that are the last ones of the first that are gathered, of bytes and of a text.
+/// Places around the end of the first part that is handed over, of bytes and of a text.
 const THRESHOLDS: [(usize, usize); 2] = [(83, 87), (252, 258)];
 
 /// Characters that don't stand for themselves in quotes, of one, two and four bytes.
