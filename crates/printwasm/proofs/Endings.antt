@@ -1,6 +1,6 @@
 -- What a refusal comes to.
 use Rattle.std.specs.Prelude.{◌≡◌, ℕ, List, Option, Some, None}
-use Rattle.std.proofs.Common.{sym, subst, ◌∙◌, arith}
+use Rattle.std.proofs.Common.{sym, ◌∙◌, arith}
 use Rattle.wasmprinter_error.specs.declared.error.Error.{Error}
 use Rattle.wasmprinter.specs.OfFile.{Reading}
 use Rattle.printwasm.specs.Words.{named_file, choice_of}

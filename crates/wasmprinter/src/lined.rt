@@ -1,5 +1,5 @@
 //! The text of a module behind another text, with its lines.
-ghost use Rattle.std.specs.Prelude.{◌≡◌, ◌↔◌, OnErr, IfOk, IfErr, IsErrOf, string_bytes};
+ghost use Rattle.std.specs.Prelude.{◌↔◌, OnErr, IfOk, IfErr, IsErrOf, string_bytes};
 ghost use Rattle.wasmprinter_spec.specs.Binary.{IsComponent};
 ghost use Rattle.wasmprinter_tracker.specs.Cuts.{IsCuttable};
 ghost use Rattle.wasmprinter_tracker.specs.Tracking.{BeginsWith};

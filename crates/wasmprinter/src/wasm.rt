@@ -5,10 +5,10 @@ pub use wasmprinter_ops::expression::{Expression, OperatorsReader};
 pub use wasmprinter_ops::opcode::{Opcode, Role, Shape, Space as OperandSpace};
 pub use wasmprinter_ops::operands::MemArg;
 pub use wasmprinter_ops::operator::{Immediates, Operator};
-pub use wasmprinter_ops::types::composite::{
+pub use wasmprinter_types::composite::{
     CompositeType, FieldType, FieldTypes, FuncType, StorageType, SubType, SubTypes, TypeIndices,
 };
-pub use wasmprinter_ops::types::{HeapType, RefType, ValType, ValTypes};
+pub use wasmprinter_types::{HeapType, RefType, ValType, ValTypes};
 pub use wasmprinter_wasm::{
     Body, Custom, CustomEntry, Data, DataMode, Element, ElementItems, ElementMode, Export,
     ExternKind, ExternType, Function, Global, GlobalType, Import, Limits, LocalEntry, Locals,

@@ -1,11 +1,10 @@
 //! The lines of a section `dylink.0` (tool conventions, "Dynamic Linking").
 ghost use Rattle.std.specs.Prelude.{◌≡◌, ℕ, [], ◌∷◌, codes, Some};
-ghost use Rattle.wasmprinter_spec.specs.Options.{Options};
 ghost use Rattle.wasmprinter_spec.specs.Piece.{Break};
 ghost use Rattle.wasmprinter_spec.specs.Layout.Customs.{note, sizes_group, sizes_pieces, names_pieces, exports_pieces, import_infos_pieces};
 ghost use Rattle.wasmprinter_spec.specs.Layout.Customs.{content_pieces, subsections_pieces};
 ghost use Rattle.wasmprinter_spec.specs.Layout.Groups.{has_break};
-ghost use Rattle.wasmprinter_print.specs.Prints.{Prints};
+ghost use Rattle.wasmprinter_print.specs.Prints.{Prints, PrintsAlways};
 ghost use Rattle.wasmprinter_customs.specs.Contents.{content_view};
 
 use crate::flags::write_flags;
@@ -23,7 +22,7 @@ use wasmprinter_words::words::{gap, open, open_gap, open_plain, shut};
 /// Writes a blank and a size with its alignment as a group, and nothing where both are 0.
 #[tactic(auto, unfolding(wasmprinter_spec::specs::Layout::Customs::sizes_group))]
 fn write_sizes_group<P: Print>(p: &mut P, word: &str, size: u32, alignment: u32) -> io::Result<()>
-    ensures { (o : Options) → Prints P.meaning o p.old p.new result (sizes_group word.now size alignment) }
+    ensures { PrintsAlways P.meaning p.old p.new result (sizes_group word.now size alignment) }
 {
     if size == 0 && alignment == 0 {
         return Ok(());

@@ -1,10 +1,9 @@
 //! The flags of symbols (tool conventions, "Linking").
 ghost use Rattle.std.specs.Prelude.{false, [], ◌∷◌, ◌++◌, codes};
 ghost use Rattle.std.specs.Fmt.{digits};
-ghost use Rattle.wasmprinter_spec.specs.Options.{Options};
 ghost use Rattle.wasmprinter_spec.specs.Piece.{Gap, Word};
 ghost use Rattle.wasmprinter_spec.specs.Layout.Customs.{flag_words, flags_pieces};
-ghost use Rattle.wasmprinter_print.specs.Prints.{Prints};
+ghost use Rattle.wasmprinter_print.specs.Prints.{PrintsAlways};
 ghost use Rattle.wasmprinter_customs.specs.Flags.{bits_of, words_by};
 ghost use Rattle.wasmprinter_customs.specs.FlagPieces.{words_pieces, others_pieces};
 
@@ -16,7 +15,7 @@ use wasmprinter_words::words::{gap, word};
 
 /// Writes a blank and a word.
 fn gap_word<P: Print>(p: &mut P, flag: &str) -> io::Result<()>
-    ensures { (o : Options) → Prints P.meaning o p.old p.new result (Gap ∷ (Word flag.now ∷ [])) }
+    ensures { PrintsAlways P.meaning p.old p.new result (Gap ∷ (Word flag.now ∷ [])) }
 {
     gap(p)?;
     word(p, flag)
@@ -24,7 +23,7 @@ fn gap_word<P: Print>(p: &mut P, flag: &str) -> io::Result<()>
 
 /// Writes the words of the flags that are set, a blank before each.
 fn write_words<P: Print>(p: &mut P, flags: SymbolFlags) -> io::Result<()>
-    ensures { (o : Options) → Prints P.meaning o p.old p.new result (words_pieces (words_by flag_words (bits_of flags))) }
+    ensures { PrintsAlways P.meaning p.old p.new result (words_pieces (words_by flag_words (bits_of flags))) }
 {
     for flag in flags.words() {
         gap_word(p, flag)?;
@@ -34,7 +33,7 @@ fn write_words<P: Print>(p: &mut P, flags: SymbolFlags) -> io::Result<()>
 
 /// Writes a number as a word in hexadecimal.
 fn write_bits<P: Print>(p: &mut P, bits: u32) -> io::Result<()>
-    ensures { (o : Options) → Prints P.meaning o p.old p.new result (Word (codes "0x" ++ digits 16 false bits) ∷ []) }
+    ensures { PrintsAlways P.meaning p.old p.new result (Word (codes "0x" ++ digits 16 false bits) ∷ []) }
 {
     text(p, "0x")?;
     write_hexadecimal(p, u64::from(bits))
@@ -43,7 +42,7 @@ fn write_bits<P: Print>(p: &mut P, bits: u32) -> io::Result<()>
 /// Writes a blank and bits in hexadecimal, and nothing where there are none.
 #[tactic(auto, unfolding(wasmprinter_customs::specs::FlagPieces::others_pieces))]
 fn write_others<P: Print>(p: &mut P, bits: u32) -> io::Result<()>
-    ensures { (o : Options) → Prints P.meaning o p.old p.new result (others_pieces bits) }
+    ensures { PrintsAlways P.meaning p.old p.new result (others_pieces bits) }
 {
     if bits == 0 {
         return Ok(());
@@ -55,7 +54,7 @@ fn write_others<P: Print>(p: &mut P, bits: u32) -> io::Result<()>
 /// Writes the words of the flags that are set, and then all other bits, a blank before each.
 #[tactic(auto, using(wasmprinter_customs::proofs::FlagPieces::flags_pieces_are))]
 pub(crate) fn write_flags<P: Print>(p: &mut P, flags: SymbolFlags) -> io::Result<()>
-    ensures { (o : Options) → Prints P.meaning o p.old p.new result (flags_pieces (bits_of flags)) }
+    ensures { PrintsAlways P.meaning p.old p.new result (flags_pieces (bits_of flags)) }
 {
     write_words(p, flags)?;
     write_others(p, flags.other_bits())

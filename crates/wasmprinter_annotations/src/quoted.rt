@@ -1,7 +1,6 @@
 //! Texts in quotes within annotations, and how deep annotations are nested.
-ghost use Rattle.wasmprinter_spec.specs.Options.{Options};
 ghost use Rattle.wasmprinter_spec.specs.Layout.Customs.{gap_quoted, gap_quoted_list};
-ghost use Rattle.wasmprinter_print.specs.Prints.{Prints};
+ghost use Rattle.wasmprinter_print.specs.Prints.{PrintsAlways};
 
 use std::io;
 use wasmprinter_customs::DylinkNames;
@@ -17,7 +16,7 @@ pub(crate) const LINE_NESTING: u64 = 2;
 
 /// Writes a blank and a text in quotes.
 fn gap_string<P: Print>(p: &mut P, s: &str) -> io::Result<()>
-    ensures { (o : Options) → Prints P.meaning o p.old p.new result (gap_quoted s.now) }
+    ensures { PrintsAlways P.meaning p.old p.new result (gap_quoted s.now) }
 {
     gap(p)?;
     write_string(p, s)
@@ -25,7 +24,7 @@ fn gap_string<P: Print>(p: &mut P, s: &str) -> io::Result<()>
 
 /// Writes names in quotes, a blank before each.
 pub(crate) fn gap_strings<P: Print>(p: &mut P, names: &DylinkNames<'_>) -> io::Result<()>
-    ensures { (o : Options) → Prints P.meaning o p.old p.new result (gap_quoted_list names.now) }
+    ensures { PrintsAlways P.meaning p.old p.new result (gap_quoted_list names.now) }
 {
     for name in names.iter() {
         gap_string(p, name)?;

@@ -1,8 +1,7 @@
 //! Raw custom sections (appendix "Custom Annotations" of the WebAssembly Core Specification).
 ghost use Rattle.std.specs.Prelude.{◌≡◌};
-ghost use Rattle.wasmprinter_spec.specs.Options.{Options};
 ghost use Rattle.wasmprinter_spec.specs.Layout.Customs.{place_word as word_of_place, two_words, place_pieces, raw_pieces, faulted_pieces};
-ghost use Rattle.wasmprinter_print.specs.Prints.{Prints};
+ghost use Rattle.wasmprinter_print.specs.Prints.{Prints, PrintsAlways};
 ghost use Rattle.wasmprinter_entries.specs.Places.{section_kind_view, place_view};
 
 use crate::quoted::SECTION_NESTING;
@@ -38,7 +37,7 @@ fn place_word(kind: SectionKind) -> &'static str
 
 /// Writes two words as a group.
 fn write_two_words<P: Print>(p: &mut P, first: &str, second: &str) -> io::Result<()>
-    ensures { (o : Options) → Prints P.meaning o p.old p.new result (two_words first.now second.now) }
+    ensures { PrintsAlways P.meaning p.old p.new result (two_words first.now second.now) }
 {
     open_plain(p, first)?;
     gap(p)?;
@@ -49,7 +48,7 @@ fn write_two_words<P: Print>(p: &mut P, first: &str, second: &str) -> io::Result
 /// Writes where a section stands among the others.
 #[tactic(auto, unfolding(wasmprinter_spec::specs::Layout::Customs::place_pieces))]
 fn write_place<P: Print>(p: &mut P, behind: Option<SectionKind>) -> io::Result<()>
-    ensures { (o : Options) → Prints P.meaning o p.old p.new result (place_pieces (place_view behind)) }
+    ensures { PrintsAlways P.meaning p.old p.new result (place_pieces (place_view behind)) }
 {
     match behind {
         None => write_two_words(p, "before", "first"),

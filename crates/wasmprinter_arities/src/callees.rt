@@ -7,7 +7,7 @@ ghost use Rattle.wasmprinter_spec.specs.Folding.Arities.{types_of, functions_of,
 
 use std::alloc::{AllocError, Global};
 use std::marker::Model;
-use wasmprinter_ops::types::composite::FuncType;
+use wasmprinter_types::composite::FuncType;
 use wasmprinter_wasm::{ExternType, Module};
 
 /// The types of what operators of a module name.

@@ -3,7 +3,7 @@ ghost use Rattle.std.specs.Prelude.{◌≡◌, length, option_map};
 ghost use Rattle.wasmprinter_spec.specs.Folding.Arities.{takes_and_gives, saturating_sum};
 ghost use Rattle.wasmprinter_arities.specs.Counted.{counts_view};
 
-use wasmprinter_ops::types::composite::FuncType;
+use wasmprinter_types::composite::FuncType;
 
 /// How many operands an operator takes, and how many results it gives.
 #[derive(Clone, Copy, Debug, PartialEq, Eq)]

@@ -9,7 +9,7 @@ ghost use Rattle.wasmprinter_arities.specs.Named.{field_count_named, block_gives
 use crate::blocks::block_gives;
 use crate::callees::Callees;
 use wasmprinter_ops::operator::Immediates;
-use wasmprinter_ops::types::composite::FuncType;
+use wasmprinter_types::composite::FuncType;
 
 /// The index, where there is nothing but one.
 pub(crate) fn index_in(immediates: &Immediates<'_>) -> Option<u32>

@@ -1,12 +1,11 @@
 //! Locals (section 6.6 of the WebAssembly Core Specification, "Functions").
 ghost use Rattle.std.specs.Prelude.{◌≡◌, ◌+◌, ◌<◌, ◌^◌, ℕ, IfOk, codes, replicate};
 ghost use Rattle.wasmprinter_spec.specs.Names.{Names};
-ghost use Rattle.wasmprinter_spec.specs.Options.{Options};
 ghost use Rattle.wasmprinter_spec.specs.Module.{locals_of};
 ghost use Rattle.wasmprinter_spec.specs.Layout.Functions.{locals_place, local_pieces};
 ghost use Rattle.wasmprinter_spec.specs.Layout.Groups.{has_break};
-ghost use Rattle.wasmprinter_print.specs.Prints.{Prints};
-ghost use Rattle.wasmprinter_ops.specs.ValTypes.{type_view};
+ghost use Rattle.wasmprinter_print.specs.Prints.{Prints, PrintsAlways};
+ghost use Rattle.wasmprinter_types.specs.ValTypes.{type_view};
 ghost use Rattle.wasmprinter_labels.specs.Scan.{names_of};
 ghost use Rattle.wasmprinter_text.specs.Variables.{walk_pieces};
 ghost use Rattle.wasmprinter_text.specs.declared.types.variables.Before.TheVariants.{Line};
@@ -15,10 +14,10 @@ ghost use Rattle.wasmprinter_bodies.specs.LocalWalk.{behind_one, behind_all, loc
 use std::io;
 use wasmprinter_lines::lines::break_line;
 use wasmprinter_lines::options::PrintOptions;
-use wasmprinter_ops::types::ValType;
 use wasmprinter_print::Print;
 use wasmprinter_scope::scope::Scope;
 use wasmprinter_text::types::variables::{Before, end_variables, write_variable};
+use wasmprinter_types::ValType;
 use wasmprinter_wasm::{LocalEntry, Locals};
 
 /// How deep the locals of a function are nested.
@@ -59,7 +58,7 @@ fn write_local<P: Print>(
     value_type: ValType,
 ) -> io::Result<Position>
     requires { position.number + 1 < 2 ^ 64 }
-    ensures pieces { (o : Options) → Prints P.meaning o p.old p.new result
+    ensures pieces { PrintsAlways P.meaning p.old p.new result
         (local_parts (names_of scope.now.labels) function position (type_view value_type)) }
     ensures behind { IfOk result (λ x. x ≡ behind_one ((names_of scope.now.labels).locals function) position) }
 {
@@ -88,7 +87,7 @@ fn write_entry<P: Print>(
     entry: &LocalEntry,
 ) -> io::Result<Position>
     requires { start.number + entry.now.value.count < 2 ^ 64 }
-    ensures pieces { (o : Options) → Prints P.meaning o p.old p.new result
+    ensures pieces { PrintsAlways P.meaning p.old p.new result
         (locals_parts (names_of scope.now.labels) function start (replicate entry.now.value.count entry.now.value.type)) }
     ensures behind { IfOk result (λ x. x ≡ behind_all ((names_of scope.now.labels).locals function) start
         (replicate entry.now.value.count entry.now.value.type)) }
@@ -108,7 +107,7 @@ fn write_entries<P: Print>(
     parameters: u32,
     locals: &Locals<'_>,
 ) -> io::Result<()>
-    ensures { (o : Options) → Prints P.meaning o p.old p.new result
+    ensures { PrintsAlways P.meaning p.old p.new result
         (walk_pieces (names_of scope.now.labels) (codes "local") ((names_of scope.now.labels).locals function) Line parameters
         (locals_of locals.now)) }
 {

@@ -1,6 +1,7 @@
 //! The section `dylink.0` (tool conventions, "Dynamic Linking"): subsections, each an id, a size and so many bytes.
 ghost use Rattle.std.specs.Prelude.{◌≡◌, IfOk};
-ghost use Rattle.wasmprinter_spec.specs.Customs.Dylink.{mem_info, export_info, import_info, content_by_id, is_known, subsection, judgement_of};
+ghost use Rattle.wasmprinter_spec.specs.Customs.Dylink.{mem_info, export_info, import_info, content_by_id};
+ghost use Rattle.wasmprinter_spec.specs.Customs.Dylink.{is_known, subsection, judgement_of};
 ghost use Rattle.wasmprinter_bytes.specs.Reads.{Reads};
 ghost use Rattle.wasmprinter_customs.specs.Contents.{content_view};
 ghost use Rattle.wasmprinter_customs.specs.Flags.{bits_of};

@@ -5,7 +5,7 @@ use Rattle.wasmprinter_spec.specs.Types.{limits_of, memory_type_of, table_type_o
 use Rattle.wasmprinter_spec.specs.Types.{Limits as DefinedLimits, MemoryType as DefinedMemory, TableType as DefinedTable, GlobalType as DefinedGlobal, ExternKind as DefinedKind, ExternType as DefinedExtern}
 use Rattle.wasmprinter_spec.specs.Placed.{Import}
 use Rattle.wasmprinter_spec.specs.Module.{without_places, imported_types, func_import, table_import, memory_import, global_import, tag_import}
-use Rattle.wasmprinter_ops.specs.ValTypes.{ref_view, type_view}
+use Rattle.wasmprinter_types.specs.ValTypes.{ref_view, type_view}
 use Rattle.wasmprinter_entries.specs.declared.limits.Limits.{Limits}
 use Rattle.wasmprinter_entries.specs.declared.memories.MemoryType.{MemoryType}
 use Rattle.wasmprinter_entries.specs.declared.table_types.TableType.{TableType}

@@ -6,8 +6,8 @@ ghost use Rattle.wasmprinter_entries.specs.Externs.{global_type_view};
 
 use wasmprinter_bytes::bytes::Cursor;
 use wasmprinter_error::Malformed;
-use wasmprinter_ops::types::composite::read_mutability;
-use wasmprinter_ops::types::{ValType, read_type};
+use wasmprinter_types::composite::read_mutability;
+use wasmprinter_types::{ValType, read_type};
 
 /// The type of a global variable (section 2.3, "Global Types").
 #[derive(Clone, Copy, Debug, PartialEq, Eq)]

@@ -8,7 +8,7 @@ use crate::flags::has_bit;
 use crate::limits::{Limits, MAX_BIT, WIDE_BIT};
 use wasmprinter_bytes::bytes::Cursor;
 use wasmprinter_error::Malformed;
-use wasmprinter_ops::types::RefType;
+use wasmprinter_types::RefType;
 
 /// Flags of a least size alone, with indices of 32 bits.
 const MIN: u32 = 0x00;

@@ -13,7 +13,7 @@ use std::marker::Model;
 use wasmprinter_bytes::bytes::Cursor;
 use wasmprinter_bytes::lists::{SpelledIn, read_list};
 use wasmprinter_error::{Error, Malformed};
-use wasmprinter_ops::types::composite::{CompositeType, FuncType, SubType, SubTypes};
+use wasmprinter_types::composite::{CompositeType, FuncType, SubType, SubTypes};
 
 /// In front of types that are written as a group.
 const REC: u8 = 0x4e;

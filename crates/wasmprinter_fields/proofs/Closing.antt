@@ -6,9 +6,9 @@ use Rattle.wasmprinter_error.specs.declared.error.Error.{Error}
 use Rattle.wasmprinter_error.specs.declared.error.Error.TheVariants.{Printer}
 use Rattle.wasmprinter_spec.specs.Options.{Options}
 use Rattle.wasmprinter_spec.specs.Meaning.{Meaning}
-use Rattle.wasmprinter_spec.specs.Piece.{Piece, Break, OpenGap, Shut}
+use Rattle.wasmprinter_spec.specs.Piece.{Piece, Break, OpenGap}
 use Rattle.wasmprinter_spec.specs.Layout.Groups.{has_break, close, group_gap}
-use Rattle.wasmprinter_print.specs.Emits.{Ending, Through, AtCall, halt_of}
+use Rattle.wasmprinter_print.specs.Emits.{Through, AtCall, halt_of}
 use Rattle.wasmprinter_print.specs.Prints.{Written, PrintsOrStops}
 use Rattle.wasmprinter_print.specs.PrintsLaws.{both_pieces, pieces_halt, last_pieces_halt}
 

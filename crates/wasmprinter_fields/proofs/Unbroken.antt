@@ -1,21 +1,21 @@
 -- What stands in the groups of fields on one line, and whether a line begins in the others.
-use Rattle.std.specs.Prelude.{◌≡◌, ℕ, List, [], ◌∷◌, ◌++◌, Bool, false, ◌||◌, Some, None, Result, Ok, Err, IfOk, IsErrAnd, refl}
+use Rattle.std.specs.Prelude.{◌≡◌, ℕ, List, [], ◌∷◌, ◌++◌, Bool, false, ◌||◌, None, Result, Ok, Err, IfOk, IsErrAnd, refl}
 use Rattle.std.proofs.Common.{sym, ap, ◌∙◌}
 use Rattle.wasmprinter_spec.specs.Grammar.{Placed}
-use Rattle.wasmprinter_spec.specs.Types.{MemoryType, TableType, GlobalType, RefType}
+use Rattle.wasmprinter_spec.specs.Types.{MemoryType, RefType}
 use Rattle.wasmprinter_spec.specs.Row as row
 use Rattle.wasmprinter_spec.specs.Operator.{Operator}
-use Rattle.wasmprinter_spec.specs.Placed.{Import, Export, Table, Global, Mode, Items, ElementEntry, DataMode, Data}
+use Rattle.wasmprinter_spec.specs.Placed.{Import, Export, Table, Global, ElementEntry, Data}
 use Rattle.wasmprinter_spec.specs.Piece.{Piece, Gap}
 use Rattle.wasmprinter_spec.specs.Layout.Groups.{has_break}
 use Rattle.wasmprinter_spec.specs.Layout.Declarations.{Scope, item_declaration, item_index}
 use Rattle.wasmprinter_spec.specs.Layout.Functions.{header_pieces}
 use Rattle.wasmprinter_spec.specs.Layout.Tables.{init_pieces}
-use Rattle.wasmprinter_spec.specs.Layout.Expressions.{constant_pieces, constant_group}
-use Rattle.wasmprinter_spec.specs.Layout.Elements.{named_table, function_items, expression_items, mode_pieces, shown_items}
+use Rattle.wasmprinter_spec.specs.Layout.Expressions.{constant_pieces}
+use Rattle.wasmprinter_spec.specs.Layout.Elements.{named_table, function_items, mode_pieces, shown_items}
 use Rattle.wasmprinter_spec.specs.Layout.DataSegments.{named_memory, data_mode_pieces, shown_bytes}
 use Rattle.wasmprinter_spec.specs.Layout.ValTypes.{ref_pieces}
-use Rattle.wasmprinter_spec.proofs.OneLine.{stays_unbroken, both_stay, then_stay, alone_stays, line_group_gap_stays, ref_stays}
+use Rattle.wasmprinter_spec.proofs.OneLine.{stays_unbroken, both_stay, then_stay, line_group_gap_stays, ref_stays}
 use Rattle.wasmprinter_places.proofs.FieldLines.{header_stays, item_stays, declared_stays, table_type_stays, memory_type_stays, global_type_stays, extern_stays, extern_index_stays, named_table_stays, function_items_stay, named_memory_stays, bytes_stay}
 use Rattle.wasmprinter_scope.proofs.Groups.{behind-line, before-line, or-false}
 use Rattle.wasmprinter_lines.proofs.Groups.{has_break-append, or-assoc}

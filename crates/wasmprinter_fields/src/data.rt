@@ -1,9 +1,7 @@
 //! Data segments (section 6.6 of the WebAssembly Core Specification, "Data Segments").
-ghost use Rattle.std.specs.Prelude.{◌≡◌, codes, IfOk};
-ghost use Rattle.wasmprinter_spec.specs.Layout.Groups.{has_break};
-ghost use Rattle.wasmprinter_spec.specs.Options.{Options};
+ghost use Rattle.std.specs.Prelude.{◌≡◌, codes};
 ghost use Rattle.wasmprinter_spec.specs.Layout.DataSegments.{named_memory, data_mode_pieces};
-ghost use Rattle.wasmprinter_print.specs.Prints.{Prints, PrintsOrStops};
+ghost use Rattle.wasmprinter_print.specs.Prints.{PrintsAlways, PrintsOrStops, TellsLines};
 ghost use Rattle.wasmprinter_segments.specs.Segments.{data_mode_view};
 ghost use Rattle.wasmprinter_scope.specs.Scopes.{scope_view, folds_in};
 ghost use Rattle.wasmprinter_fields.specs.Parts.{data_parts};
@@ -22,7 +20,7 @@ use wasmprinter_words::words::gap;
 
 /// Writes the memory of a segment and a blank, and nothing for memory 0.
 fn write_named_memory<P: Print>(p: &mut P, scope: &Scope<'_, '_>, memory: u32) -> io::Result<()>
-    ensures { (o : Options) → Prints P.meaning o p.old p.new result (named_memory (scope_view scope.now) memory) }
+    ensures { PrintsAlways P.meaning p.old p.new result (named_memory (scope_view scope.now) memory) }
 {
     if memory == 0 {
         return Ok(());
@@ -41,7 +39,7 @@ fn write_data_mode<P: Print>(
 ) -> Result<bool, Error>
     ensures pieces { PrintsOrStops P.meaning options.now p.old p.new (folds_in (scope_view scope.old)) result
         (data_mode_pieces (scope_view scope.old) (data_mode_view mode.now)) }
-    ensures lines { IfOk result (λ lines. lines ≡ has_break (data_mode_pieces (scope_view scope.old) (data_mode_view mode.now))) }
+    ensures lines { TellsLines result (data_mode_pieces (scope_view scope.old) (data_mode_view mode.now)) }
     ensures scope { scope_view scope.new ≡ scope_view scope.old }
 {
     match mode {

@@ -1,14 +1,12 @@
 //! Element segments (section 6.6 of the WebAssembly Core Specification, "Element Segments").
-ghost use Rattle.std.specs.Prelude.{◌≡◌, ◌∷◌, codes, IfOk};
-ghost use Rattle.wasmprinter_spec.specs.Layout.Groups.{has_break};
+ghost use Rattle.std.specs.Prelude.{◌≡◌, ◌∷◌, codes};
 ghost use Rattle.wasmprinter_spec.specs.Row as row;
-ghost use Rattle.wasmprinter_spec.specs.Options.{Options};
 ghost use Rattle.wasmprinter_spec.specs.Piece.{Gap};
 ghost use Rattle.wasmprinter_spec.specs.Layout.Declarations.{item_index};
 ghost use Rattle.wasmprinter_spec.specs.Layout.Expressions.{constant_group};
 ghost use Rattle.wasmprinter_spec.specs.Layout.Elements.{named_table, mode_pieces, function_items, expression_items};
 ghost use Rattle.wasmprinter_spec.specs.Layout.Elements.{items_pieces, shown_items};
-ghost use Rattle.wasmprinter_print.specs.Prints.{Prints, PrintsOrStops};
+ghost use Rattle.wasmprinter_print.specs.Prints.{PrintsAlways, PrintsOrStops, TellsLines};
 ghost use Rattle.wasmprinter_segments.specs.Segments.{element_mode_view, element_items_view, constants_of};
 ghost use Rattle.wasmprinter_scope.specs.Scopes.{scope_view, folds_in};
 ghost use Rattle.wasmprinter_fields.specs.Parts.{element_parts};
@@ -35,7 +33,7 @@ fn write_named_table<P: Print>(
     is_named: bool,
     table: u32,
 ) -> io::Result<()>
-    ensures { (o : Options) → Prints P.meaning o p.old p.new result (named_table (scope_view scope.now) is_named table) }
+    ensures { PrintsAlways P.meaning p.old p.new result (named_table (scope_view scope.now) is_named table) }
 {
     if !is_named {
         return Ok(());
@@ -56,7 +54,7 @@ fn write_element_mode<P: Print>(
 ) -> Result<bool, Error>
     ensures pieces { PrintsOrStops P.meaning options.now p.old p.new (folds_in (scope_view scope.old)) result
         (mode_pieces (scope_view scope.old) names_table (element_mode_view mode.now)) }
-    ensures lines { IfOk result (λ lines. lines ≡ has_break (mode_pieces (scope_view scope.old) names_table (element_mode_view mode.now))) }
+    ensures lines { TellsLines result (mode_pieces (scope_view scope.old) names_table (element_mode_view mode.now)) }
     ensures scope { scope_view scope.new ≡ scope_view scope.old }
 {
     match mode {
@@ -76,7 +74,7 @@ fn write_element_mode<P: Print>(
 
 /// Writes a blank and the index of a function.
 fn write_function_item<P: Print>(p: &mut P, scope: &Scope<'_, '_>, function: u32) -> io::Result<()>
-    ensures { (o : Options) → Prints P.meaning o p.old p.new result
+    ensures { PrintsAlways P.meaning p.old p.new result
         (Gap ∷ item_index (scope_view scope.now) row.Func function) }
 {
     gap(p)?;
@@ -89,7 +87,7 @@ fn write_function_items<P: Print>(
     scope: &Scope<'_, '_>,
     functions: &Items<'_, u32>,
 ) -> io::Result<()>
-    ensures { (o : Options) → Prints P.meaning o p.old p.new result (function_items (scope_view scope.now) functions.now) }
+    ensures { PrintsAlways P.meaning p.old p.new result (function_items (scope_view scope.now) functions.now) }
 {
     for index in functions.iter() {
         write_function_item(p, scope, index)?;
@@ -106,7 +104,7 @@ fn write_expression_item<P: Print>(
 ) -> Result<bool, Error>
     ensures pieces { PrintsOrStops P.meaning options.now p.old p.new (folds_in (scope_view scope.old)) result
         (Gap ∷ constant_group (scope_view scope.old) 2 (codes "item") expression.now.items) }
-    ensures lines { IfOk result (λ lines. lines ≡ has_break (Gap ∷ constant_group (scope_view scope.old) 2 (codes "item") expression.now.items)) }
+    ensures lines { TellsLines result (Gap ∷ constant_group (scope_view scope.old) 2 (codes "item") expression.now.items) }
     ensures scope { scope_view scope.new ≡ scope_view scope.old }
 {
     gap(p)?;
@@ -122,7 +120,7 @@ fn write_expression_items<P: Print>(
 ) -> Result<bool, Error>
     ensures pieces { PrintsOrStops P.meaning options.now p.old p.new (folds_in (scope_view scope.old)) result
         (expression_items (scope_view scope.old) (constants_of expressions.now)) }
-    ensures lines { IfOk result (λ lines. lines ≡ has_break (expression_items (scope_view scope.old) (constants_of expressions.now))) }
+    ensures lines { TellsLines result (expression_items (scope_view scope.old) (constants_of expressions.now)) }
     ensures scope { scope_view scope.new ≡ scope_view scope.old }
 {
     let mut lines = false;
@@ -142,7 +140,7 @@ fn write_items<P: Print>(
 ) -> Result<bool, Error>
     ensures pieces { PrintsOrStops P.meaning options.now p.old p.new (folds_in (scope_view scope.old)) result
         (items_pieces (scope_view scope.old) (element_items_view items.now)) }
-    ensures lines { IfOk result (λ lines. lines ≡ has_break (items_pieces (scope_view scope.old) (element_items_view items.now))) }
+    ensures lines { TellsLines result (items_pieces (scope_view scope.old) (element_items_view items.now)) }
     ensures scope { scope_view scope.new ≡ scope_view scope.old }
 {
     match items {
@@ -167,7 +165,7 @@ fn write_shown_items<P: Print>(
 ) -> Result<bool, Error>
     ensures pieces { PrintsOrStops P.meaning options.now p.old p.new (folds_in (scope_view scope.old)) result
         (shown_items options.now.skeleton (scope_view scope.old) (element_items_view items.now)) }
-    ensures lines { IfOk result (λ lines. lines ≡ has_break (shown_items options.now.skeleton (scope_view scope.old) (element_items_view items.now))) }
+    ensures lines { TellsLines result (shown_items options.now.skeleton (scope_view scope.old) (element_items_view items.now)) }
     ensures scope { scope_view scope.new ≡ scope_view scope.old }
 {
     if options.skeleton {

@@ -1,10 +1,9 @@
 //! Exports (section 6.6 of the WebAssembly Core Specification, "Exports").
 ghost use Rattle.std.specs.Prelude.{◌≡◌, ℕ, codes};
 ghost use Rattle.wasmprinter_spec.specs.Indexed.{space_of};
-ghost use Rattle.wasmprinter_spec.specs.Options.{Options};
 ghost use Rattle.wasmprinter_spec.specs.Layout.Exports.{kind_word, extern_index_pieces};
 ghost use Rattle.wasmprinter_spec.specs.Layout.Groups.{line_group_gap};
-ghost use Rattle.wasmprinter_print.specs.Prints.{Prints};
+ghost use Rattle.wasmprinter_print.specs.Prints.{PrintsAlways};
 ghost use Rattle.wasmprinter_entries.specs.Externs.{kind_view};
 ghost use Rattle.wasmprinter_labels.specs.Scan.{Scan, names_of};
 ghost use Rattle.wasmprinter_scope.specs.Scopes.{scope_view, item_in};
@@ -57,7 +56,7 @@ fn write_extern_index<P: Print>(
     kind: ExternKind,
     index: u32,
 ) -> io::Result<()>
-    ensures { (o : Options) → Prints P.meaning o p.old p.new result
+    ensures { PrintsAlways P.meaning p.old p.new result
         (extern_index_pieces (scope_view scope.now) (kind_view kind) index) }
 {
     match kind {
@@ -74,7 +73,7 @@ fn write_extern<P: Print>(
     kind: ExternKind,
     index: u32,
 ) -> io::Result<()>
-    ensures { (o : Options) → Prints P.meaning o p.old p.new result
+    ensures { PrintsAlways P.meaning p.old p.new result
         (line_group_gap (kind_word (kind_view kind)) (extern_index_pieces (scope_view scope.now) (kind_view kind) index)) }
 {
     open_gap(p, kind_word(kind))?;

@@ -1,8 +1,7 @@
 //! Globals (section 6.6 of the WebAssembly Core Specification, "Globals"), and their types (section 6.4, "Global Types").
 ghost use Rattle.std.specs.Prelude.{codes};
-ghost use Rattle.wasmprinter_spec.specs.Options.{Options};
 ghost use Rattle.wasmprinter_spec.specs.Layout.Globals.{global_type_pieces};
-ghost use Rattle.wasmprinter_print.specs.Prints.{Prints};
+ghost use Rattle.wasmprinter_print.specs.Prints.{PrintsAlways};
 ghost use Rattle.wasmprinter_entries.specs.Externs.{global_type_view};
 ghost use Rattle.wasmprinter_labels.specs.Scan.{names_of};
 ghost use Rattle.wasmprinter_scope.specs.Scopes.{scope_view};
@@ -26,7 +25,7 @@ fn write_global_type<P: Print>(
     scope: &Scope<'_, '_>,
     global_type: GlobalType,
 ) -> io::Result<()>
-    ensures { (o : Options) → Prints P.meaning o p.old p.new result
+    ensures { PrintsAlways P.meaning p.old p.new result
         (global_type_pieces (names_of scope.now.labels) (global_type_view global_type)) }
 {
     if !global_type.mutable {
@@ -44,7 +43,7 @@ pub(crate) fn write_declared_global<P: Print>(
     number: u64,
     global_type: GlobalType,
 ) -> io::Result<()>
-    ensures { (o : Options) → Prints P.meaning o p.old p.new result
+    ensures { PrintsAlways P.meaning p.old p.new result
         (declared_global (scope_view scope.now) number (global_type_view global_type)) }
 {
     write_declaration(p, scope, Space::Global, number)?;

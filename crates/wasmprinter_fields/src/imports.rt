@@ -1,9 +1,8 @@
 //! Imports (section 6.6 of the WebAssembly Core Specification, "Imports").
 ghost use Rattle.std.specs.Prelude.{◌≡◌, ◌+◌, ◌<◌, ◌^◌, codes, length};
-ghost use Rattle.wasmprinter_spec.specs.Options.{Options};
 ghost use Rattle.wasmprinter_spec.specs.Layout.Imports.{number_of, numbers_behind, no_numbers};
 ghost use Rattle.wasmprinter_spec.specs.Layout.Imports.{extern_pieces, imports_pieces};
-ghost use Rattle.wasmprinter_print.specs.Prints.{Prints, PrintsOrStops};
+ghost use Rattle.wasmprinter_print.specs.Prints.{PrintsAlways, PrintsOrStops};
 ghost use Rattle.wasmprinter_entries.specs.Externs.{extern_view, HasPage};
 ghost use Rattle.wasmprinter_scope.specs.Scopes.{scope_view, folds_in};
 ghost use Rattle.wasmprinter_fields.specs.Parts.{extern_parts, import_parts};
@@ -98,7 +97,7 @@ fn write_extern_parts<P: Print>(
     extern_type: ExternType,
 ) -> io::Result<()>
     requires { HasPage extern_type }
-    ensures { (o : Options) → Prints P.meaning o p.old p.new result
+    ensures { PrintsAlways P.meaning p.old p.new result
         (extern_parts (scope_view scope.now) number (extern_view extern_type)) }
 {
     match extern_type {
@@ -118,7 +117,7 @@ fn write_extern_type<P: Print>(
     extern_type: ExternType,
 ) -> io::Result<()>
     requires { HasPage extern_type }
-    ensures { (o : Options) → Prints P.meaning o p.old p.new result
+    ensures { PrintsAlways P.meaning p.old p.new result
         (extern_pieces (scope_view scope.now) number (extern_view extern_type)) }
 {
     open_gap(p, kind_word(extern_type.kind()))?;

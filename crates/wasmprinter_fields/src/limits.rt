@@ -1,7 +1,6 @@
 //! Sizes of tables and memories (section 6.4 of the WebAssembly Core Specification, "Limits").
-ghost use Rattle.wasmprinter_spec.specs.Options.{Options};
 ghost use Rattle.wasmprinter_spec.specs.Layout.Limits.{wide_pieces, limits_pieces};
-ghost use Rattle.wasmprinter_print.specs.Prints.{Prints};
+ghost use Rattle.wasmprinter_print.specs.Prints.{PrintsAlways};
 ghost use Rattle.wasmprinter_entries.specs.Externs.{limits_view};
 
 use std::io;
@@ -12,7 +11,7 @@ use wasmprinter_words::words::type_word_gap;
 
 /// Writes that addresses have 64 bits, if they have.
 pub(crate) fn write_wide<P: Print>(p: &mut P, wide: bool) -> io::Result<()>
-    ensures { (o : Options) → Prints P.meaning o p.old p.new result (wide_pieces wide) }
+    ensures { PrintsAlways P.meaning p.old p.new result (wide_pieces wide) }
 {
     if wide {
         type_word_gap(p, "i64")
@@ -23,7 +22,7 @@ pub(crate) fn write_wide<P: Print>(p: &mut P, wide: bool) -> io::Result<()>
 
 /// Writes the least and, if there is one, the greatest size.
 pub(crate) fn write_sizes<P: Print>(p: &mut P, limits: Limits) -> io::Result<()>
-    ensures { (o : Options) → Prints P.meaning o p.old p.new result (limits_pieces (limits_view limits)) }
+    ensures { PrintsAlways P.meaning p.old p.new result (limits_pieces (limits_view limits)) }
 {
     write_limits(p, limits.min, limits.max)
 }

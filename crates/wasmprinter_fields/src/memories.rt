@@ -1,10 +1,9 @@
 //! Memories (section 6.6 of the WebAssembly Core Specification, "Memories"), and their types
 //! (section 6.4, "Memory Types").
 ghost use Rattle.std.specs.Prelude.{◌<◌, codes};
-ghost use Rattle.wasmprinter_spec.specs.Options.{Options};
 ghost use Rattle.wasmprinter_spec.specs.Layout.Groups.{line_group_gap};
 ghost use Rattle.wasmprinter_spec.specs.Layout.Memories.{shared_pieces, page_pieces, memory_type_pieces};
-ghost use Rattle.wasmprinter_print.specs.Prints.{Prints};
+ghost use Rattle.wasmprinter_print.specs.Prints.{PrintsAlways};
 ghost use Rattle.wasmprinter_entries.specs.Externs.{memory_type_view, IsPage};
 ghost use Rattle.wasmprinter_scope.specs.Scopes.{scope_view};
 ghost use Rattle.wasmprinter_fields.specs.Parts.{page_parts, declared_memory};
@@ -23,7 +22,7 @@ use wasmprinter_words::words::{gap, gap_type_word, open_gap, shut};
 
 /// Writes that threads may share a memory, if they may.
 fn write_shared<P: Print>(p: &mut P, shared: bool) -> io::Result<()>
-    ensures { (o : Options) → Prints P.meaning o p.old p.new result (shared_pieces shared) }
+    ensures { PrintsAlways P.meaning p.old p.new result (shared_pieces shared) }
 {
     if shared {
         gap_type_word(p, "shared")
@@ -36,7 +35,7 @@ fn write_shared<P: Print>(p: &mut P, shared: bool) -> io::Result<()>
 #[tactic(auto, using(crate::proofs::LineGroups::groups))]
 fn write_page_group<P: Print>(p: &mut P, exponent: u32) -> io::Result<()>
     requires { exponent < 64 }
-    ensures { (o : Options) → Prints P.meaning o p.old p.new result
+    ensures { PrintsAlways P.meaning p.old p.new result
         (line_group_gap (codes "pagesize") (page_parts exponent)) }
 {
     open_gap(p, "pagesize")?;
@@ -47,7 +46,7 @@ fn write_page_group<P: Print>(p: &mut P, exponent: u32) -> io::Result<()>
 /// Writes a blank and the size of a page, if it is given.
 fn write_page<P: Print>(p: &mut P, page: Option<u32>) -> io::Result<()>
     requires { IsPage page }
-    ensures { (o : Options) → Prints P.meaning o p.old p.new result (page_pieces page) }
+    ensures { PrintsAlways P.meaning p.old p.new result (page_pieces page) }
 {
     match page {
         Some(exponent) => {
@@ -62,7 +61,7 @@ fn write_page<P: Print>(p: &mut P, page: Option<u32>) -> io::Result<()>
 #[tactic(auto, unfolding(wasmprinter_spec::specs::Layout::Memories::memory_type_pieces))]
 fn write_memory_type<P: Print>(p: &mut P, memory_type: MemoryType) -> io::Result<()>
     requires { IsPage memory_type.page }
-    ensures { (o : Options) → Prints P.meaning o p.old p.new result
+    ensures { PrintsAlways P.meaning p.old p.new result
         (memory_type_pieces (memory_type_view memory_type)) }
 {
     write_wide(p, memory_type.wide)?;
@@ -79,7 +78,7 @@ pub(crate) fn write_declared_memory<P: Print>(
     memory_type: MemoryType,
 ) -> io::Result<()>
     requires { IsPage memory_type.page }
-    ensures { (o : Options) → Prints P.meaning o p.old p.new result
+    ensures { PrintsAlways P.meaning p.old p.new result
         (declared_memory (scope_view scope.now) number (memory_type_view memory_type)) }
 {
     write_declaration(p, scope, Space::Memory, number)?;

@@ -53,7 +53,8 @@ pub fn write_start<P: Print>(
     scope: &mut Scope<'_, '_>,
     start: Option<Start>,
 ) -> Result<(), Error>
-    ensures pieces { PrintsOrStops P.meaning options.now p.old p.new (folds_in (scope_view scope.old)) result (start_pieces (scope_view scope.old) start) }
+    ensures pieces { PrintsOrStops P.meaning options.now p.old p.new (folds_in (scope_view scope.old)) result
+        (start_pieces (scope_view scope.old) start) }
     ensures scope { scope_view scope.new ≡ scope_view scope.old }
 {
     match start {

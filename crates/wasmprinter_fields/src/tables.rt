@@ -1,9 +1,7 @@
 //! Tables (section 6.6 of the WebAssembly Core Specification, "Tables"), and their types (section 6.4, "Table Types").
-ghost use Rattle.std.specs.Prelude.{◌≡◌, codes, IfOk};
-ghost use Rattle.wasmprinter_spec.specs.Layout.Groups.{has_break};
-ghost use Rattle.wasmprinter_spec.specs.Options.{Options};
+ghost use Rattle.std.specs.Prelude.{◌≡◌, codes};
 ghost use Rattle.wasmprinter_spec.specs.Layout.Tables.{table_type_pieces, init_pieces};
-ghost use Rattle.wasmprinter_print.specs.Prints.{Prints, PrintsOrStops};
+ghost use Rattle.wasmprinter_print.specs.Prints.{PrintsAlways, PrintsOrStops, TellsLines};
 ghost use Rattle.wasmprinter_entries.specs.Externs.{table_type_view};
 ghost use Rattle.wasmprinter_labels.specs.Scan.{names_of};
 ghost use Rattle.wasmprinter_scope.specs.Scopes.{scope_view, folds_in};
@@ -28,7 +26,7 @@ fn write_table_type<P: Print>(
     scope: &Scope<'_, '_>,
     table_type: TableType,
 ) -> io::Result<()>
-    ensures { (o : Options) → Prints P.meaning o p.old p.new result
+    ensures { PrintsAlways P.meaning p.old p.new result
         (table_type_pieces (names_of scope.now.labels) (table_type_view table_type)) }
 {
     write_wide(p, table_type.wide)?;
@@ -44,7 +42,7 @@ pub(crate) fn write_declared_table<P: Print>(
     number: u64,
     table_type: TableType,
 ) -> io::Result<()>
-    ensures { (o : Options) → Prints P.meaning o p.old p.new result
+    ensures { PrintsAlways P.meaning p.old p.new result
         (declared_table (scope_view scope.now) number (table_type_view table_type)) }
 {
     write_declaration(p, scope, Space::Table, number)?;
@@ -60,8 +58,9 @@ fn write_init<P: Print>(
     scope: &mut Scope<'_, '_>,
     table: &Table<'_>,
 ) -> Result<bool, Error>
-    ensures pieces { PrintsOrStops P.meaning options.now p.old p.new (folds_in (scope_view scope.old)) result (init_pieces (scope_view scope.old) table.now.value.init) }
-    ensures lines { IfOk result (λ lines. lines ≡ has_break (init_pieces (scope_view scope.old) table.now.value.init)) }
+    ensures pieces { PrintsOrStops P.meaning options.now p.old p.new (folds_in (scope_view scope.old)) result
+        (init_pieces (scope_view scope.old) table.now.value.init) }
+    ensures lines { TellsLines result (init_pieces (scope_view scope.old) table.now.value.init) }
     ensures scope { scope_view scope.new ≡ scope_view scope.old }
 {
     match table.init() {

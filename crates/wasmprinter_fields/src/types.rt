@@ -1,5 +1,5 @@
 //! Types (section 6.6 of the WebAssembly Core Specification, "Types"), in their groups.
-ghost use Rattle.std.specs.Prelude.{◌≡◌, ◌+◌, ◌<◌, ◌^◌, ◌==◌, [], ◌∷◌, ◌++◌};
+ghost use Rattle.std.specs.Prelude.{◌≡◌, ◌+◌, ◌<◌, ◌^◌, ◌==◌, ◌∷◌, ◌++◌};
 ghost use Rattle.std.specs.Prelude.{None, Some, not, true, codes, length};
 ghost use Rattle.wasmprinter_spec.specs.Types.{all_types};
 ghost use Rattle.wasmprinter_spec.specs.Module.{groups_of};
@@ -13,9 +13,9 @@ ghost use Rattle.wasmprinter_fields.specs.TypeLines.{listed_pieces};
 use std::io;
 use wasmprinter_lines::lines::break_line;
 use wasmprinter_lines::options::PrintOptions;
-use wasmprinter_ops::types::composite::SubType;
 use wasmprinter_print::Print;
 use wasmprinter_scope::scope::{FIELD_NESTING, Scope, write_type};
+use wasmprinter_types::composite::SubType;
 use wasmprinter_wasm::TypeGroup;
 use wasmprinter_words::words::{open, shut};
 

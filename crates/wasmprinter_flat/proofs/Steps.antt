@@ -1,11 +1,11 @@
 -- An operator and its hint, written where the first error is passed along.
-use Rattle.std.specs.Prelude.{◌≡◌, List, ◌++◌, Bool, true, false, Option, Some, None, is_some, Result, Ok, Err, IsErrAnd}
+use Rattle.std.specs.Prelude.{◌≡◌, List, ◌++◌, true, false, Option, Some, None, is_some, Result, IsErrAnd}
 use Rattle.std.specs.declared.io.Error.{Error as IoError}
 use Rattle.std.proofs.Common.{refl, sym, ap, ◌∙◌, subst, append_assoc, true≢false}
 use Rattle.wasmprinter_spec.specs.Meaning.{Meaning}
 use Rattle.wasmprinter_spec.specs.Options.{Options}
 use Rattle.wasmprinter_spec.specs.Piece.{Piece}
-use Rattle.wasmprinter_print.specs.Emits.{Through, AtCall}
+use Rattle.wasmprinter_print.specs.Emits.{Through}
 use Rattle.wasmprinter_print.specs.Prints.{Prints, Written, Lacks}
 use Rattle.wasmprinter_print.specs.PrintsLaws.{next_fails}
 use Rattle.wasmprinter_print.specs.Puts.{MarksUnder, answer_of}

@@ -5,9 +5,9 @@ use Rattle.wasmprinter_spec.specs.Row.{Space, Local, Shape}
 use Rattle.wasmprinter_spec.specs.Names.{Names, subsection_of}
 use Rattle.wasmprinter_spec.specs.Names.Section.{local_subsection}
 use Rattle.wasmprinter_spec.specs.Labels.{Label, labels_outside, labels_inside}
-use Rattle.wasmprinter_spec.specs.Operator.{Immediates}
+use Rattle.wasmprinter_spec.specs.Operator.{Immediates, Catch}
 use Rattle.wasmprinter_spec.specs.Piece.{Piece}
-use Rattle.wasmprinter_spec.specs.Layout.Operators.{Setting, immediate_pieces}
+use Rattle.wasmprinter_spec.specs.Layout.Operators.{Setting, immediate_pieces, operand_pieces, catch_pieces, catches_pieces}
 use Rattle.wasmprinter_ops.specs.Shapes.{role_view}
 use Rattle.wasmprinter_labels.specs.Scan.{names_of, own_label}
 use Rattle.wasmprinter_flat.specs.Settings.{setting_view}
@@ -36,6 +36,18 @@ own_in c = own_label c.labels.now
 -- immediates by their shape
 abbrev pub pieces_in : {S : Type 0} → (S → ℕ → Option FuncType) → Context S → Shape → Immediates → List Piece
 pieces_in signature_at c shape i = immediate_pieces (setting_in signature_at c) (labels_within c) (labels_around c) (own_in c) shape i
+
+-- an index of such a space, or a label
+abbrev pub operand_in : {S : Type 0} → (S → ℕ → Option FuncType) → Context S → Space → ℕ → List Piece
+operand_in signature_at c space index = operand_pieces (setting_in signature_at c) (labels_within c) (labels_around c) space index
+
+-- a catch clause
+abbrev pub catch_in : {S : Type 0} → (S → ℕ → Option FuncType) → Context S → Catch → List Piece
+catch_in signature_at c clause = catch_pieces (setting_in signature_at c) (labels_within c) (labels_around c) clause
+
+-- catch clauses, a blank before each
+abbrev pub catches_in : {S : Type 0} → (S → ℕ → Option FuncType) → Context S → List Catch → List Piece
+catches_in signature_at c clauses = catches_pieces (setting_in signature_at c) (labels_within c) (labels_around c) clauses
 
 -- the subsection of names for what an operator means by an index of the space, with locals among them: labels go by another rule
 abbrev pub operand_subsection : Space → Option ℕ

@@ -10,6 +10,7 @@ use Rattle.wasmprinter_spec.specs.Row.{Role}
 use Rattle.wasmprinter_spec.specs.Table.{word_of, role_of, shape_of}
 use Rattle.wasmprinter_spec.specs.Labels.{Label, labels_outside, labels_inside}
 use Rattle.wasmprinter_spec.specs.Layout.Operators as layout
+use Rattle.wasmprinter_labels.specs.Scan.{Scan, names_of, own_label}
 use Rattle.wasmprinter_flat.specs.declared.operators.Form.{Form}
 use Rattle.wasmprinter_flat.specs.declared.operators.Form.TheVariants as forms
 use Rattle.wasmprinter_flat.specs.declared.operators.Setting.{Setting}
@@ -28,6 +29,10 @@ setting_of form signature nesting names function body =
 abbrev pub setting_view : {S : Type 0} → (S → ℕ → Option FuncType) → Setting S → Names → layout.Setting
 setting_view signature_at s names = setting_of s.form (signature_at s.types.now) s.nesting names s.function s.body
 
+-- the same by the open labels, which know the module's identifiers
+abbrev pub setting_at : {S : Type 0} → (S → ℕ → Option FuncType) → Setting S → Scan → layout.Setting
+setting_at signature_at s labels = setting_view signature_at s (names_of labels)
+
 -- operators of a function that stand over lines, with the hints that wait for them
 abbrev pub over_lines : (ℕ → Option FuncType) → ℕ → Names → ℕ → ℕ → List (Placed Hint) → List (Placed Operator) → List Piece
 over_lines signature nesting names function body hints os =
@@ -39,3 +44,7 @@ abbrev pub word_pieces : layout.Setting → Label → List Label → Operator �
 word_pieces s own xs o =
     let role : Role = role_of o.opcode in
     Word (word_of o.opcode) ∷ layout.pieces_by s (labels_inside role xs) (labels_outside role xs) own (shape_of o.opcode) o.immediates
+
+-- the same where these labels are open in the program
+abbrev pub word_pieces_at : {S : Type 0} → (S → ℕ → Option FuncType) → Setting S → Scan → Operator → List Piece
+word_pieces_at signature_at s labels o = word_pieces (setting_at signature_at s labels) (own_label labels) labels.labels o

@@ -1,15 +1,14 @@
 //! What opens a block (section 6.5 of the WebAssembly Core Specification, "Control Instructions"): its type, catch clauses, and the
 //! comment of its label.
-ghost use Rattle.std.specs.Prelude.{◌∷◌, ◌++◌, codes, None, option_map};
+ghost use Rattle.std.specs.Prelude.{◌∷◌, ◌++◌, None, option_map};
 ghost use Rattle.wasmprinter_spec.specs.Piece.{Gap};
 ghost use Rattle.wasmprinter_spec.specs.Row as row;
 ghost use Rattle.wasmprinter_spec.specs.Layout.Groups.{line_group};
 ghost use Rattle.wasmprinter_spec.specs.Layout.Operators.{named_index, label_pieces, ending_pieces, block_pieces};
-ghost use Rattle.wasmprinter_spec.specs.Layout.Operators.{catch_pieces, catches_pieces};
 ghost use Rattle.wasmprinter_print.specs.Puts.{Marks};
 ghost use Rattle.wasmprinter_names.specs.Shown.{identifier_view};
 ghost use Rattle.wasmprinter_ops.specs.Blocks.{block_type_view, catch_view, catches_view};
-ghost use Rattle.wasmprinter_flat.specs.Contexts.{setting_in, labels_around, labels_within};
+ghost use Rattle.wasmprinter_flat.specs.Contexts.{setting_in, labels_around, labels_within, catch_in, catches_in};
 ghost use Rattle.wasmprinter_flat.specs.Settings.{form_view};
 
 use crate::context::Context;
@@ -146,7 +145,7 @@ fn put_catch<P: Print, S: Signatures>(
     clause: Catch,
 )
     ensures { Marks P.meaning p.old fault.old p.new fault.new
-        (catch_pieces (setting_in S.signature_at context.now) (labels_within context.now) (labels_around context.now) (catch_view clause)) }
+        (catch_in S.signature_at context.now (catch_view clause)) }
 {
     match clause {
         Catch::One(tag, label) => put_tagged(p, fault, context, "catch", tag, label),
@@ -164,7 +163,7 @@ fn put_clause<P: Print, S: Signatures>(
     clause: Catch,
 )
     ensures { Marks P.meaning p.old fault.old p.new fault.new
-        (Gap ∷ catch_pieces (setting_in S.signature_at context.now) (labels_within context.now) (labels_around context.now) (catch_view clause)) }
+        (Gap ∷ catch_in S.signature_at context.now (catch_view clause)) }
 {
     put_gap(p, fault);
     put_catch(p, fault, context, clause);
@@ -178,7 +177,7 @@ pub(crate) fn put_catches<P: Print, S: Signatures>(
     clauses: &Catches<'_>,
 )
     ensures { Marks P.meaning p.old fault.old p.new fault.new
-        (catches_pieces (setting_in S.signature_at context.now) (labels_within context.now) (labels_around context.now) (catches_view clauses.now)) }
+        (catches_in S.signature_at context.now (catches_view clauses.now)) }
 {
     for clause in clauses.iter() {
         if fault.is_some() {

@@ -4,13 +4,13 @@ ghost use Rattle.wasmprinter_spec.specs.Labels.{Label};
 ghost use Rattle.wasmprinter_spec.specs.Operator.{Index, Indices, Heap, Memory, MemoryLane, Bytes};
 ghost use Rattle.wasmprinter_spec.specs.Layout.Identifiers.{leading_mark_pieces};
 ghost use Rattle.wasmprinter_spec.specs.Layout.Operators as layout;
-ghost use Rattle.wasmprinter_spec.specs.Layout.Operators.{block_pieces, catches_pieces, ending_pieces, operand_pieces, immediate_pieces};
+ghost use Rattle.wasmprinter_spec.specs.Layout.Operators.{block_pieces, ending_pieces, immediate_pieces};
 ghost use Rattle.wasmprinter_print.specs.Puts.{Marks};
 ghost use Rattle.wasmprinter_ops.specs.Blocks.{block_type_view, catches_view};
 ghost use Rattle.wasmprinter_ops.specs.Immediates.{immediates_view, HasShape};
 ghost use Rattle.wasmprinter_ops.specs.Shapes.{space_view, shape_view};
-ghost use Rattle.wasmprinter_ops.specs.ValTypes.{heap_view};
-ghost use Rattle.wasmprinter_flat.specs.Contexts.{setting_in, labels_around, labels_within, own_in, pieces_in};
+ghost use Rattle.wasmprinter_types.specs.ValTypes.{heap_view};
+ghost use Rattle.wasmprinter_flat.specs.Contexts.{setting_in, labels_around, own_in, pieces_in, operand_in, catches_in};
 ghost use Rattle.wasmprinter_flat.specs.Settings.{form_view};
 
 use crate::blocks::{put_block_type, put_catches, put_ending};
@@ -28,10 +28,10 @@ use wasmprinter_ops::blocks::{BlockType, Catches};
 use wasmprinter_ops::opcode::{Shape, Space};
 use wasmprinter_ops::operands::MemArg;
 use wasmprinter_ops::operator::Immediates;
-use wasmprinter_ops::types::{HeapType, RefType};
 use wasmprinter_print::{Fault, Print};
 use wasmprinter_text::indices::put_leading_mark;
 use wasmprinter_text::signature::Signatures;
+use wasmprinter_types::{HeapType, RefType};
 use wasmprinter_words::numbers::put_constant;
 
 /// Writes what opens a block: its label and its type.
@@ -65,7 +65,7 @@ fn put_try_table<P: Print, S: Signatures>(
     ensures { Marks P.meaning p.old fault.old p.new fault.new
         (leading_mark_pieces (own_in context.now)
         ++ (block_pieces (setting_in S.signature_at context.now) (block_type_view block_type)
-        ++ (catches_pieces (setting_in S.signature_at context.now) (labels_within context.now) (labels_around context.now) (catches_view clauses.now)
+        ++ (catches_in S.signature_at context.now (catches_view clauses.now)
         ++ ending_pieces (form_view context.now.setting.now.form) (own_in context.now) (suc (length (labels_around context.now)))))) }
 {
     let own = context.labels.own();
@@ -85,7 +85,7 @@ fn put_index_of<P: Print, S: Signatures>(
     index: u32,
 )
     ensures { Marks P.meaning p.old fault.old p.new fault.new
-        (operand_pieces (setting_in S.signature_at context.now) (labels_within context.now) (labels_around context.now) (space_view space) index) }
+        (operand_in S.signature_at context.now (space_view space) index) }
 {
     match space {
         Space::Label => put_label(p, fault, context, index),

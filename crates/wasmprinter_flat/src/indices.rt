@@ -1,5 +1,5 @@
 //! Indices behind an operator's word (section 6.5 of the WebAssembly Core Specification), each with a blank in front.
-ghost use Rattle.std.specs.Prelude.{◌≡◌, [], ◌∷◌, ◌++◌, codes, cond, ◌&&◌, ◌==◌};
+ghost use Rattle.std.specs.Prelude.{[], ◌∷◌, ◌++◌, codes, cond, ◌&&◌, ◌==◌};
 ghost use Rattle.wasmprinter_spec.specs.Piece.{Gap};
 ghost use Rattle.wasmprinter_spec.specs.Row as row;
 ghost use Rattle.wasmprinter_spec.specs.Layout.Groups.{line_group_gap};

@@ -1,6 +1,6 @@
 //! Memory operands (section 6.5 of the WebAssembly Core Specification, "Memory Instructions"), with
 //! a blank in front of each part.
-ghost use Rattle.std.specs.Prelude.{◌<◌, ◌^◌, [], ◌∷◌, ◌++◌, codes, decimal};
+ghost use Rattle.std.specs.Prelude.{◌<◌, [], ◌∷◌, ◌++◌, decimal};
 ghost use Rattle.wasmprinter_spec.specs.Piece.{Gap, Word};
 ghost use Rattle.wasmprinter_spec.specs.Layout.Operators.{offset_pieces, align_pieces, mem_arg_pieces};
 ghost use Rattle.wasmprinter_print.specs.Puts.{Marks};

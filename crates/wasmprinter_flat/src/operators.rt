@@ -1,8 +1,7 @@
 //! Operators (section 6.5 of the WebAssembly Core Specification), each on a line of its own or all
 //! in one line.
-ghost use Rattle.std.specs.Prelude.{◌≡◌, ◌+◌, ◌-◌, ◌<◌, ◌^◌, [], ◌∷◌, ℕ, List, length, true, Option, Some};
+ghost use Rattle.std.specs.Prelude.{◌≡◌, ◌+◌, ◌-◌, ◌<◌, ◌^◌, [], ℕ, List, length, true, Option, Some};
 ghost use Rattle.wasmprinter_spec.specs.Grammar.{Placed};
-ghost use Rattle.wasmprinter_spec.specs.Options.{Options};
 ghost use Rattle.wasmprinter_spec.specs.Table.{shape_of};
 ghost use Rattle.wasmprinter_spec.specs.Types.{FuncType};
 ghost use Rattle.wasmprinter_spec.specs.Names.{Names};
@@ -10,12 +9,12 @@ ghost use Rattle.wasmprinter_spec.specs.Customs.Hints.{Hint as HintValue, next_h
 ghost use Rattle.wasmprinter_spec.specs.Layout.Groups.{has_break};
 ghost use Rattle.wasmprinter_spec.specs.Layout.Operators.{pieces_by, level as level_of, before_word};
 ghost use Rattle.wasmprinter_spec.specs.Layout.Operators.{operator_pieces, hint_pieces, operators_pieces};
-ghost use Rattle.wasmprinter_print.specs.Prints.{Prints};
+ghost use Rattle.wasmprinter_print.specs.Prints.{Prints, PrintsAlways};
 ghost use Rattle.wasmprinter_print.specs.Puts.{Marks, MarksUnder};
 ghost use Rattle.wasmprinter_ops.specs.Shapes.{role_view};
-ghost use Rattle.wasmprinter_labels.specs.Scan.{names_of, own_label};
+ghost use Rattle.wasmprinter_labels.specs.Scan.{own_label};
 ghost use Rattle.wasmprinter_flat.specs.Contexts.{setting_in, labels_around, labels_within, own_in};
-ghost use Rattle.wasmprinter_flat.specs.Settings.{form_view, setting_view, over_lines, word_pieces};
+ghost use Rattle.wasmprinter_flat.specs.Settings.{form_view, setting_at, over_lines, word_pieces_at};
 
 use crate::context::Context;
 use crate::immediates::put_immediates;
@@ -139,8 +138,7 @@ pub fn put_operator_word<P: Print, S: Signatures>(
 )
     requires { length labels.now.labels + 1 < 2 ^ 64 }
     ensures { Marks P.meaning p.old fault.old p.new fault.new
-        (word_pieces (setting_view S.signature_at setting.now (names_of labels.now)) (own_label labels.now)
-        labels.now.labels operator.now) }
+        (word_pieces_at S.signature_at setting.now labels.now operator.now) }
 {
     let role = operator.opcode.role();
     let context = Context {
@@ -161,8 +159,8 @@ pub fn write_word<P: Print, S: Signatures>(
     operator: &Operator<'_>,
 ) -> io::Result<()>
     requires { length labels.now.labels + 1 < 2 ^ 64 }
-    ensures { (o : Options) → Prints P.meaning o p.old p.new result
-        (word_pieces (setting_view S.signature_at setting.now (names_of labels.now)) (own_label labels.now) labels.now.labels operator.now) }
+    ensures { PrintsAlways P.meaning p.old p.new result
+        (word_pieces_at S.signature_at setting.now labels.now operator.now) }
 {
     let mut fault = Fault::none();
     put_operator_word(p, &mut fault, setting, labels, operator);
@@ -183,7 +181,7 @@ fn put_operator<P: Print, S: Signatures>(
 )
     requires { length labels.now.labels + 1 < 2 ^ 64 }
     ensures { MarksUnder P.meaning options.now p.old fault.old p.new fault.new
-        (operator_pieces (setting_view S.signature_at setting.now (names_of labels.now)) first (own_label labels.now) labels.now.labels
+        (operator_pieces (setting_at S.signature_at setting.now labels.now) first (own_label labels.now) labels.now.labels
         (record { place = place; value = operator.now })) }
 {
     let level = level(operator.opcode.role(), labels.depth());
@@ -255,7 +253,7 @@ pub fn write_operators<P: Print, S: Signatures>(
     expression: &Expression<'_>,
 ) -> io::Result<()>
     ensures prints { Prints P.meaning options.now p.old p.new result
-        (operators_pieces (setting_view S.signature_at setting.now (names_of labels.old)) hints.entry true 0 [] expression.now.items) }
+        (operators_pieces (setting_at S.signature_at setting.now labels.old) hints.entry true 0 [] expression.now.items) }
     ensures named { labels.new.named ≡ labels.old.named }
     ensures invents { labels.new.invents ≡ labels.old.invents }
 {

@@ -9,17 +9,17 @@ ghost use Rattle.wasmprinter_spec.specs.Text.Items.{the_only};
 ghost use Rattle.wasmprinter_print.specs.Puts.{Marks};
 ghost use Rattle.wasmprinter_names.specs.Shown.{names_of_identifiers};
 ghost use Rattle.wasmprinter_ops.specs.Operands.{source_type, target_type};
-ghost use Rattle.wasmprinter_ops.specs.ValTypes.{heap_view, ref_view, type_view, types_view};
+ghost use Rattle.wasmprinter_types.specs.ValTypes.{heap_view, ref_view, type_view, types_view};
 ghost use Rattle.wasmprinter_flat.specs.Contexts.{names_in, labels_around, labels_within};
 
 use crate::context::Context;
 use crate::labels::put_label;
 use wasmprinter_names::Identifiers;
 use wasmprinter_ops::operands::{cast_source, cast_target};
-use wasmprinter_ops::types::{HeapType, RefType, ValType, ValTypes};
 use wasmprinter_print::{Fault, Print};
 use wasmprinter_text::signature::Signatures;
 use wasmprinter_text::types::{put_val_type, write_group, write_heap_type, write_ref_type};
+use wasmprinter_types::{HeapType, RefType, ValType, ValTypes};
 use wasmprinter_words::words::{put_gap, put_open_gap, put_shut};
 
 /// Writes one type as a result.
@@ -122,7 +122,8 @@ fn put_refs<P: Print>(
     target: RefType,
 )
     ensures { Marks P.meaning p.old fault.old p.new fault.new
-        (Gap ∷ (ref_pieces (names_of_identifiers identifiers.now) (ref_view source) ++ (Gap ∷ ref_pieces (names_of_identifiers identifiers.now) (ref_view target)))) }
+        (Gap ∷ (ref_pieces (names_of_identifiers identifiers.now) (ref_view source)
+        ++ (Gap ∷ ref_pieces (names_of_identifiers identifiers.now) (ref_view target)))) }
 {
     put_ref(p, fault, identifiers, source);
     put_ref(p, fault, identifiers, target);

@@ -5,10 +5,9 @@ ghost use Rattle.wasmprinter_spec.specs.Call.{Text};
 ghost use Rattle.wasmprinter_spec.specs.Float.{single, double};
 ghost use Rattle.wasmprinter_spec.specs.FloatText.{digits_behind, fraction_digits, behind_point, exponent_text, normal_text};
 ghost use Rattle.wasmprinter_spec.specs.FloatText.{subnormal_text, finite_text, special_text, remark, unsigned_calls, float_calls};
-ghost use Rattle.wasmprinter_spec.specs.Options.{Options};
 ghost use Rattle.wasmprinter_spec.specs.Piece.{Float};
 ghost use Rattle.wasmprinter_print.specs.Emits.{Emits, EmitsOrFails};
-ghost use Rattle.wasmprinter_print.specs.Prints.{Prints};
+ghost use Rattle.wasmprinter_print.specs.Prints.{PrintsAlways};
 ghost use Rattle.wasmprinter_print.specs.Puts.{Puts, Marks};
 ghost use Rattle.wasmprinter_floats.specs.Formats.{width_of};
 
@@ -205,7 +204,7 @@ pub fn put_single<P: Print>(p: &mut P, fault: &mut Fault, bits: u32)
 /// Writes a float of 32 bits from its bits, as a part of a layout.
 pub fn write_single<P: Print>(p: &mut P, bits: u32) -> io::Result<()>
     ensures calls { Emits P.meaning p.old p.new result (float_calls single bits) }
-    ensures pieces { (o : Options) → Prints P.meaning o p.old p.new result (Float single bits ∷ []) }
+    ensures pieces { PrintsAlways P.meaning p.old p.new result (Float single bits ∷ []) }
 {
     let mut fault = Fault::none();
     put_single(p, &mut fault, bits);
@@ -223,7 +222,7 @@ pub fn put_double<P: Print>(p: &mut P, fault: &mut Fault, bits: u64)
 /// Writes a float of 64 bits from its bits, as a part of a layout.
 pub fn write_double<P: Print>(p: &mut P, bits: u64) -> io::Result<()>
     ensures calls { Emits P.meaning p.old p.new result (float_calls double bits) }
-    ensures pieces { (o : Options) → Prints P.meaning o p.old p.new result (Float double bits ∷ []) }
+    ensures pieces { PrintsAlways P.meaning p.old p.new result (Float double bits ∷ []) }
 {
     let mut fault = Fault::none();
     put_double(p, &mut fault, bits);

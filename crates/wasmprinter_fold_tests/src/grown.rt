@@ -206,7 +206,8 @@ const LONG: [(u8, &[u8], &str); 2] = [
             0x41, 0x01, 0x41, 0x02, 0x6a, 0x41, 0x03, 0x6a, 0x41, 0x04, 0x6a, 0x41, 0x05, 0x6a,
             0x0b, 0x00,
         ],
-        "(data (;0;) (offset (i32.add (i32.add (i32.add (i32.add (i32.const 1) (i32.const 2)) (i32.const 3)) (i32.const 4)) (i32.const 5))) \"\")",
+        "(data (;0;) (offset (i32.add (i32.add (i32.add (i32.add (i32.const 1) (i32.const 2)) (i32.const 3)) (i32.const 4)) \
+         (i32.const 5))) \"\")",
     ),
 ];
 

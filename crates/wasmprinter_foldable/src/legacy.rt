@@ -1,9 +1,7 @@
 //! Operators of the older `try` (exception handling proposal, its first form): they have no folded text.
 ghost use Rattle.std.specs.Prelude.{◌≡◌};
 ghost use Rattle.wasmprinter_error.specs.declared.error.Error.TheVariants.{FoldLegacy};
-ghost use Rattle.wasmprinter_spec.specs.Folding.Code.{is_try};
 ghost use Rattle.wasmprinter_spec.specs.Folding.Refusals.{legacy_places_in};
-ghost use Rattle.wasmprinter_ops.specs.Shapes.{role_view};
 ghost use Rattle.wasmprinter_foldable.specs.Refused.{error_of_first};
 
 use wasmprinter_error::Error;

@@ -1,11 +1,12 @@
 //! The labels of open blocks, and what an operator's label means among them.
-ghost use Rattle.std.specs.Prelude.{◌≡◌, ℕ, ◌+◌, ◌<◌, ◌^◌, [], ◌∷◌, length, None, option_map, IsOk, IfOk};
+ghost use Rattle.std.specs.Prelude.{◌≡◌, ℕ, ◌+◌, ◌<◌, ◌^◌, [], length, None, option_map, IsOk, IfOk};
 ghost use Rattle.wasmprinter_spec.specs.Names.Section.{label_subsection};
 ghost use Rattle.wasmprinter_ops.specs.Shapes.{role_view};
 ghost use Rattle.wasmprinter_names.specs.Views.{name_at};
 ghost use Rattle.wasmprinter_names.specs.Shown.{identifier_view};
 ghost use Rattle.wasmprinter_labels.specs.Found.{found_among};
-ghost use Rattle.wasmprinter_labels.specs.Scan.{own_label, at_start, at_start_again, behind_opening, behind_closing, behind_operator, found_at};
+ghost use Rattle.wasmprinter_labels.specs.Scan.{own_label, at_start, at_start_again, found_at};
+ghost use Rattle.wasmprinter_labels.specs.Scan.{behind_opening, behind_closing, behind_operator};
 ghost use Rattle.wasmprinter_labels.specs.Stack.{unnamed_label};
 ghost use Rattle.wasmprinter_labels.specs.Inside.{label_of};
 ghost use Rattle.wasmprinter_labels.specs.Views.{found_view};

@@ -2,11 +2,10 @@
 ghost use Rattle.std.specs.Prelude.{◌≤◌, ◌+◌, [], ◌∷◌, ◌++◌, ◌||◌, true, false, None, Some};
 ghost use Rattle.std.specs.Fmt.{digits};
 ghost use Rattle.wasmprinter_spec.specs.Call.{Text};
-ghost use Rattle.wasmprinter_spec.specs.Options.{Options};
 ghost use Rattle.wasmprinter_spec.specs.Piece.{Begin, Feed, Break, most_indents, repetition_of, left_in, place_calls};
 ghost use Rattle.wasmprinter_spec.specs.Layout.Groups.{close};
 ghost use Rattle.wasmprinter_print.specs.Emits.{Emits};
-ghost use Rattle.wasmprinter_print.specs.Prints.{Prints};
+ghost use Rattle.wasmprinter_print.specs.Prints.{Prints, PrintsAlways};
 ghost use Rattle.wasmprinter_print.specs.Puts.{Puts, MarksUnder};
 
 use crate::options::PrintOptions;
@@ -111,7 +110,7 @@ fn put_indent<P: Print>(p: &mut P, fault: &mut Fault, options: &PrintOptions, le
 
 /// Begins the first line, at this place.
 pub fn begin<P: Print>(p: &mut P, place: u64) -> io::Result<()>
-    ensures { (o : Options) → Prints P.meaning o p.old p.new result (Begin place ∷ []) }
+    ensures { PrintsAlways P.meaning p.old p.new result (Begin place ∷ []) }
 {
     p.start_line(Some(place));
     Ok(())
@@ -119,7 +118,7 @@ pub fn begin<P: Print>(p: &mut P, place: u64) -> io::Result<()>
 
 /// Ends the last line.
 pub fn end<P: Print>(p: &mut P) -> io::Result<()>
-    ensures { (o : Options) → Prints P.meaning o p.old p.new result (Feed ∷ []) }
+    ensures { PrintsAlways P.meaning p.old p.new result (Feed ∷ []) }
 {
     feed(p)
 }

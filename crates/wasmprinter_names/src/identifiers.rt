@@ -3,7 +3,7 @@ ghost use Rattle.std.specs.Prelude.{◌≡◌, Some, None, option_map};
 ghost use Rattle.wasmprinter_spec.specs.Names.{name_in};
 ghost use Rattle.wasmprinter_spec.specs.Names.Section.{module_subsection};
 ghost use Rattle.wasmprinter_names.specs.Spaces.{id_of, outer_of};
-ghost use Rattle.wasmprinter_names.specs.Views.{name_view, name_at};
+ghost use Rattle.wasmprinter_names.specs.Views.{name_at};
 ghost use Rattle.wasmprinter_names.specs.Shown.{identifier_view, invented_view};
 
 use crate::space::Space;

@@ -1,5 +1,5 @@
 -- What is still to be written of nodes, the next task last.
-use Rattle.std.specs.Prelude.{ℕ, suc, ◌+◌, ◌*◌, ◌≤◌, List, [], ◌∷◌, ◌++◌, length, Bool, false}
+use Rattle.std.specs.Prelude.{◌≡◌, ℕ, suc, ◌+◌, ◌*◌, ◌≤◌, List, [], ◌∷◌, ◌++◌, length, Bool, false}
 use Rattle.wasmprinter_spec.specs.Piece.{Piece, Shut}
 use Rattle.wasmprinter_spec.specs.Layout.Operators.{Form}
 use Rattle.wasmprinter_spec.specs.Folding.Tree.{is_nil}
@@ -49,6 +49,27 @@ IsSound buffer bound task.Close = Unit {0}
 abbrev pub AllSound : List ℕ → ℕ → List Task → Type 0
 AllSound buffer bound [] = Unit {0}
 AllSound buffer bound (t ∷ ts) = IsSound buffer bound t × AllSound buffer bound ts
+
+-- ---- what a function has done that puts tasks on top of the old ones
+
+-- what is left to be written is a row of nodes, and then what was left before
+abbrev pub PutsRow : List Node → Bool → ℕ → List Task → List Task → Type 0
+PutsRow nodes first depth old new = (form : Form) (nesting : ℕ) (buffer : List ℕ) →
+    pieces_left form nesting buffer new ≡ pieces_of_row form nesting buffer nodes first depth ++ pieces_left form nesting buffer old
+
+-- the same of the rest of a task
+abbrev pub PutsRest : Task → List Task → List Task → Type 0
+PutsRest t old new = (form : Form) (nesting : ℕ) (buffer : List ℕ) →
+    pieces_left form nesting buffer new ≡ task_rest form nesting buffer t ++ pieces_left form nesting buffer old
+
+-- all tasks are sound where the old ones are, and the row
+abbrev pub KeepsSoundRow : List Node → ℕ → List Task → List Task → Type 0
+KeepsSoundRow nodes depth old new =
+    (buffer : List ℕ) (bound : ℕ) → IsSoundRow buffer bound nodes depth → AllSound buffer bound old → AllSound buffer bound new
+
+-- the same, where the task is
+abbrev pub KeepsSound : Task → List Task → List Task → Type 0
+KeepsSound t old new = (buffer : List ℕ) (bound : ℕ) → IsSound buffer bound t → AllSound buffer bound old → AllSound buffer bound new
 
 -- how many steps are left at most
 abbrev pub steps_of : Task → ℕ

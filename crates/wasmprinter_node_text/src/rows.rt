@@ -1,16 +1,17 @@
 //! Nodes written to any printer, without recursion.
-ghost use Rattle.std.specs.Prelude.{◌≡◌, ◌+◌, ◌&&◌, ◌||◌, [], ◌∷◌, ◌++◌, ℕ, true, Some, IfOk};
+ghost use Rattle.std.specs.Prelude.{◌≡◌, ◌+◌, ◌&&◌, ◌||◌, [], ◌∷◌, ℕ, true, Some};
 ghost use Rattle.std.specs.Option.{is_none};
 ghost use Rattle.wasmprinter_spec.specs.Options.{defaults};
 ghost use Rattle.wasmprinter_spec.specs.Piece.{Word, HintNote, OpenPlain, text as text_by};
 ghost use Rattle.wasmprinter_spec.specs.Layout.Groups.{has_break};
 ghost use Rattle.wasmprinter_spec.specs.Layout.Operators.{before_word};
-ghost use Rattle.wasmprinter_print.specs.Prints.{Prints, PrintsOrStops};
+ghost use Rattle.wasmprinter_print.specs.Prints.{PrintsOrStops, TellsLines};
 ghost use Rattle.wasmprinter_print.specs.Puts.{Marks, MarksUnder};
 ghost use Rattle.wasmprinter_flat.specs.Settings.{form_view};
 ghost use Rattle.wasmprinter_nodes.specs.Mapping.{map_nodes};
 ghost use Rattle.wasmprinter_nodes.specs.Postorder.{IsPostorder, forest_of};
-ghost use Rattle.wasmprinter_node_text.specs.Shown.{shown_of_head, IsIn, AreIn, row_pieces, node_front, shown_hint, comment_break, begins_line as begins};
+ghost use Rattle.wasmprinter_node_text.specs.Shown.{shown_of_head, IsIn, AreIn, row_pieces, node_front, shown_hint, comment_break};
+ghost use Rattle.wasmprinter_node_text.specs.Shown.{begins_line as begins};
 ghost use Rattle.wasmprinter_node_text.specs.Tasks.{task_front, IsSound};
 
 use crate::tasks::{Task, put_rest};
@@ -218,8 +219,8 @@ pub fn write_nodes<P: Print>(
     requires texts { AreIn text.now (forest_of nodes.now) }
     ensures prints { PrintsOrStops P.meaning options.now p.old p.new true result
         (row_pieces (form_view form) true nesting (map_nodes (shown_of_head text.now) (forest_of nodes.now))) }
-    ensures lines { IfOk result (λ lines. lines ≡ has_break
-        (row_pieces (form_view form) true nesting (map_nodes (shown_of_head text.now) (forest_of nodes.now)))) }
+    ensures lines { TellsLines result
+        (row_pieces (form_view form) true nesting (map_nodes (shown_of_head text.now) (forest_of nodes.now))) }
 {
     let mut lines = false;
     let mut tasks = Vec::new(alloc);

@@ -1,6 +1,7 @@
 //! The sequences of styles on a terminal (Select Graphic Rendition of ECMA-48). Each begins by taking back what was set before.
 ghost use Rattle.std.specs.Prelude.{◌≡◌};
-ghost use Rattle.wasmprinter_spec.specs.Call.{Start, Literal as LiteralStyle, Name as NameStyle, Keyword as KeywordStyle, TypeName as TypeStyle, Comment as CommentStyle, Reset as NoStyle};
+ghost use Rattle.wasmprinter_spec.specs.Call.{Start, Literal as LiteralStyle, Name as NameStyle, Keyword as KeywordStyle};
+ghost use Rattle.wasmprinter_spec.specs.Call.{TypeName as TypeStyle, Comment as CommentStyle, Reset as NoStyle};
 ghost use Rattle.wasmprinter_spec.specs.Coloured.{coloured_bytes};
 
 /// Those of numbers and strings: red.

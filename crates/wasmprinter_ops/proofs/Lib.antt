@@ -4,8 +4,5 @@ pub mod Entries
 pub mod Stepping
 pub mod Skipping
 pub mod Walking
-pub mod Made
 pub mod BlockTypes
-pub mod Seen
-pub mod FirstBytes
 pub mod Pairs

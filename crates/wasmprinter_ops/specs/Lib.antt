@@ -2,10 +2,8 @@
 pub mod Arities
 pub mod Shapes
 pub mod ByNumber
-pub mod ValTypes
 pub mod Blocks
 pub mod Operands
 pub mod Immediates
 pub mod Nesting
 pub mod Operators
-pub mod Types

@@ -1,8 +1,8 @@
 -- The reference types of casts, by their flags.
 use Rattle.std.specs.Prelude.{ℕ, Bool, ◌/◌, ◌%◌, ◌==◌}
 use Rattle.wasmprinter_spec.specs.Types.{RefType, ref_type}
-use Rattle.wasmprinter_ops.specs.ValTypes.{heap_view}
-use Rattle.wasmprinter_ops.specs.declared.types.HeapType.{HeapType}
+use Rattle.wasmprinter_types.specs.ValTypes.{heap_view}
+use Rattle.wasmprinter_types.specs.declared.HeapType.{HeapType}
 
 -- the lowest bit of the flags
 abbrev pub source_null : ℕ → Bool

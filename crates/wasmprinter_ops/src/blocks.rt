@@ -5,10 +5,10 @@ ghost use Rattle.wasmprinter_spec.specs.Instructions.{block_type, catch};
 ghost use Rattle.wasmprinter_bytes.specs.Reads.{Reads, IsWithin, end_of};
 ghost use Rattle.wasmprinter_ops.specs.Blocks.{block_type_view, catch_at, catches_view};
 
-use crate::types::{HeapType, ValType, read_type};
 use wasmprinter_bytes::bytes::Cursor;
 use wasmprinter_bytes::lists::{Items, Spelled};
 use wasmprinter_error::Malformed;
+use wasmprinter_types::{HeapType, ValType, read_type};
 
 /// The byte that is the type of a block without parameters and results.
 const EMPTY: u8 = 0x40;

@@ -35,7 +35,6 @@ impl<'a> Model for OperatorsReader<'a> {
 }
 
 impl<'a> Iterator for OperatorsReader<'a> {
-    ghost use Rattle.std.specs.Prelude.{map};
     ghost use Rattle.std.specs.Iterator.{YieldsFirst, item_count};
     ghost use Rattle.wasmprinter_ops.specs.Operators.{pairs};
 

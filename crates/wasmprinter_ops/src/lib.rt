@@ -9,4 +9,3 @@ pub mod opcode;
 pub mod operands;
 pub mod operator;
 mod tables;
-pub mod types;

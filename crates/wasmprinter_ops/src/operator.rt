@@ -11,10 +11,10 @@ ghost use Rattle.wasmprinter_ops.specs.Shapes.{shape_view};
 use crate::blocks::{BlockType, Catches, Targets, read_block_type, read_catches};
 use crate::opcode::{Opcode, Role, Shape, is_prefix};
 use crate::operands::{MOST_FLAGS, MemArg, read_bytes, read_f32_bits, read_f64_bits};
-use crate::types::{HeapType, ValTypes, read_types};
 use std::marker::Model;
 use wasmprinter_bytes::bytes::Cursor;
 use wasmprinter_error::Malformed;
+use wasmprinter_types::{HeapType, ValTypes, read_types};
 
 /// What stands behind an opcode, in the order of the bytes (section 5.4).
 #[derive(Drop)]

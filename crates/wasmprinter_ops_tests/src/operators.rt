@@ -12,8 +12,8 @@ use wasmprinter_ops::blocks::{BlockType, Catch, Catches, Targets};
 use wasmprinter_ops::expression::{Expression, OperatorsReader};
 use wasmprinter_ops::operands::MemArg;
 use wasmprinter_ops::operator::{Immediates, Operator};
-use wasmprinter_ops::types::composite::{CompositeType, FieldType, StorageType, SubType, SubTypes};
-use wasmprinter_ops::types::{HeapType, RefType, ValType, ValTypes, read_type};
+use wasmprinter_types::composite::{CompositeType, FieldType, StorageType, SubType, SubTypes};
+use wasmprinter_types::{HeapType, RefType, ValType, ValTypes, read_type};
 
 /// Immediates that are expected.
 #[derive(Clone, Copy)]

@@ -1,5 +1,5 @@
 //! Labels of a few functions. The names and what is expected are typed by hand.
-ghost use Rattle.std.specs.Prelude.{◌≡◌, ◌≤◌};
+ghost use Rattle.std.specs.Prelude.{◌≤◌};
 
 use crate::names::names_of;
 use std::alloc::Global;

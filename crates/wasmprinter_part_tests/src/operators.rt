@@ -11,10 +11,10 @@ use wasmprinter_labels::OpenLabels;
 use wasmprinter_lines::options::PrintOptions;
 use wasmprinter_names::Identifiers;
 use wasmprinter_ops::expression::Expression;
-use wasmprinter_ops::types::composite::FuncType;
 use wasmprinter_print::PrintFmtWrite;
 use wasmprinter_samples::expect_text;
 use wasmprinter_text::signature::Signatures;
+use wasmprinter_types::composite::FuncType;
 
 /// No types.
 #[derive(Drop)]

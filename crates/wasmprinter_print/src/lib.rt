@@ -164,19 +164,19 @@ pub trait Print {
     ghost no_pieces: { NoPieces meaning } = { λ o a. no_piece meaning o a };
 
     // a piece that failed, where more is kept in memory
-    ghost piece_hands_on: { PieceHandsOn meaning } = { λ o a t keeps r e x xs v f. pieces_halt meaning keeps r (Printer e) xs f v };
+    ghost piece_hands_on: { PieceHandsOn meaning } = { λ o a t b r e x xs v f. pieces_halt meaning b r (Printer e) xs f v };
 
     // pieces of which one failed, whatever would have come after them
-    ghost pieces_hand_on: { PiecesHandOn meaning } = { λ o a t keeps r e xs ys v f. pieces_halt meaning keeps r (Printer e) ys f v };
+    ghost pieces_hand_on: { PiecesHandOn meaning } = { λ o a t b r e xs ys v f. pieces_halt meaning b r (Printer e) ys f v };
 
     // the last pieces, of which one failed
-    ghost pieces_hand_on_at_last: { PiecesHandOnAtLast meaning } = { λ o a t keeps r e xs v f. last_pieces_halt meaning keeps r (Printer e) f v };
+    ghost pieces_hand_on_at_last: { PiecesHandOnAtLast meaning } = { λ o a t b r e xs v f. last_pieces_halt meaning b r (Printer e) f v };
 
     // pieces at which a function ended, whatever would have come after them
-    ghost pieces_halt_before: { PiecesHalt meaning } = { λ o a t keeps r e xs ys v f. pieces_halt meaning keeps r e ys f v };
+    ghost pieces_halt_before: { PiecesHalt meaning } = { λ o a t b r e xs ys v f. pieces_halt meaning b r e ys f v };
 
     // the last pieces, at which it ended
-    ghost pieces_halt_at_last: { PiecesHaltAtLast meaning } = { λ o a t keeps r e xs v f. last_pieces_halt meaning keeps r e f v };
+    ghost pieces_halt_at_last: { PiecesHaltAtLast meaning } = { λ o a t b r e xs v f. last_pieces_halt meaning b r e f v };
 
     // ---- where the first error is passed along
 

@@ -1,9 +1,8 @@
 -- Constant expressions, flat and folded.
-use Rattle.std.specs.Prelude.{◌≡◌, ℕ, ◌+◌, List, [], ◌∷◌, ◌++◌, Bool, true, false, Option, Some, None, option_map, is_some, refl}
-use Rattle.std.proofs.Common.{sym, ap, ◌∙◌}
+use Rattle.std.specs.Prelude.{◌≡◌, ℕ, ◌+◌, List, [], ◌∷◌, true, false, Option, Some, None, option_map, is_some, refl}
+use Rattle.std.proofs.Common.{ap}
 use Rattle.wasmprinter_spec.specs.Grammar.{Placed}
 use Rattle.wasmprinter_spec.specs.Operator.{Operator}
-use Rattle.wasmprinter_spec.specs.Piece.{Piece}
 use Rattle.wasmprinter_spec.specs.Layout.Groups.{has_break}
 use Rattle.wasmprinter_spec.specs.Layout.Operators.{expression_pieces}
 use Rattle.wasmprinter_spec.specs.Layout.Declarations.{Scope, Folding}
@@ -36,6 +35,12 @@ pub held-one : (s : Scope) (nesting : ℕ) (os : List (Placed Operator)) → is_
 held-one s nesting [] e = absurd cc
 held-one s nesting (o ∷ []) e = refl
 held-one s nesting (o ∷ p ∷ os) e = absurd cc
+
+-- any other list is printed as a constant expression is
+pub held-other : (s : Scope) (nesting : ℕ) (os : List (Placed Operator)) → is_one os ≡ false → held_pieces s nesting os ≡ constant_pieces s nesting os
+held-other s nesting [] e = refl
+held-other s nesting (o ∷ []) e = absurd cc
+held-other s nesting (o ∷ p ∷ os) e = refl
 
 -- a line begins in a group where one begins in what it holds
 pub constant_group-breaks : (s : Scope) (nesting : ℕ) (w : List ℕ) (os : List (Placed Operator)) →

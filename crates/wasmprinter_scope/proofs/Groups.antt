@@ -1,8 +1,8 @@
 -- Groups that close on a line of their own where a line began in them.
-use Rattle.std.specs.Prelude.{◌≡◌, ℕ, List, [], ◌∷◌, ◌++◌, Bool, true, false, ◌||◌, Option, refl}
-use Rattle.std.proofs.Common.{sym, ap, ◌∙◌}
+use Rattle.std.specs.Prelude.{◌≡◌, ℕ, List, ◌++◌, Bool, true, false, ◌||◌, Option, refl}
+use Rattle.std.proofs.Common.{ap, ◌∙◌}
 use Rattle.wasmprinter_spec.specs.Piece.{Piece}
-use Rattle.wasmprinter_spec.specs.Layout.Groups.{has_break, close, group_gap}
+use Rattle.wasmprinter_spec.specs.Layout.Groups.{has_break, close}
 use Rattle.wasmprinter_lines.proofs.Groups.{has_break-append}
 
 close-breaks : (place : Option ℕ) (nesting : ℕ) (b : Bool) → has_break (close place nesting b) ≡ b

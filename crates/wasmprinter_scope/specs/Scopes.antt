@@ -23,6 +23,10 @@ folds_in s = is_some s.folding
 abbrev pub scope_of_function : layout.Scope → ℕ → layout.Scope
 scope_of_function s f = record s { function = f }
 
+-- the scope of the definitions for the locals and labels of a function
+abbrev pub function_scope : Scope → ℕ → layout.Scope
+function_scope s f = scope_of_function (scope_view s) f
+
 -- the identifier of an item of the module: by computation one of the scope's names
 abbrev pub item_in : Scan → Space → ℕ → Option Named
 item_in s space number = name_in s.invents (name_at s.named) (id_of space) (outer_of space 0) number

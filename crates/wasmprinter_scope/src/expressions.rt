@@ -1,10 +1,10 @@
 //! Constant expressions in fields (section 6.6 of the WebAssembly Core Specification, "Expressions"), each in one line, but where the
 //! comment of a folded operator ends it.
-ghost use Rattle.std.specs.Prelude.{◌≡◌, Bool, true, false, IfOk};
-ghost use Rattle.wasmprinter_spec.specs.Layout.Groups.{has_break};
+ghost use Rattle.std.specs.Prelude.{◌≡◌, false};
 ghost use Rattle.wasmprinter_spec.specs.Layout.Operators.{expression_pieces};
-ghost use Rattle.wasmprinter_spec.specs.Layout.Expressions.{in_line, constant_pieces, word_unless_one, held_pieces, group_parts, constant_group};
-ghost use Rattle.wasmprinter_print.specs.Prints.{Prints, PrintsOrStops};
+ghost use Rattle.wasmprinter_spec.specs.Layout.Expressions.{in_line, word_unless_one};
+ghost use Rattle.wasmprinter_spec.specs.Layout.Expressions.{constant_pieces, held_pieces, group_parts, constant_group};
+ghost use Rattle.wasmprinter_print.specs.Prints.{Prints, PrintsOrStops, TellsLines};
 ghost use Rattle.wasmprinter_scope.specs.Scopes.{scope_view, is_one, folds_in};
 
 use crate::scope::Scope;
@@ -68,7 +68,7 @@ fn write_nested<P: Print>(
 ) -> Result<bool, Error>
     ensures pieces { PrintsOrStops P.meaning options.now p.old p.new (folds_in (scope_view scope.old)) result
         (constant_pieces (scope_view scope.old) nesting expression.now.items) }
-    ensures lines { IfOk result (λ lines. lines ≡ has_break (constant_pieces (scope_view scope.old) nesting expression.now.items)) }
+    ensures lines { TellsLines result (constant_pieces (scope_view scope.old) nesting expression.now.items) }
     ensures scope { scope_view scope.new ≡ scope_view scope.old }
 {
     match &mut scope.folder {
@@ -111,7 +111,7 @@ pub fn write_constant<P: Print>(
 ) -> Result<bool, Error>
     ensures pieces { PrintsOrStops P.meaning options.now p.old p.new (folds_in (scope_view scope.old)) result
         (constant_pieces (scope_view scope.old) 2 expression.now.items) }
-    ensures lines { IfOk result (λ lines. lines ≡ has_break (constant_pieces (scope_view scope.old) 2 expression.now.items)) }
+    ensures lines { TellsLines result (constant_pieces (scope_view scope.old) 2 expression.now.items) }
     ensures scope { scope_view scope.new ≡ scope_view scope.old }
 {
     write_nested(p, options, scope, EXPRESSION_NESTING, expression)
@@ -150,7 +150,7 @@ fn write_held<P: Print>(
 ) -> Result<bool, Error>
     ensures pieces { PrintsOrStops P.meaning options.now p.old p.new (folds_in (scope_view scope.old)) result
         (held_pieces (scope_view scope.old) 3 expression.now.items) }
-    ensures lines { IfOk result (λ lines. lines ≡ has_break (held_pieces (scope_view scope.old) 3 expression.now.items)) }
+    ensures lines { TellsLines result (held_pieces (scope_view scope.old) 3 expression.now.items) }
     ensures scope { scope_view scope.new ≡ scope_view scope.old }
 {
     if is_one(expression) {
@@ -171,7 +171,7 @@ fn write_group_parts<P: Print>(
 ) -> Result<bool, Error>
     ensures pieces { PrintsOrStops P.meaning options.now p.old p.new (folds_in (scope_view scope.old)) result
         (group_parts (scope_view scope.old) 3 keyword.now expression.now.items) }
-    ensures lines { IfOk result (λ lines. lines ≡ has_break (group_parts (scope_view scope.old) 3 keyword.now expression.now.items)) }
+    ensures lines { TellsLines result (group_parts (scope_view scope.old) 3 keyword.now expression.now.items) }
     ensures scope { scope_view scope.new ≡ scope_view scope.old }
 {
     write_word_unless_one(p, options, keyword, expression)?;
@@ -193,7 +193,7 @@ pub fn write_constant_group<P: Print>(
 ) -> Result<bool, Error>
     ensures pieces { PrintsOrStops P.meaning options.now p.old p.new (folds_in (scope_view scope.old)) result
         (constant_group (scope_view scope.old) 2 keyword.now expression.now.items) }
-    ensures lines { IfOk result (λ lines. lines ≡ has_break (constant_group (scope_view scope.old) 2 keyword.now expression.now.items)) }
+    ensures lines { TellsLines result (constant_group (scope_view scope.old) 2 keyword.now expression.now.items) }
     ensures scope { scope_view scope.new ≡ scope_view scope.old }
 {
     open_bare(p)?;

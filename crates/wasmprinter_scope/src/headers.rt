@@ -2,9 +2,8 @@
 //! Specification, "Type Uses").
 ghost use Rattle.std.specs.Prelude.{Some, None};
 ghost use Rattle.wasmprinter_spec.specs.Row as row;
-ghost use Rattle.wasmprinter_spec.specs.Options.{Options};
 ghost use Rattle.wasmprinter_spec.specs.Layout.Functions.{header_pieces};
-ghost use Rattle.wasmprinter_print.specs.Prints.{Prints};
+ghost use Rattle.wasmprinter_print.specs.Prints.{PrintsAlways};
 ghost use Rattle.wasmprinter_scope.specs.Scopes.{scope_view};
 
 use crate::scope::{Scope, write_declaration, write_type_use};
@@ -20,7 +19,7 @@ pub fn write_function_header<P: Print>(
     number: u64,
     type_index: u32,
 ) -> io::Result<()>
-    ensures { (o : Options) → Prints P.meaning o p.old p.new result
+    ensures { PrintsAlways P.meaning p.old p.new result
         (header_pieces (scope_view scope.now) row.Func (Some number) number type_index) }
 {
     write_declaration(p, scope, Space::Func, number)?;
@@ -35,7 +34,7 @@ pub fn write_tag_header<P: Print>(
     number: u64,
     type_index: u32,
 ) -> io::Result<()>
-    ensures { (o : Options) → Prints P.meaning o p.old p.new result
+    ensures { PrintsAlways P.meaning p.old p.new result
         (header_pieces (scope_view scope.now) row.Tag None number type_index) }
 {
     write_declaration(p, scope, Space::Tag, number)?;

@@ -1,16 +1,15 @@
 //! What the fields of a module are printed by, and what is printed by it: items where they are declared and used, and types.
 ghost use Rattle.std.specs.Prelude.{◌≡◌, ◌∷◌, ℕ};
-ghost use Rattle.wasmprinter_spec.specs.Options.{Options};
 ghost use Rattle.wasmprinter_spec.specs.Piece.{Gap};
 ghost use Rattle.wasmprinter_spec.specs.Layout.Groups.{line_group_gap};
 ghost use Rattle.wasmprinter_spec.specs.Layout.Declarations.{type_use};
 ghost use Rattle.wasmprinter_spec.specs.Layout.Identifiers.{declaration_pieces, index_pieces};
 ghost use Rattle.wasmprinter_spec.specs.Layout.ValTypes.{ref_pieces, val_pieces};
 ghost use Rattle.wasmprinter_spec.specs.Layout.Types.{type_pieces};
-ghost use Rattle.wasmprinter_print.specs.Prints.{Prints};
+ghost use Rattle.wasmprinter_print.specs.Prints.{PrintsAlways};
 ghost use Rattle.wasmprinter_names.specs.Shown.{names_of_identifiers};
 ghost use Rattle.wasmprinter_text.specs.Items.{item_of};
-ghost use Rattle.wasmprinter_ops.specs.ValTypes.{ref_view, type_view};
+ghost use Rattle.wasmprinter_types.specs.ValTypes.{ref_view, type_view};
 ghost use Rattle.wasmprinter_labels.specs.Scan.{names_of};
 ghost use Rattle.wasmprinter_scope.specs.Scopes.{scope_view, item_in};
 
@@ -18,13 +17,13 @@ use std::io;
 use wasmprinter_fold::Folder;
 use wasmprinter_labels::OpenLabels;
 use wasmprinter_names::{Identifiers, Space};
-use wasmprinter_ops::types::composite::{FuncType, SubType};
-use wasmprinter_ops::types::{RefType, ValType};
 use wasmprinter_print::Print;
 use wasmprinter_text::indices::{self, write_declaration_of, write_index_of};
 use wasmprinter_text::signature::{self, Signatures};
 use wasmprinter_text::types;
 use wasmprinter_text::types::composite::type_field;
+use wasmprinter_types::composite::{FuncType, SubType};
+use wasmprinter_types::{RefType, ValType};
 use wasmprinter_wasm::Module;
 
 /// How deep the fields of a module are nested.
@@ -78,7 +77,7 @@ pub fn write_declaration<P: Print>(
     space: Space,
     number: u64,
 ) -> io::Result<()>
-    ensures { (o : Options) → Prints P.meaning o p.old p.new result
+    ensures { PrintsAlways P.meaning p.old p.new result
         (declaration_pieces (item_in scope.now.labels space number) number) }
 {
     write_declaration_of(p, &scope.identifiers(), space, 0, number)
@@ -91,7 +90,7 @@ pub fn write_index<P: Print>(
     space: Space,
     index: u32,
 ) -> io::Result<()>
-    ensures { (o : Options) → Prints P.meaning o p.old p.new result
+    ensures { PrintsAlways P.meaning p.old p.new result
         (index_pieces (item_in scope.now.labels space index) index) }
 {
     write_index_of(p, &scope.identifiers(), space, 0, u64::from(index))
@@ -105,7 +104,7 @@ pub fn write_index_group<P: Print>(
     space: Space,
     index: u32,
 ) -> io::Result<()>
-    ensures { (o : Options) → Prints P.meaning o p.old p.new result
+    ensures { PrintsAlways P.meaning p.old p.new result
         (line_group_gap keyword.now (index_pieces (item_in scope.now.labels space index) index)) }
 {
     indices::write_index_group(p, &scope.identifiers(), keyword, space, index)
@@ -118,7 +117,7 @@ pub fn write_type_use<P: Print>(
     owner: Option<u64>,
     index: u32,
 ) -> io::Result<()>
-    ensures { (o : Options) → Prints P.meaning o p.old p.new result
+    ensures { PrintsAlways P.meaning p.old p.new result
         (Gap ∷ type_use (scope_view scope.now) owner index) }
 {
     signature::write_type_use(p, &scope.identifiers(), owner, &scope.types, index)
@@ -130,7 +129,7 @@ pub fn write_ref_type<P: Print>(
     scope: &Scope<'_, '_>,
     ref_type: RefType,
 ) -> io::Result<()>
-    ensures { (o : Options) → Prints P.meaning o p.old p.new result
+    ensures { PrintsAlways P.meaning p.old p.new result
         (ref_pieces (names_of scope.now.labels) (ref_view ref_type)) }
 {
     types::write_ref_type(p, &scope.identifiers(), ref_type)
@@ -142,7 +141,7 @@ pub fn write_val_type<P: Print>(
     scope: &Scope<'_, '_>,
     value_type: ValType,
 ) -> io::Result<()>
-    ensures { (o : Options) → Prints P.meaning o p.old p.new result
+    ensures { PrintsAlways P.meaning p.old p.new result
         (val_pieces (names_of scope.now.labels) (type_view value_type)) }
 {
     types::write_val_type(p, &scope.identifiers(), value_type)
@@ -155,7 +154,7 @@ pub fn write_type<P: Print>(
     number: u64,
     sub_type: &SubType<'_>,
 ) -> io::Result<()>
-    ensures { (o : Options) → Prints P.meaning o p.old p.new result
+    ensures { PrintsAlways P.meaning p.old p.new result
         (type_pieces (names_of scope.now.labels) number sub_type.now) }
 {
     type_field(p, &scope.identifiers(), number, sub_type)

@@ -1,32 +1,26 @@
 -- Whether lines change for the fields of a module: each begins a line.
-use Rattle.std.specs.Prelude.{◌≡◌, ℕ, ◌==◌, not, List, [], ◌∷◌, ◌++◌, Bool, true, false, ◌||◌, length, Option, Some, None, is_some, refl}
-use Rattle.std.proofs.Common.{sym, ap, ◌∙◌}
+use Rattle.std.specs.Prelude.{◌≡◌, ℕ, ◌==◌, not, List, [], ◌∷◌, Bool, true, false, length, Option, Some, None, is_some, refl}
+use Rattle.std.proofs.Common.{sym, ap}
 use Rattle.std.proofs.Math.Dec.{eqb-suc-zero}
 use Rattle.wasmprinter_spec.specs.Grammar.{Placed}
-use Rattle.wasmprinter_spec.specs.Types.{MemoryType, FuncKind, TableKind, MemoryKind, GlobalKind, TagKind}
+use Rattle.wasmprinter_spec.specs.Types.{MemoryType}
 use Rattle.wasmprinter_spec.specs.Labels.{Named}
 use Rattle.wasmprinter_spec.specs.Names.{Names}
 use Rattle.wasmprinter_spec.specs.Operator.{Operator}
-use Rattle.wasmprinter_spec.specs.Placed.{TypeGroup, Import, Table, Global, Export, ElementEntry, Data, PlacedFunction, PlacedModule}
-use Rattle.wasmprinter_spec.specs.Options.{Options}
-use Rattle.wasmprinter_spec.specs.Piece.{Piece}
-use Rattle.wasmprinter_spec.specs.Layout.{tag_pieces, start_pieces, early_scope, late_scope}
-use Rattle.wasmprinter_spec.specs.Layout.Groups.{has_break, numbered_pieces}
+use Rattle.wasmprinter_spec.specs.Placed.{TypeGroup, Import, Table, Global, Export, ElementEntry, Data}
+use Rattle.wasmprinter_spec.specs.Layout.{tag_pieces, start_pieces}
+use Rattle.wasmprinter_spec.specs.Layout.Groups.{has_break}
 use Rattle.wasmprinter_spec.specs.Layout.Identifiers.{leading_mark_pieces}
 use Rattle.wasmprinter_spec.specs.Layout.Declarations.{Scope}
 use Rattle.wasmprinter_spec.specs.Layout.Types.{type_group_pieces, type_section_pieces}
-use Rattle.wasmprinter_spec.specs.Layout.Imports.{Numbers, no_numbers, import_pieces, imports_pieces}
+use Rattle.wasmprinter_spec.specs.Layout.Imports.{Numbers, import_pieces, imports_pieces}
 use Rattle.wasmprinter_spec.specs.Layout.Tables.{table_pieces}
 use Rattle.wasmprinter_spec.specs.Layout.Memories.{memory_pieces}
 use Rattle.wasmprinter_spec.specs.Layout.Globals.{global_pieces}
 use Rattle.wasmprinter_spec.specs.Layout.Exports.{export_pieces}
 use Rattle.wasmprinter_spec.specs.Layout.Elements.{element_pieces}
-use Rattle.wasmprinter_spec.specs.Layout.Functions.{function_pieces}
 use Rattle.wasmprinter_spec.specs.Layout.DataSegments.{data_pieces}
-use Rattle.wasmprinter_lines.proofs.Groups.{has_break-append}
 use Rattle.wasmprinter_text.proofs.Signatures.{mark-line}
-use Rattle.wasmprinter_entries.specs.Externs.{imported_count}
-use Rattle.wasmprinter_fields.proofs.Numbering.{numbered_pieces-break}
 
 -- for groups of types: each begins a line
 pub types-break : (names : Names) (i : ℕ) (gs : List (Placed TypeGroup)) → has_break (type_section_pieces names i gs) ≡ not (length gs == 0)

@@ -1,5 +1,5 @@
 -- Sections one after the other, each with its custom sections.
-use Rattle.std.specs.Prelude.{◌≡◌, ℕ, zero, suc, ◌+◌, ◌<◌, ◌-◌, List, [], ◌∷◌, ◌++◌, Bool, false, ◌||◌, length, take, drop, replicate, Option, Some, None, Result, Ok, Err, IsErrAnd, slice_get, refl}
+use Rattle.std.specs.Prelude.{◌≡◌, ℕ, zero, suc, ◌+◌, ◌<◌, ◌-◌, List, [], ◌∷◌, ◌++◌, Bool, false, ◌||◌, length, take, drop, replicate, Some, None, Result, Ok, Err, IsErrAnd, slice_get, refl}
 use Rattle.std.proofs.Common.{sym, ap, ◌∙◌, subst, append_assoc, append-nil, length-append, add-one, get_or, option_map, arith}
 use Rattle.std.proofs.lemmas.List.{length-replicate}
 use Rattle.std.proofs.lemmas.Option.{slice_get-map, slice_get-get_or}

@@ -1,13 +1,12 @@
 -- Functions one after the other, each with its hints.
-use Rattle.std.specs.Prelude.{◌≡◌, ℕ, suc, ◌+◌, ◌<◌, ◌≤◌, ◌==◌, not, drop, List, [], ◌∷◌, ◌++◌, ◌||◌, true, length, Some, slice_get, refl}
-use Rattle.std.proofs.Common.{sym, ap, ◌∙◌, add-one, drop-cons, get_or}
+use Rattle.std.specs.Prelude.{◌≡◌, ℕ, suc, ◌+◌, ◌≤◌, ◌==◌, not, drop, List, [], ◌∷◌, ◌++◌, ◌||◌, true, length, Some, slice_get, refl}
+use Rattle.std.proofs.Common.{sym, ap, ◌∙◌, add-one, drop-cons}
 use Rattle.std.proofs.Math.Dec.{eqb-suc-zero}
 use Rattle.std.proofs.lemmas.Option.{slice_get_within, get_or_from_slice_get}
 use Rattle.std.proofs.lemmas.List.{drop_all}
 use Rattle.wasmprinter_spec.specs.Customs.Hints.{FunctionHints, next_hints, hints_behind}
 use Rattle.wasmprinter_spec.specs.Placed.{PlacedFunction}
 use Rattle.wasmprinter_spec.specs.Options.{Options}
-use Rattle.wasmprinter_spec.specs.Piece.{Piece}
 use Rattle.wasmprinter_spec.specs.Layout.Declarations.{Scope}
 use Rattle.wasmprinter_spec.specs.Layout.Functions.{function_pieces, functions_pieces}
 use Rattle.wasmprinter_spec.specs.Layout.Groups.{has_break}

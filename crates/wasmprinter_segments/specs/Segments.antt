@@ -10,7 +10,7 @@ use Rattle.wasmprinter_spec.specs.Placed.{Mode, Passive, Declared, Active, Items
 use Rattle.wasmprinter_spec.specs.Placed.{DataMode as DefinedDataMode}
 use Rattle.wasmprinter_spec.specs.Binary.Limits.{has_bit}
 use Rattle.wasmprinter_spec.specs.Binary.Elements.{active, active_in, function_items, items_of_kind, expression_items, items_of_type}
-use Rattle.wasmprinter_ops.specs.ValTypes.{ref_view}
+use Rattle.wasmprinter_types.specs.ValTypes.{ref_view}
 use Rattle.wasmprinter_segments.specs.declared.elements.ElementMode.{ElementMode}
 use Rattle.wasmprinter_segments.specs.declared.elements.ElementMode.TheVariants as m
 use Rattle.wasmprinter_segments.specs.declared.elements.ElementItems.{ElementItems}

@@ -6,7 +6,7 @@ ghost use Rattle.wasmprinter_spec.specs.Instructions.{roles};
 ghost use Rattle.wasmprinter_spec.specs.Limits.{local_count, most_locals};
 ghost use Rattle.wasmprinter_spec.specs.Nesting.{Nests, Sequence};
 ghost use Rattle.wasmprinter_bytes.specs.Reads.{end_of};
-ghost use Rattle.wasmprinter_ops.specs.ValTypes.{type_view};
+ghost use Rattle.wasmprinter_types.specs.ValTypes.{type_view};
 ghost use Rattle.wasmprinter_spec.specs.Sections.{CodeSection};
 ghost use Rattle.wasmprinter_segments.specs.Bodies.{TakesBody, TakesEntry, TakesBodies};
 ghost use Rattle.wasmprinter_entries.specs.Contents.{TakesHeld};
@@ -18,7 +18,7 @@ use wasmprinter_bytes::lists::{Items, Spelled};
 use wasmprinter_entries::expected::expect_end;
 use wasmprinter_error::{Error, Malformed};
 use wasmprinter_ops::expression::{Expression, OperatorsReader};
-use wasmprinter_ops::types::{ValType, read_type};
+use wasmprinter_types::{ValType, read_type};
 
 /// The most locals that a function may have, parameters not counted.
 const MOST_LOCALS: u64 = 50_000;
@@ -34,7 +34,7 @@ pub struct LocalEntry {
 impl Model for LocalEntry {
     ghost use Rattle.wasmprinter_spec.specs.Grammar.{Placed};
     ghost use Rattle.wasmprinter_spec.specs.Placed.{LocalEntry as LocalEntryValue};
-    ghost use Rattle.wasmprinter_ops.specs.ValTypes.{type_view};
+    ghost use Rattle.wasmprinter_types.specs.ValTypes.{type_view};
 
     ghost Value = { Placed LocalEntryValue };
 

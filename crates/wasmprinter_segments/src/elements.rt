@@ -6,7 +6,7 @@ ghost use Rattle.wasmprinter_spec.specs.Sections.{ElementSection};
 ghost use Rattle.wasmprinter_bytes.specs.Reads.{Reads, IsWithin, end_of};
 ghost use Rattle.wasmprinter_bytes.specs.Lists.{Takes, CountsItems};
 ghost use Rattle.wasmprinter_segments.specs.Growing.{ModeGrows, ItemsGrow, ElementGrows};
-ghost use Rattle.wasmprinter_ops.specs.ValTypes.{ref_view};
+ghost use Rattle.wasmprinter_types.specs.ValTypes.{ref_view};
 ghost use Rattle.wasmprinter_entries.specs.Contents.{TakesHeld};
 ghost use Rattle.wasmprinter_segments.specs.Segments.{element_mode_view, element_items_view, mode_by, items_by, names_table, omits_kind};
 
@@ -18,7 +18,7 @@ use wasmprinter_entries::expected::{expect_end, read_only};
 use wasmprinter_entries::flags::has_bit;
 use wasmprinter_error::{Error, Malformed};
 use wasmprinter_ops::expression::Expression;
-use wasmprinter_ops::types::{HeapType, RefType};
+use wasmprinter_types::{HeapType, RefType};
 
 /// In front of the indices of functions, where their kind is written.
 const FUNCTIONS: u8 = 0x00;

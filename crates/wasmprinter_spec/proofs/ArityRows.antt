@@ -2,7 +2,7 @@
 use Rattle.std.specs.Prelude.{◌≡◌, ℕ, List, [], ◌∷◌, ◌++◌, map, length, ◌==◌, cond, true, codes, slice_get, Option, Some, None, option_map, refl}
 use Rattle.wasmprinter_spec.specs.Grammar.{input, ◌>>=◌}
 use Rattle.wasmprinter_spec.specs.Types as types
-use Rattle.wasmprinter_spec.specs.Types.{FuncType, ValType, StructComposite, field_type, Val, SubType, final_type, FuncExtern, TagExtern}
+use Rattle.wasmprinter_spec.specs.Types.{FuncType, ValType, StructComposite, field_type, Val, final_type, FuncExtern, TagExtern}
 use Rattle.wasmprinter_spec.specs.Operator.{opcode, Empty, Value, OfType, NoImmediates, Index, Operator}
 use Rattle.wasmprinter_spec.specs.Row.{OfBranchIf, OfBranchOnNull}
 use Rattle.wasmprinter_spec.specs.Table.{table}

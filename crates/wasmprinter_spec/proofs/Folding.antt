@@ -3,7 +3,6 @@ use Rattle.std.proofs.Common.{◌≡◌, ℕ, zero, suc, ◌+◌, ◌<◌, ◌�
 use Rattle.std.proofs.lemmas.List.{append-nil}
 use Rattle.std.proofs.lemmas.Bool.{eqb-true, eqb-false, ltb-true, ltb-false, cond_both}
 use Rattle.wasmprinter_spec.specs.Row as row
-use Rattle.wasmprinter_spec.specs.Row.{Role, Opens, OpensIf, OpensTry, Turns, Catches, CatchesAll, Delegates, Ends}
 use Rattle.wasmprinter_spec.specs.Folding.Arities.{greatest, saturating_sum}
 use Rattle.wasmprinter_spec.specs.Folding.Code.{Item, NestedCode, Done, Plain, Block, If, IfElse, flat, role, IsFit}
 use Rattle.wasmprinter_spec.specs.Folding.Tree.{Of, ThenCase, ElseCase, NodesOf, Nodes, Nil, Snoc, row_of_both, front, last, OperandsOf, Operands, Fit, Passed, Short, with_last, operands_from, operand_search, with_operands, with_operator, results_of, IsFirst, IsAnswer, tree_behind}

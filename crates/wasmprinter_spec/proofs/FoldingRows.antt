@@ -3,7 +3,6 @@
 use Rattle.std.specs.Prelude.{◌≡◌, ℕ, List, [], ◌∷◌, ◌++◌, map, flat_map, true, false, codes, slice_get, Option, Some, None, option_map, refl}
 use Rattle.wasmprinter_spec.specs.Grammar.{input, Placed, ◌>>=◌}
 use Rattle.wasmprinter_spec.specs.Types as types
-use Rattle.wasmprinter_spec.specs.Types.{FuncType, ValType}
 use Rattle.wasmprinter_spec.specs.Operator.{Operator}
 use Rattle.wasmprinter_spec.specs.Instructions.{expression}
 use Rattle.wasmprinter_spec.specs.Names.{Names, no_names}

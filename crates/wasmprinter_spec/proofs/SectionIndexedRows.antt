@@ -3,7 +3,7 @@
 use Rattle.std.specs.Prelude.{List, [], ◌∷◌, codes, true, false, None, refl}
 use Rattle.std.proofs.Common.{arith}
 use Rattle.wasmprinter_spec.specs.Types as types
-use Rattle.wasmprinter_spec.specs.Types.{limits_of, ref_type, RefType, table_type_of, memory_type_of, ValType, global_type_of, FuncExtern, MemoryExtern, GlobalExtern}
+use Rattle.wasmprinter_spec.specs.Types.{limits_of, ref_type, RefType, table_type_of, memory_type_of, global_type_of, FuncExtern, MemoryExtern, GlobalExtern}
 use Rattle.wasmprinter_spec.specs.Operator.{opcode, Index, Operator}
 use Rattle.wasmprinter_spec.specs.Table.{table}
 use Rattle.wasmprinter_spec.specs.Placed.{import_of, table_of, global_of, Passive, Active, Functions, Expressions, Element, element_of, ActiveData, Data, data_of}

@@ -6,7 +6,7 @@ use Rattle.wasmprinter_spec.specs.Types as types
 use Rattle.wasmprinter_spec.specs.Types.{limits_of, ref_type, TableType, table_type_of, memory_type_of, GlobalType, global_type_of, FuncExtern, TableExtern, MemoryExtern, GlobalExtern, TagExtern}
 use Rattle.wasmprinter_spec.specs.Operator.{opcode, Value, Index, Heap, Operator}
 use Rattle.wasmprinter_spec.specs.Placed as layout
-use Rattle.wasmprinter_spec.specs.Placed.{table_of, global_of, Mode, Passive, Declared, Active, Items, Functions, Expressions, Element, element_of, entry_of, DataMode, PassiveData, ActiveData, Data, data_of, import_of, PlacedModule}
+use Rattle.wasmprinter_spec.specs.Placed.{table_of, global_of, Mode, Passive, Declared, Active, Items, Functions, Expressions, element_of, entry_of, DataMode, PassiveData, ActiveData, data_of, import_of, PlacedModule}
 use Rattle.wasmprinter_spec.specs.Module.{Module}
 use Rattle.wasmprinter_spec.proofs.Samples.{head_bytes, lines, to_null, func, bare, i32_const, i64_const, empty_placed, empty}
 use Rattle.wasmprinter_spec.proofs.BlockSamples.{block, end}

@@ -3,7 +3,7 @@
 use Rattle.std.specs.Prelude.{◌≡◌, ℕ, pos, List, [], ◌∷◌, map, true, false, codes, Option, Some, None, refl}
 use Rattle.std.specs.List.{AllByRecursion}
 use Rattle.wasmprinter_spec.specs.Types as types
-use Rattle.wasmprinter_spec.specs.Types.{limits_of, ref_type, table_type_of, global_type_of, FuncExtern, GlobalExtern}
+use Rattle.wasmprinter_spec.specs.Types.{limits_of, ref_type, table_type_of, global_type_of, FuncExtern}
 use Rattle.wasmprinter_spec.specs.Operator.{opcode, NoImmediates, Operator}
 use Rattle.wasmprinter_spec.specs.Placed.{table_of, global_of, Passive, Declared, Active, Functions, Expressions, Element, element_of, PassiveData, ActiveData, Data, data_of, import_of, PlacedModule}
 use Rattle.wasmprinter_spec.specs.Module.{Module}

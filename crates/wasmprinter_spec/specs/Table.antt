@@ -1,6 +1,6 @@
 -- The operators (sections 5.4 and 6.5 of the standard): a row for each opcode. Grammar, layout and reader take opcodes, words and
 -- immediates from these rows. The program has tables of its own: its words, shapes and roles are proved equal to these.
-use Rattle.std.specs.Prelude.{ℕ, List, [], ◌∷◌, ◌++◌, Bool, true, false, ◌&&◌, ◌==◌, cond, bytes_eq, Option, Some, None}
+use Rattle.std.specs.Prelude.{ℕ, List, [], ◌∷◌, ◌++◌, Bool, ◌&&◌, ◌==◌, cond, bytes_eq, Option, Some, None}
 use Rattle.std.specs.List.{filter}
 use Rattle.wasmprinter_spec.specs.Operator.{Opcode}
 use Rattle.wasmprinter_spec.specs.Row.{Row, Shape, Role, Plain}

@@ -1,7 +1,7 @@
 -- Identifiers and types stand on one line.
 use Rattle.std.specs.Prelude.{◌≡◌, ℕ, List, [], ◌∷◌, ◌++◌, Bool, true, false, cond, bytes_eq, chars, Option, Some, None, codes, refl}
 use Rattle.wasmprinter_spec.specs.Types as defined
-use Rattle.wasmprinter_spec.specs.Types.{HeapType, RefType, ValType, FuncType}
+use Rattle.wasmprinter_spec.specs.Types.{HeapType, ValType, FuncType}
 use Rattle.wasmprinter_spec.specs.Row.{Types}
 use Rattle.wasmprinter_spec.specs.Labels.{Named}
 use Rattle.wasmprinter_spec.specs.Names.{Names}

@@ -1,7 +1,11 @@
--- The identifiers that a layout looks up.
-use Rattle.std.specs.Prelude.{ℕ, Option}
+-- The identifiers that a layout looks up, and what it prints by them.
+use Rattle.std.specs.Prelude.{ℕ, List, Option}
+use Rattle.wasmprinter_spec.specs.Types.{FieldType}
 use Rattle.wasmprinter_spec.specs.Labels.{Named}
-use Rattle.wasmprinter_spec.specs.Names.{name_in}
+use Rattle.wasmprinter_spec.specs.Names.{Names, name_in}
+use Rattle.wasmprinter_spec.specs.Piece.{Piece}
+use Rattle.wasmprinter_spec.specs.Layout.Groups.{numbered_pieces}
+use Rattle.wasmprinter_spec.specs.Layout.Types.{struct_field_pieces}
 use Rattle.wasmprinter_names.specs.Spaces.{id_of, outer_of}
 use Rattle.wasmprinter_names.specs.Views.{name_at}
 use Rattle.wasmprinter_names.specs.declared.identifiers.Identifiers.{Identifiers}
@@ -10,3 +14,11 @@ use Rattle.wasmprinter_names.specs.declared.space.Space.{Space}
 -- the identifier of an item of a space: by computation one of `names_of_identifiers`
 abbrev pub item_of : Identifiers → Space → ℕ → ℕ → Option Named
 item_of x space outer number = name_in x.invents (name_at x.names.now) (id_of space) (outer_of space outer) number
+
+-- a field of the structure type `owner`, with its number
+abbrev pub owned_field : Names → ℕ → ℕ → FieldType → List Piece
+owned_field names owner number f = struct_field_pieces names (names.fields owner number) f
+
+-- all fields of it
+abbrev pub owned_fields : Names → ℕ → List FieldType → List Piece
+owned_fields names owner fs = numbered_pieces (λ k f. owned_field names owner k f) 0 fs

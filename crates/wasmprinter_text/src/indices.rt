@@ -1,12 +1,11 @@
 //! Items by their identifiers (section 6.3 of the WebAssembly Core Specification, "Identifiers"), or else by their numbers: where they are
 //! declared, and where an index means them.
 ghost use Rattle.std.specs.Prelude.{[], ◌∷◌, Some, chars, option_map};
-ghost use Rattle.wasmprinter_spec.specs.Options.{Options};
 ghost use Rattle.wasmprinter_spec.specs.Piece.{Gap, NameNote, BeginName, EndStyle, Identifier as IdentifierPiece};
 ghost use Rattle.wasmprinter_spec.specs.Layout.Groups.{line_group_gap};
 ghost use Rattle.wasmprinter_spec.specs.Layout.Identifiers.{given_pieces, mark_pieces, leading_mark_pieces, mark_gap_pieces};
 ghost use Rattle.wasmprinter_spec.specs.Layout.Identifiers.{identifier_gap_pieces, declaration_pieces, index_pieces};
-ghost use Rattle.wasmprinter_print.specs.Prints.{Prints};
+ghost use Rattle.wasmprinter_print.specs.Prints.{PrintsAlways};
 ghost use Rattle.wasmprinter_print.specs.Puts.{Marks};
 ghost use Rattle.wasmprinter_names.specs.Shown.{identifier_view};
 ghost use Rattle.wasmprinter_names.specs.Views.{name_view};
@@ -39,7 +38,7 @@ fn put_identifier<P: Print>(p: &mut P, fault: &mut Fault, identifier: Identifier
 
 /// Writes a blank and the annotation with a name.
 fn write_note<P: Print>(p: &mut P, name: &str) -> io::Result<()>
-    ensures { (o : Options) → Prints P.meaning o p.old p.new result (Gap ∷ (NameNote (chars name.now) ∷ [])) }
+    ensures { PrintsAlways P.meaning p.old p.new result (Gap ∷ (NameNote (chars name.now) ∷ [])) }
 {
     gap(p)?;
     name_note(p, name)
@@ -76,7 +75,7 @@ pub fn put_mark<P: Print>(p: &mut P, fault: &mut Fault, identifier: Identifier<'
 
 /// Writes an identifier, and the name that was given where that is another.
 pub fn write_mark<P: Print>(p: &mut P, identifier: Identifier<'_>) -> io::Result<()>
-    ensures { (o : Options) → Prints P.meaning o p.old p.new result (mark_pieces (identifier_view identifier.entry)) }
+    ensures { PrintsAlways P.meaning p.old p.new result (mark_pieces (identifier_view identifier.entry)) }
 {
     let mut fault = Fault::none();
     put_mark(p, &mut fault, identifier);
@@ -97,7 +96,7 @@ pub fn put_leading_mark<P: Print>(p: &mut P, fault: &mut Fault, identifier: Opti
 
 /// Writes a blank and a mark as [`write_mark`] does, and nothing where there is no identifier.
 pub fn write_leading_mark<P: Print>(p: &mut P, identifier: Option<Identifier<'_>>) -> io::Result<()>
-    ensures { (o : Options) → Prints P.meaning o p.old p.new result
+    ensures { PrintsAlways P.meaning p.old p.new result
         (leading_mark_pieces (option_map identifier_view identifier.entry)) }
 {
     let mut fault = Fault::none();
@@ -119,7 +118,7 @@ fn put_mark_gap<P: Print>(p: &mut P, fault: &mut Fault, identifier: Option<Ident
 
 /// Writes a mark as [`write_mark`] does and a blank, and nothing where there is no identifier.
 pub fn write_mark_gap<P: Print>(p: &mut P, identifier: Option<Identifier<'_>>) -> io::Result<()>
-    ensures { (o : Options) → Prints P.meaning o p.old p.new result
+    ensures { PrintsAlways P.meaning p.old p.new result
         (mark_gap_pieces (option_map identifier_view identifier.entry)) }
 {
     let mut fault = Fault::none();
@@ -144,7 +143,7 @@ pub fn write_identifier_gap<P: Print>(
     p: &mut P,
     identifier: Option<Identifier<'_>>,
 ) -> io::Result<()>
-    ensures { (o : Options) → Prints P.meaning o p.old p.new result
+    ensures { PrintsAlways P.meaning p.old p.new result
         (identifier_gap_pieces (option_map identifier_view identifier.entry)) }
 {
     let mut fault = Fault::none();
@@ -175,7 +174,7 @@ pub fn write_declaration<P: Print>(
     identifier: Option<Identifier<'_>>,
     number: u64,
 ) -> io::Result<()>
-    ensures { (o : Options) → Prints P.meaning o p.old p.new result
+    ensures { PrintsAlways P.meaning p.old p.new result
         (declaration_pieces (option_map identifier_view identifier.entry) number) }
 {
     let mut fault = Fault::none();
@@ -216,7 +215,7 @@ pub fn write_index<P: Print>(
     identifier: Option<Identifier<'_>>,
     number: u64,
 ) -> io::Result<()>
-    ensures { (o : Options) → Prints P.meaning o p.old p.new result
+    ensures { PrintsAlways P.meaning p.old p.new result
         (index_pieces (option_map identifier_view identifier.entry) number) }
 {
     let mut fault = Fault::none();
@@ -232,7 +231,7 @@ pub fn write_declaration_of<P: Print>(
     outer: u64,
     number: u64,
 ) -> io::Result<()>
-    ensures { (o : Options) → Prints P.meaning o p.old p.new result
+    ensures { PrintsAlways P.meaning p.old p.new result
         (declaration_pieces (item_of identifiers.now space outer number) number) }
 {
     write_declaration(p, identifiers.item(space, outer, number), number)
@@ -261,7 +260,7 @@ pub fn write_index_of<P: Print>(
     outer: u64,
     number: u64,
 ) -> io::Result<()>
-    ensures { (o : Options) → Prints P.meaning o p.old p.new result
+    ensures { PrintsAlways P.meaning p.old p.new result
         (index_pieces (item_of identifiers.now space outer number) number) }
 {
     let mut fault = Fault::none();
@@ -295,7 +294,7 @@ pub fn write_index_group<P: Print>(
     space: Space,
     index: u32,
 ) -> io::Result<()>
-    ensures { (o : Options) → Prints P.meaning o p.old p.new result
+    ensures { PrintsAlways P.meaning p.old p.new result
         (line_group_gap keyword.now (index_pieces (item_of identifiers.now space 0 index) index)) }
 {
     let mut fault = Fault::none();

@@ -1,11 +1,10 @@
 //! Function types by their indices (section 6.4 of the WebAssembly Core Specification, "Type Uses").
 ghost use Rattle.std.specs.Prelude.{◌∷◌, codes};
-ghost use Rattle.wasmprinter_spec.specs.Options.{Options};
 ghost use Rattle.wasmprinter_spec.specs.Piece.{Gap};
 ghost use Rattle.wasmprinter_spec.specs.Layout.Groups.{line_group_gap};
 ghost use Rattle.wasmprinter_spec.specs.Layout.ValTypes.{type_index_pieces};
 ghost use Rattle.wasmprinter_spec.specs.Layout.Types.{signature_if_any, type_use_pieces};
-ghost use Rattle.wasmprinter_print.specs.Prints.{Prints};
+ghost use Rattle.wasmprinter_print.specs.Prints.{PrintsAlways};
 ghost use Rattle.wasmprinter_print.specs.Puts.{Marks};
 ghost use Rattle.wasmprinter_names.specs.Shown.{names_of_identifiers};
 
@@ -13,8 +12,8 @@ use crate::indices::put_index_group;
 use crate::types::signature;
 use std::io;
 use wasmprinter_names::{Identifiers, Space};
-use wasmprinter_ops::types::composite::FuncType;
 use wasmprinter_print::{Fault, Print};
+use wasmprinter_types::composite::FuncType;
 use wasmprinter_words::words::put_gap;
 
 /// The types of a module, of which some are function types.
@@ -39,7 +38,7 @@ fn write_signature<P: Print, S: Signatures>(
     types: &S,
     index: u32,
 ) -> io::Result<()>
-    ensures { (o : Options) → Prints P.meaning o p.old p.new result
+    ensures { PrintsAlways P.meaning p.old p.new result
         (signature_if_any (names_of_identifiers identifiers.now) owner (S.signature_at types.now index)) }
 {
     match types.signature(index) {
@@ -69,7 +68,7 @@ pub fn write_type_index<P: Print>(
     identifiers: &Identifiers<'_, '_>,
     index: u32,
 ) -> io::Result<()>
-    ensures { (o : Options) → Prints P.meaning o p.old p.new result
+    ensures { PrintsAlways P.meaning p.old p.new result
         (Gap ∷ line_group_gap (codes "type") (type_index_pieces (names_of_identifiers identifiers.now) index)) }
 {
     let mut fault = Fault::none();
@@ -86,7 +85,7 @@ pub fn write_type_use<P: Print, S: Signatures>(
     types: &S,
     index: u32,
 ) -> io::Result<()>
-    ensures { (o : Options) → Prints P.meaning o p.old p.new result
+    ensures { PrintsAlways P.meaning p.old p.new result
         (Gap ∷ type_use_pieces (names_of_identifiers identifiers.now) owner index (S.signature_at types.now index)) }
 {
     write_type_index(p, identifiers, index)?;

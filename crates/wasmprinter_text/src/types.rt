@@ -1,17 +1,16 @@
 //! Heap types, reference types and value types (section 6.4 of the WebAssembly Core Specification), and what functions and blocks take
 //! and leave.
-ghost use Rattle.std.specs.Prelude.{◌≡◌, [], ◌∷◌, ◌++◌, codes};
-ghost use Rattle.wasmprinter_spec.specs.Options.{Options};
+ghost use Rattle.std.specs.Prelude.{◌≡◌, [], ◌∷◌, codes};
 ghost use Rattle.wasmprinter_spec.specs.Piece.{Gap};
 ghost use Rattle.wasmprinter_spec.specs.Types.{Index};
 ghost use Rattle.wasmprinter_spec.specs.Layout.ValTypes.{heap_word, ref_word, type_index_pieces, heap_pieces, null_ref_pieces};
-ghost use Rattle.wasmprinter_spec.specs.Layout.ValTypes.{ref_pieces_by, ref_pieces, val_pieces, type_list as list_of_types};
+ghost use Rattle.wasmprinter_spec.specs.Layout.ValTypes.{ref_pieces, val_pieces, type_list as list_of_types};
 ghost use Rattle.wasmprinter_spec.specs.Layout.Types.{list_group as group_of_types, signature_pieces};
 ghost use Rattle.wasmprinter_spec.specs.Layout.Groups.{line_group, line_group_gap};
-ghost use Rattle.wasmprinter_print.specs.Prints.{Prints};
+ghost use Rattle.wasmprinter_print.specs.Prints.{PrintsAlways};
 ghost use Rattle.wasmprinter_print.specs.Puts.{Marks};
 ghost use Rattle.wasmprinter_names.specs.Shown.{names_of_identifiers};
-ghost use Rattle.wasmprinter_ops.specs.ValTypes.{heap_view, ref_view, type_view, types_view};
+ghost use Rattle.wasmprinter_types.specs.ValTypes.{heap_view, ref_view, type_view, types_view};
 
 pub mod composite;
 pub mod variables;
@@ -20,9 +19,9 @@ use crate::indices::write_index_of;
 use crate::types::variables::write_params;
 use std::io;
 use wasmprinter_names::{Identifiers, Space};
-use wasmprinter_ops::types::composite::FuncType;
-use wasmprinter_ops::types::{HeapType, RefType, ValType, ValTypes};
 use wasmprinter_print::{Fault, Print};
+use wasmprinter_types::composite::FuncType;
+use wasmprinter_types::{HeapType, RefType, ValType, ValTypes};
 use wasmprinter_words::words::{gap, open, open_gap, put_type_word, shut, type_word, word};
 
 /// The word of an abstract heap type, empty of an index.
@@ -74,7 +73,7 @@ pub fn write_type_number<P: Print>(
     identifiers: &Identifiers<'_, '_>,
     index: u32,
 ) -> io::Result<()>
-    ensures { (o : Options) → Prints P.meaning o p.old p.new result (type_index_pieces (names_of_identifiers identifiers.now) index) }
+    ensures { PrintsAlways P.meaning p.old p.new result (type_index_pieces (names_of_identifiers identifiers.now) index) }
 {
     write_index_of(p, identifiers, Space::Types, 0, u64::from(index))
 }
@@ -86,7 +85,7 @@ pub fn write_heap_type<P: Print>(
     identifiers: &Identifiers<'_, '_>,
     heap: HeapType,
 ) -> io::Result<()>
-    ensures { (o : Options) → Prints P.meaning o p.old p.new result (heap_pieces (names_of_identifiers identifiers.now) (heap_view heap)) }
+    ensures { PrintsAlways P.meaning p.old p.new result (heap_pieces (names_of_identifiers identifiers.now) (heap_view heap)) }
 {
     match heap {
         HeapType::Index(index) => write_type_number(p, identifiers, index),
@@ -101,7 +100,7 @@ fn write_null_index<P: Print>(
     identifiers: &Identifiers<'_, '_>,
     index: u32,
 ) -> io::Result<()>
-    ensures { (o : Options) → Prints P.meaning o p.old p.new result (null_ref_pieces (names_of_identifiers identifiers.now) (Index index)) }
+    ensures { PrintsAlways P.meaning p.old p.new result (null_ref_pieces (names_of_identifiers identifiers.now) (Index index)) }
 {
     open(p, "ref")?;
     gap(p)?;
@@ -118,7 +117,7 @@ fn write_null_ref<P: Print>(
     identifiers: &Identifiers<'_, '_>,
     heap: HeapType,
 ) -> io::Result<()>
-    ensures { (o : Options) → Prints P.meaning o p.old p.new result (null_ref_pieces (names_of_identifiers identifiers.now) (heap_view heap)) }
+    ensures { PrintsAlways P.meaning p.old p.new result (null_ref_pieces (names_of_identifiers identifiers.now) (heap_view heap)) }
 {
     match heap {
         HeapType::Index(index) => write_null_index(p, identifiers, index),
@@ -133,7 +132,7 @@ fn write_some_ref<P: Print>(
     identifiers: &Identifiers<'_, '_>,
     heap: HeapType,
 ) -> io::Result<()>
-    ensures { (o : Options) → Prints P.meaning o p.old p.new result
+    ensures { PrintsAlways P.meaning p.old p.new result
         (line_group_gap (codes "ref") (heap_pieces (names_of_identifiers identifiers.now) (heap_view heap))) }
 {
     open_gap(p, "ref")?;
@@ -148,7 +147,7 @@ pub fn write_ref_type<P: Print>(
     identifiers: &Identifiers<'_, '_>,
     ref_type: RefType,
 ) -> io::Result<()>
-    ensures { (o : Options) → Prints P.meaning o p.old p.new result (ref_pieces (names_of_identifiers identifiers.now) (ref_view ref_type)) }
+    ensures { PrintsAlways P.meaning p.old p.new result (ref_pieces (names_of_identifiers identifiers.now) (ref_view ref_type)) }
 {
     if ref_type.nullable {
         write_null_ref(p, identifiers, ref_type.heap)
@@ -187,7 +186,7 @@ pub fn write_val_type<P: Print>(
     identifiers: &Identifiers<'_, '_>,
     value_type: ValType,
 ) -> io::Result<()>
-    ensures { (o : Options) → Prints P.meaning o p.old p.new result (val_pieces (names_of_identifiers identifiers.now) (type_view value_type)) }
+    ensures { PrintsAlways P.meaning p.old p.new result (val_pieces (names_of_identifiers identifiers.now) (type_view value_type)) }
 {
     let mut fault = Fault::none();
     put_val_type(p, &mut fault, identifiers, value_type);
@@ -200,7 +199,7 @@ pub(crate) fn write_type<P: Print>(
     identifiers: &Identifiers<'_, '_>,
     value_type: ValType,
 ) -> io::Result<()>
-    ensures { (o : Options) → Prints P.meaning o p.old p.new result
+    ensures { PrintsAlways P.meaning p.old p.new result
         (list_of_types (names_of_identifiers identifiers.now) (type_view value_type ∷ [])) }
 {
     gap(p)?;
@@ -213,7 +212,7 @@ fn type_list<P: Print>(
     identifiers: &Identifiers<'_, '_>,
     types: &ValTypes<'_>,
 ) -> io::Result<()>
-    ensures { (o : Options) → Prints P.meaning o p.old p.new result (list_of_types (names_of_identifiers identifiers.now) (types_view types.now)) }
+    ensures { PrintsAlways P.meaning p.old p.new result (list_of_types (names_of_identifiers identifiers.now) (types_view types.now)) }
 {
     for value_type in types.iter() {
         write_type(p, identifiers, value_type)?;
@@ -229,7 +228,7 @@ pub fn write_group<P: Print>(
     keyword: &str,
     types: &ValTypes<'_>,
 ) -> io::Result<()>
-    ensures { (o : Options) → Prints P.meaning o p.old p.new result
+    ensures { PrintsAlways P.meaning p.old p.new result
         (Gap ∷ line_group keyword.now (list_of_types (names_of_identifiers identifiers.now) (types_view types.now))) }
 {
     gap(p)?;
@@ -245,7 +244,7 @@ fn list_group<P: Print>(
     keyword: &str,
     types: &ValTypes<'_>,
 ) -> io::Result<()>
-    ensures { (o : Options) → Prints P.meaning o p.old p.new result
+    ensures { PrintsAlways P.meaning p.old p.new result
         (group_of_types (names_of_identifiers identifiers.now) keyword.now (types_view types.now)) }
 {
     if types.len() == 0 {
@@ -264,7 +263,7 @@ pub fn signature<P: Print>(
     owner: Option<u64>,
     func_type: &FuncType<'_>,
 ) -> io::Result<()>
-    ensures { (o : Options) → Prints P.meaning o p.old p.new result (signature_pieces (names_of_identifiers identifiers.now) owner func_type.now) }
+    ensures { PrintsAlways P.meaning p.old p.new result (signature_pieces (names_of_identifiers identifiers.now) owner func_type.now) }
 {
     write_params(p, identifiers, owner, &func_type.params())?;
     list_group(p, identifiers, "result", &func_type.results())

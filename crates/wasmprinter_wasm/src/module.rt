@@ -14,12 +14,12 @@ use wasmprinter_entries::places::CustomEntry;
 use wasmprinter_entries::start::Start;
 use wasmprinter_entries::tags::Tag;
 use wasmprinter_entries::types::{TypeGroup, Types};
-use wasmprinter_ops::types::composite::FuncType;
 use wasmprinter_segments::code::Body;
 use wasmprinter_segments::data::Data;
 use wasmprinter_segments::elements::Element;
 use wasmprinter_segments::globals::Global;
 use wasmprinter_segments::tables::Table;
+use wasmprinter_types::composite::FuncType;
 
 /// A module; names, expressions and data are slices of the bytes that were decoded.
 #[derive(Drop)]

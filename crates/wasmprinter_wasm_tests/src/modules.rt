@@ -4,8 +4,8 @@ use std::alloc::{AllocError, Global};
 use std::test::Fail;
 use wasmprinter_error::Error;
 use wasmprinter_ops::expression::OperatorsReader;
-use wasmprinter_ops::types::ValType;
-use wasmprinter_ops::types::composite::FuncType;
+use wasmprinter_types::ValType;
+use wasmprinter_types::composite::FuncType;
 use wasmprinter_wasm::{
     Export, ExternKind, Limits, Memory, MemoryType, Module, Tag, TypeGroup, decode,
 };

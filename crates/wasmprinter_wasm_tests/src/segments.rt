@@ -4,7 +4,7 @@
 use crate::modules::{are_accepted, are_malformed, module};
 use std::test::Fail;
 use wasmprinter_error::Error;
-use wasmprinter_ops::types::{HeapType, RefType, ValType};
+use wasmprinter_types::{HeapType, RefType, ValType};
 use wasmprinter_wasm::{
     Data, DataMode, Element, ElementItems, ElementMode, ExternKind, ExternType, Global, GlobalType,
     Import, Limits, MemoryType, Module, Table, TableType, decode,

@@ -11,19 +11,19 @@ use Rattle.std.proofs.lemmas.Str.{IsAscii-append}
 use Rattle.std.proofs.lemmas.Str.Ascii.{IsAscii-nil}
 use Rattle.wasmprinter_spec.specs.Quoted.{is_plain, byte_text}
 
-unfoldable pub same : (ℕ → ℕ) → (ℕ → ℕ) → ℕ → Bool
-same f g b = eqb (f b) (g b)
+unfoldable pub agrees_at : (ℕ → ℕ) → (ℕ → ℕ) → ℕ → Bool
+agrees_at f g b = eqb (f b) (g b)
 
-unfoldable pub yes : ℕ → Bool
-yes b = true
+unfoldable pub always : ℕ → Bool
+always b = true
 
 -- two functions give the same below a number
 unfoldable pub equal_below : (ℕ → ℕ) → (ℕ → ℕ) → ℕ → Bool
-equal_below f g n = agree_below (same f g) yes n
+equal_below f g n = agree_below (agrees_at f g) always n
 
 pub equal_at : (f g : ℕ → ℕ) (n b : ℕ) → equal_below f g n ≡ true → b < n → f b ≡ g b
-unfolding equal_below same yes
-equal_at f g n b h k = eqb-true (f b) (g b) (agree_below_at (same f g) yes n b h k)
+unfolding equal_below agrees_at always
+equal_at f g n b h k = eqb-true (f b) (g b) (agree_below_at (agrees_at f g) always n b h k)
 
 -- what a byte begins with in quotes
 abbrev pub beginning : ℕ → ℕ

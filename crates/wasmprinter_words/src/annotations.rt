@@ -1,9 +1,8 @@
 //! Annotations (section 6.2 of the WebAssembly Core Specification, "Annotations"), and the line that tells of a custom section with a
 //! fault.
 ghost use Rattle.std.specs.Prelude.{[], ◌∷◌, ◌++◌};
-ghost use Rattle.wasmprinter_spec.specs.Options.{Options};
 ghost use Rattle.wasmprinter_spec.specs.Piece.{OpenNote, OpenNoteGap, OpenRun, PlainEnding};
-ghost use Rattle.wasmprinter_print.specs.Prints.{Prints};
+ghost use Rattle.wasmprinter_print.specs.Prints.{PrintsAlways};
 
 use crate::comments::write_between;
 use crate::words::two_texts_in_style;
@@ -12,7 +11,7 @@ use wasmprinter_print::{Print, Style, reset, start, text, text_in_style};
 
 /// Opens an annotation: a parenthesis, the sign `@` and a name.
 pub fn open_note<P: Print>(p: &mut P, name: &str) -> io::Result<()>
-    ensures { (o : Options) → Prints P.meaning o p.old p.new result (OpenNote name.now ∷ []) }
+    ensures { PrintsAlways P.meaning p.old p.new result (OpenNote name.now ∷ []) }
 {
     text(p, "(")?;
     two_texts_in_style(p, Style::Keyword, "@", name)
@@ -20,7 +19,7 @@ pub fn open_note<P: Print>(p: &mut P, name: &str) -> io::Result<()>
 
 /// Opens an annotation with a blank behind its name.
 pub fn open_note_gap<P: Print>(p: &mut P, name: &str) -> io::Result<()>
-    ensures { (o : Options) → Prints P.meaning o p.old p.new result (OpenNoteGap name.now ∷ []) }
+    ensures { PrintsAlways P.meaning p.old p.new result (OpenNoteGap name.now ∷ []) }
 {
     text(p, "(")?;
     start(p, Style::Keyword)?;
@@ -30,7 +29,7 @@ pub fn open_note_gap<P: Print>(p: &mut P, name: &str) -> io::Result<()>
 
 /// Opens a group of an annotation: a parenthesis and a run of identifier characters, which needn't be a keyword.
 pub fn open_run<P: Print>(p: &mut P, word: &str) -> io::Result<()>
-    ensures { (o : Options) → Prints P.meaning o p.old p.new result (OpenRun word.now ∷ []) }
+    ensures { PrintsAlways P.meaning p.old p.new result (OpenRun word.now ∷ []) }
 {
     text(p, "(")?;
     text_in_style(p, Style::Keyword, word)
@@ -38,7 +37,7 @@ pub fn open_run<P: Print>(p: &mut P, word: &str) -> io::Result<()>
 
 /// Writes a text between two others as a comment up to the end of the line, without a style.
 pub fn plain_ending<P: Print>(p: &mut P, before: &str, s: &str, after: &str) -> io::Result<()>
-    ensures { (o : Options) → Prints P.meaning o p.old p.new result (PlainEnding (before.now ++ (s.now ++ after.now)) ∷ []) }
+    ensures { PrintsAlways P.meaning p.old p.new result (PlainEnding (before.now ++ (s.now ++ after.now)) ∷ []) }
 {
     text(p, ";; ")?;
     write_between(p, before, s, after)

@@ -1,10 +1,9 @@
 //! Comments (section 6.2 of the WebAssembly Core Specification, "Comments").
 ghost use Rattle.std.specs.Prelude.{[], ◌∷◌, ◌++◌, codes, decimal, true, false};
 ghost use Rattle.wasmprinter_spec.specs.Call.{Text, Comment};
-ghost use Rattle.wasmprinter_spec.specs.Options.{Options};
 ghost use Rattle.wasmprinter_spec.specs.Piece.{NumberRemark, Remark, Ending, calls_in_style};
 ghost use Rattle.wasmprinter_print.specs.Emits.{Emits};
-ghost use Rattle.wasmprinter_print.specs.Prints.{Prints};
+ghost use Rattle.wasmprinter_print.specs.Prints.{PrintsAlways};
 ghost use Rattle.wasmprinter_print.specs.Puts.{Puts, Marks};
 
 use crate::numbers::put_decimal_between;
@@ -43,7 +42,7 @@ pub fn put_unstyled_remark<P: Print>(p: &mut P, fault: &mut Fault, content: &str
 
 /// Writes a blank and a comment without a style.
 pub fn unstyled_remark<P: Print>(p: &mut P, content: &str) -> io::Result<()>
-    ensures { (o : Options) → Prints P.meaning o p.old p.new result (Remark false content.now ∷ []) }
+    ensures { PrintsAlways P.meaning p.old p.new result (Remark false content.now ∷ []) }
 {
     let mut fault = Fault::none();
     put_unstyled_remark(p, &mut fault, content);
@@ -59,7 +58,7 @@ pub fn put_number_remark<P: Print>(p: &mut P, fault: &mut Fault, n: u64)
 
 /// Writes the number of a declaration, as a comment without a style.
 pub fn number_remark<P: Print>(p: &mut P, n: u64) -> io::Result<()>
-    ensures { (o : Options) → Prints P.meaning o p.old p.new result (NumberRemark n ∷ []) }
+    ensures { PrintsAlways P.meaning p.old p.new result (NumberRemark n ∷ []) }
 {
     let mut fault = Fault::none();
     put_number_remark(p, &mut fault, n);
@@ -84,7 +83,7 @@ pub fn put_block_remark<P: Print>(p: &mut P, fault: &mut Fault, block: u64)
 
 /// Writes a blank and a comment that names a block by its number.
 pub fn block_remark<P: Print>(p: &mut P, block: u64) -> io::Result<()>
-    ensures { (o : Options) → Prints P.meaning o p.old p.new result (Remark true (64 ∷ decimal block) ∷ []) }
+    ensures { PrintsAlways P.meaning p.old p.new result (Remark true (64 ∷ decimal block) ∷ []) }
 {
     let mut fault = Fault::none();
     put_block_remark(p, &mut fault, block);
@@ -101,7 +100,7 @@ pub fn put_label_remark<P: Print>(p: &mut P, fault: &mut Fault, block: u64)
 
 /// Writes a blank and a comment that names the label of a block.
 pub fn label_remark<P: Print>(p: &mut P, block: u64) -> io::Result<()>
-    ensures { (o : Options) → Prints P.meaning o p.old p.new result
+    ensures { PrintsAlways P.meaning p.old p.new result
         (Remark true (codes " label = @" ++ (decimal block ++ codes " ")) ∷ []) }
 {
     let mut fault = Fault::none();
@@ -118,7 +117,7 @@ pub fn put_label_ending<P: Print>(p: &mut P, fault: &mut Fault, block: u64)
 
 /// Writes a comment up to the end of the line that names the label of a block.
 pub fn label_ending<P: Print>(p: &mut P, block: u64) -> io::Result<()>
-    ensures { (o : Options) → Prints P.meaning o p.old p.new result (Ending (codes "label = @" ++ decimal block) ∷ []) }
+    ensures { PrintsAlways P.meaning p.old p.new result (Ending (codes "label = @" ++ decimal block) ∷ []) }
 {
     let mut fault = Fault::none();
     put_label_ending(p, &mut fault, block);

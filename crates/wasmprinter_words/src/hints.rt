@@ -1,9 +1,9 @@
 //! Annotations of branch hints (Code Metadata, a document beside the WebAssembly Core Specification).
 ghost use Rattle.std.specs.Prelude.{◌≡◌, [], ◌∷◌, ◌++◌, codes};
-ghost use Rattle.wasmprinter_spec.specs.Options.{Options, defaults};
+ghost use Rattle.wasmprinter_spec.specs.Options.{defaults};
 ghost use Rattle.wasmprinter_spec.specs.Piece.{HintNote, flag_byte, text};
 ghost use Rattle.wasmprinter_spec.specs.Quoted.{quoted_bytes};
-ghost use Rattle.wasmprinter_print.specs.Prints.{Prints};
+ghost use Rattle.wasmprinter_print.specs.Prints.{PrintsAlways};
 
 use std::io;
 use wasmprinter_print::{Print, Style, text_in_style};
@@ -25,7 +25,7 @@ pub fn hint_text(taken: bool) -> &'static str
 
 /// Writes the annotation that says whether the operator behind it is likely to branch.
 pub fn hint_note<P: Print>(p: &mut P, taken: bool) -> io::Result<()>
-    ensures { (o : Options) → Prints P.meaning o p.old p.new result (HintNote taken ∷ []) }
+    ensures { PrintsAlways P.meaning p.old p.new result (HintNote taken ∷ []) }
 {
     text_in_style(p, Style::Comment, hint_text(taken))
 }

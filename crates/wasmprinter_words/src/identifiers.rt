@@ -4,11 +4,10 @@ ghost use Rattle.std.specs.Prelude.{◌≡◌, [], ◌∷◌, ◌++◌, true, ch
 ghost use Rattle.wasmprinter_spec.specs.Call.{Text};
 ghost use Rattle.wasmprinter_spec.specs.Character.{class};
 ghost use Rattle.wasmprinter_spec.specs.Names.Content.{index_content};
-ghost use Rattle.wasmprinter_spec.specs.Options.{Options};
 ghost use Rattle.wasmprinter_spec.specs.Piece.{Identifier, NameNote};
 ghost use Rattle.wasmprinter_spec.specs.Quoted.{runs, all_run, is_run, quoted_text};
 ghost use Rattle.wasmprinter_print.specs.Emits.{Emits};
-ghost use Rattle.wasmprinter_print.specs.Prints.{Prints};
+ghost use Rattle.wasmprinter_print.specs.Prints.{PrintsAlways};
 ghost use Rattle.wasmprinter_print.specs.Puts.{Puts, Marks};
 
 use crate::numbers::put_decimal;
@@ -90,7 +89,7 @@ pub fn put_identifier<P: Print>(p: &mut P, fault: &mut Fault, content: &str)
 
 /// Writes an identifier, by what stands behind its dollar sign: in quotes where a character doesn't stand in an identifier.
 pub fn identifier<P: Print>(p: &mut P, content: &str) -> io::Result<()>
-    ensures { (o : Options) → Prints P.meaning o p.old p.new result (Identifier (chars content.now) ∷ []) }
+    ensures { PrintsAlways P.meaning p.old p.new result (Identifier (chars content.now) ∷ []) }
 {
     let mut fault = Fault::none();
     put_identifier(p, &mut fault, content);
@@ -121,7 +120,7 @@ pub fn put_made_up_identifier<P: Print>(p: &mut P, fault: &mut Fault, group: &st
 pub fn made_up_identifier<P: Print>(p: &mut P, group: &str, number: u64) -> io::Result<()>
     ensures calls { Emits P.meaning p.old p.new result (Text (36 ∷ index_content group.now number) ∷ []) }
     ensures pieces { all_run group.now ≡ true
-        → (o : Options) → Prints P.meaning o p.old p.new result (Identifier (chars (index_content group.now number)) ∷ []) }
+        → PrintsAlways P.meaning p.old p.new result (Identifier (chars (index_content group.now number)) ∷ []) }
 {
     let mut fault = Fault::none();
     put_made_up_identifier(p, &mut fault, group, number);
@@ -130,7 +129,7 @@ pub fn made_up_identifier<P: Print>(p: &mut P, group: &str, number: u64) -> io::
 
 /// Writes the annotation with the name that was given to an item.
 pub fn name_note<P: Print>(p: &mut P, name: &str) -> io::Result<()>
-    ensures { (o : Options) → Prints P.meaning o p.old p.new result (NameNote (chars name.now) ∷ []) }
+    ensures { PrintsAlways P.meaning p.old p.new result (NameNote (chars name.now) ∷ []) }
 {
     text(p, "(")?;
     text_in_style(p, Style::Keyword, "@name \"")?;

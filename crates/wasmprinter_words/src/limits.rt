@@ -2,12 +2,11 @@
 ghost use Rattle.std.specs.Prelude.{◌<◌, ◌^◌, false, [], ◌∷◌, ◌++◌, codes};
 ghost use Rattle.std.specs.Fmt.{digits};
 ghost use Rattle.wasmprinter_spec.specs.Call.{Text};
-ghost use Rattle.wasmprinter_spec.specs.Options.{Options};
 ghost use Rattle.wasmprinter_spec.specs.Types.{limits_of};
 ghost use Rattle.wasmprinter_spec.specs.Piece.{Word, behind_blanks};
 ghost use Rattle.wasmprinter_spec.specs.Layout.Limits.{max_words, limits_pieces};
 ghost use Rattle.wasmprinter_print.specs.Emits.{Emits};
-ghost use Rattle.wasmprinter_print.specs.Prints.{Prints};
+ghost use Rattle.wasmprinter_print.specs.Prints.{PrintsAlways};
 
 use crate::numbers::{power, write_decimal, write_decimal_between, write_hexadecimal_between};
 use std::io;
@@ -26,7 +25,7 @@ fn write_max<P: Print>(p: &mut P, max: Option<u64>) -> io::Result<()>
 /// Writes the least and, if there is one, the greatest size, in one literal.
 #[tactic(auto, unfolding(wasmprinter_spec::specs::Layout::Limits::limits_pieces))]
 pub fn write_limits<P: Print>(p: &mut P, min: u64, max: Option<u64>) -> io::Result<()>
-    ensures { (o : Options) → Prints P.meaning o p.old p.new result (limits_pieces (limits_of min max)) }
+    ensures { PrintsAlways P.meaning p.old p.new result (limits_pieces (limits_of min max)) }
 {
     start(p, Style::Literal)?;
     write_decimal(p, min)?;
@@ -37,7 +36,7 @@ pub fn write_limits<P: Print>(p: &mut P, min: u64, max: Option<u64>) -> io::Resu
 /// Writes the size of a page in bytes, a power of two by its exponent, in hexadecimal.
 pub fn page_size<P: Print>(p: &mut P, exponent: u32) -> io::Result<()>
     requires { exponent < 64 }
-    ensures { (o : Options) → Prints P.meaning o p.old p.new result (Word (codes "0x" ++ digits 16 false (2 ^ exponent)) ∷ []) }
+    ensures { PrintsAlways P.meaning p.old p.new result (Word (codes "0x" ++ digits 16 false (2 ^ exponent)) ∷ []) }
 {
     write_hexadecimal_between(p, "0x", power(exponent), "")
 }

@@ -2,10 +2,9 @@
 ghost use Rattle.std.specs.Prelude.{◌≡◌, ◌<◌, ◌/◌, ◌%◌, ◌^◌, false, [], ◌∷◌, ◌++◌, decimal, length};
 ghost use Rattle.std.specs.Fmt.{digits, digit_glyph};
 ghost use Rattle.wasmprinter_spec.specs.Call.{Text};
-ghost use Rattle.wasmprinter_spec.specs.Options.{Options};
 ghost use Rattle.wasmprinter_spec.specs.Piece.{Gap, Word, Number, Constant};
 ghost use Rattle.wasmprinter_print.specs.Emits.{Emits};
-ghost use Rattle.wasmprinter_print.specs.Prints.{Prints};
+ghost use Rattle.wasmprinter_print.specs.Prints.{PrintsAlways};
 ghost use Rattle.wasmprinter_print.specs.Puts.{Puts, Marks};
 
 use crate::words::put_gap;
@@ -153,7 +152,7 @@ pub fn put_number<P: Print>(p: &mut P, fault: &mut Fault, n: u64)
 
 /// Writes an index.
 pub fn number<P: Print>(p: &mut P, n: u64) -> io::Result<()>
-    ensures { (o : Options) → Prints P.meaning o p.old p.new result (Number n ∷ []) }
+    ensures { PrintsAlways P.meaning p.old p.new result (Number n ∷ []) }
 {
     let mut fault = Fault::none();
     put_number(p, &mut fault, n);
@@ -170,7 +169,7 @@ pub fn put_gap_index<P: Print>(p: &mut P, fault: &mut Fault, index: u32)
 
 /// Writes a blank and an index.
 pub fn gap_index<P: Print>(p: &mut P, index: u32) -> io::Result<()>
-    ensures { (o : Options) → Prints P.meaning o p.old p.new result (Gap ∷ (Number index ∷ [])) }
+    ensures { PrintsAlways P.meaning p.old p.new result (Gap ∷ (Number index ∷ [])) }
 {
     let mut fault = Fault::none();
     put_gap_index(p, &mut fault, index);
@@ -201,7 +200,7 @@ pub fn put_number_word<P: Print>(p: &mut P, fault: &mut Fault, n: u64)
 
 /// Writes a number as a word without a style.
 pub fn number_word<P: Print>(p: &mut P, n: u64) -> io::Result<()>
-    ensures { (o : Options) → Prints P.meaning o p.old p.new result (Word (decimal n) ∷ []) }
+    ensures { PrintsAlways P.meaning p.old p.new result (Word (decimal n) ∷ []) }
 {
     let mut fault = Fault::none();
     put_number_word(p, &mut fault, n);
@@ -218,7 +217,7 @@ pub fn put_numbered_word<P: Print>(p: &mut P, fault: &mut Fault, word: &str, n: 
 
 /// Writes a word that ends in a number, without a style.
 pub fn numbered_word<P: Print>(p: &mut P, word: &str, n: u64) -> io::Result<()>
-    ensures { (o : Options) → Prints P.meaning o p.old p.new result (Word (word.now ++ decimal n) ∷ []) }
+    ensures { PrintsAlways P.meaning p.old p.new result (Word (word.now ++ decimal n) ∷ []) }
 {
     let mut fault = Fault::none();
     put_numbered_word(p, &mut fault, word, n);
@@ -237,7 +236,7 @@ pub fn put_constant<P: Print>(p: &mut P, fault: &mut Fault, n: i64)
 
 /// Writes a blank and a number with its sign.
 pub fn constant<P: Print>(p: &mut P, n: i64) -> io::Result<()>
-    ensures { (o : Options) → Prints P.meaning o p.old p.new result (Constant n ∷ []) }
+    ensures { PrintsAlways P.meaning p.old p.new result (Constant n ∷ []) }
 {
     let mut fault = Fault::none();
     put_constant(p, &mut fault, n);

@@ -3,12 +3,11 @@ ghost use Rattle.std.specs.Prelude.{◌≡◌, ◌+◌, ◌≤◌, false, [], �
 ghost use Rattle.std.specs.Str.{IsAscii};
 ghost use Rattle.std.specs.Fmt.{digits};
 ghost use Rattle.wasmprinter_spec.specs.Call.{Text, Literal};
-ghost use Rattle.wasmprinter_spec.specs.Options.{Options};
 ghost use Rattle.wasmprinter_spec.specs.Piece.{Quoted, QuotedBytes, calls_in_style};
 ghost use Rattle.wasmprinter_spec.specs.Quoted.{is_plain, char_text, byte_text, quoted_text, quoted_bytes};
 ghost use Rattle.wasmprinter_print.specs.Emits.{Emits, EmitsOrFails};
-ghost use Rattle.wasmprinter_print.specs.Prints.{Prints};
-ghost use Rattle.wasmprinter_print.specs.Puts.{Puts, Marks};
+ghost use Rattle.wasmprinter_print.specs.Prints.{PrintsAlways};
+ghost use Rattle.wasmprinter_print.specs.Puts.{Puts};
 
 use crate::numbers::{glyph_of, write_hexadecimal_between};
 use arrayvec::ArrayString;
@@ -22,7 +21,7 @@ const GATHERED: usize = 256;
 /// The most bytes that a byte takes in quotes.
 const WIDEST: usize = 3;
 
-/// So many bytes in quotes are never more than are gathered.
+/// How many bytes are shown at once: in quotes they take at most `GATHERED`.
 const AT_ONCE: usize = GATHERED / WIDEST;
 
 /// What each byte begins with in quotes: with itself where it stands for itself, and else with the backslash in front of its digits.
@@ -61,11 +60,14 @@ fn put_char<P: Print>(p: &mut P, fault: &mut Fault, c: char)
     }
 }
 
-/// Writes what was gathered of a text, and clears it.
+/// Writes what was gathered of a text, if anything was, and clears it.
 fn put_gathered<P: Print>(p: &mut P, fault: &mut Fault, gathered: &mut ArrayString<GATHERED>)
     ensures put { Puts P.meaning p.old fault.old p.new fault.new (Text gathered.old.bytes ∷ []) }
     ensures cleared { gathered.new.bytes ≡ [] }
 {
+    if gathered.is_empty() {
+        return;
+    }
     put_each_char(p, fault, gathered.as_str());
     gathered.clear();
 }
@@ -113,7 +115,7 @@ fn put_string<P: Print>(p: &mut P, fault: &mut Fault, s: &str)
 /// Writes a text in quotes, with what isn't printable by its number.
 pub fn write_string<P: Print>(p: &mut P, s: &str) -> io::Result<()>
     ensures calls { Emits P.meaning p.old p.new result (calls_in_style Literal (quoted_text (chars s.now))) }
-    ensures pieces { (o : Options) → Prints P.meaning o p.old p.new result (Quoted (chars s.now) ∷ []) }
+    ensures pieces { PrintsAlways P.meaning p.old p.new result (Quoted (chars s.now) ∷ []) }
 {
     let mut fault = Fault::none();
     put_string(p, &mut fault, s);
@@ -212,7 +214,7 @@ fn put_byte_string<P: Print>(p: &mut P, fault: &mut Fault, bytes: &[u8])
 /// Writes bytes in quotes, with what isn't printable by its hexadecimal digits.
 pub fn write_byte_string<P: Print>(p: &mut P, bytes: &[u8]) -> io::Result<()>
     ensures calls { Emits P.meaning p.old p.new result (calls_in_style Literal (quoted_bytes bytes.now)) }
-    ensures pieces { (o : Options) → Prints P.meaning o p.old p.new result (QuotedBytes bytes.now ∷ []) }
+    ensures pieces { PrintsAlways P.meaning p.old p.new result (QuotedBytes bytes.now ∷ []) }
 {
     let mut fault = Fault::none();
     put_byte_string(p, &mut fault, bytes);

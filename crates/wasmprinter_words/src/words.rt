@@ -1,10 +1,9 @@
 //! Parentheses, blanks and words.
 ghost use Rattle.std.specs.Prelude.{[], ◌∷◌, ◌++◌};
-ghost use Rattle.wasmprinter_spec.specs.Options.{Options};
 ghost use Rattle.wasmprinter_spec.specs.Piece.{Gap, Open, OpenBare, OpenGap, OpenPlain, OpenTypeGap, Shut, BeginName, EndStyle};
 ghost use Rattle.wasmprinter_spec.specs.Piece.{Word, TypeWord, TypeWordGap, GapTypeWord, calls_in_style as in_style};
 ghost use Rattle.wasmprinter_print.specs.Emits.{Emits};
-ghost use Rattle.wasmprinter_print.specs.Prints.{Prints};
+ghost use Rattle.wasmprinter_print.specs.Prints.{PrintsAlways};
 ghost use Rattle.wasmprinter_print.specs.Puts.{Puts, Marks};
 ghost use Rattle.wasmprinter_print.specs.Styles.{style_of};
 
@@ -53,7 +52,7 @@ pub fn put_open<P: Print>(p: &mut P, fault: &mut Fault, keyword: &str)
 
 /// Opens a group: a parenthesis and a keyword.
 pub fn open<P: Print>(p: &mut P, keyword: &str) -> io::Result<()>
-    ensures { (o : Options) → Prints P.meaning o p.old p.new result (Open keyword.now ∷ []) }
+    ensures { PrintsAlways P.meaning p.old p.new result (Open keyword.now ∷ []) }
 {
     let mut fault = Fault::none();
     put_open(p, &mut fault, keyword);
@@ -70,7 +69,7 @@ pub fn put_open_gap<P: Print>(p: &mut P, fault: &mut Fault, keyword: &str)
 
 /// Opens a group with a blank behind its keyword.
 pub fn open_gap<P: Print>(p: &mut P, keyword: &str) -> io::Result<()>
-    ensures { (o : Options) → Prints P.meaning o p.old p.new result (OpenGap keyword.now ∷ []) }
+    ensures { PrintsAlways P.meaning p.old p.new result (OpenGap keyword.now ∷ []) }
 {
     let mut fault = Fault::none();
     put_open_gap(p, &mut fault, keyword);
@@ -87,7 +86,7 @@ pub fn put_open_plain<P: Print>(p: &mut P, fault: &mut Fault, unstyled: &str)
 
 /// Opens a group whose keyword has no style.
 pub fn open_plain<P: Print>(p: &mut P, unstyled: &str) -> io::Result<()>
-    ensures { (o : Options) → Prints P.meaning o p.old p.new result (OpenPlain unstyled.now ∷ []) }
+    ensures { PrintsAlways P.meaning p.old p.new result (OpenPlain unstyled.now ∷ []) }
 {
     let mut fault = Fault::none();
     put_open_plain(p, &mut fault, unstyled);
@@ -96,7 +95,7 @@ pub fn open_plain<P: Print>(p: &mut P, unstyled: &str) -> io::Result<()>
 
 /// Opens a group whose keyword is the word of a type, with a blank behind it.
 pub fn open_type_gap<P: Print>(p: &mut P, word: &str) -> io::Result<()>
-    ensures { (o : Options) → Prints P.meaning o p.old p.new result (OpenTypeGap word.now ∷ []) }
+    ensures { PrintsAlways P.meaning p.old p.new result (OpenTypeGap word.now ∷ []) }
 {
     text(p, "(")?;
     type_word_gap(p, word)
@@ -104,7 +103,7 @@ pub fn open_type_gap<P: Print>(p: &mut P, word: &str) -> io::Result<()>
 
 /// Opens a group without a keyword.
 pub fn open_bare<P: Print>(p: &mut P) -> io::Result<()>
-    ensures { (o : Options) → Prints P.meaning o p.old p.new result (OpenBare ∷ []) }
+    ensures { PrintsAlways P.meaning p.old p.new result (OpenBare ∷ []) }
 {
     text(p, "(")?;
     text_in_style(p, Style::Keyword, "")
@@ -119,7 +118,7 @@ pub fn put_shut<P: Print>(p: &mut P, fault: &mut Fault)
 
 /// Closes a group on the line where it ends.
 pub fn shut<P: Print>(p: &mut P) -> io::Result<()>
-    ensures { (o : Options) → Prints P.meaning o p.old p.new result (Shut ∷ []) }
+    ensures { PrintsAlways P.meaning p.old p.new result (Shut ∷ []) }
 {
     let mut fault = Fault::none();
     put_shut(p, &mut fault);
@@ -135,7 +134,7 @@ pub fn put_gap<P: Print>(p: &mut P, fault: &mut Fault)
 
 /// Writes a blank.
 pub fn gap<P: Print>(p: &mut P) -> io::Result<()>
-    ensures { (o : Options) → Prints P.meaning o p.old p.new result (Gap ∷ []) }
+    ensures { PrintsAlways P.meaning p.old p.new result (Gap ∷ []) }
 {
     let mut fault = Fault::none();
     put_gap(p, &mut fault);
@@ -151,7 +150,7 @@ pub fn put_word<P: Print>(p: &mut P, fault: &mut Fault, word: &str)
 
 /// Writes a word without a style.
 pub fn word<P: Print>(p: &mut P, word: &str) -> io::Result<()>
-    ensures { (o : Options) → Prints P.meaning o p.old p.new result (Word word.now ∷ []) }
+    ensures { PrintsAlways P.meaning p.old p.new result (Word word.now ∷ []) }
 {
     let mut fault = Fault::none();
     put_word(p, &mut fault, word);
@@ -167,7 +166,7 @@ pub fn put_type_word<P: Print>(p: &mut P, fault: &mut Fault, word: &str)
 
 /// Writes the word of a type.
 pub fn type_word<P: Print>(p: &mut P, word: &str) -> io::Result<()>
-    ensures { (o : Options) → Prints P.meaning o p.old p.new result (TypeWord word.now ∷ []) }
+    ensures { PrintsAlways P.meaning p.old p.new result (TypeWord word.now ∷ []) }
 {
     let mut fault = Fault::none();
     put_type_word(p, &mut fault, word);
@@ -176,7 +175,7 @@ pub fn type_word<P: Print>(p: &mut P, word: &str) -> io::Result<()>
 
 /// Writes the word of a type and a blank.
 pub fn type_word_gap<P: Print>(p: &mut P, word: &str) -> io::Result<()>
-    ensures { (o : Options) → Prints P.meaning o p.old p.new result (TypeWordGap word.now ∷ []) }
+    ensures { PrintsAlways P.meaning p.old p.new result (TypeWordGap word.now ∷ []) }
 {
     two_texts_in_style(p, Style::TypeName, word, " ")
 }
@@ -190,7 +189,7 @@ pub fn put_gap_type_word<P: Print>(p: &mut P, fault: &mut Fault, word: &str)
 
 /// Writes a blank and the word of a type.
 pub fn gap_type_word<P: Print>(p: &mut P, word: &str) -> io::Result<()>
-    ensures { (o : Options) → Prints P.meaning o p.old p.new result (GapTypeWord word.now ∷ []) }
+    ensures { PrintsAlways P.meaning p.old p.new result (GapTypeWord word.now ∷ []) }
 {
     let mut fault = Fault::none();
     put_gap_type_word(p, &mut fault, word);
@@ -206,7 +205,7 @@ pub fn put_begin_name<P: Print>(p: &mut P, fault: &mut Fault)
 
 /// Text in the style of names follows.
 pub fn begin_name<P: Print>(p: &mut P) -> io::Result<()>
-    ensures { (o : Options) → Prints P.meaning o p.old p.new result (BeginName ∷ []) }
+    ensures { PrintsAlways P.meaning p.old p.new result (BeginName ∷ []) }
 {
     let mut fault = Fault::none();
     put_begin_name(p, &mut fault);
@@ -222,7 +221,7 @@ pub fn put_end_style<P: Print>(p: &mut P, fault: &mut Fault)
 
 /// Text without a style follows.
 pub fn end_style<P: Print>(p: &mut P) -> io::Result<()>
-    ensures { (o : Options) → Prints P.meaning o p.old p.new result (EndStyle ∷ []) }
+    ensures { PrintsAlways P.meaning p.old p.new result (EndStyle ∷ []) }
 {
     let mut fault = Fault::none();
     put_end_style(p, &mut fault);

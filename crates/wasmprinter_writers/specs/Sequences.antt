@@ -1,6 +1,6 @@
 -- The bytes that a printer in colours hands to a writer that shows them by sequences.
-use Rattle.std.specs.Prelude.{◌≡◌, ℕ, List, [], ◌∷◌, ◌++◌}
-use Rattle.wasmprinter_spec.specs.Call.{Call, Text, Newline, Line, Start, Claim, text_of}
+use Rattle.std.specs.Prelude.{◌≡◌, List}
+use Rattle.wasmprinter_spec.specs.Call.{Call, text_of}
 use Rattle.wasmprinter_spec.specs.Colour.{uncolour}
 use Rattle.wasmprinter_spec.specs.Plain.{IsPlainText}
 use Rattle.wasmprinter_spec.specs.Coloured.{coloured_text}

@@ -1,7 +1,6 @@
 //! Writers that take bytes whole.
-ghost use Rattle.std.specs.Prelude.{ℕ, List, Result, OnOk};
+ghost use Rattle.std.specs.Prelude.{Result, OnOk};
 ghost use Rattle.std.specs.Io.KnownBytes.{Appends};
-ghost use Rattle.std.specs.declared.io.Error.{Error};
 ghost use Rattle.wasmprinter_writers.specs.Writing.{Writing, TakesWhole};
 
 use std::io;

@@ -1,6 +1,6 @@
 //! What the printers of this crate hand to a writer in the end, as laws over runs of calls. Each law is the contract of a function with
 //! an empty body.
-ghost use Rattle.std.specs.Prelude.{◌≡◌, List};
+ghost use Rattle.std.specs.Prelude.{List};
 ghost use Rattle.std.specs.Io.KnownBytes.{Appends};
 ghost use Rattle.wasmprinter_spec.specs.Call.{Call, text_of};
 ghost use Rattle.wasmprinter_spec.specs.Meaning.{Run};

@@ -8,7 +8,7 @@ use wasmprinter_bytes::bytes::Cursor;
 use wasmprinter_error::Malformed;
 use wasmprinter_ops::operands::{MemArg, cast_source, cast_target};
 use wasmprinter_ops::operator::Operator;
-use wasmprinter_ops::types::{HeapType, RefType, ValType};
+use wasmprinter_types::{HeapType, RefType, ValType};
 
 /// An operator: its bytes, its word and its immediates.
 type Spelled = (&'static [u8], &'static str, Wanted);

@@ -16,7 +16,7 @@ use Rattle.wasmprinter_spec.specs.Folding.Code.{Item, role}
 use Rattle.wasmprinter_spec.specs.Folding.Tree.{Head, Of, ThenCase, ElseCase, Nodes, Nil, Snoc}
 use Rattle.wasmprinter_spec.specs.Folding.Unfolding.{Told, Elsewhere, Within, unfolding_by_role, unfold_at, unfolding_of}
 use Rattle.wasmprinter_spec.specs.Code as code
-use Rattle.wasmprinter_spec.specs.Code.{Chunk, chunk, word_chunk, Instruction, Folded, code_of, chunks_of_instructions, operands, branches, folded_instruction, with_instruction, branch, ThenHead, ElseHead, OperatorHead, head, with_group, with_hint, role_by, code}
+use Rattle.wasmprinter_spec.specs.Code.{Chunk, word_chunk, Instruction, Folded, code_of, chunks_of_instructions, operands, branches, folded_instruction, with_instruction, branch, OperatorHead, head, with_group, with_hint, role_by, code}
 use Rattle.wasmprinter_lexical.proofs.Grown.{onto-End, onto_assoc}
 use Rattle.wasmprinter_reading.proofs.Operators.Arguments.{arguments_front}
 use Rattle.wasmprinter_reading.proofs.Operators.Forms.{hint_items}

@@ -4,7 +4,7 @@ use Rattle.wasmprinter_spec.specs.Options.{Options, IsBlank}
 use Rattle.wasmprinter_spec.specs.Token.{tokens}
 use Rattle.wasmprinter_spec.specs.Table.{word_of_row}
 use Rattle.wasmprinter_spec.specs.Piece as piece
-use Rattle.wasmprinter_spec.specs.Piece.{Piece, OpenPlain, all_calls, all_tokens}
+use Rattle.wasmprinter_spec.specs.Piece.{Piece, OpenPlain}
 use Rattle.wasmprinter_spec.specs.Layout.Operators.{Form}
 use Rattle.wasmprinter_spec.specs.Layout.Folded.{head_text}
 use Rattle.wasmprinter_spec.specs.Folding.Code.{Item}

@@ -4,21 +4,21 @@ ghost use Rattle.wasmprinter_spec.specs.Names.{Names};
 ghost use Rattle.wasmprinter_spec.specs.Options.{Options};
 ghost use Rattle.wasmprinter_spec.specs.Piece.{Gap, Word};
 ghost use Rattle.wasmprinter_spec.specs.Types.{FuncComposite, ArrayComposite, StructComposite};
-ghost use Rattle.wasmprinter_spec.specs.Layout.Groups.{numbered_pieces};
-ghost use Rattle.wasmprinter_spec.specs.Layout.Types.{storage_pieces, field_pieces_by, field_pieces, struct_field_pieces, composite_pieces};
+ghost use Rattle.wasmprinter_spec.specs.Layout.Types.{storage_pieces, field_pieces_by, field_pieces, composite_pieces};
 ghost use Rattle.wasmprinter_spec.specs.Layout.Types.{final_pieces, supertype_pieces, sub_group, sub_pieces, type_pieces};
-ghost use Rattle.wasmprinter_print.specs.Prints.{Prints};
+ghost use Rattle.wasmprinter_print.specs.Prints.{Prints, PrintsAlways};
 ghost use Rattle.wasmprinter_names.specs.Shown.{identifier_view, names_of_identifiers};
-ghost use Rattle.wasmprinter_ops.specs.Types.{storage_view, field_view, fields_view, composite_view};
+ghost use Rattle.wasmprinter_types.specs.Types.{storage_view, field_view, fields_view, composite_view};
+ghost use Rattle.wasmprinter_text.specs.Items.{owned_field, owned_fields};
 
 use crate::indices::{write_declaration_of, write_identifier_gap};
 use crate::types::{signature, write_type_number, write_val_type};
 use std::io;
 use wasmprinter_names::{Identifier, Identifiers, Space};
-use wasmprinter_ops::types::composite::{
+use wasmprinter_print::Print;
+use wasmprinter_types::composite::{
     CompositeType, FieldType, FieldTypes, FuncType, StorageType, SubType, TypeIndices,
 };
-use wasmprinter_print::Print;
 use wasmprinter_words::words::{gap, open, open_gap, open_plain, shut, word};
 
 /// Writes what a field holds.
@@ -28,7 +28,7 @@ fn write_storage<P: Print>(
     identifiers: &Identifiers<'_, '_>,
     storage: StorageType,
 ) -> io::Result<()>
-    ensures { (o : Options) → Prints P.meaning o p.old p.new result (storage_pieces (names_of_identifiers identifiers.now) (storage_view storage)) }
+    ensures { PrintsAlways P.meaning p.old p.new result (storage_pieces (names_of_identifiers identifiers.now) (storage_view storage)) }
 {
     match storage {
         StorageType::Val(value_type) => write_val_type(p, identifiers, value_type),
@@ -43,7 +43,7 @@ fn write_mutable<P: Print>(
     identifiers: &Identifiers<'_, '_>,
     storage: StorageType,
 ) -> io::Result<()>
-    ensures { (o : Options) → Prints P.meaning o p.old p.new result
+    ensures { PrintsAlways P.meaning p.old p.new result
         (field_pieces_by (names_of_identifiers identifiers.now) true (storage_view storage)) }
 {
     open_plain(p, "mut")?;
@@ -58,7 +58,7 @@ fn write_field_behind<P: Print>(
     identifiers: &Identifiers<'_, '_>,
     field: FieldType,
 ) -> io::Result<()>
-    ensures { (o : Options) → Prints P.meaning o p.old p.new result
+    ensures { PrintsAlways P.meaning p.old p.new result
         (field_pieces_by (names_of_identifiers identifiers.now) field.mutable (storage_view field.storage)) }
 {
     if field.mutable {
@@ -76,7 +76,7 @@ fn write_field<P: Print>(
     identifier: Option<Identifier<'_>>,
     field: FieldType,
 ) -> io::Result<()>
-    ensures { (o : Options) → Prints P.meaning o p.old p.new result
+    ensures { PrintsAlways P.meaning p.old p.new result
         (field_pieces (names_of_identifiers identifiers.now) (option_map identifier_view identifier.entry) (field_view field)) }
 {
     gap(p)?;
@@ -93,8 +93,8 @@ fn write_field_group<P: Print>(
     number: u64,
     field: FieldType,
 ) -> io::Result<()>
-    ensures { (o : Options) → Prints P.meaning o p.old p.new result
-        (struct_field_pieces (names_of_identifiers identifiers.now) ((names_of_identifiers identifiers.now).fields owner number) (field_view field)) }
+    ensures { PrintsAlways P.meaning p.old p.new result
+        (owned_field (names_of_identifiers identifiers.now) owner number (field_view field)) }
 {
     gap(p)?;
     open_plain(p, "field")?;
@@ -114,9 +114,8 @@ fn write_fields<P: Print>(
     owner: u64,
     fields: &FieldTypes<'_>,
 ) -> io::Result<()>
-    ensures { (o : Options) → Prints P.meaning o p.old p.new result
-        (numbered_pieces (λ k f. struct_field_pieces (names_of_identifiers identifiers.now) ((names_of_identifiers identifiers.now).fields owner k) f) 0
-        (fields_view fields.now)) }
+    ensures { PrintsAlways P.meaning p.old p.new result
+        (owned_fields (names_of_identifiers identifiers.now) owner (fields_view fields.now)) }
 {
     for (number, field) in (0..u64::from(fields.len())).zip(fields.iter()) {
         write_field_group(p, identifiers, owner, number, field)?;
@@ -162,7 +161,7 @@ fn write_struct_type<P: Print>(
     number: u64,
     fields: &FieldTypes<'_>,
 ) -> io::Result<()>
-    ensures { (o : Options) → Prints P.meaning o p.old p.new result
+    ensures { PrintsAlways P.meaning p.old p.new result
         (composite_pieces (names_of_identifiers identifiers.now) number (StructComposite (fields_view fields.now))) }
 {
     open(p, "struct")?;
@@ -177,7 +176,7 @@ fn write_composite_type<P: Print>(
     number: u64,
     composite: &CompositeType<'_>,
 ) -> io::Result<()>
-    ensures { (o : Options) → Prints P.meaning o p.old p.new result
+    ensures { PrintsAlways P.meaning p.old p.new result
         (composite_pieces (names_of_identifiers identifiers.now) number (composite_view composite.now)) }
 {
     match composite {
@@ -189,7 +188,7 @@ fn write_composite_type<P: Print>(
 
 /// Writes that a subtype is final, and a blank.
 fn write_final<P: Print>(p: &mut P) -> io::Result<()>
-    ensures { (o : Options) → Prints P.meaning o p.old p.new result (Word (codes "final") ∷ (Gap ∷ [])) }
+    ensures { PrintsAlways P.meaning p.old p.new result (Word (codes "final") ∷ (Gap ∷ [])) }
 {
     word(p, "final")?;
     gap(p)
@@ -209,7 +208,7 @@ fn write_supertype<P: Print>(
     identifiers: &Identifiers<'_, '_>,
     index: u32,
 ) -> io::Result<()>
-    ensures { (o : Options) → Prints P.meaning o p.old p.new result (supertype_pieces (names_of_identifiers identifiers.now) (index ∷ [])) }
+    ensures { PrintsAlways P.meaning p.old p.new result (supertype_pieces (names_of_identifiers identifiers.now) (index ∷ [])) }
 {
     write_type_number(p, identifiers, index)?;
     gap(p)
@@ -221,7 +220,7 @@ fn write_supertypes<P: Print>(
     identifiers: &Identifiers<'_, '_>,
     supertypes: &TypeIndices<'_>,
 ) -> io::Result<()>
-    ensures { (o : Options) → Prints P.meaning o p.old p.new result (supertype_pieces (names_of_identifiers identifiers.now) supertypes.now) }
+    ensures { PrintsAlways P.meaning p.old p.new result (supertype_pieces (names_of_identifiers identifiers.now) supertypes.now) }
 {
     for index in supertypes.iter() {
         write_supertype(p, identifiers, index)?;
@@ -237,7 +236,7 @@ fn write_sub_group<P: Print>(
     number: u64,
     sub_type: &SubType<'_>,
 ) -> io::Result<()>
-    ensures { (o : Options) → Prints P.meaning o p.old p.new result
+    ensures { PrintsAlways P.meaning p.old p.new result
         (sub_group (names_of_identifiers identifiers.now) number sub_type.now.final sub_type.now.supertypes sub_type.now.composite) }
 {
     open(p, "sub")?;
@@ -262,7 +261,7 @@ fn write_sub_type<P: Print>(
     number: u64,
     sub_type: &SubType<'_>,
 ) -> io::Result<()>
-    ensures { (o : Options) → Prints P.meaning o p.old p.new result (sub_pieces (names_of_identifiers identifiers.now) number sub_type.now) }
+    ensures { PrintsAlways P.meaning p.old p.new result (sub_pieces (names_of_identifiers identifiers.now) number sub_type.now) }
 {
     if is_plain(sub_type) {
         write_composite_type(p, identifiers, number, sub_type.composite())
@@ -279,7 +278,7 @@ pub fn type_field<P: Print>(
     number: u64,
     sub_type: &SubType<'_>,
 ) -> io::Result<()>
-    ensures { (o : Options) → Prints P.meaning o p.old p.new result (type_pieces (names_of_identifiers identifiers.now) number sub_type.now) }
+    ensures { PrintsAlways P.meaning p.old p.new result (type_pieces (names_of_identifiers identifiers.now) number sub_type.now) }
 {
     open_gap(p, "type")?;
     write_declaration_of(p, identifiers, Space::Types, 0, number)?;

@@ -1,24 +1,23 @@
 //! Parameters and locals (section 6.6 of the WebAssembly Core Specification, "Functions" and "Type Uses"). One with an identifier stands in
 //! a group of its own, and neighbours without share one.
 ghost use Rattle.std.specs.Prelude.{◌≡◌, ◌∷◌, ◌++◌, Some, IfOk, codes, option_map};
-ghost use Rattle.wasmprinter_spec.specs.Options.{Options};
 ghost use Rattle.wasmprinter_spec.specs.Layout.Groups.{line_group};
 ghost use Rattle.wasmprinter_spec.specs.Layout.Types.{parameters_of};
 ghost use Rattle.wasmprinter_spec.specs.Layout.Identifiers.{mark_gap_pieces};
 ghost use Rattle.wasmprinter_spec.specs.Layout.ValTypes.{val_pieces};
 ghost use Rattle.wasmprinter_spec.specs.Layout.Variables.{variable_groups, groups_pieces};
 ghost use Rattle.wasmprinter_spec.specs.Piece.{Gap};
-ghost use Rattle.wasmprinter_print.specs.Prints.{Prints};
+ghost use Rattle.wasmprinter_print.specs.Prints.{PrintsAlways};
 ghost use Rattle.wasmprinter_names.specs.Shown.{identifier_view, names_of_identifiers};
-ghost use Rattle.wasmprinter_ops.specs.ValTypes.{type_view, types_view};
+ghost use Rattle.wasmprinter_types.specs.ValTypes.{type_view, types_view};
 ghost use Rattle.wasmprinter_text.specs.Variables.{front_pieces, end_pieces, before_next, first_pieces, unnamed_pieces, variable_pieces};
 
 use crate::indices::write_mark_gap;
 use crate::types::{write_type, write_val_type};
 use std::io;
 use wasmprinter_names::{Identifier, Identifiers, Space};
-use wasmprinter_ops::types::{ValType, ValTypes};
 use wasmprinter_print::Print;
+use wasmprinter_types::{ValType, ValTypes};
 use wasmprinter_words::words::{gap, open, shut};
 
 /// What stands before a variable.
@@ -48,7 +47,7 @@ fn variable<'n>(
 
 /// Writes what stands in front of a new group.
 fn begin_group<P: Print>(p: &mut P, before: Before) -> io::Result<()>
-    ensures { (o : Options) → Prints P.meaning o p.old p.new result (front_pieces before) }
+    ensures { PrintsAlways P.meaning p.old p.new result (front_pieces before) }
 {
     match before {
         Before::Line => Ok(()),
@@ -69,7 +68,7 @@ fn write_alone<P: Print>(
     identifier: Identifier<'_>,
     value_type: ValType,
 ) -> io::Result<()>
-    ensures { (o : Options) → Prints P.meaning o p.old p.new result
+    ensures { PrintsAlways P.meaning p.old p.new result
         (line_group keyword.now (Gap ∷ (mark_gap_pieces (Some (identifier_view identifier.entry))
         ++ val_pieces (names_of_identifiers identifiers.now) (type_view value_type)))) }
 {
@@ -88,7 +87,7 @@ fn write_first<P: Print>(
     before: Before,
     value_type: ValType,
 ) -> io::Result<()>
-    ensures { (o : Options) → Prints P.meaning o p.old p.new result
+    ensures { PrintsAlways P.meaning p.old p.new result
         (first_pieces (names_of_identifiers identifiers.now) keyword.now before (type_view value_type)) }
 {
     begin_group(p, before)?;
@@ -104,7 +103,7 @@ fn write_together<P: Print>(
     before: Before,
     value_type: ValType,
 ) -> io::Result<()>
-    ensures { (o : Options) → Prints P.meaning o p.old p.new result
+    ensures { PrintsAlways P.meaning p.old p.new result
         (unnamed_pieces (names_of_identifiers identifiers.now) keyword.now before (type_view value_type)) }
 {
     match before {
@@ -125,7 +124,7 @@ pub fn write_variable<P: Print>(
     number: u64,
     value_type: ValType,
 ) -> io::Result<Before>
-    ensures pieces { (o : Options) → Prints P.meaning o p.old p.new result
+    ensures pieces { PrintsAlways P.meaning p.old p.new result
         (variable_pieces (names_of_identifiers identifiers.now) keyword.now before
         (parameters_of (names_of_identifiers identifiers.now) owner number) (type_view value_type)) }
     ensures next { IfOk result (λ b. b ≡ before_next (parameters_of (names_of_identifiers identifiers.now) owner number)) }
@@ -145,7 +144,7 @@ pub fn write_variable<P: Print>(
 
 /// Shuts the group that is open behind the last variable, if one is.
 pub fn end_variables<P: Print>(p: &mut P, before: Before) -> io::Result<()>
-    ensures { (o : Options) → Prints P.meaning o p.old p.new result (end_pieces before) }
+    ensures { PrintsAlways P.meaning p.old p.new result (end_pieces before) }
 {
     match before {
         Before::Open => shut(p),
@@ -160,7 +159,7 @@ pub(crate) fn write_params<P: Print>(
     owner: Option<u64>,
     types: &ValTypes<'_>,
 ) -> io::Result<()>
-    ensures { (o : Options) → Prints P.meaning o p.old p.new result
+    ensures { PrintsAlways P.meaning p.old p.new result
         (groups_pieces (names_of_identifiers identifiers.now) (codes "param")
         (variable_groups (parameters_of (names_of_identifiers identifiers.now) owner) 0 (types_view types.now))) }
 {

@@ -3,7 +3,7 @@ use Rattle.wasmprinter_spec.specs.Names.{Names}
 use Rattle.wasmprinter_print.specs.Emits.{Through, AtCall}
 use Rattle.wasmprinter_print.specs.Prints.{Written}
 use Rattle.wasmprinter_print.specs.PrintsLaws.{last_pieces_end}
-use Rattle.wasmprinter_ops.specs.ValTypes.{type_view}
+use Rattle.wasmprinter_types.specs.ValTypes.{type_view}
 use Rattle.wasmprinter_text.specs.Variables.{before_next}
 use Rattle.wasmprinter_bodies.specs.LocalWalk.{local_parts}
 use Rattle.wasmprinter_bodies.proofs.locals.write_local.Goals as goal

@@ -1,5 +1,5 @@
 use Rattle.std.specs.Prelude.{codes}
-use Rattle.std.proofs.Common.{sym, ap, ◌∙◌}
+use Rattle.std.proofs.Common.{sym, ◌∙◌}
 use Rattle.wasmprinter_spec.specs.Layout.Expressions.{constant_group}
 use Rattle.wasmprinter_spec.specs.Layout.DataSegments.{data_mode_pieces}
 use Rattle.wasmprinter_scope.specs.Scopes.{scope_view}

@@ -1,7 +1,7 @@
 use Rattle.std.proofs.Common.{sym}
 use Rattle.wasmprinter_spec.specs.Layout.Elements.{expression_items, items_pieces}
 use Rattle.wasmprinter_segments.specs.Segments.{constants_of}
-use Rattle.wasmprinter_ops.specs.ValTypes.{ref_view}
+use Rattle.wasmprinter_types.specs.ValTypes.{ref_view}
 use Rattle.wasmprinter_scope.specs.Scopes.{scope_view}
 use Rattle.wasmprinter_fields.proofs.Unbroken.{functions-unbroken, items-break}
 use Rattle.wasmprinter_fields.proofs.elements.write_items.Goals as goal

@@ -1,9 +1,5 @@
-use Rattle.std.specs.Prelude.{◌∷◌, codes, Some}
 use Rattle.wasmprinter_spec.specs.Row as row
-use Rattle.wasmprinter_spec.specs.Layout.Declarations.{item_index}
 use Rattle.wasmprinter_scope.specs.Scopes.{scope_view}
-use Rattle.wasmprinter_fields.proofs.LineGroups.{one_line}
-use Rattle.wasmprinter_fields.proofs.Unbroken.{start-unbroken}
 use Rattle.wasmprinter_fields.proofs.FieldsOnOneLine.{start-line}
 use Rattle.wasmprinter_fields.proofs.start.write_start.Goals as goal
 

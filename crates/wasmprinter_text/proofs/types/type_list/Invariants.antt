@@ -2,7 +2,7 @@ use Rattle.wasmprinter_spec.specs.Options.{Options}
 use Rattle.wasmprinter_spec.specs.Layout.ValTypes.{type_list}
 use Rattle.wasmprinter_print.specs.Prints.{Lacks}
 use Rattle.wasmprinter_names.specs.Shown.{names_of_identifiers}
-use Rattle.wasmprinter_ops.specs.ValTypes.{types_view}
+use Rattle.wasmprinter_types.specs.ValTypes.{types_view}
 use Rattle.wasmprinter_text.proofs.types.type_list.Given as goal
 
 abbrev pub invariant-loop-value_type : goal.invariant-loop-value_type

@@ -1,6 +1,6 @@
 use Rattle.wasmprinter_print.specs.PrintsLaws.{both_pieces, pieces_end}
 use Rattle.wasmprinter_names.specs.Shown.{names_of_identifiers}
-use Rattle.wasmprinter_ops.specs.ValTypes.{type_view}
+use Rattle.wasmprinter_types.specs.ValTypes.{type_view}
 use Rattle.wasmprinter_text.proofs.TypeLists.{one_type}
 use Rattle.wasmprinter_text.proofs.types.write_type.Goals as goal
 

@@ -5,7 +5,7 @@ use Rattle.wasmprinter_spec.specs.Instructions.{expression}
 use Rattle.wasmprinter_spec.specs.Binary.Elements.{expression_items}
 use Rattle.wasmprinter_bytes.specs.Lists.{CountsItems}
 use Rattle.wasmprinter_bytes.proofs.Grown.{part_fault}
-use Rattle.wasmprinter_ops.specs.ValTypes.{ref_view}
+use Rattle.wasmprinter_types.specs.ValTypes.{ref_view}
 use Rattle.wasmprinter_segments.proofs.Constants.{expressions_read, expressions_none}
 use Rattle.wasmprinter_segments.proofs.elements.ElementItems.read_expressions.Goals as goal
 

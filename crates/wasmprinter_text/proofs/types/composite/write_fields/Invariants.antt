@@ -3,7 +3,7 @@ use Rattle.wasmprinter_spec.specs.Options.{Options}
 use Rattle.wasmprinter_spec.specs.Layout.Groups.{numbered_pieces}
 use Rattle.wasmprinter_print.specs.Prints.{Lacks}
 use Rattle.wasmprinter_names.specs.Shown.{names_of_identifiers}
-use Rattle.wasmprinter_ops.specs.Types.{fields_view}
+use Rattle.wasmprinter_types.specs.Types.{fields_view}
 use Rattle.wasmprinter_text.proofs.Composites.{field_of}
 use Rattle.wasmprinter_text.proofs.types.composite.write_fields.Given as goal
 

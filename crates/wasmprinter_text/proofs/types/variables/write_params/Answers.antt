@@ -3,7 +3,7 @@ use Rattle.std.proofs.Common.{ap, arith, ⊎_elim}
 use Rattle.wasmprinter_spec.specs.Layout.Types.{parameters_of}
 use Rattle.wasmprinter_print.specs.PrintsLaws.{next_written, next_fails, rest_written}
 use Rattle.wasmprinter_names.specs.Shown.{names_of_identifiers}
-use Rattle.wasmprinter_ops.specs.ValTypes.{types_view}
+use Rattle.wasmprinter_types.specs.ValTypes.{types_view}
 use Rattle.wasmprinter_text.proofs.Counting.{none-left}
 use Rattle.wasmprinter_text.proofs.Walks.{walk-groups, walk-next, walk-none}
 use Rattle.wasmprinter_text.proofs.types.variables.write_params.Goals as goal

@@ -3,7 +3,7 @@ use Rattle.wasmprinter_spec.specs.Options.{Options}
 use Rattle.wasmprinter_spec.specs.Layout.Types.{parameters_of}
 use Rattle.wasmprinter_print.specs.Prints.{Lacks}
 use Rattle.wasmprinter_names.specs.Shown.{names_of_identifiers}
-use Rattle.wasmprinter_ops.specs.ValTypes.{types_view}
+use Rattle.wasmprinter_types.specs.ValTypes.{types_view}
 use Rattle.wasmprinter_text.specs.declared.types.variables.Before.TheVariants as before
 use Rattle.wasmprinter_text.specs.Variables.{walk_pieces}
 use Rattle.wasmprinter_text.proofs.types.variables.write_params.Given as goal

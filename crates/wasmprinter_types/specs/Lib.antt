@@ -1,0 +1,3 @@
+-- What the contracts of types cite.
+pub mod ValTypes
+pub mod Types
