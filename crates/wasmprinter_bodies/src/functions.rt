@@ -3,7 +3,7 @@ ghost use Rattle.std.specs.Prelude.{◌≡◌, codes};
 ghost use Rattle.wasmprinter_spec.specs.Layout.Functions.{result_count, body_pieces, inner_pieces, function_group, function_pieces};
 ghost use Rattle.wasmprinter_spec.specs.Layout.Groups.{line_group_gap, group_gap_at};
 ghost use Rattle.wasmprinter_print.specs.Prints.{PrintsAlways, PrintsOrStops, TellsLines};
-ghost use Rattle.wasmprinter_scope.specs.Scopes.{scope_view, function_scope, folds_in};
+ghost use Rattle.wasmprinter_scope.specs.Scopes.{scope_view, function_scope_view, folds_in};
 ghost use Rattle.wasmprinter_bodies.specs.Functions.{parameter_count_of, outline_parts, definition_parts};
 
 use crate::locals::{has_locals, write_locals};
@@ -32,7 +32,7 @@ fn write_outline<P: Print>(
     function: &Function<'_>,
 ) -> io::Result<()>
     ensures { PrintsAlways P.meaning p.old p.new result
-        (outline_parts (function_scope scope.now number) function.now) }
+        (outline_parts (function_scope_view scope.now number) function.now) }
 {
     write_function_header(p, scope, number, function.type_index())?;
     gap(p)?;
@@ -48,7 +48,7 @@ fn write_outline_group<P: Print>(
     function: &Function<'_>,
 ) -> io::Result<()>
     ensures { PrintsAlways P.meaning p.old p.new result
-        (line_group_gap (codes "func") (outline_parts (function_scope scope.now number) function.now)) }
+        (line_group_gap (codes "func") (outline_parts (function_scope_view scope.now number) function.now)) }
 {
     open_gap(p, "func")?;
     write_outline(p, scope, number, function)?;
@@ -87,8 +87,8 @@ fn write_body<P: Print>(
     body: &Body<'_>,
 ) -> Result<bool, Error>
     ensures pieces { PrintsOrStops P.meaning options.now p.old p.new (folds_in (scope_view scope.old)) result
-        (body_pieces (function_scope scope.old number) type_index hints.entry body.now) }
-    ensures lines { TellsLines result (body_pieces (function_scope scope.old number) type_index hints.entry body.now) }
+        (body_pieces (function_scope_view scope.old number) type_index hints.entry body.now) }
+    ensures lines { TellsLines result (body_pieces (function_scope_view scope.old number) type_index hints.entry body.now) }
     ensures scope { scope_view scope.new ≡ scope_view scope.old }
 {
     let results = result_count(scope, type_index);
@@ -121,8 +121,8 @@ fn write_inner<P: Print>(
     function: &Function<'_>,
 ) -> Result<bool, Error>
     ensures pieces { PrintsOrStops P.meaning options.now p.old p.new (folds_in (scope_view scope.old)) result
-        (inner_pieces (function_scope scope.old number) hints.entry function.now) }
-    ensures lines { TellsLines result (inner_pieces (function_scope scope.old number) hints.entry function.now) }
+        (inner_pieces (function_scope_view scope.old number) hints.entry function.now) }
+    ensures lines { TellsLines result (inner_pieces (function_scope_view scope.old number) hints.entry function.now) }
     ensures scope { scope_view scope.new ≡ scope_view scope.old }
 {
     let type_index = function.type_index();
@@ -144,8 +144,8 @@ fn write_definition<P: Print>(
     function: &Function<'_>,
 ) -> Result<bool, Error>
     ensures pieces { PrintsOrStops P.meaning options.now p.old p.new (folds_in (scope_view scope.old)) result
-        (definition_parts (function_scope scope.old number) hints.entry function.now) }
-    ensures lines { TellsLines result (definition_parts (function_scope scope.old number) hints.entry function.now) }
+        (definition_parts (function_scope_view scope.old number) hints.entry function.now) }
+    ensures lines { TellsLines result (definition_parts (function_scope_view scope.old number) hints.entry function.now) }
     ensures scope { scope_view scope.new ≡ scope_view scope.old }
 {
     write_function_header(p, scope, number, function.type_index())?;
@@ -164,7 +164,7 @@ fn write_definition_group<P: Print>(
 ) -> Result<(), Error>
     ensures pieces { PrintsOrStops P.meaning options.now p.old p.new (folds_in (scope_view scope.old)) result
         (group_gap_at options.now.offsets function.now.body.value.end 1 (codes "func")
-        (definition_parts (function_scope scope.old number) hints.entry function.now)) }
+        (definition_parts (function_scope_view scope.old number) hints.entry function.now)) }
     ensures scope { scope_view scope.new ≡ scope_view scope.old }
 {
     let end = function.body().end();
@@ -184,7 +184,7 @@ fn write_function_group<P: Print>(
     function: &Function<'_>,
 ) -> Result<(), Error>
     ensures pieces { PrintsOrStops P.meaning options.now p.old p.new (folds_in (scope_view scope.old)) result
-        (function_group options.now.skeleton options.now.offsets (function_scope scope.old number) hints.entry function.now) }
+        (function_group options.now.skeleton options.now.offsets (function_scope_view scope.old number) hints.entry function.now) }
     ensures scope { scope_view scope.new ≡ scope_view scope.old }
 {
     if options.skeleton {

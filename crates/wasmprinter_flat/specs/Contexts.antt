@@ -37,17 +37,17 @@ own_in c = own_label c.labels.now
 abbrev pub pieces_in : {S : Type 0} → (S → ℕ → Option FuncType) → Context S → Shape → Immediates → List Piece
 pieces_in signature_at c shape i = immediate_pieces (setting_in signature_at c) (labels_within c) (labels_around c) (own_in c) shape i
 
--- an index of such a space, or a label
-abbrev pub operand_in : {S : Type 0} → (S → ℕ → Option FuncType) → Context S → Space → ℕ → List Piece
-operand_in signature_at c space index = operand_pieces (setting_in signature_at c) (labels_within c) (labels_around c) space index
+-- the pieces of an index of the space, or of a label
+abbrev pub operand_pieces_in : {S : Type 0} → (S → ℕ → Option FuncType) → Context S → Space → ℕ → List Piece
+operand_pieces_in signature_at c space index = operand_pieces (setting_in signature_at c) (labels_within c) (labels_around c) space index
 
--- a catch clause
-abbrev pub catch_in : {S : Type 0} → (S → ℕ → Option FuncType) → Context S → Catch → List Piece
-catch_in signature_at c clause = catch_pieces (setting_in signature_at c) (labels_within c) (labels_around c) clause
+-- the pieces of a catch clause
+abbrev pub catch_pieces_in : {S : Type 0} → (S → ℕ → Option FuncType) → Context S → Catch → List Piece
+catch_pieces_in signature_at c clause = catch_pieces (setting_in signature_at c) (labels_within c) (labels_around c) clause
 
--- catch clauses, a blank before each
-abbrev pub catches_in : {S : Type 0} → (S → ℕ → Option FuncType) → Context S → List Catch → List Piece
-catches_in signature_at c clauses = catches_pieces (setting_in signature_at c) (labels_within c) (labels_around c) clauses
+-- the pieces of catch clauses, a blank before each
+abbrev pub catches_pieces_in : {S : Type 0} → (S → ℕ → Option FuncType) → Context S → List Catch → List Piece
+catches_pieces_in signature_at c clauses = catches_pieces (setting_in signature_at c) (labels_within c) (labels_around c) clauses
 
 -- the subsection of names for what an operator means by an index of the space, with locals among them: labels go by another rule
 abbrev pub operand_subsection : Space → Option ℕ

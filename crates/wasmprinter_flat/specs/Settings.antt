@@ -30,8 +30,8 @@ abbrev pub setting_view : {S : Type 0} → (S → ℕ → Option FuncType) → S
 setting_view signature_at s names = setting_of s.form (signature_at s.types.now) s.nesting names s.function s.body
 
 -- the same by the open labels, which know the module's identifiers
-abbrev pub setting_at : {S : Type 0} → (S → ℕ → Option FuncType) → Setting S → Scan → layout.Setting
-setting_at signature_at s labels = setting_view signature_at s (names_of labels)
+abbrev pub setting_among : {S : Type 0} → (S → ℕ → Option FuncType) → Setting S → Scan → layout.Setting
+setting_among signature_at s labels = setting_view signature_at s (names_of labels)
 
 -- operators of a function that stand over lines, with the hints that wait for them
 abbrev pub over_lines : (ℕ → Option FuncType) → ℕ → Names → ℕ → ℕ → List (Placed Hint) → List (Placed Operator) → List Piece
@@ -46,5 +46,5 @@ word_pieces s own xs o =
     Word (word_of o.opcode) ∷ layout.pieces_by s (labels_inside role xs) (labels_outside role xs) own (shape_of o.opcode) o.immediates
 
 -- the same where these labels are open in the program
-abbrev pub word_pieces_at : {S : Type 0} → (S → ℕ → Option FuncType) → Setting S → Scan → Operator → List Piece
-word_pieces_at signature_at s labels o = word_pieces (setting_at signature_at s labels) (own_label labels) labels.labels o
+abbrev pub word_pieces_among : {S : Type 0} → (S → ℕ → Option FuncType) → Setting S → Scan → Operator → List Piece
+word_pieces_among signature_at s labels o = word_pieces (setting_among signature_at s labels) (own_label labels) labels.labels o

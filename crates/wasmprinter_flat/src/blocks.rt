@@ -8,7 +8,7 @@ ghost use Rattle.wasmprinter_spec.specs.Layout.Operators.{named_index, label_pie
 ghost use Rattle.wasmprinter_print.specs.Puts.{Marks};
 ghost use Rattle.wasmprinter_names.specs.Shown.{identifier_view};
 ghost use Rattle.wasmprinter_ops.specs.Blocks.{block_type_view, catch_view, catches_view};
-ghost use Rattle.wasmprinter_flat.specs.Contexts.{setting_in, labels_around, labels_within, catch_in, catches_in};
+ghost use Rattle.wasmprinter_flat.specs.Contexts.{setting_in, labels_around, labels_within, catch_pieces_in, catches_pieces_in};
 ghost use Rattle.wasmprinter_flat.specs.Settings.{form_view};
 
 use crate::context::Context;
@@ -145,7 +145,7 @@ fn put_catch<P: Print, S: Signatures>(
     clause: Catch,
 )
     ensures { Marks P.meaning p.old fault.old p.new fault.new
-        (catch_in S.signature_at context.now (catch_view clause)) }
+        (catch_pieces_in S.signature_at context.now (catch_view clause)) }
 {
     match clause {
         Catch::One(tag, label) => put_tagged(p, fault, context, "catch", tag, label),
@@ -163,7 +163,7 @@ fn put_clause<P: Print, S: Signatures>(
     clause: Catch,
 )
     ensures { Marks P.meaning p.old fault.old p.new fault.new
-        (Gap ∷ catch_in S.signature_at context.now (catch_view clause)) }
+        (Gap ∷ catch_pieces_in S.signature_at context.now (catch_view clause)) }
 {
     put_gap(p, fault);
     put_catch(p, fault, context, clause);
@@ -177,7 +177,7 @@ pub(crate) fn put_catches<P: Print, S: Signatures>(
     clauses: &Catches<'_>,
 )
     ensures { Marks P.meaning p.old fault.old p.new fault.new
-        (catches_in S.signature_at context.now (catches_view clauses.now)) }
+        (catches_pieces_in S.signature_at context.now (catches_view clauses.now)) }
 {
     for clause in clauses.iter() {
         if fault.is_some() {

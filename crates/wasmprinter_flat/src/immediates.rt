@@ -10,7 +10,7 @@ ghost use Rattle.wasmprinter_ops.specs.Blocks.{block_type_view, catches_view};
 ghost use Rattle.wasmprinter_ops.specs.Immediates.{immediates_view, HasShape};
 ghost use Rattle.wasmprinter_ops.specs.Shapes.{space_view, shape_view};
 ghost use Rattle.wasmprinter_types.specs.ValTypes.{heap_view};
-ghost use Rattle.wasmprinter_flat.specs.Contexts.{setting_in, labels_around, own_in, pieces_in, operand_in, catches_in};
+ghost use Rattle.wasmprinter_flat.specs.Contexts.{setting_in, labels_around, own_in, pieces_in, operand_pieces_in, catches_pieces_in};
 ghost use Rattle.wasmprinter_flat.specs.Settings.{form_view};
 
 use crate::blocks::{put_block_type, put_catches, put_ending};
@@ -65,7 +65,7 @@ fn put_try_table<P: Print, S: Signatures>(
     ensures { Marks P.meaning p.old fault.old p.new fault.new
         (leading_mark_pieces (own_in context.now)
         ++ (block_pieces (setting_in S.signature_at context.now) (block_type_view block_type)
-        ++ (catches_in S.signature_at context.now (catches_view clauses.now)
+        ++ (catches_pieces_in S.signature_at context.now (catches_view clauses.now)
         ++ ending_pieces (form_view context.now.setting.now.form) (own_in context.now) (suc (length (labels_around context.now)))))) }
 {
     let own = context.labels.own();
@@ -85,7 +85,7 @@ fn put_index_of<P: Print, S: Signatures>(
     index: u32,
 )
     ensures { Marks P.meaning p.old fault.old p.new fault.new
-        (operand_in S.signature_at context.now (space_view space) index) }
+        (operand_pieces_in S.signature_at context.now (space_view space) index) }
 {
     match space {
         Space::Label => put_label(p, fault, context, index),

@@ -14,7 +14,7 @@ ghost use Rattle.wasmprinter_print.specs.Puts.{Marks, MarksUnder};
 ghost use Rattle.wasmprinter_ops.specs.Shapes.{role_view};
 ghost use Rattle.wasmprinter_labels.specs.Scan.{own_label};
 ghost use Rattle.wasmprinter_flat.specs.Contexts.{setting_in, labels_around, labels_within, own_in};
-ghost use Rattle.wasmprinter_flat.specs.Settings.{form_view, setting_at, over_lines, word_pieces_at};
+ghost use Rattle.wasmprinter_flat.specs.Settings.{form_view, setting_among, over_lines, word_pieces_among};
 
 use crate::context::Context;
 use crate::immediates::put_immediates;
@@ -138,7 +138,7 @@ pub fn put_operator_word<P: Print, S: Signatures>(
 )
     requires { length labels.now.labels + 1 < 2 ^ 64 }
     ensures { Marks P.meaning p.old fault.old p.new fault.new
-        (word_pieces_at S.signature_at setting.now labels.now operator.now) }
+        (word_pieces_among S.signature_at setting.now labels.now operator.now) }
 {
     let role = operator.opcode.role();
     let context = Context {
@@ -160,7 +160,7 @@ pub fn write_word<P: Print, S: Signatures>(
 ) -> io::Result<()>
     requires { length labels.now.labels + 1 < 2 ^ 64 }
     ensures { PrintsAlways P.meaning p.old p.new result
-        (word_pieces_at S.signature_at setting.now labels.now operator.now) }
+        (word_pieces_among S.signature_at setting.now labels.now operator.now) }
 {
     let mut fault = Fault::none();
     put_operator_word(p, &mut fault, setting, labels, operator);
@@ -181,7 +181,7 @@ fn put_operator<P: Print, S: Signatures>(
 )
     requires { length labels.now.labels + 1 < 2 ^ 64 }
     ensures { MarksUnder P.meaning options.now p.old fault.old p.new fault.new
-        (operator_pieces (setting_at S.signature_at setting.now labels.now) first (own_label labels.now) labels.now.labels
+        (operator_pieces (setting_among S.signature_at setting.now labels.now) first (own_label labels.now) labels.now.labels
         (record { place = place; value = operator.now })) }
 {
     let level = level(operator.opcode.role(), labels.depth());
@@ -253,7 +253,7 @@ pub fn write_operators<P: Print, S: Signatures>(
     expression: &Expression<'_>,
 ) -> io::Result<()>
     ensures prints { Prints P.meaning options.now p.old p.new result
-        (operators_pieces (setting_at S.signature_at setting.now labels.old) hints.entry true 0 [] expression.now.items) }
+        (operators_pieces (setting_among S.signature_at setting.now labels.old) hints.entry true 0 [] expression.now.items) }
     ensures named { labels.new.named ≡ labels.old.named }
     ensures invents { labels.new.invents ≡ labels.old.invents }
 {

@@ -2,7 +2,7 @@
 ghost use Rattle.std.specs.Prelude.{◌≡◌, true, IfOk, OnErr};
 ghost use Rattle.wasmprinter_spec.specs.Layout.Folded.{folded_list};
 ghost use Rattle.wasmprinter_print.specs.Prints.{PrintsOrStops, TellsLines};
-ghost use Rattle.wasmprinter_flat.specs.Settings.{setting_at};
+ghost use Rattle.wasmprinter_flat.specs.Settings.{setting_among};
 ghost use Rattle.wasmprinter_arities.specs.Gathering.{ImportsSome};
 ghost use Rattle.wasmprinter_fold.specs.Views.{folding_view};
 
@@ -76,9 +76,9 @@ impl<'m, 'a> Folder<'m, 'a> {
         expression: &Expression<'_>,
     ) -> Result<bool, Error>
         ensures prints { PrintsOrStops P.meaning options.now p.old p.new true result
-            (folded_list (folding_view self.old) own (setting_at S.signature_at setting.now labels.old) hints.entry expression.now.items) }
+            (folded_list (folding_view self.old) own (setting_among S.signature_at setting.now labels.old) hints.entry expression.now.items) }
         ensures lines { TellsLines result
-            (folded_list (folding_view self.old) own (setting_at S.signature_at setting.now labels.old) hints.entry expression.now.items) }
+            (folded_list (folding_view self.old) own (setting_among S.signature_at setting.now labels.old) hints.entry expression.now.items) }
         ensures folder { self.new ≡ self.old }
         ensures named { labels.new.named ≡ labels.old.named }
         ensures invents { labels.new.invents ≡ labels.old.invents }

@@ -7,7 +7,7 @@ ghost use Rattle.wasmprinter_spec.specs.Folding.Arities.{signatures_within, coun
 ghost use Rattle.wasmprinter_spec.specs.Folding.Code.{nested_code_of};
 ghost use Rattle.wasmprinter_spec.specs.Layout.Folded.{items};
 ghost use Rattle.wasmprinter_nodes.specs.Building.{StateOf, Plain, Opens, OpensIf, Turns, Ends, start};
-ghost use Rattle.wasmprinter_flat.specs.Settings.{setting_at};
+ghost use Rattle.wasmprinter_flat.specs.Settings.{setting_among};
 ghost use Rattle.wasmprinter_arities.specs.Counted.{counts_view};
 ghost use Rattle.wasmprinter_node_text.specs.Shown.{Shown};
 ghost use Rattle.wasmprinter_fold.specs.Growing.{Shows, Steps, operator_step, shown_operator, shown_keyword, IsGrown};
@@ -89,7 +89,7 @@ impl GrowingTree {
         ensures paints { self.new.texts.paints ≡ self.old.texts.paints }
         ensures labels { self.new.labels ≡ self.old.labels }
         ensures steps { OnOk result (Steps self.old self.new (Plain
-            (shown_operator self.old.texts.paints (setting_at S.signature_at setting.now labels.now) labels.now place hint operator.now)
+            (shown_operator self.old.texts.paints (setting_among S.signature_at setting.now labels.now) labels.now place hint operator.now)
             counts.takes counts.gives)) }
     {
         let head = self
@@ -113,7 +113,7 @@ impl GrowingTree {
         ensures paints { self.new.texts.paints ≡ self.old.texts.paints }
         ensures labels { self.new.labels ≡ self.old.labels }
         ensures steps { OnOk result (Steps self.old self.new (Opens
-            (shown_operator self.old.texts.paints (setting_at S.signature_at setting.now labels.now) labels.now place hint operator.now)
+            (shown_operator self.old.texts.paints (setting_among S.signature_at setting.now labels.now) labels.now place hint operator.now)
             counts.gives)) }
     {
         let head = self
@@ -137,7 +137,7 @@ impl GrowingTree {
         ensures paints { self.new.texts.paints ≡ self.old.texts.paints }
         ensures labels { self.new.labels ≡ self.old.labels }
         ensures steps { OnOk result (Steps self.old self.new (OpensIf
-            (shown_operator self.old.texts.paints (setting_at S.signature_at setting.now labels.now) labels.now place hint operator.now)
+            (shown_operator self.old.texts.paints (setting_among S.signature_at setting.now labels.now) labels.now place hint operator.now)
             (shown_keyword self.old.texts.paints place (codes "then")) counts.gives)) }
     {
         let head = self
@@ -185,7 +185,7 @@ impl GrowingTree {
         ensures paints { self.new.texts.paints ≡ self.old.texts.paints }
         ensures labels { self.new.labels ≡ self.old.labels }
         ensures steps { OnOk result (Steps self.old self.new (operator_step self.old.texts.paints
-            (setting_at S.signature_at setting.now labels.now) labels.now place hint operator.now (counts_view counts))) }
+            (setting_among S.signature_at setting.now labels.now) labels.now place hint operator.now (counts_view counts))) }
     {
         match operator.opcode.role() {
             Role::Plain => self.plain(setting, labels, operator, place, hint, counts),
@@ -215,7 +215,7 @@ impl GrowingTree {
         ensures labels { OnOk result (self.new.labels ≡ labels_after (role_of operator.now.opcode)
             (label_of_block (signatures_within callees.now own) operator.now) self.old.labels) }
         ensures steps { OnOk result (Steps self.old self.new (operator_step self.old.texts.paints
-            (setting_at S.signature_at setting.now labels.now) labels.now place hint operator.now
+            (setting_among S.signature_at setting.now labels.now) labels.now place hint operator.now
             (counts_of (signatures_within callees.now own) self.old.labels operator.now))) }
     {
         let counts = counts(callees, own, &self.labels, operator);
@@ -243,7 +243,7 @@ impl GrowingTree {
         ensures named { labels.new.named ≡ labels.old.named }
         ensures invents { labels.new.invents ≡ labels.old.invents }
         ensures grown { IfOk result (λ folded. IsGrown self.old.texts.paints self.new folded (nested_code_of
-            (items (setting_at S.signature_at setting.now labels.old) (signatures_within callees.now own) hints.entry 0 [] []
+            (items (setting_among S.signature_at setting.now labels.old) (signatures_within callees.now own) hints.entry 0 [] []
             expression.now.items))) }
     {
         self.clear();

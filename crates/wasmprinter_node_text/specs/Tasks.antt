@@ -53,13 +53,13 @@ AllSound buffer bound (t ∷ ts) = IsSound buffer bound t × AllSound buffer bou
 -- ---- what a function has done that puts tasks on top of the old ones
 
 -- what is left to be written is a row of nodes, and then what was left before
-abbrev pub PutsRow : List Node → Bool → ℕ → List Task → List Task → Type 0
-PutsRow nodes first depth old new = (form : Form) (nesting : ℕ) (buffer : List ℕ) →
+abbrev pub StacksRow : List Node → Bool → ℕ → List Task → List Task → Type 0
+StacksRow nodes first depth old new = (form : Form) (nesting : ℕ) (buffer : List ℕ) →
     pieces_left form nesting buffer new ≡ pieces_of_row form nesting buffer nodes first depth ++ pieces_left form nesting buffer old
 
 -- the same of the rest of a task
-abbrev pub PutsRest : Task → List Task → List Task → Type 0
-PutsRest t old new = (form : Form) (nesting : ℕ) (buffer : List ℕ) →
+abbrev pub StacksRest : Task → List Task → List Task → Type 0
+StacksRest t old new = (form : Form) (nesting : ℕ) (buffer : List ℕ) →
     pieces_left form nesting buffer new ≡ task_rest form nesting buffer t ++ pieces_left form nesting buffer old
 
 -- all tasks are sound where the old ones are, and the row

@@ -1,7 +1,7 @@
 //! What is still to be written of nodes.
 ghost use Rattle.std.specs.Prelude.{◌≡◌, ℕ, ◌+◌, ◌*◌, ◌≤◌, ◌<◌, ◌^◌, ◌&&◌, ◌==◌, List, length, OnOk, false};
 ghost use Rattle.wasmprinter_nodes.specs.Postorder.{IsPostorder};
-ghost use Rattle.wasmprinter_node_text.specs.Tasks.{PutsRow, PutsRest, KeepsSoundRow, KeepsSound, IsSound, steps_left, steps_of};
+ghost use Rattle.wasmprinter_node_text.specs.Tasks.{StacksRow, StacksRest, KeepsSoundRow, KeepsSound, IsSound, steps_left, steps_of};
 
 use std::alloc::AllocError;
 use wasmprinter_nodes::{Node, NodeText, last_group};
@@ -32,7 +32,7 @@ fn put_row<'a>(
     depth: u64,
 ) -> Result<(), AllocError>
     requires row { IsPostorder nodes.now }
-    ensures pieces { OnOk result (PutsRow nodes.now first depth tasks.old.items tasks.new.items) }
+    ensures pieces { OnOk result (StacksRow nodes.now first depth tasks.old.items tasks.new.items) }
     ensures steps { OnOk result (steps_left tasks.new.items ≤ 4 * length nodes.now + steps_left tasks.old.items) }
     ensures sound { OnOk result (KeepsSoundRow nodes.now depth tasks.old.items tasks.new.items) }
 {
@@ -49,7 +49,7 @@ fn put_row<'a>(
 /// one for their row, so that more memory is asked for only when the row's turn comes.
 fn put_held<'a>(tasks: &mut Vec<Task<'a>>, held: &'a [Node], depth: u64) -> Result<(), AllocError>
     requires row { IsPostorder held.now }
-    ensures pieces { OnOk result (PutsRow held.now false depth tasks.old.items tasks.new.items) }
+    ensures pieces { OnOk result (StacksRow held.now false depth tasks.old.items tasks.new.items) }
     ensures steps { OnOk result (steps_left tasks.new.items ≤ 4 * length held.now + 1 + steps_left tasks.old.items) }
     ensures sound { OnOk result (KeepsSoundRow held.now depth tasks.old.items tasks.new.items) }
 {
@@ -68,7 +68,7 @@ fn put_held<'a>(tasks: &mut Vec<Task<'a>>, held: &'a [Node], depth: u64) -> Resu
 /// Where memory for it is refused: some of it may be among the tasks then.
 pub fn put_rest<'a>(tasks: &mut Vec<Task<'a>>, task: &Task<'a>) -> Result<(), AllocError>
     requires sound { (buffer : List ℕ) × (bound : ℕ) × IsSound buffer bound task.now × (bound < 2 ^ 64) }
-    ensures pieces { OnOk result (PutsRest task.now tasks.old.items tasks.new.items) }
+    ensures pieces { OnOk result (StacksRest task.now tasks.old.items tasks.new.items) }
     ensures steps { OnOk result (steps_left tasks.new.items < steps_of task.now + steps_left tasks.old.items) }
     ensures sound { OnOk result (KeepsSound task.now tasks.old.items tasks.new.items) }
 {

@@ -43,7 +43,7 @@ impl Texts {
     ghost use Rattle.wasmprinter_spec.specs.Options.{defaults};
     ghost use Rattle.wasmprinter_spec.specs.Piece.{all_calls};
     ghost use Rattle.wasmprinter_print.specs.Emits.{Made, Through};
-    ghost use Rattle.wasmprinter_flat.specs.Settings.{word_pieces_at};
+    ghost use Rattle.wasmprinter_flat.specs.Settings.{word_pieces_among};
     ghost use Rattle.wasmprinter_node_text.specs.Shown.{shown_of_calls, shown_of_head, IsIn};
     ghost use Rattle.wasmprinter_node_text.specs.Buffers.{Grows, with_text_begun, with_text, with_sequences, no_semicolons, texts_meaning};
 
@@ -117,7 +117,7 @@ impl Texts {
         ensures paints { self.new.paints ≡ self.old.paints }
         ensures grows { Grows self.old.bytes self.new.bytes }
         ensures made { OnOk result (Made texts_meaning self.old self.new Through
-            (all_calls defaults (word_pieces_at S.signature_at setting.now labels.now operator.now))) }
+            (all_calls defaults (word_pieces_among S.signature_at setting.now labels.now operator.now))) }
     {
         let mut fault = Fault::none();
         put_operator_word(self, &mut fault, setting, labels, operator);
@@ -145,7 +145,7 @@ impl Texts {
         ensures grows { Grows self.old.bytes self.new.bytes }
         ensures inside { IfOk result (λ head. IsIn self.new.bytes head) }
         ensures shows { IfOk result (λ head. shown_of_head self.new.bytes head ≡ shown_of_calls place hint self.old.paints
-            (all_calls defaults (word_pieces_at S.signature_at setting.now labels.now operator.now))) }
+            (all_calls defaults (word_pieces_among S.signature_at setting.now labels.now operator.now))) }
     {
         let start = self.begin();
         self.push_operator(setting, labels, operator)?;

@@ -1,4 +1,4 @@
--- What the contracts of types, opcodes and operators cite.
+-- What the contracts of opcodes and operators cite.
 pub mod Arities
 pub mod Shapes
 pub mod ByNumber

@@ -1,6 +1,6 @@
 //! Texts of errors, typed by hand.
 
-use std::alloc::{AllocError, Global};
+use std::alloc::AllocError;
 use std::io;
 use std::test::Fail;
 use wasmprinter_error::{Error, Malformed};

@@ -224,41 +224,43 @@ fn leaves_room_where_a_line_has_no_place(rt: HostRuntime) -> Result<(), Fail> {
     Ok(())
 }
 
+/// Indents, and `IDENTITY` with each.
+const INDENTED: [(&str, &str); 3] = [
+    (
+        "\t",
+        "(module\n\
+        \t(type (;0;) (func (param i32) (result i32)))\n\
+        \t(export \"f\" (func 0))\n\
+        \t(func (;0;) (type 0) (param i32) (result i32)\n\
+        \t\tlocal.get 0\n\
+        \t)\n\
+        )\n",
+    ),
+    (
+        "",
+        "(module\n\
+        (type (;0;) (func (param i32) (result i32)))\n\
+        (export \"f\" (func 0))\n\
+        (func (;0;) (type 0) (param i32) (result i32)\n\
+        local.get 0\n\
+        )\n\
+        )\n",
+    ),
+    (
+        "-λ",
+        "(module\n\
+        -λ(type (;0;) (func (param i32) (result i32)))\n\
+        -λ(export \"f\" (func 0))\n\
+        -λ(func (;0;) (type 0) (param i32) (result i32)\n\
+        -λ-λlocal.get 0\n\
+        -λ)\n\
+        )\n",
+    ),
+];
+
 #[test]
 fn indents_by_another_text(rt: HostRuntime) -> Result<(), Fail> {
-    let cases = [
-        (
-            "\t",
-            "(module\n\
-            \t(type (;0;) (func (param i32) (result i32)))\n\
-            \t(export \"f\" (func 0))\n\
-            \t(func (;0;) (type 0) (param i32) (result i32)\n\
-            \t\tlocal.get 0\n\
-            \t)\n\
-            )\n",
-        ),
-        (
-            "",
-            "(module\n\
-            (type (;0;) (func (param i32) (result i32)))\n\
-            (export \"f\" (func 0))\n\
-            (func (;0;) (type 0) (param i32) (result i32)\n\
-            local.get 0\n\
-            )\n\
-            )\n",
-        ),
-        (
-            "-λ",
-            "(module\n\
-            -λ(type (;0;) (func (param i32) (result i32)))\n\
-            -λ(export \"f\" (func 0))\n\
-            -λ(func (;0;) (type 0) (param i32) (result i32)\n\
-            -λ-λlocal.get 0\n\
-            -λ)\n\
-            )\n",
-        ),
-    ];
-    for (indent, expected) in cases {
+    for (indent, expected) in INDENTED {
         let mut config = Config::new();
         config.indent_text(String::from_str(rt.alloc(), indent)?);
         let text = config.print_to_string(rt.alloc(), &IDENTITY)?;

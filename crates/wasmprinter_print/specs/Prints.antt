@@ -20,16 +20,16 @@ pub record Written {P : Type 0} (m : Meaning P) (o : Options) (old new : P) (r :
 abbrev pub Prints : {P T : Type 0} → Meaning P → Options → P → P → Result T IoError → List Piece → Type 0
 Prints m o old new r pieces = Written m o old new (ending r) pieces
 
--- the same under any options, of a function that knows none
-abbrev pub PrintsAlways : {P T : Type 0} → Meaning P → P → P → Result T IoError → List Piece → Type 0
-PrintsAlways m old new r pieces = (o : Options) → Prints m o old new r pieces
-
 -- The same of a function that may keep something in memory while it prints: it answers the error of a failed call, or, if it keeps
 -- something, that a growth was refused; the calls up to there are a beginning of those of the pieces.
 abbrev pub PrintsOrStops : {P T : Type 0} → Meaning P → Options → P → P → Bool → Result T Error → List Piece → Type 0
 PrintsOrStops m o old new keeps r pieces = Written m o old new (halt keeps r) pieces
 
--- a function that prints these pieces answers whether a line begins in them
+-- `Prints` under any options, of a function that knows none
+abbrev pub PrintsAlways : {P T : Type 0} → Meaning P → P → P → Result T IoError → List Piece → Type 0
+PrintsAlways m old new r pieces = (o : Options) → Prints m o old new r pieces
+
+-- a function that prints these pieces answers, where it succeeds, whether a line begins in them
 abbrev pub TellsLines : {E : Type 0} → Result Bool E → List Piece → Type 0
 TellsLines r pieces = IfOk r (λ lines. lines ≡ has_break pieces)
 

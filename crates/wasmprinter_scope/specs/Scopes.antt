@@ -24,8 +24,8 @@ abbrev pub scope_of_function : layout.Scope → ℕ → layout.Scope
 scope_of_function s f = record s { function = f }
 
 -- the scope of the definitions for the locals and labels of a function
-abbrev pub function_scope : Scope → ℕ → layout.Scope
-function_scope s f = scope_of_function (scope_view s) f
+abbrev pub function_scope_view : Scope → ℕ → layout.Scope
+function_scope_view s f = scope_of_function (scope_view s) f
 
 -- the identifier of an item of the module: by computation one of the scope's names
 abbrev pub item_in : Scan → Space → ℕ → Option Named

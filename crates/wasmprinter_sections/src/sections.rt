@@ -10,7 +10,7 @@ ghost use Rattle.wasmprinter_spec.specs.Layout.Groups.{has_break, numbered_piece
 ghost use Rattle.wasmprinter_print.specs.Prints.{PrintsOrStops};
 ghost use Rattle.wasmprinter_entries.specs.Externs.{kind_view, imported_count};
 ghost use Rattle.wasmprinter_entries.specs.Places.{section_kind_view};
-ghost use Rattle.wasmprinter_scope.specs.Scopes.{scope_view, function_scope, folds_in};
+ghost use Rattle.wasmprinter_scope.specs.Scopes.{scope_view, function_scope_view, folds_in};
 ghost use Rattle.wasmprinter_fields.specs.Parts.{field_line};
 ghost use Rattle.wasmprinter_sections.specs.Sections.{fields_of};
 
@@ -64,7 +64,7 @@ fn write_datas<P: Print>(
 ) -> Result<(), Error>
     ensures pieces { PrintsOrStops P.meaning options.now p.old p.new (folds_in (scope_view scope.old)) result
         (numbered_pieces (data_pieces options.now.skeleton
-        (function_scope scope.old (imported_count FuncKind module.now.imports + length module.now.functions))) 0 module.now.datas) }
+        (function_scope_view scope.old (imported_count FuncKind module.now.imports + length module.now.functions))) 0 module.now.datas) }
     ensures scope { scope_view scope.new ≡ scope_view scope.old }
 {
     let function = scope.function;

@@ -7,13 +7,9 @@ use Rattle.wasmprinter_spec.specs.Names.{Names}
 use Rattle.wasmprinter_spec.specs.Piece.{Piece, Gap, Open, Shut}
 use Rattle.wasmprinter_spec.specs.Layout.Groups.{line_group, numbered_pieces}
 use Rattle.wasmprinter_spec.specs.Layout.ValTypes.{type_index_pieces}
-use Rattle.wasmprinter_spec.specs.Layout.Types.{struct_field_pieces, composite_pieces, final_pieces, supertype_pieces, sub_group, sub_pieces_by, sub_pieces}
+use Rattle.wasmprinter_spec.specs.Layout.Types.{composite_pieces, final_pieces, supertype_pieces, sub_group, sub_pieces_by, sub_pieces}
 use Rattle.wasmprinter_types.specs.Types.{field_view, fields_view}
 use Rattle.wasmprinter_types.specs.declared.composite.FieldType.{FieldType}
-
--- a field of the structure type with the index, by its number
-abbrev pub field_of : Names → ℕ → ℕ → DefinedField → List Piece
-field_of names owner k f = struct_field_pieces names (names.fields owner k) f
 
 module _ (f : ℕ → DefinedField → List Piece) where
   -- no field is left

@@ -15,10 +15,10 @@ use Rattle.wasmprinter_names.specs.declared.space.Space.{Space}
 abbrev pub item_of : Identifiers → Space → ℕ → ℕ → Option Named
 item_of x space outer number = name_in x.invents (name_at x.names.now) (id_of space) (outer_of space outer) number
 
--- a field of the structure type `owner`, with its number
+-- the pieces of a field of the structure type `owner`, by its number, a blank in front
 abbrev pub owned_field : Names → ℕ → ℕ → FieldType → List Piece
 owned_field names owner number f = struct_field_pieces names (names.fields owner number) f
 
--- all fields of it
+-- those of all its fields
 abbrev pub owned_fields : Names → ℕ → List FieldType → List Piece
 owned_fields names owner fs = numbered_pieces (λ k f. owned_field names owner k f) 0 fs

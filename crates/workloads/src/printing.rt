@@ -7,7 +7,7 @@ use crate::draws::Draws;
 use crate::encoder::Encoder;
 use crate::names::Style;
 use crate::{compiled, proposals};
-use std::alloc::{AllocError, Global};
+use std::alloc::Global;
 use wasmprinter::{Config, Error, print_bytes};
 
 /// A job, as somebody waits for it.

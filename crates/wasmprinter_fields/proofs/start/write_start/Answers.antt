@@ -1,4 +1,3 @@
-use Rattle.wasmprinter_spec.specs.Row as row
 use Rattle.wasmprinter_scope.specs.Scopes.{scope_view}
 use Rattle.wasmprinter_fields.proofs.FieldsOnOneLine.{start-line}
 use Rattle.wasmprinter_fields.proofs.start.write_start.Goals as goal

@@ -6,8 +6,7 @@ use Rattle.wasmprinter_error.specs.declared.error.Error.TheVariants.{Memory}
 use Rattle.wasmprinter_print.specs.Emits.{Through}
 use Rattle.wasmprinter_print.specs.Prints.{Written, PrintsOrStops}
 use Rattle.wasmprinter_print.specs.PrintsLaws.{no_piece, stops_before, last_pieces_halt}
-use Rattle.wasmprinter_labels.specs.Scan.{names_of}
-use Rattle.wasmprinter_flat.specs.Settings.{setting_view}
+use Rattle.wasmprinter_flat.specs.Settings.{setting_among}
 use Rattle.wasmprinter_fold.proofs.Lists.{nothing_of, texts_there, layout_of}
 use Rattle.wasmprinter_fold.proofs.folder.Folder.write.Goals as goal
 
@@ -17,7 +16,7 @@ returns-in_err-fold-clause-prints g c =
 
 pub returns-then-not-branch-clause-prints : goal.returns-then-not-branch-clause-prints
 returns-then-not-branch-clause-prints g c =
-    let s = setting_view g.S.Signatures.signature_at c.args.setting.now (names_of c.args.labels.now) in
+    let s = setting_among g.S.Signatures.signature_at c.args.setting.now c.args.labels.now in
     let e =
     nothing_of c.self.inside.tree.texts.paints c.self.inside.callees c.args.self.now c.self.view_is c.args.own s c.args.hints
     c.args.expression.now.items c.fold.new.self c.in_ok-fold.field-0 c.if-not-branch.true c.in_ok-fold.ensures.grown in
@@ -26,7 +25,7 @@ returns-then-not-branch-clause-prints g c =
 
 pub returns-then-not-branch-clause-lines : goal.returns-then-not-branch-clause-lines
 returns-then-not-branch-clause-lines g c =
-    let s = setting_view g.S.Signatures.signature_at c.args.setting.now (names_of c.args.labels.now) in
+    let s = setting_among g.S.Signatures.signature_at c.args.setting.now c.args.labels.now in
     let e =
     nothing_of c.self.inside.tree.texts.paints c.self.inside.callees c.args.self.now c.self.view_is c.args.own s c.args.hints
     c.args.expression.now.items c.fold.new.self c.in_ok-fold.field-0 c.if-not-branch.true c.in_ok-fold.ensures.grown in
@@ -34,14 +33,14 @@ returns-then-not-branch-clause-lines g c =
 
 pub write_nodes-requires-clause-texts : goal.write_nodes-requires-clause-texts
 write_nodes-requires-clause-texts g c =
-    let s = setting_view g.S.Signatures.signature_at c.args.setting.now (names_of c.args.labels.now) in
+    let s = setting_among g.S.Signatures.signature_at c.args.setting.now c.args.labels.now in
     texts_there c.self.inside.tree.texts.paints c.self.inside.callees c.args.self.now c.self.view_is c.args.own s c.args.hints
     c.args.expression.now.items c.fold.new.self c.in_ok-fold.field-0 c.if-not-branch.false c.in_ok-fold.ensures.grown c.as_str-texts.result.now
     c.as_str-texts.ensures c.nodes-nodes.result.now c.nodes-nodes.ensures.whole c.nodes-nodes.ensures.closed
 
 pub returns-clause-prints : goal.returns-clause-prints
 returns-clause-prints g c =
-    let s = setting_view g.S.Signatures.signature_at c.args.setting.now (names_of c.args.labels.now) in
+    let s = setting_among g.S.Signatures.signature_at c.args.setting.now c.args.labels.now in
     subst (λ (xs : List Piece). PrintsOrStops g.P.Print.meaning c.args.options.now c.args.p.now c.write_nodes.new.p true c.write_nodes.result xs)
     (layout_of c.self.inside.tree.texts.paints c.self.inside.callees c.args.self.now c.self.view_is c.args.own s c.args.hints
     c.args.expression.now.items c.fold.new.self c.in_ok-fold.field-0 c.if-not-branch.false c.in_ok-fold.ensures.grown c.as_str-texts.result.now
@@ -49,7 +48,7 @@ returns-clause-prints g c =
 
 pub returns-clause-lines : goal.returns-clause-lines
 returns-clause-lines g c =
-    let s = setting_view g.S.Signatures.signature_at c.args.setting.now (names_of c.args.labels.now) in
+    let s = setting_among g.S.Signatures.signature_at c.args.setting.now c.args.labels.now in
     subst (λ (xs : List Piece). IfOk c.write_nodes.result (λ lines. lines ≡ has_break xs))
     (layout_of c.self.inside.tree.texts.paints c.self.inside.callees c.args.self.now c.self.view_is c.args.own s c.args.hints
     c.args.expression.now.items c.fold.new.self c.in_ok-fold.field-0 c.if-not-branch.false c.in_ok-fold.ensures.grown c.as_str-texts.result.now
