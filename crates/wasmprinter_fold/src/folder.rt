@@ -76,9 +76,11 @@ impl<'m, 'a> Folder<'m, 'a> {
         expression: &Expression<'_>,
     ) -> Result<bool, Error>
         ensures prints { PrintsOrStops P.meaning options.now p.old p.new true result
-            (folded_list (folding_view self.old) own (setting_among S.signature_at setting.now labels.old) hints.entry expression.now.items) }
+            (folded_list (folding_view self.old) own (setting_among S.signature_at setting.now labels.old) hints.entry
+            expression.now.items) }
         ensures lines { TellsLines result
-            (folded_list (folding_view self.old) own (setting_among S.signature_at setting.now labels.old) hints.entry expression.now.items) }
+            (folded_list (folding_view self.old) own (setting_among S.signature_at setting.now labels.old) hints.entry
+            expression.now.items) }
         ensures folder { self.new ≡ self.old }
         ensures named { labels.new.named ≡ labels.old.named }
         ensures invents { labels.new.invents ≡ labels.old.invents }
