@@ -3,6 +3,7 @@
 use crate::modules::{CODE, FUNCTIONS, TYPES, fault_place, is_accepted, module};
 use std::alloc::{AllocError, Global};
 use std::test::Fail;
+use wasmprinter_error::Error;
 use wasmprinter_names::{Names, Space};
 use wasmprinter_wasm::{CustomEntry, decode};
 
@@ -33,7 +34,7 @@ const NONE: &[u8] = &[];
 type Places = [&'static [u8]; 3];
 
 /// Name sections with the places of their contents.
-const PLACED: [(Places, &'static [u64]); 8] = [
+const PLACED: &[(Places, &[u64])] = &[
     ([NONE, NONE, NONE], &[]),
     ([FIRST_NAMES, NONE, NONE], &[0x0a]),
     ([NONE, FIRST_NAMES, NONE], &[0x14]),
@@ -55,28 +56,40 @@ fn are_name_sections_at(customs: &[CustomEntry], places: &[u64]) -> bool {
     customs.len() == places.len()
 }
 
+/// Whether the custom sections of a module, whose bytes these are, are name sections with contents at these places.
+fn has_name_sections_at(alloc: Global, bytes: &[u8], places: &[u64]) -> Result<bool, Error> {
+    let decoded = decode(alloc, bytes)?;
+    Ok(are_name_sections_at(decoded.customs(), places))
+}
+
 #[test]
 fn name_sections_may_stand_anywhere(rt: HostRuntime) -> Result<(), Fail> {
     for (sections, places) in PLACED {
-        let bytes = with_names(rt.alloc(), sections)?;
-        let decoded = decode(rt.alloc(), &bytes)?;
-        assert!(rt; are_name_sections_at(decoded.customs(), places));
+        let bytes = with_names(rt.alloc(), *sections)?;
+        assert!(rt; has_name_sections_at(rt.alloc(), &bytes, places)?);
     }
     Ok(())
 }
 
+/// Whether a custom section holds these bytes, at this place, and a cursor over it the same.
+fn holds(custom: &CustomEntry, place: u64, bytes: &[u8]) -> bool {
+    let cursor = custom.section.cursor();
+    custom.section.bytes_place() == place
+        && custom.section.bytes() == bytes
+        && cursor.place() == place
+        && cursor.len() == bytes.len()
+}
+
 /// Whether there are two custom sections, one without bytes at 0x0f, and one with the first name section's at 0x20.
 fn hold_names_behind_none(customs: &[CustomEntry]) -> bool {
-    let [first, second] = customs else {
-        return false;
-    };
-    first.section.bytes().len() == 0
-        && first.section.bytes_place() == 0x0f
-        && second.section.place() == 0x1b
-        && second.section.bytes_place() == 0x20
-        && second.section.bytes() == b"\x00\x02\x01m\x01\x04\x01\x00\x01a".as_slice()
-        && second.section.cursor().place() == 0x20
-        && second.section.cursor().len() == 10
+    match customs {
+        [first, second] => {
+            second.section.place() == 0x1b
+                && holds(first, 0x0f, b"")
+                && holds(second, 0x20, b"\x00\x02\x01m\x01\x04\x01\x00\x01a")
+        }
+        _ => false,
+    }
 }
 
 #[test]
@@ -97,7 +110,7 @@ fn two_name_sections_may_stand_together(rt: HostRuntime) -> Result<(), Fail> {
 }
 
 /// Custom sections that are no name sections, with their names and the bytes behind these.
-const OTHERS: [(&[u8], &str, &[u8]); 6] = [
+const OTHERS: &[(&[u8], &str, &[u8])] = &[
     (b"\x00\x06\x05names", "names", b""),
     (b"\x00\x04\x03nam", "nam", b""),
     (b"\x00\x01\x00", "", b""),
@@ -120,12 +133,17 @@ fn are_others(customs: &[CustomEntry], name: &str, content: &[u8]) -> bool {
     }
 }
 
+/// Whether a module, whose bytes these are, has two such custom sections.
+fn has_others(alloc: Global, bytes: &[u8], name: &str, content: &[u8]) -> Result<bool, Error> {
+    let decoded = decode(alloc, bytes)?;
+    Ok(are_others(decoded.customs(), name, content))
+}
+
 #[test]
 fn custom_sections_may_have_any_name(rt: HostRuntime) -> Result<(), Fail> {
     for (section, name, content) in OTHERS {
         let bytes = with_names(rt.alloc(), [section, NONE, section])?;
-        let decoded = decode(rt.alloc(), &bytes)?;
-        assert!(rt; are_others(decoded.customs(), name, content));
+        assert!(rt; has_others(rt.alloc(), &bytes, name, content)?);
     }
     Ok(())
 }
@@ -201,10 +219,8 @@ fn all_name_sections_give_names(rt: HostRuntime) -> Result<(), Fail> {
 
 #[test]
 fn hundreds_of_custom_sections_are_kept(rt: HostRuntime) -> Result<(), Fail> {
-    let mut bytes = module(rt.alloc(), &[])?;
-    for _ in 0..300 {
-        bytes.extend_from_slice(b"\x00\x02\x01n")?;
-    }
+    let note: &[u8] = b"\x00\x02\x01n";
+    let bytes = module(rt.alloc(), &[note; 300])?;
     let decoded = decode(rt.alloc(), &bytes)?;
     assert!(rt; decoded.customs().len() == 300);
     Ok(())

@@ -240,6 +240,16 @@ fn are_operators(reader: &mut OperatorsReader, wanted: &[(u64, &str)]) -> bool {
     reader.next().is_none()
 }
 
+/// Whether a module has one function, and its operators have these places and words.
+fn has_operators(decoded: &Module, wanted: &[(u64, &str)]) -> bool {
+    let Some(body) = decoded.body(0) else {
+        return false;
+    };
+    decoded.function_count() == 1
+        && decoded.body(1).is_none()
+        && are_operators(&mut body.operators(), wanted)
+}
+
 #[test]
 fn operators_have_their_places(rt: HostRuntime) -> Result<(), Fail> {
     let types = [0x01, 0x05, 0x01, 0x60, 0x00, 0x01, 0x7e];
@@ -248,14 +258,12 @@ fn operators_have_their_places(rt: HostRuntime) -> Result<(), Fail> {
     ];
     let bytes = module(rt.alloc(), &[&types, &FUNCTIONS, &code])?;
     let decoded = decode(rt.alloc(), &bytes)?;
-    assert!(rt; decoded.function_count() == 1 && decoded.body(1).is_none());
-    let mut reader = decoded.body(0).ok_or("no body")?.operators();
     let wanted = [
         (0x1a, "i64.const"),
         (0x1c, "local.set"),
         (0x1e, "local.get"),
     ];
-    assert!(rt; are_operators(&mut reader, &wanted));
+    assert!(rt; has_operators(&decoded, &wanted));
     Ok(())
 }
 
@@ -386,7 +394,7 @@ fn sections_of_a_kind_stand_in_their_place_once(rt: HostRuntime) -> Result<(), F
 }
 
 /// Sections that may stand alone: without items, or with lengthened numbers.
-const ACCEPTED_SECTIONS: [&[u8]; 8] = [
+const ACCEPTED_SECTIONS: &[&[u8]] = &[
     &[0x05, 0x01, 0x00],
     &[0x07, 0x01, 0x00],
     &[0x0d, 0x01, 0x00],
@@ -398,7 +406,7 @@ const ACCEPTED_SECTIONS: [&[u8]; 8] = [
 ];
 
 /// Sections that are refused.
-const REFUSED_SECTIONS: [&[u8]; 43] = [
+const REFUSED_SECTIONS: &[&[u8]] = &[
     // no count
     &[0x05, 0x00],
     &[0x07, 0x00],
@@ -583,8 +591,8 @@ fn are_tags(tags: &[Tag], wanted: &[(u64, u32)]) -> bool {
 
 #[test]
 fn tags_have_types_and_places(rt: HostRuntime) -> Result<(), Fail> {
-    let section = [0x0d, 0x08, 0x03, 0x00, 0x07, 0x00, 0x81, 0x00, 0x00, 0x02];
-    let bytes = module(rt.alloc(), &[&section])?;
+    let section: &[u8] = &[0x0d, 0x08, 0x03, 0x00, 0x07, 0x00, 0x81, 0x00, 0x00, 0x02];
+    let bytes = module(rt.alloc(), &[section])?;
     let decoded = decode(rt.alloc(), &bytes)?;
     assert!(rt; are_tags(decoded.tags(), &[(0x0b, 7), (0x0d, 1), (0x10, 2)]));
     Ok(())
@@ -618,22 +626,29 @@ fn are_exports(exports: &[Export], wanted: &[Exported]) -> bool {
 
 #[test]
 fn exports_have_kinds(rt: HostRuntime) -> Result<(), Fail> {
-    let section = [
+    let section: &[u8] = &[
         0x07, 0x15, 0x05, 0x01, 0x61, 0x00, 0x05, 0x01, 0x62, 0x01, 0x06, 0x01, 0x63, 0x02, 0x87,
         0x00, 0x00, 0x03, 0x08, 0x01, 0x65, 0x04, 0x09,
     ];
-    let bytes = module(rt.alloc(), &[&section])?;
+    let bytes = module(rt.alloc(), &[section])?;
     let decoded = decode(rt.alloc(), &bytes)?;
     assert!(rt; are_exports(decoded.exports(), &EXPORTED));
     Ok(())
 }
 
+/// The place of the start function and its index, where a module, whose bytes these are, has one.
+fn start_of(alloc: Global, bytes: &[u8]) -> Result<Option<(u64, u32)>, Error> {
+    let decoded = decode(alloc, bytes)?;
+    Ok(match decoded.start() {
+        Some(start) => Some((start.place(), start.function())),
+        None => None,
+    })
+}
+
 #[test]
 fn start_functions_have_places(rt: HostRuntime) -> Result<(), Fail> {
     let bytes = module(rt.alloc(), &[&TYPES, &[0x08, 0x02, 0x87, 0x00]])?;
-    let decoded = decode(rt.alloc(), &bytes)?;
-    let start = decoded.start().ok_or("no start function")?;
-    assert!(rt; start.place() == 0x10 && start.function() == 7);
-    assert!(rt; decode(rt.alloc(), &IDENTITY)?.start().is_none());
+    assert!(rt; start_of(rt.alloc(), &bytes)? == Some((0x10, 7)));
+    assert!(rt; start_of(rt.alloc(), &IDENTITY)?.is_none());
     Ok(())
 }

@@ -1,7 +1,9 @@
 //! What custom sections stand behind. What is expected is typed by hand.
 
 use crate::modules::{CODE, EXPORTS, FUNCTIONS, MEMORIES, START, TAGS, TYPES, module};
+use std::alloc::Global;
 use std::test::Fail;
+use wasmprinter_error::Error;
 use wasmprinter_wasm::{CustomEntry, SectionKind, decode};
 
 /// A custom section called `n`.
@@ -32,50 +34,6 @@ const NO_CODE: [u8; 3] = [0x0a, 0x01, 0x00];
 
 /// Sections, and what the custom sections among them stand behind.
 type Row = (&'static [&'static [u8]], &'static [Option<SectionKind>]);
-
-/// Some sections in front of custom sections.
-const SOME: [Row; 14] = [
-    (&[NOTE], &[None]),
-    (&[NOTE, &TYPES], &[None]),
-    (&[&TYPES, NOTE], &[Some(SectionKind::Type)]),
-    (
-        &[NOTE, &TYPES, NOTE, &MEMORIES, NOTE],
-        &[None, Some(SectionKind::Type), Some(SectionKind::Memory)],
-    ),
-    // two in a row
-    (&[NOTE, NOTE, &TYPES], &[None, None]),
-    (
-        &[&TYPES, NOTE, NOTE, &MEMORIES],
-        &[Some(SectionKind::Type), Some(SectionKind::Type)],
-    ),
-    // sections without functions
-    (&[&NO_FUNCTIONS, NOTE], &[None]),
-    (
-        &[&TYPES, &NO_FUNCTIONS, NOTE, &NO_CODE, NOTE],
-        &[Some(SectionKind::Type), Some(SectionKind::Type)],
-    ),
-    // a start function, and none behind it
-    (&[&START, NOTE], &[Some(SectionKind::Start)]),
-    (
-        &[&EXPORTS, NOTE, &START, &NO_CODE, NOTE],
-        &[Some(SectionKind::Export), Some(SectionKind::Start)],
-    ),
-    // a data count
-    (&[&DATA_COUNT, NOTE, &DATA], &[None]),
-    (
-        &[&MEMORIES, &DATA_COUNT, NOTE, &DATA],
-        &[Some(SectionKind::Memory)],
-    ),
-    // code and data
-    (
-        &[&TYPES, &FUNCTIONS, &CODE, NOTE],
-        &[Some(SectionKind::Code)],
-    ),
-    (
-        &[&TYPES, &FUNCTIONS, NOTE, &CODE, &DATA, NOTE],
-        &[Some(SectionKind::Function), Some(SectionKind::Data)],
-    ),
-];
 
 /// A custom section behind each section that there is.
 const ALL: Row = (
@@ -157,6 +115,53 @@ const EMPTY: Row = (
     &[None; 12],
 );
 
+/// Sections in front of custom sections.
+const ROWS: &[Row] = &[
+    (&[NOTE], &[None]),
+    (&[NOTE, &TYPES], &[None]),
+    (&[&TYPES, NOTE], &[Some(SectionKind::Type)]),
+    (
+        &[NOTE, &TYPES, NOTE, &MEMORIES, NOTE],
+        &[None, Some(SectionKind::Type), Some(SectionKind::Memory)],
+    ),
+    // two in a row
+    (&[NOTE, NOTE, &TYPES], &[None, None]),
+    (
+        &[&TYPES, NOTE, NOTE, &MEMORIES],
+        &[Some(SectionKind::Type), Some(SectionKind::Type)],
+    ),
+    // sections without functions
+    (&[&NO_FUNCTIONS, NOTE], &[None]),
+    (
+        &[&TYPES, &NO_FUNCTIONS, NOTE, &NO_CODE, NOTE],
+        &[Some(SectionKind::Type), Some(SectionKind::Type)],
+    ),
+    // a start function, and none behind it
+    (&[&START, NOTE], &[Some(SectionKind::Start)]),
+    (
+        &[&EXPORTS, NOTE, &START, &NO_CODE, NOTE],
+        &[Some(SectionKind::Export), Some(SectionKind::Start)],
+    ),
+    // a data count
+    (&[&DATA_COUNT, NOTE, &DATA], &[None]),
+    (
+        &[&MEMORIES, &DATA_COUNT, NOTE, &DATA],
+        &[Some(SectionKind::Memory)],
+    ),
+    // code and data
+    (
+        &[&TYPES, &FUNCTIONS, &CODE, NOTE],
+        &[Some(SectionKind::Code)],
+    ),
+    (
+        &[&TYPES, &FUNCTIONS, NOTE, &CODE, &DATA, NOTE],
+        &[Some(SectionKind::Function), Some(SectionKind::Data)],
+    ),
+    // all sections, with items and without
+    ALL,
+    EMPTY,
+];
+
 /// Whether custom sections stand behind these.
 fn stand_behind(customs: &[CustomEntry], places: &[Option<SectionKind>]) -> bool {
     for (custom, place) in customs.iter().zip(places) {
@@ -167,12 +172,21 @@ fn stand_behind(customs: &[CustomEntry], places: &[Option<SectionKind>]) -> bool
     customs.len() == places.len()
 }
 
+/// Whether the custom sections of a module, whose bytes these are, stand behind these.
+fn has_customs_behind(
+    alloc: Global,
+    bytes: &[u8],
+    places: &[Option<SectionKind>],
+) -> Result<bool, Error> {
+    let decoded = decode(alloc, bytes)?;
+    Ok(stand_behind(decoded.customs(), places))
+}
+
 #[test]
 fn custom_sections_stand_behind_what_holds_something(rt: HostRuntime) -> Result<(), Fail> {
-    for (sections, places) in SOME.into_iter().chain([ALL, EMPTY]) {
+    for (sections, places) in ROWS {
         let bytes = module(rt.alloc(), sections)?;
-        let decoded = decode(rt.alloc(), &bytes)?;
-        assert!(rt; stand_behind(decoded.customs(), places));
+        assert!(rt; has_customs_behind(rt.alloc(), &bytes, places)?);
     }
     Ok(())
 }

@@ -2,8 +2,10 @@
 //! expected is typed by hand.
 
 use crate::modules::{are_accepted, are_malformed, module};
+use std::alloc::Global as Alloc;
 use std::test::Fail;
 use wasmprinter_error::Error;
+use wasmprinter_ops::expression::Expression;
 use wasmprinter_types::{HeapType, RefType, ValType};
 use wasmprinter_wasm::{
     Data, DataMode, Element, ElementItems, ElementMode, ExternKind, ExternType, Global, GlobalType,
@@ -14,7 +16,7 @@ use wasmprinter_wasm::{
 const FIRST: u64 = 0x0b;
 
 /// Table entries: the bytes, whether indices have 64 bits, the greatest size where there is one.
-const TABLE_TYPES: [(&[u8], bool, Option<u64>); 4] = [
+const TABLE_TYPES: &[(&[u8], bool, Option<u64>)] = &[
     (&[0x04, 0x04, 0x01, 0x6f, 0x00, 0x03], false, None),
     (&[0x04, 0x05, 0x01, 0x6f, 0x01, 0x03, 0x07], false, Some(7)),
     (&[0x04, 0x04, 0x01, 0x6f, 0x04, 0x03], true, None),
@@ -29,22 +31,32 @@ fn is_only_table(tables: &[Table], wanted: &TableType) -> bool {
     }
 }
 
+/// Whether a module, whose bytes these are, has one such table.
+fn has_only_table(alloc: Alloc, bytes: &[u8], wanted: &TableType) -> Result<bool, Error> {
+    let decoded = decode(alloc, bytes)?;
+    Ok(is_only_table(decoded.tables(), wanted))
+}
+
 #[test]
 fn tables_have_types(rt: HostRuntime) -> Result<(), Fail> {
     for (section, wide, max) in TABLE_TYPES {
-        let bytes = module(rt.alloc(), &[section])?;
-        let decoded = decode(rt.alloc(), &bytes)?;
         let wanted = TableType {
-            wide,
-            limits: Limits { min: 3, max },
+            wide: *wide,
+            limits: Limits { min: 3, max: *max },
             element: RefType {
                 nullable: true,
                 heap: HeapType::Extern,
             },
         };
-        assert!(rt; is_only_table(decoded.tables(), &wanted));
+        let bytes = module(rt.alloc(), &[section])?;
+        assert!(rt; has_only_table(rt.alloc(), &bytes, &wanted)?);
     }
     Ok(())
+}
+
+/// Whether an expression has one operator in front of its end.
+fn has_one_operator(expression: &Expression) -> bool {
+    expression.operators().count() == 1
 }
 
 /// Whether there is a table without an initialiser, and one at 0x0e, whose initialiser has one operator and ends at 0x15.
@@ -58,7 +70,7 @@ fn are_plain_and_initialised(tables: &[Table]) -> bool {
     plain.init().is_none()
         && initialised.place() == 0x0e
         && init.end() == 0x15
-        && init.operators().count() == 1
+        && has_one_operator(init)
 }
 
 #[test]
@@ -130,10 +142,8 @@ fn other_sections_are_refused(rt: HostRuntime) -> Result<(), Fail> {
 }
 
 /// Whether a global has this place and type, and an initialiser of one operator.
-fn is_global(global: &Global, place: u64, mutable: bool, ty: ValType) -> bool {
-    global.place() == place
-        && global.ty() == GlobalType { mutable, ty }
-        && global.init().operators().count() == 1
+fn is_global(global: &Global, place: u64, ty: &GlobalType) -> bool {
+    global.place() == place && global.ty() == *ty && has_one_operator(global.init())
 }
 
 #[test]
@@ -146,8 +156,16 @@ fn globals_have_types(rt: HostRuntime) -> Result<(), Fail> {
     let [constant, variable] = decoded.globals() else {
         return Err("two globals are wanted")?;
     };
-    assert!(rt; is_global(constant, FIRST, false, ValType::I32));
-    assert!(rt; is_global(variable, 0x10, true, ValType::I64));
+    let of_constant = GlobalType {
+        mutable: false,
+        ty: ValType::I32,
+    };
+    assert!(rt; is_global(constant, FIRST, &of_constant));
+    let of_variable = GlobalType {
+        mutable: true,
+        ty: ValType::I64,
+    };
+    assert!(rt; is_global(variable, 0x10, &of_variable));
     Ok(())
 }
 
@@ -230,11 +248,13 @@ fn imports_have_types(rt: HostRuntime) -> Result<(), Fail> {
     Ok(())
 }
 
-/// What becomes of a segment: the table and how many operators its offset has, where it is active.
-fn active(mode: &ElementMode) -> Option<(u32, usize)> {
+/// Whether a segment is active for this table, by an offset of one operator, or isn't active where no table is wanted.
+fn is_active_for(mode: &ElementMode, wanted: Option<u32>) -> bool {
     match mode {
-        ElementMode::Active { table, offset } => Some((*table, offset.operators().count())),
-        _ => None,
+        ElementMode::Active { table, offset } => {
+            wanted == Some(*table) && has_one_operator(offset)
+        }
+        _ => wanted.is_none(),
     }
 }
 
@@ -294,12 +314,7 @@ const ELEMENTS: [(&[u8], Segment); 8] = [
 /// Whether a segment is this one, the first item of its section, and its offset, where it is active, has one operator.
 fn is_segment(element: &Element, wanted: Segment) -> bool {
     let (table, names_table, functions, expressions) = wanted;
-    let is_placed = match (active(element.mode()), table) {
-        (Some((found, operators)), Some(wanted)) => found == wanted && operators == 1,
-        (None, None) => true,
-        _ => false,
-    };
-    is_placed
+    is_active_for(element.mode(), table)
         && element.place() == FIRST
         && element.names_table() == names_table
         && counts_of(element.items()) == (functions, expressions)
