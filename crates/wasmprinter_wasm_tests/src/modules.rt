@@ -4,21 +4,12 @@ use std::alloc::{AllocError, Global};
 use std::test::Fail;
 use wasmprinter_error::Error;
 use wasmprinter_ops::expression::OperatorsReader;
+use wasmprinter_samples::{IDENTITY, PREAMBLE};
 use wasmprinter_types::ValType;
 use wasmprinter_types::composite::FuncType;
 use wasmprinter_wasm::{
     Export, ExternKind, Limits, Memory, MemoryType, Module, Tag, TypeGroup, decode,
 };
-
-/// The magic and the version.
-const PREAMBLE: [u8; 8] = [0x00, 0x61, 0x73, 0x6d, 0x01, 0x00, 0x00, 0x00];
-
-/// One function of type i32 to i32 that gives its parameter, given out as `f`.
-const IDENTITY: [u8; 35] = [
-    0x00, 0x61, 0x73, 0x6d, 0x01, 0x00, 0x00, 0x00, 0x01, 0x06, 0x01, 0x60, 0x01, 0x7f, 0x01, 0x7f,
-    0x03, 0x02, 0x01, 0x00, 0x07, 0x05, 0x01, 0x01, 0x66, 0x00, 0x00, 0x0a, 0x06, 0x01, 0x04, 0x00,
-    0x20, 0x00, 0x0b,
-];
 
 /// A type section with the one type of no parameters and no results.
 pub(crate) const TYPES: [u8; 6] = [0x01, 0x04, 0x01, 0x60, 0x00, 0x00];
