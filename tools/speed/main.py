@@ -33,7 +33,8 @@ def made_files(work):
 def real_files(folder):
     """All modules of over 100 KB under a folder, the small ones first."""
     paths = [os.path.join(where, name) for where, _, names in os.walk(folder) for name in names if name.endswith(".wasm")]
-    return sorted((p for p in paths if os.path.getsize(p) > JUDGED), key=lambda p: (os.path.getsize(p), p))
+    # (packages have links to what isn't installed)
+    return sorted((p for p in paths if os.path.isfile(p) and os.path.getsize(p) > JUDGED), key=lambda p: (os.path.getsize(p), p))
 
 
 def all_files(work, real, given):
